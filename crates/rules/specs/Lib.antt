@@ -1,0 +1,4 @@
+pub mod Hash
+pub mod Output
+pub mod Refusal
+pub mod Sizes

@@ -1,0 +1,33 @@
+-- What a call that writes bytes leaves in the buffer it was lent, and what it answers. 01, Refusal numbers: 7, and "Every refusal leaves
+-- state and buffers untouched".
+use Prim.Native.Nat.{ℕ}
+use mathlib.Core.Bool.{cond}
+use mathlib.Core.List.{List}
+use mathlib.Core.Path.{_≡_}
+use lib.Dec.{ltb}
+use lib.ListN.{length}
+use lib.Seq.{sets}
+use Rattle.rules.specs.declared.output.Write.{Write}
+use Rattle.rules.specs.declared.output.Write.the-variants.{Wrote, Refused}
+use Rattle.rules.specs.declared.refusal.Refusal.{Refusal}
+use Rattle.rules.specs.declared.refusal.Refusal.the-variants.{NoRoom}
+
+-- What is to be written: these bytes, or none, for a refusal that comes before 7.
+pub data Output : Type 0 where
+  bytes : List ℕ → Output
+  refuse : Refusal → Output
+
+-- 7 with the length wanted where the room is less than that, else how many bytes were written.
+abbrev pub answerOf : Output → ℕ → Write
+answerOf (bytes l) room = cond (ltb room (length l)) (Refused (NoRoom (length l))) (Wrote (length l))
+answerOf (refuse r) room = Refused r
+
+-- The buffer at exit: the bytes at its start and the rest as it was; after a refusal all of it as it was.
+abbrev pub contentOf : Output → List ℕ → List ℕ
+contentOf (bytes l) before = cond (ltb (length before) (length l)) before (sets before 0 l)
+contentOf (refuse r) before = before
+
+-- Both together, which is what a writing call ensures.
+pub record Written (o : Output) (before after : List ℕ) (r : Write) : Type 0 where
+  pub answer : r ≡ answerOf o (length before)
+  pub content : after ≡ contentOf o before

@@ -1,0 +1,44 @@
+-- 01, Refusal numbers: the number of each refusal, and the value that it returns. Every promise about a refusal speaks of these two.
+use Prim.Native.Nat.{ℕ}
+use Rattle.rules.specs.declared.refusal.Refusal.{Refusal}
+use Rattle.rules.specs.declared.refusal.Refusal.the-variants.{
+  Cut,
+  WrongType,
+  BadNumber,
+  PastSize,
+  NoBits,
+  BadRow,
+  NoRoom,
+  LoadFailed,
+  BadWaitingRow,
+  BadSession,
+  BadRowsBefore
+}
+
+-- The column "No.".
+abbrev pub numberOf : Refusal → ℕ
+numberOf (Cut place) = 1
+numberOf (WrongType byte) = 2
+numberOf (BadNumber place) = 3
+numberOf (PastSize place) = 4
+numberOf (NoBits place) = 5
+numberOf (BadRow row) = 6
+numberOf (NoRoom wanted) = 7
+numberOf LoadFailed = 8
+numberOf (BadWaitingRow row) = 9
+numberOf BadSession = 10
+numberOf BadRowsBefore = 11
+
+-- The column "Returns".
+abbrev pub valueOf : Refusal → ℕ
+valueOf (Cut place) = place
+valueOf (WrongType byte) = byte
+valueOf (BadNumber place) = place
+valueOf (PastSize place) = place
+valueOf (NoBits place) = place
+valueOf (BadRow row) = row
+valueOf (NoRoom wanted) = wanted
+valueOf LoadFailed = 0
+valueOf (BadWaitingRow row) = row
+valueOf BadSession = 0
+valueOf BadRowsBefore = 0

@@ -1,0 +1,64 @@
+-- 01, Sizes. One record names every limit; definitions read its fields, and no numeral of a limit stands anywhere else.
+use Prim.Native.Nat.{ℕ}
+use mathlib.Core.List.{List, [], _∷_}
+
+pub record Sizes : Type 0 where
+  -- bytes of a hash
+  pub hash : ℕ
+  -- bytes of a message
+  pub message : ℕ
+  -- rows of a change table
+  pub rows : ℕ
+  -- rows of a waiting table
+  pub waitingRows : ℕ
+  -- dependencies of a change
+  pub dependencies : ℕ
+  -- hashes of a list
+  pub hashes : ℕ
+  -- hashes that a session remembers as sent
+  pub sentHashes : ℕ
+  -- haves of a message or a session
+  pub haves : ℕ
+  -- chunks of a message
+  pub chunks : ℕ
+  -- bytes of a filter's bit field
+  pub field : ℕ
+  -- probes of a filter that has entries
+  pub probes : ℕ
+  -- hashes to send at once
+  pub hashesToSend : ℕ
+
+-- The numbers that 01 gives.
+abbrev pub sizes : Sizes
+sizes =
+    record {
+      hash = 32;
+      message = 4194304;
+      rows = 1024;
+      waitingRows = 1024;
+      dependencies = 15;
+      hashes = 1024;
+      sentHashes = 1024;
+      haves = 16;
+      chunks = 4096;
+      field = 8192;
+      probes = 64;
+      hashesToSend = 2048
+    }
+
+-- Every limit in the record's order, as a host is told them.
+abbrev pub limitsOf : Sizes → List ℕ
+limitsOf z =
+    z .hash
+    ∷ z .message
+    ∷ z .rows
+    ∷ z .waitingRows
+    ∷ z .dependencies
+    ∷ z .hashes
+    ∷ z .sentHashes
+    ∷ z .haves
+    ∷ z .chunks
+    ∷ z .field
+    ∷ z .probes
+    ∷ z .hashesToSend
+    ∷ []

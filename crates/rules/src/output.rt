@@ -1,0 +1,9 @@
+// What a call answers that writes bytes into a buffer which the caller lends.
+use crate::refusal::Refusal;
+
+pub enum Write {
+    // So many bytes stand at the buffer's start; those beyond them are as they were.
+    Wrote(usize),
+    // Nothing was written.
+    Refused(Refusal),
+}

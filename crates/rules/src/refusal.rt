@@ -1,0 +1,66 @@
+// 01, Refusal numbers. An enum, so that a refusal carries just the value that its number returns.
+ghost use mathlib.Core.Path.{_≡_};
+ghost use Rattle.rules.specs.Refusal.{numberOf, valueOf};
+
+pub enum Refusal {
+    // 1: the input ends inside an item, which starts at this place.
+    Cut(usize),
+    // 2: the first byte is this one, and says no type that is read here.
+    WrongType(u8),
+    // 3: the number at this place isn't shortest, or is too large for its width.
+    BadNumber(usize),
+    // 4: a size is passed; the place of the count or filter that says so, else 0.
+    PastSize(usize),
+    // 5: the filter at this place has entries and no bits for them.
+    NoBits(usize),
+    // 6: the first bad row of a change table.
+    BadRow(usize),
+    // 7: the output buffer is too short; the length that is wanted.
+    NoRoom(usize),
+    // 8: chunks were to be loaded, and the host says that loading failed.
+    LoadFailed,
+    // 9: the first bad row of a waiting table.
+    BadWaitingRow(usize),
+    // 10: a bad session, or a filter passed as numbers that breaks the filter rules.
+    BadSession,
+    // 11: more rows before loading than there are rows.
+    BadRowsBefore,
+}
+
+impl Refusal {
+    pub fn number(self) -> u64
+        ensures { λ r. ⌜ r ≡ numberOf self ⌝ }
+    {
+        match self {
+            Refusal::Cut(_) => 1,
+            Refusal::WrongType(_) => 2,
+            Refusal::BadNumber(_) => 3,
+            Refusal::PastSize(_) => 4,
+            Refusal::NoBits(_) => 5,
+            Refusal::BadRow(_) => 6,
+            Refusal::NoRoom(_) => 7,
+            Refusal::LoadFailed => 8,
+            Refusal::BadWaitingRow(_) => 9,
+            Refusal::BadSession => 10,
+            Refusal::BadRowsBefore => 11,
+        }
+    }
+
+    pub fn value(self) -> u64
+        ensures { λ r. ⌜ r ≡ valueOf self ⌝ }
+    {
+        match self {
+            Refusal::Cut(place) => place as u64,
+            Refusal::WrongType(byte) => byte as u64,
+            Refusal::BadNumber(place) => place as u64,
+            Refusal::PastSize(place) => place as u64,
+            Refusal::NoBits(place) => place as u64,
+            Refusal::BadRow(row) => row as u64,
+            Refusal::NoRoom(length) => length as u64,
+            Refusal::LoadFailed => 0,
+            Refusal::BadWaitingRow(row) => row as u64,
+            Refusal::BadSession => 0,
+            Refusal::BadRowsBefore => 0,
+        }
+    }
+}
