@@ -1,0 +1,5 @@
+-- Laws that the crates above cite.
+pub mod Cases
+pub mod Hash
+pub mod Outputs
+pub mod Refusals

@@ -1,0 +1,39 @@
+-- A writing call has one answer and leaves one buffer: both are functions of the output and of the buffer as lent. Code shows that it wrote
+-- in one of three ways: there was enough room, there was less, or it refused before it came to that.
+use Prim.Native.Nat.{ℕ, suc, _+_, _≤_, _<_}
+use mathlib.Core.List.{List, [], _∷_, _++_}
+use mathlib.Core.Path.{_≡_, refl, sym, _∙_}
+use native.Mathlib.Nat.{add-zero}
+use native.Mathlib.Omega.{arith}
+use lib.ListN.{length, set}
+use lib.Seq.{sets}
+use borrow.Author.Tests.{lt-ltb, le-ltb}
+use Rattle.rules.specs.Output.{Output, bytes, refuse, Written}
+use Rattle.rules.specs.declared.output.Write.{Write}
+use Rattle.rules.specs.declared.output.Write.the-variants.{Wrote, Refused}
+use Rattle.rules.specs.declared.refusal.Refusal.{Refusal}
+use Rattle.rules.specs.declared.refusal.Refusal.the-variants.{NoRoom}
+
+pub written-once : {o : Output} {before a₁ a₂ : List ℕ} {r₁ r₂ : Write} → Written o before a₁ r₁ → Written o before a₂ r₂ → (r₁ ≡ r₂) × (a₁ ≡ a₂)
+written-once w v = (w .answer ∙ sym (v .answer), w .content ∙ sym (v .content))
+
+pub written-bytes : (l before after : List ℕ) (size : ℕ) → size ≡ length l → size ≤ length before → after ≡ sets before 0 l
+    → Written (bytes l) before after (Wrote size)
+written-bytes l before after size e h q =
+    let fits : length l ≤ length before = omega arith in
+    record { answer = rw (le-ltb _ _ fits, e); content = rw (le-ltb _ _ fits) q }
+
+pub no-room : (l before : List ℕ) (size : ℕ) → size ≡ length l → length before < size → Written (bytes l) before before (Refused (NoRoom size))
+no-room l before size e h =
+    let short : length before < length l = omega arith in
+    record { answer = rw (lt-ltb _ _ short, e); content = rw (lt-ltb _ _ short) }
+
+pub refused : (r : Refusal) (before : List ℕ) → Written (refuse r) before before (Refused r)
+refused r before = record { answer = refl; content = refl }
+
+-- Bytes put one part after the other are the bytes put at once.
+pub sets-append : (a b l : List ℕ) (i : ℕ) → sets (sets l i a) (i + length a) b ≡ sets l i (a ++ b)
+sets-append [] b l i = rw add-zero
+sets-append (x ∷ a) b l i =
+    let e : i + suc (length a) ≡ suc i + length a = omega arith in
+    rw e (sets-append a b (set l i x) (suc i))

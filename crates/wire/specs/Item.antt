@@ -1,0 +1,70 @@
+-- Counts, prefixed strings and hash lists, read and written. 01, Wire; Refusal numbers, 1 and 4; "The count's limit is tested before any
+-- element".
+use Prim.Native.Nat.{ℕ, _+_, _*_, _/_, _%_}
+use mathlib.Core.Bool.{cond}
+use mathlib.Core.List.{List, _++_}
+use lib.Dec.{ltb, eqb}
+use lib.ListN.{length}
+use lib.Seq.{slice}
+use Rattle.rules.specs.Hash.{hashesAt, hashesBytes}
+use Rattle.rules.specs.Output.{Output}
+use Rattle.rules.specs.Sizes.{sizes}
+use Rattle.rules.specs.declared.refusal.Refusal.{Refusal}
+use Rattle.rules.specs.declared.refusal.Refusal.the-variants.{Cut, PastSize}
+use Rattle.wire.specs.Number.{shortest, numberAt, most64}
+use Rattle.wire.specs.declared.leb128.Number.{Number}
+use Rattle.wire.specs.declared.leb128.Number.the-variants.{Value, Refused}
+use Rattle.wire.specs.declared.parse.HashList.{HashList}
+use Rattle.wire.specs.declared.parse.HashList.the-variants.{Hashes, Refused as NoHashes}
+use Rattle.wire.specs.declared.parse.Prefixed.{Prefixed}
+use Rattle.wire.specs.declared.parse.Prefixed.the-variants.{Part, Refused as NoPart}
+
+-- How many bytes stand from a place up to `end`.
+unfoldable pub leftAt : List ℕ → ℕ → ℕ → ℕ
+leftAt s at end = length (slice at end s)
+
+-- What follows a number that was read, or its refusal passed on.
+unfoldable pub afterNumber : {A : Type 0} → Number → (Refusal → A) → (ℕ → ℕ → A) → A
+afterNumber (Value n next) refused k = k n next
+afterNumber (Refused r) refused k = refused r
+
+-- A count: a number, and 4 with its place if it passes its limit.
+unfoldable pub countAt : ℕ → List ℕ → ℕ → ℕ → Number
+countAt limit s at end =
+    afterNumber (numberAt most64 s at end)
+    Refused
+    (λ n next. cond (ltb limit n) (Refused (PastSize at)) (Value n next))
+
+-- A prefixed string: a number, and as many bytes; 1 with the place of that number if there are fewer.
+unfoldable pub prefixedAt : List ℕ → ℕ → ℕ → Prefixed
+prefixedAt s at end =
+    afterNumber (numberAt most64 s at end)
+    NoPart
+    (λ n start. cond (ltb (leftAt s start end) n) (NoPart (Cut at)) (Part start (start + n)))
+
+-- A hash list: a count, and as many hashes; 1 with the place of the first hash that isn't whole.
+unfoldable pub hashListAt : List ℕ → ℕ → ℕ → HashList
+hashListAt s at end =
+    afterNumber (countAt (sizes .hashes) s at end)
+    NoHashes
+    (λ count start.
+    cond (ltb (leftAt s start end / sizes .hash) count)
+    (NoHashes (Cut (start + sizes .hash * (leftAt s start end / sizes .hash))))
+    (Hashes start count (start + sizes .hash * count)))
+
+-- A prefixed string as bytes: its length, its bytes.
+unfoldable pub prefixedBytes : List ℕ → List ℕ
+prefixedBytes s = shortest (length s) ++ s
+
+-- A hash list as bytes: its count, its hashes.
+unfoldable pub hashListBytes : List ℕ → List ℕ
+hashListBytes hs = shortest (length hs) ++ hashesBytes hs
+
+-- What is written for a list that is lent as the bytes s: 4 for more than its limit, then 1 for a partial hash at its end.
+unfoldable pub hashListOutput : List ℕ → Output
+hashListOutput s =
+    cond (ltb (sizes .hashes * sizes .hash) (length s))
+    (Output.refuse (PastSize 0))
+    (cond (eqb (length s % sizes .hash) 0)
+    (Output.bytes (hashListBytes (hashesAt s 0 (length s / sizes .hash))))
+    (Output.refuse (Cut (sizes .hash * (length s / sizes .hash)))))

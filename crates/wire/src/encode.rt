@@ -1,0 +1,59 @@
+// Prefixed strings and hash lists, written (`encode_hashes` and `encode_many` of src/sync.rs).
+use crate::leb128::{put_unsigned, unsigned_size};
+use rules::output::Write;
+use rules::refusal::Refusal;
+use rules::sizes::{HASHES, HASH_SIZE};
+ghost use mathlib.Core.Path.{_≡_};
+ghost use Prim.Native.Nat.{_+_, _≤_};
+ghost use mathlib.Core.List.{_++_};
+ghost use lib.ListN.{length};
+ghost use lib.Seq.{sets};
+ghost use Rattle.rules.specs.Output.{Written, Output};
+ghost use Rattle.wire.specs.Item.{prefixedBytes, hashListOutput};
+ghost use Rattle.wire.specs.Number.{shortest};
+
+// Copies bytes to a place of the buffer.
+pub fn copy_into(out: &mut [u8], at: usize, bytes: &[u8])
+    requires { ⌜ at + length (now bytes) ≤ length (now out) ⌝ }
+    ensures { λ _. ⌜ now (out .exit) ≡ sets (now (out .entry)) at (now (bytes .entry)) ⌝ }
+{
+    let mut i = 0;
+    while i < bytes.len() {
+        out[at + i] = bytes[i];
+        i += 1;
+    }
+}
+
+// Writes a count, and the bytes that it counts in some unit.
+fn encode(out: &mut [u8], count: u64, bytes: &[u8]) -> Write
+    ensures { λ r. ⌜ Written (Output.bytes (shortest count ++ now (bytes .entry))) (now (out .entry)) (now (out .exit)) r ⌝ }
+{
+    let size = unsigned_size(count) + bytes.len();
+    if out.len() < size {
+        return Write::Refused(Refusal::NoRoom(size));
+    }
+    let at = put_unsigned(out, 0, count);
+    copy_into(out, at, bytes);
+    Write::Wrote(size)
+}
+
+// Writes a prefixed string.
+pub fn encode_bytes(out: &mut [u8], bytes: &[u8]) -> Write
+    ensures { λ r. ⌜ Written (Output.bytes (prefixedBytes (now (bytes .entry)))) (now (out .entry)) (now (out .exit)) r ⌝ }
+{
+    encode(out, bytes.len() as u64, bytes)
+}
+
+// Writes a hash list, lent as the bytes of its hashes.
+pub fn encode_hashes(out: &mut [u8], hashes: &[u8]) -> Write
+    ensures { λ r. ⌜ Written (hashListOutput (now (hashes .entry))) (now (out .entry)) (now (out .exit)) r ⌝ }
+{
+    let count = hashes.len() / HASH_SIZE;
+    if HASHES * HASH_SIZE < hashes.len() {
+        return Write::Refused(Refusal::PastSize(0));
+    }
+    if hashes.len() % HASH_SIZE != 0 {
+        return Write::Refused(Refusal::Cut(HASH_SIZE * count));
+    }
+    encode(out, count as u64, hashes)
+}

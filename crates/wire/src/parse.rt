@@ -1,0 +1,87 @@
+// Counts, prefixed strings and hash lists, read (the parsers of src/storage/parse.rs that sync uses).
+use crate::leb128::{leb128_u64, within, Number};
+use rules::refusal::Refusal;
+use rules::sizes::{HASHES, HASH_SIZE};
+ghost use mathlib.Core.Path.{_≡_};
+ghost use Rattle.wire.specs.Item.{leftAt, countAt, prefixedAt, hashListAt};
+
+// A prefixed string: its bytes stand from `start` up to `end`, which is the next place.
+pub enum Prefixed {
+    Part { start: usize, end: usize },
+    Refused(Refusal),
+}
+
+// A hash list: `count` hashes stand from `start` on, up to the next place.
+pub enum HashList {
+    Hashes {
+        start: usize,
+        count: usize,
+        next: usize,
+    },
+    Refused(Refusal),
+}
+
+// How many bytes stand from a place up to `end`.
+pub fn left(s: &[u8], at: usize, end: usize) -> usize
+    ensures { λ r. ⌜ r ≡ leftAt (now (s .entry)) at end ⌝ }
+{
+    let stop = within(s, end);
+    if at < stop { stop - at } else { 0 }
+}
+
+// The count at a place, which is at most `limit`.
+pub fn length_prefix(s: &[u8], at: usize, end: usize, limit: u64) -> Number
+    ensures { λ r. ⌜ r ≡ countAt limit (now (s .entry)) at end ⌝ }
+{
+    let n = leb128_u64(s, at, end);
+    match n {
+        Number::Value { value, next } => {
+            if limit < value {
+                return Number::Refused(Refusal::PastSize(at));
+            }
+            Number::Value { value, next }
+        }
+        Number::Refused(r) => Number::Refused(r),
+    }
+}
+
+// The prefixed string at a place.
+pub fn length_prefixed_bytes(s: &[u8], at: usize, end: usize) -> Prefixed
+    ensures { λ r. ⌜ r ≡ prefixedAt (now (s .entry)) at end ⌝ }
+{
+    let n = leb128_u64(s, at, end);
+    match n {
+        Number::Value { value, next } => {
+            if (left(s, next, end) as u64) < value {
+                return Prefixed::Refused(Refusal::Cut(at));
+            }
+            Prefixed::Part {
+                start: next,
+                end: next + value as usize,
+            }
+        }
+        Number::Refused(r) => Prefixed::Refused(r),
+    }
+}
+
+// The hash list at a place. Its hashes are not walked: how many stand there whole follows from the bytes that are left.
+pub fn length_prefixed_hashes(s: &[u8], at: usize, end: usize) -> HashList
+    ensures { λ r. ⌜ r ≡ hashListAt (now (s .entry)) at end ⌝ }
+{
+    let n = length_prefix(s, at, end, HASHES as u64);
+    match n {
+        Number::Value { value, next } => {
+            let whole = left(s, next, end) / HASH_SIZE;
+            if (whole as u64) < value {
+                return HashList::Refused(Refusal::Cut(next + HASH_SIZE * whole));
+            }
+            let count = value as usize;
+            HashList::Hashes {
+                start: next,
+                count,
+                next: next + HASH_SIZE * count,
+            }
+        }
+        Number::Refused(r) => HashList::Refused(r),
+    }
+}
