@@ -11,8 +11,6 @@ use lib.ListN.{length, getD, set, drop, length-set}
 use lib.Seq.{sets, drop-cons, drop-length}
 use Rattle.wire.proofs.encode.copy_into.Statement.{statement}
 use Rattle.wire.proofs.encode.copy_into.Tie as tie
-use Rattle.wire.proofs.encode.copy_into.Reads as reads
-use Rattle.wire.proofs.encode.copy_into.Lts as lts
 
 abbrev Inv-loop : tie.InvT-loop
 Inv-loop out₀ at bytes i₀ out i =

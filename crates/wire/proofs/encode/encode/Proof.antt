@@ -11,42 +11,30 @@ use Rattle.wire.proofs.Number.{shortest-ten, put-then}
 use borrow.Author.Needs.{needs}
 use Rattle.wire.proofs.encode.encode.Statement.{statement}
 use Rattle.wire.proofs.encode.encode.Tie as tie
-use Rattle.wire.proofs.encode.encode.Reads as reads
-use Rattle.wire.proofs.encode.encode.Lts as lts
-use Rattle.wire.proofs.encode.copy_into.Reads as copy-into-reads
-use Rattle.wire.proofs.leb128.put_unsigned.Reads as put-unsigned-reads
-use Rattle.wire.proofs.leb128.unsigned_size.Reads as unsigned-size-reads
 
--- src/encode.rt:31:16
 unsigned-size-requires : tie.Need-unsigned-size-requires
 unsigned-size-requires c κs = search needs
 
 joined : (size : ℕ) (a b : List ℕ) → size ≡ length a → size + length b ≡ length (a ++ b)
 joined size a b e = simp length-append (ap (λ (k : ℕ). k + length b) e)
 
--- src/encode.rt:31:16
 add-size : tie.Need-add-size
 add-size c = omega (arith, shortest-ten (c .before .before .before .args .count) (c .before .before .before .fits .count .fits), c .unsigned-size .ensures)
 
--- src/encode.rt:33:9
 returns : tie.Need-returns
 returns c =
     let a = c .before .before .before .before .args in
     no-room _ _ _ (joined _ (shortest (a .count)) (now (a .bytes)) (c .before .unsigned-size .ensures)) (c .if1 .taken)
 
--- src/encode.rt:35:9
 put-unsigned-requires : tie.Need-put-unsigned-requires
 put-unsigned-requires c κs = search needs
 
--- src/encode.rt:36:5
 copy-into-requires : tie.Need-copy-into-requires
 copy-into-requires c κs = search needs
 
--- src/encode.rt:28:1
 same-length : tie.Need-same-length
 same-length c = search needs
 
--- src/encode.rt:28:1
 returns-2 : tie.Need-returns-2
 returns-2 c =
     let copy = c .before .before .copy-into in

@@ -3,19 +3,13 @@ use Rattle.wire.specs.Item.{prefixedBytes}
 use borrow.Author.Needs.{needs}
 use Rattle.wire.proofs.encode.encode_bytes.Statement.{statement}
 use Rattle.wire.proofs.encode.encode_bytes.Tie as tie
-use Rattle.wire.proofs.encode.encode_bytes.Reads as reads
-use Rattle.wire.proofs.encode.encode_bytes.Lts as lts
-use Rattle.wire.proofs.encode.encode.Reads as encode-reads
 
--- src/encode.rt:44:5
 encode-requires : tie.Need-encode-requires
 encode-requires c κs = search needs
 
--- src/encode.rt:41:1
 same-length : tie.Need-same-length
 same-length c = search needs
 
--- src/encode.rt:41:1
 returns : tie.Need-returns
 unfolding prefixedBytes
 returns c = c .before .before .encode .ensures

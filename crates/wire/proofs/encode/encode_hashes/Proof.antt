@@ -17,9 +17,6 @@ use Rattle.wire.specs.Number.{shortest}
 use borrow.Author.Needs.{needs}
 use Rattle.wire.proofs.encode.encode_hashes.Statement.{statement}
 use Rattle.wire.proofs.encode.encode_hashes.Tie as tie
-use Rattle.wire.proofs.encode.encode_hashes.Reads as reads
-use Rattle.wire.proofs.encode.encode_hashes.Lts as lts
-use Rattle.wire.proofs.encode.encode.Reads as encode-reads
 
 too-many : (s : List ℕ) → 1024 * 32 < length s → hashListOutput s ≡ refuse (PastSize 0)
 unfolding hashListOutput
@@ -36,31 +33,24 @@ whole s b h g =
     let fits : 0 + 32 * (length s / 32) ≤ length s = omega arith in
     rw (le-ltb _ _ h, eq-eqb _ _ g, length-hashes-at s 0 (length s / 32), hashes-at-bytes s 0 (length s / 32) b fits, e, take-length s)
 
--- src/encode.rt:52:8
 mul-if1 : tie.Need-mul-if1
 mul-if1 c = search needs
 
--- src/encode.rt:53:9
 returns : tie.Need-returns
 returns c = rw (too-many _ (c .if1 .taken)) (refused _ _)
 
--- src/encode.rt:56:44
 mul-t8 : tie.Need-mul-t8
 mul-t8 c = search needs
 
--- src/encode.rt:56:9
 returns-2 : tie.Need-returns-2
 returns-2 c = rw (partial _ (c .before .if1 .left) (c .if2 .taken)) (refused _ _)
 
--- src/encode.rt:58:5
 encode-requires : tie.Need-encode-requires
 encode-requires c κs = search needs
 
--- src/encode.rt:48:1
 same-length : tie.Need-same-length
 same-length c = search needs
 
--- src/encode.rt:48:1
 returns-3 : tie.Need-returns-3
 returns-3 c =
     let f = c .before .before .before .before in

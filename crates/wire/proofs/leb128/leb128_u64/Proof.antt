@@ -4,20 +4,13 @@ use Rattle.wire.proofs.Number.{number-within}
 use borrow.Author.Needs.{needs}
 use Rattle.wire.proofs.leb128.leb128_u64.Statement.{statement}
 use Rattle.wire.proofs.leb128.leb128_u64.Tie as tie
-use Rattle.wire.proofs.leb128.leb128_u64.Reads as reads
-use Rattle.wire.proofs.leb128.leb128_u64.Lts as lts
-use Rattle.wire.proofs.leb128.read.Reads as read-reads
-use Rattle.wire.proofs.leb128.within.Reads as within-reads
 
--- src/leb128.rt:26:17
 within-requires : tie.Need-within-requires
 within-requires c κs = search needs
 
--- src/leb128.rt:26:5
 read-requires : tie.Need-read-requires
 read-requires c κs = search needs
 
--- src/leb128.rt:23:1
 returns : tie.Need-returns
 returns c = c .read .ensures ∙ number-within _ _ _ _ _ (c .before .within .ensures)
 

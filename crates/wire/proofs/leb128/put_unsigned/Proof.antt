@@ -10,8 +10,6 @@ use Rattle.wire.specs.Number.{shortest}
 use Rattle.wire.proofs.Number.{shortest-length-more, length-one, put-more, put-one}
 use Rattle.wire.proofs.leb128.put_unsigned.Statement.{statement}
 use Rattle.wire.proofs.leb128.put_unsigned.Tie as tie
-use Rattle.wire.proofs.leb128.put_unsigned.Reads as reads
-use Rattle.wire.proofs.leb128.put_unsigned.Lts as lts
 
 abbrev Inv-loop : tie.InvT-loop
 Inv-loop out₀ at n rest₀ i₀ out rest i =

@@ -22,8 +22,6 @@ use Rattle.wire.proofs.Number.{
 }
 use Rattle.wire.proofs.leb128.read.Statement.{statement}
 use Rattle.wire.proofs.leb128.read.Tie as tie
-use Rattle.wire.proofs.leb128.read.Reads as reads
-use Rattle.wire.proofs.leb128.read.Lts as lts
 
 abbrev Inv-loop : tie.InvT-loop
 Inv-loop s at end most i₀ least₀ value₀ scale₀ shift₀ i least value scale shift =

@@ -9,8 +9,6 @@ use Rattle.wire.specs.Number.{shortest}
 use Rattle.wire.proofs.Number.{shortest-ten, shortest-length-more, length-one}
 use Rattle.wire.proofs.leb128.unsigned_size.Statement.{statement}
 use Rattle.wire.proofs.leb128.unsigned_size.Tie as tie
-use Rattle.wire.proofs.leb128.unsigned_size.Reads as reads
-use Rattle.wire.proofs.leb128.unsigned_size.Lts as lts
 
 abbrev Inv-loop : tie.InvT-loop
 Inv-loop n rest₀ size₀ rest size =

@@ -3,28 +3,19 @@ use Rattle.rules.proofs.Outputs.{written-bytes, no-room}
 use borrow.Author.Needs.{needs}
 use Rattle.wire.proofs.leb128.write_unsigned.Statement.{statement}
 use Rattle.wire.proofs.leb128.write_unsigned.Tie as tie
-use Rattle.wire.proofs.leb128.write_unsigned.Reads as reads
-use Rattle.wire.proofs.leb128.write_unsigned.Lts as lts
-use Rattle.wire.proofs.leb128.put_unsigned.Reads as put-unsigned-reads
-use Rattle.wire.proofs.leb128.unsigned_size.Reads as unsigned-size-reads
 
--- src/leb128.rt:110:9
 unsigned-size-requires : tie.Need-unsigned-size-requires
 unsigned-size-requires c κs = search needs
 
--- src/leb128.rt:112:9
 returns : tie.Need-returns
 returns c = no-room _ _ _ (c .before .unsigned-size .ensures) (c .if1 .taken)
 
--- src/leb128.rt:114:5
 put-unsigned-requires : tie.Need-put-unsigned-requires
 put-unsigned-requires c κs = search needs
 
--- src/leb128.rt:107:1
 same-length : tie.Need-same-length
 same-length c = search needs
 
--- src/leb128.rt:107:1
 returns-2 : tie.Need-returns-2
 returns-2 c =
     let f = c .before .before .before .before .before in

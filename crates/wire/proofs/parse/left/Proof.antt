@@ -7,26 +7,19 @@ use Rattle.wire.proofs.Item.{left-is}
 use borrow.Author.Needs.{needs}
 use Rattle.wire.proofs.parse.left.Statement.{statement}
 use Rattle.wire.proofs.parse.left.Tie as tie
-use Rattle.wire.proofs.parse.left.Reads as reads
-use Rattle.wire.proofs.parse.left.Lts as lts
-use Rattle.wire.proofs.leb128.within.Reads as within-reads
 
 none : (at stop m : ℕ) → stop ≡ m → stop ≤ at → 0 ≡ m - at
 none at stop m e h = omega arith
 
--- src/parse.rt:28:9
 within-requires : tie.Need-within-requires
 within-requires c κs = search needs
 
--- src/parse.rt:29:20
 sub-result : tie.Need-sub-result
 sub-result c = search needs
 
--- src/parse.rt:25:1
 returns : tie.Need-returns
 returns c = ap (λ (k : ℕ). k - c .before .before .before .args .at) (c .before .within .ensures) ∙ sym (left-is _ _ _)
 
--- src/parse.rt:25:1
 returns-2 : tie.Need-returns-2
 returns-2 c = none _ _ _ (c .before .within .ensures) (c .if1 .left) ∙ sym (left-is _ _ _)
 

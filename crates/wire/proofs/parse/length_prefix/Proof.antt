@@ -16,9 +16,6 @@ use Rattle.wire.proofs.Item.{left-is}
 use borrow.Author.Needs.{needs}
 use Rattle.wire.proofs.parse.length_prefix.Statement.{statement}
 use Rattle.wire.proofs.parse.length_prefix.Tie as tie
-use Rattle.wire.proofs.parse.length_prefix.Reads as reads
-use Rattle.wire.proofs.parse.length_prefix.Lts as lts
-use Rattle.wire.proofs.leb128.leb128_u64.Reads as leb128-u64-reads
 
 module _ (limit : ℕ) (s : List ℕ) (at end : ℕ) where
   refused : (r : Refusal) → numberAt most64 s at end ≡ Refused r → Refused r ≡ countAt limit s at end
@@ -34,31 +31,25 @@ module _ (limit : ℕ) (s : List ℕ) (at end : ℕ) where
     unfolding countAt afterNumber
     counted h = rw (q, le-ltb _ _ h)
 
--- src/parse.rt:36:9
 leb128-u64-requires : tie.Need-leb128-u64-requires
 leb128-u64-requires c κs = search needs
 
--- src/parse.rt:38:25
 enum-known-n : tie.Need-enum-known-n
 enum-known-n c = search needs
 
--- src/parse.rt:40:17
 returns : tie.Need-returns
 returns c =
     let m = c .before .before in
     past _ _ _ _ _ _ (sym (m .before .before .leb128-u64 .ensures) ∙ m .n .given .1) (c .if1 .taken)
 
--- src/parse.rt:44:25
 enum-known-n-2 : tie.Need-enum-known-n-2
 enum-known-n-2 c = search needs
 
--- src/parse.rt:33:1
 returns-2 : tie.Need-returns-2
 returns-2 c =
     let m = c .before .before in
     counted _ _ _ _ _ _ (sym (m .before .before .leb128-u64 .ensures) ∙ m .n .given .1) (c .if1 .left)
 
--- src/parse.rt:33:1
 returns-3 : tie.Need-returns-3
 returns-3 c =
     let m = c .before in

@@ -17,10 +17,6 @@ use Rattle.wire.proofs.Item.{left-is}
 use borrow.Author.Needs.{needs}
 use Rattle.wire.proofs.parse.length_prefixed_bytes.Statement.{statement}
 use Rattle.wire.proofs.parse.length_prefixed_bytes.Tie as tie
-use Rattle.wire.proofs.parse.length_prefixed_bytes.Reads as reads
-use Rattle.wire.proofs.parse.length_prefixed_bytes.Lts as lts
-use Rattle.wire.proofs.leb128.leb128_u64.Reads as leb128-u64-reads
-use Rattle.wire.proofs.parse.left.Reads as left-reads
 
 module _ (s : List ℕ) (at end : ℕ) where
   refused : (r : Refusal) → numberAt most64 s at end ≡ Refused r → NoPart r ≡ prefixedAt s at end
@@ -36,41 +32,33 @@ module _ (s : List ℕ) (at end : ℕ) where
     unfolding prefixedAt afterNumber
     part h = rw (q, ← e, le-ltb _ _ h)
 
--- src/parse.rt:52:9
 leb128-u64-requires : tie.Need-leb128-u64-requires
 leb128-u64-requires c κs = search needs
 
--- src/parse.rt:54:25
 enum-known-n : tie.Need-enum-known-n
 enum-known-n c = search needs
 
--- src/parse.rt:55:17
 left-requires : tie.Need-left-requires
 left-requires c κs = search needs
 
--- src/parse.rt:56:17
 returns : tie.Need-returns
 returns c =
     let m = c .before .before .before in
     cut _ _ _ _ _ _ (sym (m .before .before .leb128-u64 .ensures) ∙ m .n .given .1) (c .before .left .ensures) (c .if1 .taken)
 
--- src/parse.rt:60:22
 add-t13 : tie.Need-add-t13
 add-t13 c =
     let a = c .before .before .before .before .before .before .before .args in
     omega (arith, left-is (now (a .s)) (c .before .before .before .n .given .0 .1 .0) (a .end), c .before .left .ensures)
 
--- src/parse.rt:63:25
 enum-known-n-2 : tie.Need-enum-known-n-2
 enum-known-n-2 c = search needs
 
--- src/parse.rt:49:1
 returns-2 : tie.Need-returns-2
 returns-2 c =
     let m = c .before .before .before in
     part _ _ _ _ _ _ (sym (m .before .before .leb128-u64 .ensures) ∙ m .n .given .1) (c .before .left .ensures) (c .if1 .left)
 
--- src/parse.rt:49:1
 returns-3 : tie.Need-returns-3
 returns-3 c =
     let m = c .before in

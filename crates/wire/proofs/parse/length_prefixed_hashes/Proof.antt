@@ -17,10 +17,6 @@ use Rattle.wire.proofs.Item.{left-is}
 use borrow.Author.Needs.{needs}
 use Rattle.wire.proofs.parse.length_prefixed_hashes.Statement.{statement}
 use Rattle.wire.proofs.parse.length_prefixed_hashes.Tie as tie
-use Rattle.wire.proofs.parse.length_prefixed_hashes.Reads as reads
-use Rattle.wire.proofs.parse.length_prefixed_hashes.Lts as lts
-use Rattle.wire.proofs.parse.left.Reads as left-reads
-use Rattle.wire.proofs.parse.length_prefix.Reads as length-prefix-reads
 
 module _ (s : List ℕ) (at end : ℕ) where
   refused : (r : Refusal) → countAt 1024 s at end ≡ Refused r → NoHashes r ≡ hashListAt s at end
@@ -36,55 +32,44 @@ module _ (s : List ℕ) (at end : ℕ) where
     unfolding hashListAt afterNumber
     whole h = rw (q, ← e, le-ltb _ _ h)
 
--- src/parse.rt:71:9
 length-prefix-requires : tie.Need-length-prefix-requires
 length-prefix-requires c κs = search needs
 
--- src/parse.rt:73:25
 enum-known-n : tie.Need-enum-known-n
 enum-known-n c = search needs
 
--- src/parse.rt:74:25
 left-requires : tie.Need-left-requires
 left-requires c κs = search needs
 
--- src/parse.rt:76:62
 mul-t15 : tie.Need-mul-t15
 mul-t15 c = search needs
 
--- src/parse.rt:76:55
 add-t16 : tie.Need-add-t16
 add-t16 c =
     let a = c .before .before .before .before .before .before .before .args in
     omega (arith, left-is (now (a .s)) (c .before .before .before .n .given .0 .1 .0) (a .end), c .before .left .ensures)
 
--- src/parse.rt:76:17
 returns : tie.Need-returns
 returns c =
     let m = c .before .before .before in
     cut _ _ _ _ _ _ (sym (m .before .before .length-prefix .ensures) ∙ m .n .given .1) (c .before .left .ensures) (c .if1 .taken)
 
--- src/parse.rt:82:30
 mul-t12 : tie.Need-mul-t12
 mul-t12 c = search needs
 
--- src/parse.rt:82:23
 add-t18 : tie.Need-add-t18
 add-t18 c =
     let a = c .before .before .before .before .before .before .before .args in
     omega (arith, left-is (now (a .s)) (c .before .before .before .n .given .0 .1 .0) (a .end), c .before .left .ensures)
 
--- src/parse.rt:85:25
 enum-known-n-2 : tie.Need-enum-known-n-2
 enum-known-n-2 c = search needs
 
--- src/parse.rt:68:1
 returns-2 : tie.Need-returns-2
 returns-2 c =
     let m = c .before .before .before in
     whole _ _ _ _ _ _ (sym (m .before .before .length-prefix .ensures) ∙ m .n .given .1) (c .before .left .ensures) (c .if1 .left)
 
--- src/parse.rt:68:1
 returns-3 : tie.Need-returns-3
 returns-3 c =
     let m = c .before in

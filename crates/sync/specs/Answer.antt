@@ -1,0 +1,40 @@
+-- The four words of an answer, as exported calls write them: 0 and what was found, or the refusal's number and value.
+use Prim.Native.Nat.{ℕ}
+use mathlib.Core.List.{List, [], _∷_}
+use mathlib.Core.Path.{_≡_}
+use lib.ListN.{length}
+use Rattle.rules.specs.Output.{Output, answerOf, contentOf}
+use Rattle.rules.specs.Refusal.{numberOf, valueOf}
+use Rattle.rules.specs.declared.output.Write.{Write}
+use Rattle.rules.specs.declared.output.Write.the-variants.{Wrote, Refused as NotWritten}
+use Rattle.rules.specs.declared.refusal.Refusal.{Refusal}
+use Rattle.wire.specs.declared.leb128.Number.{Number}
+use Rattle.wire.specs.declared.leb128.Number.the-variants.{Value, Refused as NoNumber}
+use Rattle.wire.specs.declared.parse.HashList.{HashList}
+use Rattle.wire.specs.declared.parse.HashList.the-variants.{Hashes, Refused as NoHashes}
+use Rattle.wire.specs.declared.parse.Prefixed.{Prefixed}
+use Rattle.wire.specs.declared.parse.Prefixed.the-variants.{Part, Refused as NoPart}
+
+abbrev pub refusalWords : Refusal → List ℕ
+refusalWords r = numberOf r ∷ valueOf r ∷ 0 ∷ 0 ∷ []
+
+abbrev pub numberWords : Number → List ℕ
+numberWords (Value n next) = 0 ∷ n ∷ next ∷ 0 ∷ []
+numberWords (NoNumber r) = refusalWords r
+
+abbrev pub prefixedWords : Prefixed → List ℕ
+prefixedWords (Part start end) = 0 ∷ start ∷ end ∷ 0 ∷ []
+prefixedWords (NoPart r) = refusalWords r
+
+abbrev pub hashListWords : HashList → List ℕ
+hashListWords (Hashes start count next) = 0 ∷ start ∷ count ∷ next ∷ []
+hashListWords (NoHashes r) = refusalWords r
+
+abbrev pub writeWords : Write → List ℕ
+writeWords (Wrote size) = 0 ∷ size ∷ 0 ∷ 0 ∷ []
+writeWords (NotWritten r) = refusalWords r
+
+-- A writing call: its words, and the buffer at exit.
+pub record Answered (o : Output) (before after words : List ℕ) : Type 0 where
+  pub answer : words ≡ writeWords (answerOf o (length before))
+  pub content : after ≡ contentOf o before

@@ -1,0 +1,49 @@
+// An answer as four words.
+use rules::output::Write;
+use rules::refusal::Refusal;
+use wire::leb128::Number;
+use wire::parse::{HashList, Prefixed};
+ghost use mathlib.Core.Path.{_≡_};
+ghost use Rattle.sync.specs.Answer.{refusalWords, numberWords, prefixedWords, hashListWords, writeWords};
+
+pub fn refusal_words(r: Refusal) -> [u64; 4]
+    ensures { λ w. ⌜ w ≡ refusalWords r ⌝ }
+{
+    [r.number(), r.value(), 0, 0]
+}
+
+pub fn number_words(n: Number) -> [u64; 4]
+    ensures { λ w. ⌜ w ≡ numberWords n ⌝ }
+{
+    match n {
+        Number::Value { value, next } => [0, value, next as u64, 0],
+        Number::Refused(r) => refusal_words(r),
+    }
+}
+
+pub fn prefixed_words(p: Prefixed) -> [u64; 4]
+    ensures { λ w. ⌜ w ≡ prefixedWords p ⌝ }
+{
+    match p {
+        Prefixed::Part { start, end } => [0, start as u64, end as u64, 0],
+        Prefixed::Refused(r) => refusal_words(r),
+    }
+}
+
+pub fn hash_list_words(h: HashList) -> [u64; 4]
+    ensures { λ w. ⌜ w ≡ hashListWords h ⌝ }
+{
+    match h {
+        HashList::Hashes { start, count, next } => [0, start as u64, count as u64, next as u64],
+        HashList::Refused(r) => refusal_words(r),
+    }
+}
+
+pub fn write_words(o: Write) -> [u64; 4]
+    ensures { λ w. ⌜ w ≡ writeWords o ⌝ }
+{
+    match o {
+        Write::Wrote(length) => [0, length as u64, 0, 0],
+        Write::Refused(r) => refusal_words(r),
+    }
+}
