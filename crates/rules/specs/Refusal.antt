@@ -12,7 +12,7 @@ use Rattle.rules.specs.declared.refusal.Refusal.the-variants.{
   LoadFailed,
   BadWaitingRow,
   BadSession,
-  BadRowsBefore
+  BadRowsBefore,
 }
 
 -- The column "No.".

@@ -43,7 +43,7 @@ sizes =
       chunks = 4096;
       field = 8192;
       probes = 64;
-      hashesToSend = 2048
+      hashesToSend = 2048;
     }
 
 -- Every limit in the record's order, as a host is told them.

@@ -2,7 +2,8 @@
 use rules::output::Write;
 use rules::refusal::Refusal;
 use wire::leb128::Number;
-use wire::parse::{HashList, Prefixed};
+use wire::parse::HashList;
+use wire::parse::Prefixed;
 ghost use mathlib.Core.Path.{_≡_};
 ghost use Rattle.sync.specs.Answer.{refusalWords, numberWords, prefixedWords, hashListWords, writeWords};
 

@@ -1,5 +1,8 @@
 // Calls of the crate `wire`.
-use crate::answer::{hash_list_words, number_words, prefixed_words, write_words};
+use crate::answer::hash_list_words;
+use crate::answer::number_words;
+use crate::answer::prefixed_words;
+use crate::answer::write_words;
 ghost use mathlib.Core.Path.{_≡_};
 ghost use Rattle.rules.specs.Output.{Output};
 ghost use Rattle.sync.specs.Answer.{numberWords, prefixedWords, hashListWords, Answered};

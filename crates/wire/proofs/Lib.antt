@@ -1,2 +1,4 @@
+-- Laws that the crates above cite.
 pub mod Item
+pub mod Meaning
 pub mod Number

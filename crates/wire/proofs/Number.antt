@@ -100,7 +100,7 @@ onward-more : (v c t low : ℕ) (f : Found) → onward v c t (goOn low f) ≡ on
 unfolding onward goOn
 onward-more v c t low (ends n size) =
     let e : (low + 128 * n) * c ≡ low * c + n * (c * 128) =
-        add-mul low (128 * n) c ∙ ap (λ (k : ℕ). low * c + k) (ap (λ (k : ℕ). k * c) (mul-comm 128 n) ∙ mul-assoc n 128 c ∙ ap (λ (k : ℕ). n * k) (mul-comm 128 c))
+    add-mul low (128 * n) c ∙ ap (λ (k : ℕ). low * c + k) (ap (λ (k : ℕ). k * c) (mul-comm 128 n) ∙ mul-assoc n 128 c ∙ ap (λ (k : ℕ). n * k) (mul-comm 128 c))
     in
     ap₂ ends (omega arith) (omega arith)
 onward-more v c t low cut = refl
@@ -160,7 +160,7 @@ module _ (most : ℕ) (s : List ℕ) (at end i least value scale : ℕ) where
     reading-low l = rw (slice-next s i end here inside, find-low least ((most - value) / scale) (getD s i 0) (slice (i + 1) end s) l)
 
     pub reading-high : least ≤ getD s i 0 → (most - value) / scale < getD s i 0
-      → reading most s at end i least value scale ≡ Refused (BadNumber at)
+        → reading most s at end i least value scale ≡ Refused (BadNumber at)
     unfolding reading answerAt onward
     reading-high l m =
         rw (slice-next s i end here inside, find-high least ((most - value) / scale) (getD s i 0) (slice (i + 1) end s) l m)
@@ -169,24 +169,26 @@ module _ (most : ℕ) (s : List ℕ) (at end i least value scale : ℕ) where
       pub reading-ends : getD s i 0 < 128 → reading most s at end i least value scale ≡ Value (value + getD s i 0 * scale) (i + 1)
       unfolding reading answerAt onward
       reading-ends e =
-          rw
-          (slice-next s i end here inside,
-          find-end least ((most - value) / scale) (getD s i 0) (slice (i + 1) end s) l m e)
+          rw (
+            slice-next s i end here inside,
+            find-end least ((most - value) / scale) (getD s i 0) (slice (i + 1) end s) l m e,
+          )
           (ap (Value (value + getD s i 0 * scale)) (omega arith))
 
       pub reading-more : 0 < scale → value + (getD s i 0 - 128) * scale ≤ most → 128 ≤ getD s i 0
-        → reading most s at end i least value scale
+          → reading most s at end i least value scale
           ≡ reading most s at end (i + 1) 1 (value + (getD s i 0 - 128) * scale) (scale * 128)
       unfolding reading
       reading-more p v e =
           let t : i + 1 - at ≡ suc (i - at) = omega arith in
-          rw
-          (slice-next s i end here inside,
-          find-more least ((most - value) / scale) (getD s i 0) (slice (i + 1) end s) l m e,
-          onward-more value scale (i - at) (getD s i 0 - 128)
-            (find 1 (((most - value) / scale - (getD s i 0 - 128)) / 128) (slice (i + 1) end s)),
-          most-more most value scale (getD s i 0 - 128) p v,
-          t)
+          rw (
+            slice-next s i end here inside,
+            find-more least ((most - value) / scale) (getD s i 0) (slice (i + 1) end s) l m e,
+            onward-more value scale (i - at) (getD s i 0 - 128)
+                (find 1 (((most - value) / scale - (getD s i 0 - 128)) / 128) (slice (i + 1) end s)),
+            most-more most value scale (getD s i 0 - 128) p v,
+            t,
+          )
 
 -- that nothing in the loop overflows
 

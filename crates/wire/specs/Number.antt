@@ -39,8 +39,8 @@ pub data Means (most : ℕ) (bytes : List ℕ) : Found → Type 0 where
   good : (n : ℕ) (rest : List ℕ) → n ≤ most → bytes ≡ shortest n ++ rest → Means most bytes (ends n (length (shortest n)))
   short : (n b : ℕ) (rest : List ℕ) → n ≤ most → bytes ++ b ∷ rest ≡ shortest n → Means most bytes cut
   hopeless : ((n : ℕ) (rest : List ℕ) → n ≤ most → bytes ≡ shortest n ++ rest → ⊥)
-    → ((n : ℕ) (ending : List ℕ) → n ≤ most → bytes ++ ending ≡ shortest n → ⊥)
-    → Means most bytes bad
+      → ((n : ℕ) (ending : List ℕ) → n ≤ most → bytes ++ ending ≡ shortest n → ⊥)
+      → Means most bytes bad
 
 -- After a byte of 128 or more: its low seven bits, and 128 times what follows.
 unfoldable pub goOn : ℕ → Found → Found

@@ -1,8 +1,10 @@
 // Prefixed strings and hash lists, written (`encode_hashes` and `encode_many` of src/sync.rs).
-use crate::leb128::{put_unsigned, unsigned_size};
+use crate::leb128::put_unsigned;
+use crate::leb128::unsigned_size;
 use rules::output::Write;
 use rules::refusal::Refusal;
-use rules::sizes::{HASHES, HASH_SIZE};
+use rules::sizes::HASH_SIZE;
+use rules::sizes::HASHES;
 ghost use mathlib.Core.Path.{_≡_};
 ghost use Prim.Native.Nat.{_+_, _≤_};
 ghost use mathlib.Core.List.{_++_};

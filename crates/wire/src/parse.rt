@@ -1,7 +1,10 @@
 // Counts, prefixed strings and hash lists, read (the parsers of src/storage/parse.rs that sync uses).
-use crate::leb128::{leb128_u64, within, Number};
+use crate::leb128::Number;
+use crate::leb128::leb128_u64;
+use crate::leb128::within;
 use rules::refusal::Refusal;
-use rules::sizes::{HASHES, HASH_SIZE};
+use rules::sizes::HASH_SIZE;
+use rules::sizes::HASHES;
 ghost use mathlib.Core.Path.{_≡_};
 ghost use Rattle.wire.specs.Item.{leftAt, countAt, prefixedAt, hashListAt};
 

@@ -17,7 +17,7 @@ Inv-loop out₀ at bytes i₀ out i =
     record {
       upto : i ≤ length bytes;
       long : length out ≡ length out₀;
-      same : sets out (at + i) (drop i bytes) ≡ sets out₀ at bytes
+      same : sets out (at + i) (drop i bytes) ≡ sets out₀ at bytes;
     }
 
 abbrev μ-loop : tie.MeasureT-loop
@@ -56,7 +56,7 @@ loop-again c =
     record {
       upto = omega arith;
       long = simp length-set (l .loop .inv .long);
-      same = copied-more _ _ _ _ (c .before .loop-test .taken) ∙ l .loop .inv .same
+      same = copied-more _ _ _ _ (c .before .loop-test .taken) ∙ l .loop .inv .same;
     }
 
 same-length : tie.Need-same-length Inv-loop μ-loop

@@ -17,7 +17,7 @@ Inv-loop out₀ at n rest₀ i₀ out rest i =
       fits : rest < 2 ^ 64;
       long : length out ≡ length out₀;
       room : i + length (shortest rest) ≡ at + length (shortest n);
-      same : sets out i (shortest rest) ≡ sets out₀ at (shortest n)
+      same : sets out i (shortest rest) ≡ sets out₀ at (shortest n);
     }
 
 abbrev μ-loop : tie.MeasureT-loop
@@ -47,7 +47,7 @@ loop-again c =
       fits = omega arith;
       long = simp length-set (c .before .loop .inv .long);
       room = omega (arith, shortest-length-more (c .before .loop .rest) (c .loop-test .taken));
-      same = put-more _ _ _ (c .loop-test .taken) ∙ c .before .loop .inv .same
+      same = put-more _ _ _ (c .loop-test .taken) ∙ c .before .loop .inv .same;
     }
 
 cast-out-2 : tie.Need-cast-out-2 Inv-loop μ-loop
@@ -66,7 +66,7 @@ returns : tie.Need-returns Inv-loop μ-loop
 returns c =
     record {
       place = omega (arith, length-one (c .before .loop .rest) (c .loop-test .left));
-      content = put-one _ _ _ (c .loop-test .left) ∙ c .before .loop .inv .same
+      content = put-one _ _ _ (c .loop-test .left) ∙ c .before .loop .inv .same;
     }
 
 pub put-unsigned-spec : {M : Type 1} → statement M

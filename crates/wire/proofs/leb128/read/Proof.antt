@@ -18,7 +18,7 @@ use Rattle.wire.proofs.Number.{
   room-for,
   high-bit-off,
   next-power,
-  narrow
+  narrow,
 }
 use Rattle.wire.proofs.leb128.read.Statement.{statement}
 use Rattle.wire.proofs.leb128.read.Tie as tie
@@ -30,7 +30,7 @@ Inv-loop s at end most i₀ least₀ value₀ scale₀ shift₀ i least value sc
       small : value ≤ most;
       power : scale ≡ 2 ^ shift;
       short : shift < 64;
-      rest : reading most s at end i least value scale ≡ numberAt most s at end
+      rest : reading most s at end i least value scale ≡ numberAt most s at end;
     }
 
 abbrev μ-loop : tie.MeasureT-loop
@@ -43,7 +43,7 @@ loop-holds c =
       small = omega arith;
       power = refl;
       short = omega arith;
-      rest = reading-starts _ _ _ _
+      rest = reading-starts _ _ _ _;
     }
 
 shared-slice-read-b : tie.Need-shared-slice-read-b Inv-loop μ-loop
@@ -87,7 +87,7 @@ returns-2 c =
 -- past the second test the number so far, with this byte, is at most `most`
 small-enough : (c : tie.Else2 Inv-loop μ-loop)
     → let l = c .before .before .before .before in
-      l .loop .value + getD (l .before .args .s .now) (l .loop .i) 0 * l .loop .scale ≤ l .before .args .most
+    l .loop .value + getD (l .before .args .s .now) (l .loop .i) 0 * l .loop .scale ≤ l .before .args .most
 small-enough c =
     let l = c .before .before .before .before in
     room-for _ _ _ _ _ (l .loop .inv .power) (l .loop .inv .small) (c .if2 .left)
@@ -116,8 +116,8 @@ returns-3 c =
 
 seven-bits : (c : tie.Else3 Inv-loop μ-loop)
     → let l = c .before .before .before .before .before in
-      let b = getD (l .before .args .s .now) (l .loop .i) 0 in
-      b * l .loop .scale ≡ (b - 128) * l .loop .scale + l .loop .scale * 128
+    let b = getD (l .before .args .s .now) (l .loop .i) 0 in
+    b * l .loop .scale ≡ (b - 128) * l .loop .scale + l .loop .scale * 128
 seven-bits c = high-bit-off _ _ (c .if3 .left)
 
 mul-value : tie.Need-mul-value Inv-loop μ-loop
@@ -160,7 +160,7 @@ loop-again c =
           (positive _ _ (l .loop .inv .power))
           (omega (arith, v, e))
           (c .if3 .left))
-          ∙ l .loop .inv .rest
+          ∙ l .loop .inv .rest;
     }
 
 returns-4 : tie.Need-returns-4 Inv-loop μ-loop
