@@ -1,0 +1,63 @@
+-- A record of a sample: kind, size, answer, input. What the definitions of wire answer to its input is held to the stored answer.
+use Prim.Native.Nat.{ℕ, _+_, _-_}
+use mathlib.Core.Bool.{Bool, true, false, cond, not, _&&_, _||_}
+use mathlib.Core.List.{List}
+use lib.Dec.{ltb, eqb}
+use lib.ListN.{length, getD, take, drop}
+use Rattle.sync.specs.Answer.{numberWords, prefixedWords, hashListWords}
+use Rattle.wire.specs.Item.{prefixedAt, hashListAt}
+use Rattle.wire.specs.Number.{numberAt, most64, mostFilter}
+use Rattle.replay.specs.Words.{u16At, wordsAt}
+use Rattle.replay.specs.declared.record.Record.{Record}
+use Rattle.replay.specs.declared.record.Record.the-variants.{Read, Bad}
+use Rattle.replay.specs.declared.record.Verdict.{Verdict}
+use Rattle.replay.specs.declared.record.Verdict.the-variants.{Same, Different, Unknown}
+
+-- Places within a record: of the size, of the answer, of the input.
+abbrev pub sizeAt : ℕ
+sizeAt = 1
+
+abbrev pub answerAt : ℕ
+answerAt = 3
+
+abbrev pub inputAt : ℕ
+inputAt = 35
+
+-- The first words are equal, and where they say that the input was accepted, so are the others. Of a refusal the original tells no more.
+unfoldable pub agreeing : List ℕ → List ℕ → Bool
+agreeing stored found =
+    eqb (getD stored 0 0) (getD found 0 0)
+    && (not (eqb (getD stored 0 0) 0)
+    || (eqb (getD stored 1 0) (getD found 1 0)
+    && (eqb (getD stored 2 0) (getD found 2 0) && eqb (getD stored 3 0) (getD found 3 0))))
+
+unfoldable pub compare : List ℕ → List ℕ → Verdict
+compare stored found = cond (agreeing stored found) Same Different
+
+-- The answer of each kind.
+unfoldable pub verdictOf : ℕ → List ℕ → List ℕ → Verdict
+verdictOf kind input stored =
+    cond (eqb kind 1)
+    (compare stored (numberWords (numberAt most64 input 0 (length input))))
+    (cond (eqb kind 2)
+    (compare stored (numberWords (numberAt mostFilter input 0 (length input))))
+    (cond (eqb kind 3)
+    (compare stored (prefixedWords (prefixedAt input 0 (length input))))
+    (cond (eqb kind 4) (compare stored (hashListWords (hashListAt input 0 (length input)))) Unknown)))
+
+-- A record of an unknown kind is bad.
+unfoldable pub recordOf : ℕ → ℕ → Verdict → Record
+recordOf kind next Same = Read kind true next
+recordOf kind next Different = Read kind false next
+recordOf kind next Unknown = Bad
+
+-- The record at a place, bad where the bytes end inside it.
+unfoldable pub recordAt : List ℕ → ℕ → Record
+recordAt s at =
+    let size = u16At s (at + sizeAt) in
+    let start = at + inputAt in
+    cond (ltb (length s - at) inputAt)
+    Bad
+    (cond (ltb (length s - start) size)
+    Bad
+    (recordOf (getD s at 0) (start + size) (verdictOf (getD s at 0) (take size (drop start s)) (wordsAt s (at + answerAt)))))

@@ -1,0 +1,80 @@
+-- The records of a sample, one after the other, and what is counted of them.
+use Prim.Native.Nat.{ℕ, zero, suc, _+_, _<_, _^_}
+use mathlib.Core.Bool.{Bool, true, false, cond}
+use mathlib.Core.List.{List}
+use mathlib.Core.Path.{_≡_}
+use lib.Dec.{ltb, eqb}
+use lib.ListN.{length, getD, set, replicate}
+use Rattle.replay.specs.Record.{recordAt}
+use Rattle.replay.specs.declared.record.Record.{Record}
+use Rattle.replay.specs.declared.record.Record.the-variants.{Read, Bad}
+use Rattle.replay.specs.declared.walk.Counts.{Counts}
+
+-- Kinds are below this; 0 is none.
+abbrev pub kinds : ℕ
+kinds = 5
+
+-- A walk meets records, each of a kind, that agree or not, and stops at a place.
+pub data Walk : Type 0 where
+  stops : ℕ → Walk
+  meets : ℕ → Bool → Walk → Walk
+
+-- What follows a record that was read.
+unfoldable pub afterRecord : Record → Walk → (ℕ → Bool → ℕ → Walk) → Walk
+afterRecord (Read kind same next) bad k = k kind same next
+afterRecord Bad bad k = bad
+
+-- The walk from a place, up to the end or the first bad record. The first argument bounds its steps.
+unfoldable pub walkFrom : ℕ → List ℕ → ℕ → Walk
+walkFrom zero s at = stops at
+walkFrom (suc k) s at =
+    cond (ltb at (length s))
+    (afterRecord (recordAt s at) (stops at) (λ kind same next. meets kind same (walkFrom k s next)))
+    (stops at)
+
+-- A record has bytes, so there are no more records than bytes.
+unfoldable pub walkOf : List ℕ → Walk
+walkOf s = walkFrom (length s) s 0
+
+abbrev pub oneIf : Bool → ℕ
+oneIf true = 1
+oneIf false = 0
+
+-- How many records of a kind a walk meets.
+unfoldable pub recordsIn : ℕ → Walk → ℕ
+recordsIn k (stops at) = 0
+recordsIn k (meets kind same w) = cond (eqb kind k) 1 0 + recordsIn k w
+
+-- How many of them agree.
+unfoldable pub agreeIn : ℕ → Walk → ℕ
+agreeIn k (stops at) = 0
+agreeIn k (meets kind same w) = cond (eqb kind k) (oneIf same) 0 + agreeIn k w
+
+-- Where it stops.
+unfoldable pub stopOf : Walk → ℕ
+stopOf (stops at) = at
+stopOf (meets kind same w) = stopOf w
+
+-- The counts before any record, and those with one more.
+abbrev pub fresh : Counts
+fresh = record { records = replicate kinds 0; agree = replicate kinds 0; end = 0 }
+
+abbrev pub added : Counts → ℕ → Bool → ℕ → Counts
+added c kind same next =
+    record {
+      records = set (c .records) kind (getD (c .records) kind 0 + 1);
+      agree = set (c .agree) kind (getD (c .agree) kind 0 + oneIf same);
+      end = next;
+    }
+
+-- A kind that is counted, and counts that one more fits.
+pub record Room (c : Counts) (kind : ℕ) (same : Bool) : Type 0 where
+  pub known : kind < kinds
+  pub records : getD (c .records) kind 0 + 1 < 2 ^ 64
+  pub agree : getD (c .agree) kind 0 + oneIf same < 2 ^ 64
+
+-- The counts of a walk, for each kind.
+pub record Counted (w : Walk) (r : Counts) : Type 0 where
+  pub records : (k : ℕ) → getD (r .records) k 0 ≡ recordsIn k w
+  pub agree : (k : ℕ) → getD (r .agree) k 0 ≡ agreeIn k w
+  pub end : r .end ≡ stopOf w

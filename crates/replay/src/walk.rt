@@ -1,0 +1,60 @@
+// Every record of a sample, counted by kind.
+use crate::record::Record;
+use crate::record::record_at;
+ghost use mathlib.Core.Path.{_≡_};
+ghost use Rattle.replay.specs.Walk.{oneIf, fresh, added, Room, walkOf, Counted};
+
+// Kinds are below this; 0 is none.
+const KINDS: usize = 5;
+
+// How many records of each kind there are, and how many of them agree, up to the place `end`: the sample's end, or the first bad record.
+pub struct Counts {
+    pub records: [u64; KINDS],
+    pub agree: [u64; KINDS],
+    pub end: usize,
+}
+
+impl Counts {
+    fn new() -> Self
+        ensures { λ r. ⌜ r ≡ fresh ⌝ }
+    {
+        Counts {
+            records: [0; KINDS],
+            agree: [0; KINDS],
+            end: 0,
+        }
+    }
+
+    // One record more, which ends at `next`.
+    fn add(mut self, kind: usize, same: bool, next: usize) -> Self
+        requires { ⌜ Room self kind same ⌝ }
+        ensures { λ r. ⌜ r ≡ added self kind same next ⌝ }
+    {
+        self.records[kind] += 1;
+        self.agree[kind] += one_if(same);
+        self.end = next;
+        self
+    }
+}
+
+fn one_if(b: bool) -> u64
+    ensures { λ r. ⌜ r ≡ oneIf b ⌝ }
+{
+    if b { 1 } else { 0 }
+}
+
+// Walks from record to record, and counts. It stops at a bad record, since nothing says where the next one starts.
+pub fn walk(s: &[u8]) -> Counts
+    ensures { λ r. ⌜ Counted (walkOf (now (s .entry))) r ⌝ }
+{
+    let mut counts = Counts::new();
+    let mut at = 0;
+    while at < s.len() {
+        let Record::Read { kind, same, next } = record_at(s, at) else {
+            return counts;
+        };
+        counts = counts.add(kind, same, next);
+        at = next;
+    }
+    counts
+}

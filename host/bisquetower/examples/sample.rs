@@ -1,0 +1,152 @@
+//! Reads and writes a few samples through the proved library, and prints what
+//! they are.
+
+use bisquetower::{raw, refusal};
+
+type Reader = fn(&[u8], usize, usize) -> [u64; 4];
+
+/// How the three numbers of an answer are told.
+type Telling = fn([u64; 3]) -> String;
+
+fn main() {
+    println!("Read by the proved library (bytes in hexadecimal, from place 0 unless told)");
+    numbers("Numbers up to 64 bits", raw::read_number);
+    numbers("Filter numbers, up to 4294967295", raw::read_filter_number);
+    prefixed_strings();
+    hash_lists();
+    writers();
+}
+
+fn numbers(title: &str, read: Reader) {
+    let tell: Telling = |[value, next, _]| format!("{value}, next place {next}");
+    heading(title);
+    line("zero", &[0], read, tell);
+    line("one byte's most", &[0x7f], read, tell);
+    line("two bytes, one over", &[0xac, 0x02, 0xff], read, tell);
+    line(
+        "the most of 32 bits",
+        &[0xff, 0xff, 0xff, 0xff, 0x0f],
+        read,
+        tell,
+    );
+    line("2 to the 32", &[0x80, 0x80, 0x80, 0x80, 0x10], read, tell);
+    line("cut after five bytes", &[0x80; 5], read, tell);
+    line("the most of 64 bits", &most_of_64_bits(1), read, tell);
+    line("more than that", &most_of_64_bits(2), read, tell);
+    line("cut", &[0x80], read, tell);
+    line("no bytes", &[], read, tell);
+    line("not shortest", &[0x80, 0x00], read, tell);
+    line_at(2, "from place 2", &[0x80, 0x00, 0x07], read, tell);
+    line_at(1, "not shortest, place 1", &[0x07, 0x80, 0x00], read, tell);
+}
+
+/// Nine bytes of seven ones each, and a tenth.
+fn most_of_64_bits(tenth: u8) -> [u8; 10] {
+    let mut bytes = [0xff; 10];
+    bytes[9] = tenth;
+    bytes
+}
+
+fn prefixed_strings() {
+    let tell: Telling = |[start, end, _]| format!("bytes from place {start} up to {end}");
+    heading("Prefixed strings");
+    line("\"sync\"", b"\x04sync", raw::read_prefixed, tell);
+    line("\"sync\", one over", b"\x04sync!", raw::read_prefixed, tell);
+    line("empty", b"\x00", raw::read_prefixed, tell);
+    line("cut", b"\x05sync", raw::read_prefixed, tell);
+    line(
+        "a length of 2^64 - 1",
+        &most_of_64_bits(1),
+        raw::read_prefixed,
+        tell,
+    );
+}
+
+fn hash_lists() {
+    let tell: Telling =
+        |[start, count, next]| format!("{count} hashes from place {start}, next place {next}");
+    heading("Hash lists");
+    line("no hashes", &[0], raw::read_hashes, tell);
+    line("two hashes", &hash_list(&[2], 64), raw::read_hashes, tell);
+    line(
+        "the second is cut",
+        &hash_list(&[2], 40),
+        raw::read_hashes,
+        tell,
+    );
+    line(
+        "1024, all there",
+        &hash_list(&[0x80, 0x08], 1024 * 32),
+        raw::read_hashes,
+        tell,
+    );
+    line(
+        "1025, none there",
+        &hash_list(&[0x81, 0x08], 0),
+        raw::read_hashes,
+        tell,
+    );
+    line("count not shortest", &[0x80, 0x00], raw::read_hashes, tell);
+}
+
+/// A count as it stands, and so many bytes of hashes.
+fn hash_list(count: &[u8], bytes: usize) -> Vec<u8> {
+    let hashes = (0..bytes).map(|k| (k / 32 + 1) as u8);
+    count.iter().copied().chain(hashes).collect()
+}
+
+fn writers() {
+    heading("Written by it");
+    written("300", 2, |out| raw::write_number(out, 300));
+    written("300, too little room", 1, |out| raw::write_number(out, 300));
+    written("\"sync\"", 5, |out| raw::write_prefixed(out, b"sync"));
+    written("one hash", 40, |out| raw::write_hashes(out, &[1; 32]));
+    written("a hash and a half", 60, |out| {
+        raw::write_hashes(out, &[1; 48])
+    });
+}
+
+fn heading(title: &str) {
+    println!("\n{title}");
+}
+
+fn line(name: &str, bytes: &[u8], read: Reader, tell: Telling) {
+    line_at(0, name, bytes, read, tell);
+}
+
+fn line_at(place: usize, name: &str, bytes: &[u8], read: Reader, tell: Telling) {
+    let answer = refusal::answer(read(bytes, place, bytes.len()));
+    print_line(name, &shown(bytes), answer.map(tell));
+}
+
+fn written(name: &str, room: usize, write: impl FnOnce(&mut [u8]) -> [u64; 4]) {
+    let mut out = vec![0; room];
+    let answer = refusal::answer(write(&mut out));
+    let bytes = match answer {
+        Ok([length, ..]) => shown(&out[..length as usize]),
+        Err(_) => String::new(),
+    };
+    let told = answer.map(|[length, ..]| format!("{length} bytes written, room for {room}"));
+    print_line(name, &bytes, told);
+}
+
+fn print_line(name: &str, bytes: &str, told: Result<String, refusal::Refusal>) {
+    let told = match told {
+        Ok(told) => told,
+        Err(refusal) => refusal.to_string(),
+    };
+    println!("  {name:<21} {bytes:<30} {told}");
+}
+
+/// Up to ten bytes, or the first few and how many there are.
+fn shown(bytes: &[u8]) -> String {
+    let hexadecimal = |bytes: &[u8]| {
+        let digits: Vec<String> = bytes.iter().map(|byte| format!("{byte:02x}")).collect();
+        digits.join(" ")
+    };
+    match bytes.len() {
+        0 => "(none)".to_string(),
+        1..=10 => hexadecimal(bytes),
+        length => format!("{} .. ({length} bytes)", hexadecimal(&bytes[..4])),
+    }
+}

@@ -1,0 +1,85 @@
+//! Answers as results, and refusals in words (document 01, Refusal numbers).
+
+use std::fmt;
+
+/// Why a call refused: 01's number, and the value that goes with it.
+#[derive(Clone, Copy, Debug, PartialEq, Eq)]
+pub struct Refusal {
+    pub number: u64,
+    pub value: u64,
+}
+
+/// The three numbers of a call that answered, or its refusal.
+pub fn answer(words: [u64; 4]) -> Result<[u64; 3], Refusal> {
+    match words {
+        [0, first, second, third] => Ok([first, second, third]),
+        [number, value, ..] => Err(Refusal { number, value }),
+    }
+}
+
+impl Refusal {
+    /// What the refusal is, and what its value is, in plain words.
+    pub fn sentence(&self) -> String {
+        let value = self.value;
+        match self.number {
+            1 => format!("the input ends inside the item that starts at place {value}"),
+            2 => format!("the first byte is {value:02x} (hexadecimal), which begins nothing that is read here"),
+            3 => format!("the number at place {value} isn't in its shortest form or is too large"),
+            // A size without a place and the place 0 have the same value.
+            4 if value == 0 => "a limit is passed, by what stands at place 0 or as a whole".to_string(),
+            4 => format!("a limit is passed by the count or filter at place {value}"),
+            5 => format!("the filter at place {value} has entries and 0 bits per entry"),
+            6 => format!("row {value} is the first bad row of the change table"),
+            7 => format!("the output buffer is too short: a length of {value} is wanted"),
+            8 => "the chunks could not be loaded".to_string(),
+            9 => format!("row {value} is the first bad row of the waiting table"),
+            10 => "the session is bad, or a filter passed as numbers is".to_string(),
+            11 => "more rows before loading are named than there are rows".to_string(),
+            number => format!("no refusal has the number {number} (its value: {value})"),
+        }
+    }
+}
+
+impl fmt::Display for Refusal {
+    fn fmt(&self, f: &mut fmt::Formatter<'_>) -> fmt::Result {
+        let Refusal { number, value } = self;
+        write!(f, "refusal {number}, value {value}: {}", self.sentence())
+    }
+}
+
+impl std::error::Error for Refusal {}
+
+#[cfg(test)]
+mod tests {
+    use super::*;
+
+    fn sentence(number: u64, value: u64) -> String {
+        Refusal { number, value }.sentence()
+    }
+
+    #[test]
+    fn the_first_word_tells_answers_from_refusals() {
+        assert_eq!(answer([0, 7, 8, 9]), Ok([7, 8, 9]));
+        let refusal = Refusal {
+            number: 7,
+            value: 64,
+        };
+        assert_eq!(answer([7, 64, 0, 0]), Err(refusal));
+    }
+
+    /// Refusals 8, 10 and 11 have the value 0 always, so theirs don't show it.
+    #[test]
+    fn each_sentence_is_its_own_and_shows_its_value() {
+        let sentences: Vec<String> = (1..=11).map(|number| sentence(number, 66)).collect();
+        for (k, one) in sentences.iter().enumerate() {
+            let number = k + 1;
+            let shown = if number == 2 { "42" } else { "66" };
+            assert_eq!(one.contains(shown), ![8, 10, 11].contains(&number), "{one}");
+            assert!(!sentences[..k].contains(one), "{one}");
+        }
+        assert_eq!(
+            sentence(12, 0),
+            "no refusal has the number 12 (its value: 0)"
+        );
+    }
+}

@@ -1,0 +1,57 @@
+//! The published crate's answers, in the words of docs/ABI.md as far as the
+//! crate says them.
+
+use bisquetower::raw::{Read, Reader};
+use crate_under_test::facade::{self, Kind};
+
+/// What the crate makes of a read.
+pub struct Answer {
+    /// 0 and the numbers; or the refusal's number that the kind of error is, and
+    /// three zeros: places aren't the crate's to say.
+    pub words: [u64; 4],
+    /// The bytes that it hands out, of a prefixed string or a hash list.
+    pub content: Vec<u8>,
+}
+
+/// The crate has no end of a part: it is lent the slice up to there.
+pub fn read(read: &Read) -> Answer {
+    let s = &read.s[..read.end.min(read.s.len())];
+    let answered = match read.reader {
+        Reader::Number => facade::read_u64(s, read.at).map(|(value, next)| number(value, next)),
+        Reader::FilterNumber => {
+            facade::read_u32(s, read.at).map(|(value, next)| number(value.into(), next))
+        }
+        Reader::Prefixed => facade::read_prefixed(s, read.at).map(|(string, next)| Answer {
+            words: [0, (next - string.len()) as u64, next as u64, 0],
+            content: string.to_vec(),
+        }),
+        Reader::Hashes => facade::read_hashes(s, read.at).map(|(hashes, next)| {
+            let content = hashes.concat();
+            let start = next - content.len();
+            Answer {
+                words: [0, start as u64, hashes.len() as u64, next as u64],
+                content,
+            }
+        }),
+    };
+    answered.unwrap_or_else(|kind| Answer {
+        words: [refusal_number(kind), 0, 0, 0],
+        content: Vec::new(),
+    })
+}
+
+fn number(value: u64, next: usize) -> Answer {
+    Answer {
+        words: [0, value, next as u64, 0],
+        content: Vec::new(),
+    }
+}
+
+/// The refusal that a kind of error is.
+fn refusal_number(kind: Kind) -> u64 {
+    match kind {
+        Kind::NotEnoughInput => 1,
+        Kind::TooLarge | Kind::Overlong => 3,
+        Kind::WrongType(_) | Kind::Other => panic!("no reader of items says {kind:?}"),
+    }
+}
