@@ -118,7 +118,7 @@ bytes-there-and-back bs h =
     equal-values _ bs (big-endian-bytes-bytes (length bs) (bigEndian bs)) h (length-big-endian-bytes (length bs) (bigEndian bs)) same
 
 -- Parts of a slice: its start, a slice of it, and the two that a place inside it makes.
-take-drop : (k a : ℕ) (s : List ℕ) → take k (drop a s) ≡ drop a (take (a + k) s)
+pub take-drop : (k a : ℕ) (s : List ℕ) → take k (drop a s) ≡ drop a (take (a + k) s)
 take-drop k zero s = rw zero-add
 take-drop k (suc a) [] = simp take-nil
 take-drop k (suc a) (x ∷ xs) = rw suc-add (take-drop k a xs)

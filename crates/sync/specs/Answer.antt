@@ -1,8 +1,12 @@
--- The four words of an answer, as exported calls write them: 0 and what was found, or the refusal's number and value.
+-- The words of an answer, as exported calls write them: 0 and what was found, or the refusal's number and value.
 use Prim.Native.Nat.{ℕ}
 use mathlib.Core.List.{List, [], _∷_}
 use mathlib.Core.Path.{_≡_}
 use lib.ListN.{length}
+use Rattle.bloom.specs.declared.contains.Contained.{Contained}
+use Rattle.bloom.specs.declared.contains.Contained.the-variants.{Yes, No, Refused as NotTested}
+use Rattle.bloom.specs.declared.parse.Parsed.{Parsed}
+use Rattle.bloom.specs.declared.parse.Parsed.the-variants.{Filter, Refused as NoFilter}
 use Rattle.rules.specs.Output.{Output, answerOf, contentOf}
 use Rattle.rules.specs.Refusal.{numberOf, valueOf}
 use Rattle.rules.specs.declared.output.Write.{Write}
@@ -33,6 +37,15 @@ hashListWords (NoHashes r) = refusalWords r
 abbrev pub writeWords : Write → List ℕ
 writeWords (Wrote size) = 0 ∷ size ∷ 0 ∷ 0 ∷ []
 writeWords (NotWritten r) = refusalWords r
+
+abbrev pub filterWords : Parsed → List ℕ
+filterWords (Filter n b p field size next) = 0 ∷ n ∷ b ∷ p ∷ field ∷ size ∷ next ∷ 0 ∷ []
+filterWords (NoFilter r) = numberOf r ∷ valueOf r ∷ 0 ∷ 0 ∷ 0 ∷ 0 ∷ 0 ∷ 0 ∷ []
+
+abbrev pub containedWords : Contained → List ℕ
+containedWords Yes = 0 ∷ 1 ∷ 0 ∷ 0 ∷ []
+containedWords No = 0 ∷ 0 ∷ 0 ∷ 0 ∷ []
+containedWords (NotTested r) = refusalWords r
 
 -- A writing call: its words, and the buffer at exit.
 pub record Answered (o : Output) (before after words : List ℕ) : Type 0 where

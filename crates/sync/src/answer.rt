@@ -1,11 +1,13 @@
-// An answer as four words.
+// An answer as words.
+use bloom::contains::Contained;
+use bloom::parse::Parsed;
 use rules::output::Write;
 use rules::refusal::Refusal;
 use wire::leb128::Number;
 use wire::parse::HashList;
 use wire::parse::Prefixed;
 ghost use mathlib.Core.Path.{_≡_};
-ghost use Rattle.sync.specs.Answer.{refusalWords, numberWords, prefixedWords, hashListWords, writeWords};
+ghost use Rattle.sync.specs.Answer.{refusalWords, numberWords, prefixedWords, hashListWords, writeWords, filterWords, containedWords};
 
 pub fn refusal_words(r: Refusal) -> [u64; 4]
     ensures { λ w. ⌜ w ≡ refusalWords r ⌝ }
@@ -46,5 +48,40 @@ pub fn write_words(o: Write) -> [u64; 4]
     match o {
         Write::Wrote(length) => [0, length as u64, 0, 0],
         Write::Refused(r) => refusal_words(r),
+    }
+}
+
+pub fn filter_words(f: Parsed) -> [u64; 8]
+    ensures { λ w. ⌜ w ≡ filterWords f ⌝ }
+{
+    match f {
+        Parsed::Filter {
+            entries,
+            bits,
+            probes,
+            field,
+            size,
+            next,
+        } => [
+            0,
+            entries,
+            bits,
+            probes,
+            field as u64,
+            size as u64,
+            next as u64,
+            0,
+        ],
+        Parsed::Refused(r) => [r.number(), r.value(), 0, 0, 0, 0, 0, 0],
+    }
+}
+
+pub fn contained_words(k: Contained) -> [u64; 4]
+    ensures { λ w. ⌜ w ≡ containedWords k ⌝ }
+{
+    match k {
+        Contained::Yes => [0, 1, 0, 0],
+        Contained::No => [0, 0, 0, 0],
+        Contained::Refused(r) => refusal_words(r),
     }
 }

@@ -1,0 +1,137 @@
+-- The filter rules taken apart and put together: the tests of `filterRules` as facts about the numbers, one law for each way to keep or to break
+-- them; and the size of a field, which has a bit for every entry and fits 64 bits.
+use Prim.Native.Nat.{ℕ, _*_, _≤_, _<_}
+use mathlib.Core.Bool.{Bool, true, false, _&&_, _||_}
+use mathlib.Core.Path.{_≡_, refl, sym, _∙_}
+use native.Mathlib.Nat.{mul-le-mul, le-mul-of-pos-right}
+use native.Mathlib.Omega.{arith}
+use borrow.Author.Tests.{ltb-true, ltb-false, leb-true, eqb-true, lt-ltb, le-ltb, le-leb, lt-leb, eq-eqb, ne-eqb}
+use lib.Dec.{ltb, leb, eqb}
+use Rattle.rules.specs.Sizes.{sizes}
+use Rattle.rules.proofs.Cases.{split, both, other}
+use Rattle.wire.specs.Number.{mostFilter}
+use Rattle.bloom.specs.Filter.{fieldSize, filterRules}
+
+-- ---- the size of a field
+
+pub product-most : (n b : ℕ) → n ≤ mostFilter → b ≤ mostFilter → n * b ≤ mostFilter * mostFilter
+product-most n b h g = mul-le-mul h g
+
+pub capacity-covers : (n b : ℕ) → 0 < b → n ≤ 8 * fieldSize n b
+unfolding fieldSize
+capacity-covers n b h = omega (arith, le-mul-of-pos-right n h)
+
+pub capacity-none : (b : ℕ) → fieldSize 0 b ≡ 0
+unfolding fieldSize
+capacity-none b = omega arith
+
+-- ---- breaking the rules
+
+module _ (n b p m : ℕ) where
+  pub past-entries : mostFilter < n → filterRules n b p m ≡ false
+  unfolding filterRules
+  past-entries h = rw (lt-leb _ _ h)
+
+  module _ (fn : n ≤ mostFilter) where
+    pub past-bits : mostFilter < b → filterRules n b p m ≡ false
+    unfolding filterRules
+    past-bits h = rw (le-leb _ _ fn, lt-leb _ _ h)
+
+    module _ (fb : b ≤ mostFilter) where
+      pub past-probes : mostFilter < p → filterRules n b p m ≡ false
+      unfolding filterRules
+      past-probes h = rw (le-leb _ _ fn, le-leb _ _ fb, lt-leb _ _ h)
+
+      module _ (fp : p ≤ mostFilter) where
+        pub other-size : (m ≡ fieldSize n b → ⊥) → filterRules n b p m ≡ false
+        unfolding filterRules
+        other-size h = rw (le-leb _ _ fn, le-leb _ _ fb, le-leb _ _ fp, ne-eqb _ _ h)
+
+        module _ (same : m ≡ fieldSize n b) where
+          pub no-entries : n ≡ 0 → filterRules n b p m ≡ true
+          unfolding filterRules
+          no-entries h = rw (le-leb _ _ fn, le-leb _ _ fb, le-leb _ _ fp, eq-eqb _ _ same, eq-eqb _ _ h)
+
+          module _ (some : n ≡ 0 → ⊥) where
+            pub no-bits : b ≡ 0 → filterRules n b p m ≡ false
+            unfolding filterRules
+            no-bits h =
+                let none : b ≤ 0 = omega arith in
+                rw (le-leb _ _ fn, le-leb _ _ fb, le-leb _ _ fp, eq-eqb _ _ same, ne-eqb _ _ some, le-ltb _ _ none)
+
+            module _ (bits : 0 < b) where
+              pub many-probes : sizes .probes < p → filterRules n b p m ≡ false
+              unfolding filterRules
+              many-probes h =
+                  rw (le-leb _ _ fn, le-leb _ _ fb, le-leb _ _ fp, eq-eqb _ _ same, ne-eqb _ _ some, lt-ltb _ _ bits, lt-leb _ _ h)
+
+              pub last-rule : p ≤ sizes .probes → filterRules n b p m ≡ leb m (sizes .field)
+              unfolding filterRules
+              last-rule h =
+                  rw (le-leb _ _ fn, le-leb _ _ fb, le-leb _ _ fp, eq-eqb _ _ same, ne-eqb _ _ some, lt-ltb _ _ bits, le-leb _ _ h)
+
+-- ---- keeping them
+
+-- What the rules say where there are entries.
+pub record Full (b p m : ℕ) : Type 0 where
+  pub someBits : 0 < b
+  pub fewProbes : p ≤ sizes .probes
+  pub small : m ≤ sizes .field
+  pub some : 0 < m
+
+-- What the rules say.
+pub record Ruled (n b p m : ℕ) : Type 0 where
+  pub entries : n ≤ mostFilter
+  pub bits : b ≤ mostFilter
+  pub probes : p ≤ mostFilter
+  pub size : m ≡ fieldSize n b
+  pub full : 0 < n → Full b p m
+
+-- That a field has a byte follows from the rest.
+pub full-of : (n b p m : ℕ) → 0 < n → 0 < b → p ≤ sizes .probes → m ≡ fieldSize n b → m ≤ sizes .field → Full b p m
+full-of n b p m some bits few same small =
+    record { someBits = bits; fewProbes = few; small = small; some = omega (arith, capacity-covers n b bits) }
+
+pub ruled : (n b p m : ℕ) → filterRules n b p m ≡ true → Ruled n b p m
+unfolding filterRules
+ruled n b p m e =
+    let numbers = leb n mostFilter && (leb b mostFilter && leb p mostFilter) in
+    let tests = ltb 0 b && (leb p (sizes .probes) && leb m (sizes .field)) in
+    let top = both numbers (eqb m (fieldSize n b) && (eqb n 0 || tests)) e in
+    let first = both (leb n mostFilter) (leb b mostFilter && leb p mostFilter) (top .0) in
+    let second = both (leb b mostFilter) (leb p mostFilter) (first .1) in
+    let sized = both (eqb m (fieldSize n b)) (eqb n 0 || tests) (top .1) in
+    let same : m ≡ fieldSize n b = eqb-true _ _ (sized .0) in
+    record {
+      entries = leb-true _ _ (first .0);
+      bits = leb-true _ _ (second .0);
+      probes = leb-true _ _ (second .1);
+      size = same;
+      full =
+          λ h.
+          let t = other (eqb n 0) tests (sized .1) (ne-eqb n 0 (omega arith)) in
+          let l = both (ltb 0 b) (leb p (sizes .probes) && leb m (sizes .field)) t in
+          let r = both (leb p (sizes .probes)) (leb m (sizes .field)) (l .1) in
+          full-of n b p m h (ltb-true _ _ (l .0)) (leb-true _ _ (r .0)) same (leb-true _ _ (r .1));
+    }
+
+-- The way back: without entries, with entries, and from all that the rules say.
+pub rules-none : (b p : ℕ) → b ≤ mostFilter → p ≤ mostFilter → filterRules 0 b p 0 ≡ true
+rules-none b p h g = no-entries 0 b p 0 (omega arith) h g (sym (capacity-none b)) refl
+
+pub rules-full : (n b p m : ℕ)
+    → 0 < n → n ≤ mostFilter → 0 < b → b ≤ mostFilter → p ≤ sizes .probes → m ≡ fieldSize n b → m ≤ sizes .field
+    → filterRules n b p m ≡ true
+rules-full n b p m some fn bits fb fp same small =
+    last-rule n b p m fn fb (omega arith) same (omega arith) bits fp ∙ le-leb _ _ small
+
+pub rules : (n b p m : ℕ) → Ruled n b p m → filterRules n b p m ≡ true
+rules n b p m r =
+    split (ltb 0 n)
+    (λ t.
+    let some : 0 < n = ltb-true _ _ t in
+    let f = r .full some in
+    rules-full n b p m some (r .entries) (f .someBits) (r .bits) (f .fewProbes) (r .size) (f .small))
+    (λ t.
+    let none : n ≤ 0 = ltb-false _ _ t in
+    no-entries n b p m (r .entries) (r .bits) (r .probes) (r .size) (omega arith))

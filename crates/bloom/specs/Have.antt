@@ -1,0 +1,91 @@
+-- A have as numbers: seven words a record in a lent list, with places into one lent buffer. 01, "The haves of a message are handed on as one
+-- lent list of records (place, counts), first as numbers in arrays".
+use Prim.Native.Nat.{ℕ, zero, suc, _+_, _*_, _/_, _%_, _<_, min}
+use mathlib.Core.Bool.{Bool, true, cond, _&&_}
+use mathlib.Core.List.{List, [], _∷_}
+use mathlib.Core.Path.{_≡_}
+use lib.Dec.{ltb, leb, eqb}
+use lib.ListN.{length, getD}
+use lib.Seq.{slice}
+use Rattle.rules.specs.Hash.{hashAt}
+use Rattle.rules.specs.Sizes.{sizes}
+use Rattle.rules.specs.declared.refusal.Refusal.the-variants.{Cut, PastSize, BadSession}
+use Rattle.bloom.specs.Filter.{Filter, filterRules, anyContains}
+use Rattle.bloom.specs.declared.contains.Contained.{Contained}
+use Rattle.bloom.specs.declared.contains.Contained.the-variants.{Yes, No, Refused}
+use Rattle.bloom.specs.declared.have.FilterNumbers.{FilterNumbers}
+use Rattle.bloom.specs.declared.have.LastSync.{LastSync}
+
+-- Words of a record, in order: place and count of the last-sync hashes, entries, bits, probes, place and length of the field.
+abbrev pub haveWords : ℕ
+haveWords = 7
+
+-- How many records a list has.
+abbrev pub haveCount : List ℕ → ℕ
+haveCount haves = length haves / haveWords
+
+-- The last-sync hashes' numbers in record i.
+abbrev pub lastSyncIn : List ℕ → ℕ → LastSync
+lastSyncIn haves i = record { place = getD haves (i * haveWords) 0; count = getD haves (i * haveWords + 1) 0 }
+
+-- The filter's numbers in record i.
+abbrev pub numbersIn : List ℕ → ℕ → FilterNumbers
+numbersIn haves i =
+    record {
+      entries = getD haves (i * haveWords + 2) 0;
+      bits = getD haves (i * haveWords + 3) 0;
+      probes = getD haves (i * haveWords + 4) 0;
+      place = getD haves (i * haveWords + 5) 0;
+      size = getD haves (i * haveWords + 6) 0;
+    }
+
+-- The filter that numbers are, its field standing in the lent bytes.
+unfoldable pub filterWith : List ℕ → FilterNumbers → Filter
+filterWith s f =
+    record { entries = f .entries; bits = f .bits; probes = f .probes; field = slice (f .place) (f .place + f .size) s }
+
+-- The filters of so many records from record i on, and of a whole list.
+unfoldable pub filtersFrom : List ℕ → List ℕ → ℕ → ℕ → List Filter
+filtersFrom s haves i zero = []
+filtersFrom s haves i (suc count) = filterWith s (numbersIn haves i) ∷ filtersFrom s haves (suc i) count
+
+unfoldable pub filtersOf : List ℕ → List ℕ → List Filter
+filtersOf s haves = filtersFrom s haves 0 (haveCount haves)
+
+-- Refusal 10, of a have's numbers: as many last-sync hashes as a list may have, standing inside the lent bytes; and a filter that keeps the
+-- filter rules, its field standing there too.
+unfoldable pub lastSyncGood : List ℕ → LastSync → Bool
+lastSyncGood s l = leb (l .count) (sizes .hashes) && leb (l .place + sizes .hash * l .count) (length s)
+
+unfoldable pub filterGood : List ℕ → FilterNumbers → Bool
+filterGood s f = filterRules (f .entries) (f .bits) (f .probes) (f .size) && leb (f .place + f .size) (length s)
+
+unfoldable pub haveGood : List ℕ → List ℕ → ℕ → Bool
+haveGood s haves i = lastSyncGood s (lastSyncIn haves i) && filterGood s (numbersIn haves i)
+
+-- So many haves from record i on.
+unfoldable pub havesGoodFrom : List ℕ → List ℕ → ℕ → ℕ → Bool
+havesGoodFrom s haves i zero = true
+havesGoodFrom s haves i (suc count) = haveGood s haves i && havesGoodFrom s haves (suc i) count
+
+-- A list of haves passed as numbers: whole records, and of the first 16 each one good.
+unfoldable pub havesGood : List ℕ → List ℕ → Bool
+havesGood s haves = eqb (length haves % haveWords) 0 && havesGoodFrom s haves 0 (min (haveCount haves) (sizes .haves))
+
+-- Every record's filter is good.
+pub record GoodFilters (s haves : List ℕ) : Type 0 where
+  pub each : (i : ℕ) → i < haveCount haves → filterGood s (numbersIn haves i) ≡ true
+
+-- Whether some filter of the haves contains a hash that is lent as bytes: 10 for the haves, 4 for more than 16, then 4 or 1 for a hash of
+-- another length.
+unfoldable pub containedIn : List ℕ → List ℕ → List ℕ → Contained
+containedIn s haves hash =
+    cond (havesGood s haves)
+    (cond (ltb (sizes .haves) (haveCount haves))
+    (Refused (PastSize 0))
+    (cond (ltb (sizes .hash) (length hash))
+    (Refused (PastSize 0))
+    (cond (ltb (length hash) (sizes .hash))
+    (Refused (Cut 0))
+    (cond (anyContains (filtersOf s haves) (hashAt hash 0)) Yes No))))
+    (Refused BadSession)

@@ -1,0 +1,125 @@
+// A filter read.
+use crate::rule::bits_capacity;
+use rules::refusal::Refusal;
+use rules::sizes::FIELD_SIZE;
+use rules::sizes::PROBES;
+use wire::leb128::Number;
+use wire::leb128::leb128_u32;
+use wire::parse::left;
+ghost use mathlib.Core.Path.{_≡_};
+ghost use Prim.Native.Nat.{_≤_};
+ghost use Rattle.bloom.specs.Read.{filterAt, numbersAt, fieldAt};
+ghost use Rattle.wire.specs.Number.{mostFilter};
+
+// 1% of false yeses; what a filter of no bytes has, and what filters are built with.
+pub const BITS_PER_ENTRY: u64 = 10;
+
+pub const NUM_PROBES: u64 = 7;
+
+// A filter that was read: its numbers, the place and length of its field, and the place where it ended.
+pub enum Parsed {
+    Filter {
+        entries: u64,
+        bits: u64,
+        probes: u64,
+        field: usize,
+        size: usize,
+        next: usize,
+    },
+    Refused(Refusal),
+}
+
+// The filter at a place, in the part that goes up to `end`.
+pub fn parse(s: &[u8], at: usize, end: usize) -> Parsed
+    ensures { λ r. ⌜ r ≡ filterAt (now (s .entry)) at end ⌝ }
+{
+    if left(s, at, end) == 0 {
+        return Parsed::Filter {
+            entries: 0,
+            bits: BITS_PER_ENTRY,
+            probes: NUM_PROBES,
+            field: at,
+            size: 0,
+            next: at,
+        };
+    }
+    parse_numbers(s, at, end)
+}
+
+// All three numbers are read before any of them is looked at.
+fn parse_numbers(s: &[u8], at: usize, end: usize) -> Parsed
+    ensures { λ r. ⌜ r ≡ numbersAt (now (s .entry)) at end ⌝ }
+{
+    let n = leb128_u32(s, at, end);
+    match n {
+        Number::Value {
+            value: entries,
+            next: at_bits,
+        } => {
+            let b = leb128_u32(s, at_bits, end);
+            match b {
+                Number::Value {
+                    value: bits,
+                    next: at_probes,
+                } => {
+                    let p = leb128_u32(s, at_probes, end);
+                    match p {
+                        Number::Value {
+                            value: probes,
+                            next: place,
+                        } => parse_field(s, at, end, entries, bits, probes, place),
+                        Number::Refused(r) => Parsed::Refused(r),
+                    }
+                }
+                Number::Refused(r) => Parsed::Refused(r),
+            }
+        }
+        Number::Refused(r) => Parsed::Refused(r),
+    }
+}
+
+// The field behind the numbers of the filter at `at`.
+fn parse_field(
+    s: &[u8],
+    at: usize,
+    end: usize,
+    entries: u64,
+    bits: u64,
+    probes: u64,
+    place: usize,
+) -> Parsed
+    requires { ⌜ (entries ≤ mostFilter) × (bits ≤ mostFilter) ⌝ }
+    ensures { λ r. ⌜ r ≡ fieldAt (now (s .entry)) at end entries bits probes place ⌝ }
+{
+    if entries == 0 {
+        return Parsed::Filter {
+            entries: 0,
+            bits,
+            probes,
+            field: place,
+            size: 0,
+            next: place,
+        };
+    }
+    if bits == 0 {
+        return Parsed::Refused(Refusal::NoBits(at));
+    }
+    if (PROBES as u64) < probes {
+        return Parsed::Refused(Refusal::PastSize(at));
+    }
+    let size = bits_capacity(entries, bits) as usize;
+    if FIELD_SIZE < size {
+        return Parsed::Refused(Refusal::PastSize(at));
+    }
+    if left(s, place, end) < size {
+        return Parsed::Refused(Refusal::Cut(place));
+    }
+    Parsed::Filter {
+        entries,
+        bits,
+        probes,
+        field: place,
+        size,
+        next: place + size,
+    }
+}
