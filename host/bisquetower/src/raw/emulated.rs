@@ -1,117 +1,185 @@
 //! The exported functions, run by an emulator: build.rs links libsync.a into the
-//! program caller.c, which takes calls from its standard input and writes their
-//! answers to its standard output. caller.c says how the bytes stand.
+//! program caller.c, which takes calls from its standard input and writes what
+//! they leave to its standard output. caller.c says how the bytes stand.
 
-use super::{Read, Reader, UNWRITTEN};
+use super::calls::NAMES;
+use super::UNWRITTEN;
 use std::cell::RefCell;
 use std::io::{Read as _, Write as _};
 use std::process::{Child, ChildStdin, ChildStdout, Command, Stdio};
 
-/// The calls, in the order of caller.c.
-#[derive(Clone, Copy)]
-enum Call {
-    Limits,
-    ReadNumber,
-    ReadFilterNumber,
-    ReadPrefixed,
-    ReadHashes,
-    WriteNumber,
-    WritePrefixed,
-    WriteHashes,
+/// An argument in C. Memory that is written goes there and comes back whole, so
+/// that every item which the library changed, and no other, changes here.
+// Which of them are used depends on the functions that are exported.
+#[allow(dead_code)]
+pub enum Arg<'i, 'a> {
+    Number(u64),
+    Bytes(&'i [u8]),
+    Words(&'i [u64]),
+    BytesOut(&'a mut [u8]),
+    WordsOut(&'a mut [u64]),
+    /// Words that a call writes and doesn't read: they needn't go there.
+    Answer(&'a mut [u64]),
+    /// How many items the argument before this one has.
+    Length,
 }
 
-/// How many bytes of requests go in one batch at most; caller.c has room for
-/// more than that and one request.
-const BATCH: usize = 16 << 20;
+/// How caller.c takes an argument.
+#[derive(Clone, Copy)]
+enum Kind {
+    Number,
+    Read,
+    Written,
+    Fresh,
+}
 
-/// How caller.c ends when the bytes around a lent buffer changed.
-const WROTE_OUTSIDE: i32 = 3;
+/// What comes back of a call.
+enum Out<'a> {
+    Bytes(&'a mut [u8]),
+    Words(&'a mut [u64]),
+}
+
+/// How many bytes go or come in one exchange at most, but for the last call's;
+/// caller.c has room for more than that.
+const EXCHANGE: usize = 16 << 20;
+
+const WORD: usize = 8;
+
+/// How caller.c ends when the bytes around a lent buffer changed: this and the
+/// call's number.
+const WROTE_OUTSIDE: usize = 16;
 
 thread_local! {
     // One program a thread, so that threads don't wait for each other.
     static CALLER: RefCell<Caller> = RefCell::new(Caller::start());
 }
 
-pub fn limits() -> [u64; 12] {
-    let mut batch = Vec::new();
-    add(&mut batch, Call::Limits, [0, 0], &[], &[]);
-    words(&exchange(&batch, 12 * 8))
+/// Many calls. One exchange with the emulator serves them all; where the library
+/// is linked, each is made at once.
+#[must_use = "what the calls write is there once the batch is run"]
+#[derive(Default)]
+pub struct Batch<'a> {
+    requests: Vec<u8>,
+    outs: Vec<Out<'a>>,
+    coming: usize,
 }
 
-pub fn read_many(reads: &[Read]) -> Vec<[u64; 4]> {
-    let mut answers = Vec::with_capacity(reads.len());
-    let mut batch = Vec::new();
-    let mut waiting = 0;
-    for (k, read) in reads.iter().enumerate() {
-        let numbers = [read.at as u64, read.end as u64];
-        add(&mut batch, Call::from(read.reader), numbers, &[], read.s);
-        waiting += 1;
-        if batch.len() >= BATCH || k + 1 == reads.len() {
-            answers.extend(exchange(&batch, waiting * 4 * 8).chunks(4 * 8).map(words));
-            batch.clear();
-            waiting = 0;
+impl<'a> Batch<'a> {
+    pub fn new() -> Self {
+        Batch::default()
+    }
+
+    /// Makes the calls, and gives back what was lent to them, written.
+    pub fn run(mut self) {
+        self.exchange();
+    }
+
+    /// Adds a call.
+    pub(super) fn call<const N: usize>(&mut self, number: u64, args: [Arg<'_, 'a>; N]) {
+        let start = self.requests.len();
+        self.word(number);
+        self.word(0);
+        let mut kinds = 0;
+        let mut length = 0;
+        for (k, arg) in args.into_iter().enumerate() {
+            let (kind, items) = self.argument(arg, length);
+            kinds |= (kind as u64) << (2 * k);
+            length = items;
+        }
+        let head = number | (N as u64) << 32;
+        self.requests[start..start + WORD].copy_from_slice(&head.to_le_bytes());
+        self.requests[start + WORD..start + 2 * WORD].copy_from_slice(&kinds.to_le_bytes());
+        if self.requests.len().max(self.coming) >= EXCHANGE {
+            self.exchange();
         }
     }
-    answers
-}
 
-pub fn write_number(out: &mut [u8], n: u64) -> [u64; 4] {
-    write(Call::WriteNumber, out, n, &[])
-}
-
-pub fn write_prefixed(out: &mut [u8], bytes: &[u8]) -> [u64; 4] {
-    write(Call::WritePrefixed, out, 0, bytes)
-}
-
-pub fn write_hashes(out: &mut [u8], hashes: &[u8]) -> [u64; 4] {
-    write(Call::WriteHashes, out, 0, hashes)
-}
-
-/// The buffer goes there and comes back whole, so that every byte which the
-/// library changed, and no other, changes here.
-fn write(call: Call, out: &mut [u8], n: u64, bytes: &[u8]) -> [u64; 4] {
-    let mut batch = Vec::new();
-    add(&mut batch, call, [n, 0], out, bytes);
-    let answer = exchange(&batch, 4 * 8 + out.len());
-    let (answer, buffer) = answer.split_at(4 * 8);
-    out.copy_from_slice(buffer);
-    words(answer)
-}
-
-impl From<Reader> for Call {
-    fn from(reader: Reader) -> Call {
-        match reader {
-            Reader::Number => Call::ReadNumber,
-            Reader::FilterNumber => Call::ReadFilterNumber,
-            Reader::Prefixed => Call::ReadPrefixed,
-            Reader::Hashes => Call::ReadHashes,
+    /// Adds an argument; returns its kind and how many items it has.
+    fn argument(&mut self, arg: Arg<'_, 'a>, length: usize) -> (Kind, usize) {
+        match arg {
+            Arg::Number(n) => {
+                self.word(n);
+                (Kind::Number, 0)
+            }
+            Arg::Length => {
+                self.word(length as u64);
+                (Kind::Number, 0)
+            }
+            Arg::Bytes(bytes) => {
+                self.bytes(bytes);
+                (Kind::Read, bytes.len())
+            }
+            Arg::Words(words) => {
+                self.words(words);
+                (Kind::Read, words.len())
+            }
+            Arg::BytesOut(bytes) => {
+                self.bytes(bytes);
+                let items = bytes.len();
+                self.comes(Out::Bytes(bytes), items);
+                (Kind::Written, items)
+            }
+            Arg::WordsOut(words) => {
+                self.words(words);
+                let items = words.len();
+                self.comes(Out::Words(words), items * WORD);
+                (Kind::Written, items)
+            }
+            Arg::Answer(words) => {
+                let items = words.len();
+                self.word((items * WORD) as u64);
+                self.comes(Out::Words(words), items * WORD);
+                (Kind::Fresh, items)
+            }
         }
     }
-}
 
-/// Adds a request to a batch.
-fn add(batch: &mut Vec<u8>, call: Call, numbers: [u64; 2], out: &[u8], bytes: &[u8]) {
-    let [first, second] = numbers;
-    for word in [
-        call as u64,
-        first,
-        second,
-        out.len() as u64,
-        bytes.len() as u64,
-    ] {
-        batch.extend(word.to_le_bytes());
+    fn word(&mut self, word: u64) {
+        self.requests.extend_from_slice(&word.to_le_bytes());
     }
-    batch.extend(out);
-    batch.extend(bytes);
-}
 
-fn exchange(batch: &[u8], answer_length: usize) -> Vec<u8> {
-    CALLER.with_borrow_mut(|caller| caller.exchange(batch, answer_length))
-}
+    /// A length and that many bytes, up to a whole word.
+    fn bytes(&mut self, bytes: &[u8]) {
+        self.word(bytes.len() as u64);
+        self.requests.extend_from_slice(bytes);
+        let whole = self.requests.len().next_multiple_of(WORD);
+        self.requests.resize(whole, 0);
+    }
 
-fn words<const N: usize>(bytes: &[u8]) -> [u64; N] {
-    let word = |k: usize| bytes[8 * k..8 * k + 8].try_into().expect("eight bytes");
-    std::array::from_fn(|k| u64::from_le_bytes(word(k)))
+    fn words(&mut self, words: &[u64]) {
+        self.word((words.len() * WORD) as u64);
+        for &word in words {
+            self.word(word);
+        }
+    }
+
+    fn comes(&mut self, out: Out<'a>, bytes: usize) {
+        self.outs.push(out);
+        self.coming += bytes.next_multiple_of(WORD);
+    }
+
+    fn exchange(&mut self) {
+        let answer = CALLER.with_borrow_mut(|caller| caller.exchange(&self.requests, self.coming));
+        let mut left = &answer[..];
+        for out in self.outs.drain(..) {
+            let bytes = match &out {
+                Out::Bytes(bytes) => bytes.len(),
+                Out::Words(words) => words.len() * WORD,
+            };
+            let (mine, others) = left.split_at(bytes.next_multiple_of(WORD));
+            left = others;
+            match out {
+                Out::Bytes(bytes) => bytes.copy_from_slice(&mine[..bytes.len()]),
+                Out::Words(words) => {
+                    for (word, bytes) in words.iter_mut().zip(mine.chunks_exact(WORD)) {
+                        *word = u64::from_le_bytes(bytes.try_into().expect("eight bytes"));
+                    }
+                }
+            }
+        }
+        self.requests.clear();
+        self.coming = 0;
+    }
 }
 
 struct Caller {
@@ -145,9 +213,11 @@ impl Caller {
         if let Err(error) = self.try_exchange(batch, &mut answer) {
             drop(self.input.take());
             let end = self.program.wait().ok().and_then(|end| end.code());
-            match end {
-                Some(WROTE_OUTSIDE) => panic!("a call of libsync.a wrote outside its buffer"),
-                _ => panic!("the calls of libsync.a broke off: {error}, {end:?}"),
+            let end = end.and_then(|end| usize::try_from(end).ok());
+            let outside = end.and_then(|end| NAMES.get(end.checked_sub(WROTE_OUTSIDE)?));
+            match outside {
+                Some(name) => panic!("{name} of libsync.a wrote outside its buffers"),
+                None => panic!("the calls of libsync.a broke off: {error}, {end:?}"),
             }
         }
         answer
