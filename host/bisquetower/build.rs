@@ -100,7 +100,7 @@ fn emulate(source: &Path, library: &Path) -> Result<(), String> {
     ];
     let compiled = Command::new(tools.join("clang"))
         .args(["--target=x86_64-unknown-linux-gnu", "-fuse-ld=lld"])
-        .args(["-O2", "-Wall", "-Wextra", "-Werror"])
+        .args(["-O2", "-Wall", "-Wextra", "-Werror", "-mgeneral-regs-only"])
         .args(alone)
         .arg("-I")
         .arg(&folder)

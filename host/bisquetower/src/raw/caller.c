@@ -2,16 +2,16 @@
 //
 // Standard input carries batches. A batch is two words, the length of its requests in bytes and what fresh words hold
 // before a call; then the requests. A request is two words, the call's number and above it, from bit 32, how many
-// arguments it has; the arguments' kinds, two bits each, lowest first; then the arguments:
+// arguments it has; the arguments' kinds, two bits each, lowest first; then a word for each argument, and what stands in
+// the memory of those that are read or written, each up to a whole word.
 //
-//     number     the word
-//     read       a length in bytes; the bytes, up to a whole word
+//     number     its word is passed
+//     read       its word is a length in bytes, and a pointer to memory of that length is passed
 //     written    the same
-//     fresh      a length in bytes, of whole words
+//     fresh      the same, and nothing stands there yet: a length of whole words
 //
-// A number is passed as it is, the others as a pointer to their memory. Once a batch is read whole, standard output gets
-// for each request the memory of its written and fresh arguments, up to whole words. Words are 64 bits, little-endian.
-// The end of the input ends the program.
+// Once a batch is read whole, standard output gets for each request the memory of its written and fresh arguments, each
+// up to a whole word. Words are 64 bits, little-endian. The end of the input ends the program.
 //
 // There is no C library here: this is built for a processor whose headers the host needn't have.
 
@@ -44,7 +44,8 @@ enum { WORD = 8, ROOM = (64 << 20) / WORD, GUARD = 8, GUARD_BYTE = 0xa5 };
 
 static const u64 guard_word = 0xa5a5a5a5a5a5a5a5;
 
-static u64 requests[ROOM], answers[ROOM], lent[ROOM];
+// A call is passed as many words as the longest has, its own first; those after a request's end are read and ignored.
+static u64 requests[ROOM + ARGUMENTS], answers[ROOM], lent[ROOM];
 
 static long system_call(long number, long a, long b, long c) {
     long result;
@@ -93,55 +94,55 @@ struct buffer {
 
 // The bytes from a buffer's last to the next whole word are guards too.
 static void set_guard(struct buffer b) {
-    u64 words = whole_words(b.length);
-    for (u64 i = b.length; i < words * WORD; i++) ((u8 *)b.start)[i] = GUARD_BYTE;
+    u64 words = b.length / WORD, cut = b.length % WORD;
+    if (cut != 0) b.start[words] = (b.start[words] & ~(~0ul << 8 * cut)) | (guard_word & ~0ul << 8 * cut), words++;
     fill(b.start + words, guard_word, GUARD);
 }
 
 static int guarded(struct buffer b) {
-    u64 words = whole_words(b.length), differing = 0;
-    for (u64 i = b.length; i < words * WORD; i++) differing |= ((u8 *)b.start)[i] ^ GUARD_BYTE;
+    u64 words = b.length / WORD, cut = b.length % WORD, differing = 0;
+    if (cut != 0) differing = (b.start[words++] ^ guard_word) & ~0ul << 8 * cut;
     for (u64 i = 0; i < GUARD; i++) differing |= b.start[words + i] ^ guard_word;
     return differing == 0;
 }
 
-static void call(function *f, const u64 *a) {
+// Six arguments go in registers, and putting none on the stack is the faster call.
+typedef void short_function(u64, u64, u64, u64, u64, u64);
+
+static void call(function *f, const u64 *a, u64 count) {
+    if (count <= 6) return ((short_function *)(u64)f)(a[0], a[1], a[2], a[3], a[4], a[5]);
     f(a[0], a[1], a[2], a[3], a[4], a[5], a[6], a[7], a[8], a[9], a[10], a[11], a[12], a[13], a[14], a[15],
       a[16], a[17], a[18], a[19], a[20], a[21], a[22], a[23], a[24], a[25], a[26], a[27], a[28], a[29], a[30], a[31]);
 }
 
 // One request. Memory that is written is lent between guards, so that a byte written outside of it is seen; memory that
 // is read is lent where it stands. Returns the place after the request.
-static const u64 *serve(const u64 *at, const u64 *end, u64 unwritten, u64 *used) {
-    static u64 arguments[ARGUMENTS];
+static u64 *serve(u64 *request, const u64 *end, u64 unwritten, u64 *used) {
     static struct buffer buffers[ARGUMENTS];
-    if (end - at < 2) finish(BAD_BATCH);
-    u64 which = *at & 0xffffffff, count = *at >> 32, kinds = at[1], written = 0;
-    if (CALLS <= which || ARGUMENTS < count) finish(BAD_BATCH);
-    u64 *free = lent + GUARD, *last = lent + ROOM - GUARD;
-    at += 2;
-    for (u64 k = 0; k < count; k++, kinds >>= 2) {
-        enum kind kind = kinds & 3;
-        if (at == end) finish(BAD_BATCH);
-        u64 value = *at++;
-        arguments[k] = value;
-        if (kind == NUMBER) continue;
-        u64 words = whole_words(value), standing = kind == FRESH ? 0 : words;
-        if ((u64)(end - at) < standing) finish(BAD_BATCH);
-        arguments[k] = (u64)at;
+    if (end - request < 2) finish(BAD_BATCH);
+    u64 which = *request & 0xffffffff, count = *request >> 32, written = 0;
+    if (CALLS <= which || ARGUMENTS < count || (u64)(end - request) < 2 + count) finish(BAD_BATCH);
+    u64 *arguments = request + 2, *at = arguments + count;
+    u64 *free = lent + GUARD, *last = lent + ROOM;
+    for (u64 kinds = request[1]; kinds != 0;) {
+        u64 k = (u64)__builtin_ctzl(kinds) / 2;
+        enum kind kind = kinds >> 2 * k & 3;
+        kinds &= ~(3ul << 2 * k);
+        u64 length = arguments[k], words = whole_words(length), standing = kind == FRESH ? 0 : words;
+        if (count <= k || (u64)(end - at) < standing) finish(BAD_BATCH);
+        arguments[k] = (u64)(kind == READ ? at : free);
         if (kind != READ) {
             if ((u64)(last - free) < words + GUARD) finish(BAD_BATCH);
-            struct buffer b = {free, value};
+            struct buffer b = {free, length};
             if (kind == FRESH) fill(free, unwritten, words);
             else copy(free, at, words);
             set_guard(b);
-            arguments[k] = (u64)free;
             buffers[written++] = b;
             free += words + GUARD;
         }
         at += standing;
     }
-    call(calls[which], arguments);
+    call(calls[which], arguments, count);
     struct buffer front = {lent, 0};
     if (!guarded(front)) finish(WROTE_OUTSIDE + which);
     for (u64 k = 0; k < written; k++) {
@@ -163,7 +164,7 @@ void run(void) {
         if (ROOM < words || header[0] % WORD != 0) finish(BAD_BATCH);
         receive(requests, header[0], 0);
         const u64 *end = requests + words;
-        for (const u64 *at = requests; at < end;) at = serve(at, end, header[1], &used);
+        for (u64 *at = requests; at < end;) at = serve(at, end, header[1], &used);
         send(answers, used * WORD);
     }
 }

@@ -39,9 +39,20 @@ enum Out<'a> {
     Words(&'a mut [u64]),
 }
 
-/// How many bytes go or come in one exchange at most, but for the last call's;
-/// caller.c has room for more than that.
-const EXCHANGE: usize = 16 << 20;
+impl Out<'_> {
+    /// In bytes.
+    fn size(&self) -> usize {
+        match self {
+            Out::Bytes(bytes) => bytes.len(),
+            Out::Words(words) => words.len() * WORD,
+        }
+    }
+}
+
+/// How many bytes go or come in one exchange, but for the last call's: enough
+/// that exchanges cost little, few enough to stay near the processor. caller.c
+/// has room for more.
+const EXCHANGE: usize = 1 << 18;
 
 const WORD: usize = 8;
 
@@ -74,99 +85,90 @@ impl<'a> Batch<'a> {
         self.exchange();
     }
 
-    /// Adds a call.
+    /// Adds a call: its head, a word for each argument, what stands in memory.
     pub(super) fn call<const N: usize>(&mut self, number: u64, args: [Arg<'_, 'a>; N]) {
         let start = self.requests.len();
-        self.word(number);
-        self.word(0);
+        self.requests.resize(start + (2 + N) * WORD, 0);
         let mut kinds = 0;
-        let mut length = 0;
+        let mut items = 0;
         for (k, arg) in args.into_iter().enumerate() {
-            let (kind, items) = self.argument(arg, length);
+            let (kind, word) = match arg {
+                Arg::Number(n) => (Kind::Number, n),
+                Arg::Length => (Kind::Number, items),
+                memory => {
+                    let (kind, size, length) = self.lend(memory);
+                    items = length as u64;
+                    (kind, (length * size) as u64)
+                }
+            };
             kinds |= (kind as u64) << (2 * k);
-            length = items;
+            self.set_word(start + (2 + k) * WORD, word);
         }
-        let head = number | (N as u64) << 32;
-        self.requests[start..start + WORD].copy_from_slice(&head.to_le_bytes());
-        self.requests[start + WORD..start + 2 * WORD].copy_from_slice(&kinds.to_le_bytes());
+        self.set_word(start, number | (N as u64) << 32);
+        self.set_word(start + WORD, kinds);
         if self.requests.len().max(self.coming) >= EXCHANGE {
             self.exchange();
         }
     }
 
-    /// Adds an argument; returns its kind and how many items it has.
-    fn argument(&mut self, arg: Arg<'_, 'a>, length: usize) -> (Kind, usize) {
+    /// Adds what stands in an argument's memory; returns its kind, the size of
+    /// its items and how many there are.
+    fn lend(&mut self, arg: Arg<'_, 'a>) -> (Kind, usize, usize) {
         match arg {
-            Arg::Number(n) => {
-                self.word(n);
-                (Kind::Number, 0)
-            }
-            Arg::Length => {
-                self.word(length as u64);
-                (Kind::Number, 0)
-            }
+            Arg::Number(_) | Arg::Length => unreachable!("it isn't memory"),
             Arg::Bytes(bytes) => {
-                self.bytes(bytes);
-                (Kind::Read, bytes.len())
+                self.add_bytes(bytes);
+                (Kind::Read, 1, bytes.len())
             }
             Arg::Words(words) => {
-                self.words(words);
-                (Kind::Read, words.len())
+                self.add_words(words);
+                (Kind::Read, WORD, words.len())
             }
             Arg::BytesOut(bytes) => {
-                self.bytes(bytes);
-                let items = bytes.len();
-                self.comes(Out::Bytes(bytes), items);
-                (Kind::Written, items)
+                self.add_bytes(bytes);
+                (Kind::Written, 1, self.comes(Out::Bytes(bytes)))
             }
             Arg::WordsOut(words) => {
-                self.words(words);
-                let items = words.len();
-                self.comes(Out::Words(words), items * WORD);
-                (Kind::Written, items)
+                self.add_words(words);
+                (Kind::Written, WORD, self.comes(Out::Words(words)))
             }
-            Arg::Answer(words) => {
-                let items = words.len();
-                self.word((items * WORD) as u64);
-                self.comes(Out::Words(words), items * WORD);
-                (Kind::Fresh, items)
-            }
+            Arg::Answer(words) => (Kind::Fresh, WORD, self.comes(Out::Words(words))),
         }
     }
 
-    fn word(&mut self, word: u64) {
-        self.requests.extend_from_slice(&word.to_le_bytes());
+    fn set_word(&mut self, place: usize, word: u64) {
+        self.requests[place..place + WORD].copy_from_slice(&word.to_le_bytes());
     }
 
-    /// A length and that many bytes, up to a whole word.
-    fn bytes(&mut self, bytes: &[u8]) {
-        self.word(bytes.len() as u64);
+    /// Adds bytes, up to a whole word.
+    fn add_bytes(&mut self, bytes: &[u8]) {
         self.requests.extend_from_slice(bytes);
         let whole = self.requests.len().next_multiple_of(WORD);
         self.requests.resize(whole, 0);
     }
 
-    fn words(&mut self, words: &[u64]) {
-        self.word((words.len() * WORD) as u64);
-        for &word in words {
-            self.word(word);
+    fn add_words(&mut self, words: &[u64]) {
+        for word in words {
+            self.requests.extend_from_slice(&word.to_le_bytes());
         }
     }
 
-    fn comes(&mut self, out: Out<'a>, bytes: usize) {
+    /// Keeps memory until the calls are made; returns how many items it has.
+    fn comes(&mut self, out: Out<'a>) -> usize {
+        self.coming += out.size().next_multiple_of(WORD);
+        let items = match &out {
+            Out::Bytes(bytes) => bytes.len(),
+            Out::Words(words) => words.len(),
+        };
         self.outs.push(out);
-        self.coming += bytes.next_multiple_of(WORD);
+        items
     }
 
     fn exchange(&mut self) {
         let answer = CALLER.with_borrow_mut(|caller| caller.exchange(&self.requests, self.coming));
         let mut left = &answer[..];
         for out in self.outs.drain(..) {
-            let bytes = match &out {
-                Out::Bytes(bytes) => bytes.len(),
-                Out::Words(words) => words.len() * WORD,
-            };
-            let (mine, others) = left.split_at(bytes.next_multiple_of(WORD));
+            let (mine, others) = left.split_at(out.size().next_multiple_of(WORD));
             left = others;
             match out {
                 Out::Bytes(bytes) => bytes.copy_from_slice(&mine[..bytes.len()]),
