@@ -47,6 +47,17 @@ impl Out<'_> {
             Out::Words(words) => words.len() * WORD,
         }
     }
+
+    fn take(self, from: &[u8]) {
+        match self {
+            Out::Bytes(bytes) => bytes.copy_from_slice(&from[..bytes.len()]),
+            Out::Words(words) => {
+                for (word, bytes) in words.iter_mut().zip(from.chunks_exact(WORD)) {
+                    *word = u64::from_le_bytes(bytes.try_into().expect("eight bytes"));
+                }
+            }
+        }
+    }
 }
 
 /// How many bytes go or come in one exchange, but for the last call's: enough
@@ -165,20 +176,14 @@ impl<'a> Batch<'a> {
     }
 
     fn exchange(&mut self) {
-        let answer = CALLER.with_borrow_mut(|caller| caller.exchange(&self.requests, self.coming));
-        let mut left = &answer[..];
-        for out in self.outs.drain(..) {
-            let (mine, others) = left.split_at(out.size().next_multiple_of(WORD));
-            left = others;
-            match out {
-                Out::Bytes(bytes) => bytes.copy_from_slice(&mine[..bytes.len()]),
-                Out::Words(words) => {
-                    for (word, bytes) in words.iter_mut().zip(mine.chunks_exact(WORD)) {
-                        *word = u64::from_le_bytes(bytes.try_into().expect("eight bytes"));
-                    }
-                }
+        CALLER.with_borrow_mut(|caller| {
+            let mut left = caller.exchange(&self.requests, self.coming);
+            for out in self.outs.drain(..) {
+                let (mine, others) = left.split_at(out.size().next_multiple_of(WORD));
+                out.take(mine);
+                left = others;
             }
-        }
+        });
         self.requests.clear();
         self.coming = 0;
     }
@@ -188,6 +193,7 @@ struct Caller {
     program: Child,
     input: Option<ChildStdin>,
     output: ChildStdout,
+    answer: Vec<u8>,
 }
 
 impl Caller {
@@ -205,14 +211,15 @@ impl Caller {
             input: program.stdin.take(),
             output,
             program,
+            answer: Vec::new(),
         }
     }
 
     /// The program answers a batch once it has all of it, so neither side waits
     /// on a full pipe that the other doesn't empty.
-    fn exchange(&mut self, batch: &[u8], answer_length: usize) -> Vec<u8> {
-        let mut answer = vec![0; answer_length];
-        if let Err(error) = self.try_exchange(batch, &mut answer) {
+    fn exchange(&mut self, batch: &[u8], answer_length: usize) -> &[u8] {
+        self.answer.resize(answer_length, 0);
+        if let Err(error) = self.try_exchange(batch) {
             drop(self.input.take());
             let end = self.program.wait().ok().and_then(|end| end.code());
             let end = end.and_then(|end| usize::try_from(end).ok());
@@ -222,15 +229,15 @@ impl Caller {
                 None => panic!("the calls of libsync.a broke off: {error}, {end:?}"),
             }
         }
-        answer
+        &self.answer
     }
 
-    fn try_exchange(&mut self, batch: &[u8], answer: &mut [u8]) -> std::io::Result<()> {
+    fn try_exchange(&mut self, batch: &[u8]) -> std::io::Result<()> {
         let input = self.input.as_mut().expect("open until the drop");
         input.write_all(&(batch.len() as u64).to_le_bytes())?;
         input.write_all(&UNWRITTEN.to_le_bytes())?;
         input.write_all(batch)?;
-        self.output.read_exact(answer)
+        self.output.read_exact(&mut self.answer)
     }
 }
 
