@@ -1,0 +1,24 @@
+//! Prints how long the library takes beside the crate, on the same inputs in the
+//! same run. `make bench` at the repository's root runs it.
+
+mod measure;
+mod wire;
+
+use bisquetower::raw;
+use std::process::ExitCode;
+
+fn main() -> ExitCode {
+    if !raw::LINKED {
+        eprintln!("An emulator's times say nothing of the library's: use `make bench` at the repository's root.");
+        return ExitCode::FAILURE;
+    }
+    let processor = std::env::consts::ARCH;
+    if processor == "x86_64" {
+        println!("Library: libsync.a as `make lib` builds it, for x86-64.");
+    } else {
+        println!("Library: the same module compiled for this processor, {processor}; libsync.a itself is for x86-64.");
+    }
+    measure::print_heading();
+    wire::measure_all();
+    ExitCode::SUCCESS
+}

@@ -1,0 +1,82 @@
+//! One line a measurement: what a call takes in the library and in the crate.
+
+use std::hint::black_box;
+use std::time::{Duration, Instant};
+
+/// How many batches each side gets, in turn, so that both see the same machine;
+/// the best one counts, since all that disturbs a batch makes it longer.
+const BATCHES: usize = 30;
+
+/// How long a batch takes at least.
+const BATCH: Duration = Duration::from_millis(5);
+
+/// What is measured.
+pub struct Line<'a> {
+    pub name: &'a str,
+    pub size: &'a str,
+    /// How many calls a run of either side makes.
+    pub calls: usize,
+    /// What a reader must know to compare the two.
+    pub note: &'a str,
+}
+
+pub fn print_heading() {
+    println!("Nanoseconds a call, the best of {BATCHES} batches; ratio: crate / library.\n");
+    let heading = ["name", "size", "library", "crate", "ratio"];
+    print_columns(heading, "note");
+}
+
+fn print_columns([name, size, library, published, ratio]: [&str; 5], note: &str) {
+    println!("{name:<18} {size:<12} {library:>10} {published:>10} {ratio:>7}  {note}");
+}
+
+/// Measures both sides. A run of a side makes all of the calls and returns a
+/// number made of their answers; the two must be equal, so that neither side can
+/// be fast by doing something else.
+pub fn line(line: Line, mut library: impl FnMut() -> u64, mut published: impl FnMut() -> u64) {
+    assert_eq!(library(), published(), "{}, {}", line.name, line.size);
+    let library_runs = runs_in_a_batch(&mut library);
+    let published_runs = runs_in_a_batch(&mut published);
+    let (mut ours, mut theirs) = (f64::MAX, f64::MAX);
+    for _ in 0..BATCHES {
+        ours = ours.min(nanoseconds(&mut library, library_runs));
+        theirs = theirs.min(nanoseconds(&mut published, published_runs));
+    }
+    let a_call = |a_run: f64| a_run / line.calls as f64;
+    let shown = |time: f64| format!("{time:.2}");
+    print_columns(
+        [
+            line.name,
+            line.size,
+            &shown(a_call(ours)),
+            &shown(a_call(theirs)),
+            &shown(theirs / ours),
+        ],
+        line.note,
+    );
+}
+
+/// How many runs fill a batch. Finding it out warms the side up.
+fn runs_in_a_batch(side: &mut impl FnMut() -> u64) -> usize {
+    let mut runs = 1;
+    loop {
+        let start = Instant::now();
+        run(side, runs);
+        if start.elapsed() >= BATCH {
+            return runs;
+        }
+        runs *= 2;
+    }
+}
+
+fn nanoseconds(side: &mut impl FnMut() -> u64, runs: usize) -> f64 {
+    let start = Instant::now();
+    run(side, runs);
+    start.elapsed().as_nanos() as f64 / runs as f64
+}
+
+fn run(side: &mut impl FnMut() -> u64, runs: usize) {
+    for _ in 0..runs {
+        black_box(side());
+    }
+}
