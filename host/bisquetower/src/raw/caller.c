@@ -11,7 +11,8 @@
 //     fresh      the same, and nothing stands there yet: a length of whole words
 //
 // Once a batch is read whole, standard output gets for each request the memory of its written and fresh arguments, each
-// up to a whole word. Words are 64 bits, little-endian. The end of the input ends the program.
+// up to a whole word, and in the end one word, how many requests there were: so the host waits even for calls that write
+// nothing. Words are 64 bits, little-endian. The end of the input ends the program.
 //
 // There is no C library here: this is built for a processor whose headers the host needn't have.
 
@@ -160,12 +161,13 @@ void run(void) {
     for (;;) {
         u64 header[2];
         receive(header, sizeof header, 1);
-        u64 words = header[0] / WORD, used = 0;
+        u64 words = header[0] / WORD, used = 0, served = 0;
         if (ROOM < words || header[0] % WORD != 0) finish(BAD_BATCH);
         receive(requests, header[0], 0);
         const u64 *end = requests + words;
-        for (u64 *at = requests; at < end;) at = serve(at, end, header[1], &used);
+        for (u64 *at = requests; at < end; served++) at = serve(at, end, header[1], &used);
         send(answers, used * WORD);
+        send(&served, WORD);
     }
 }
 

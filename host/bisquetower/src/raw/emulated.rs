@@ -84,6 +84,7 @@ pub struct Batch<'a> {
     requests: Vec<u8>,
     outs: Vec<Out<'a>>,
     coming: usize,
+    calls: u64,
 }
 
 impl<'a> Batch<'a> {
@@ -117,6 +118,7 @@ impl<'a> Batch<'a> {
         }
         self.set_word(start, number | (N as u64) << 32);
         self.set_word(start + WORD, kinds);
+        self.calls += 1;
         if self.requests.len().max(self.coming) >= EXCHANGE {
             self.exchange();
         }
@@ -177,15 +179,17 @@ impl<'a> Batch<'a> {
 
     fn exchange(&mut self) {
         CALLER.with_borrow_mut(|caller| {
-            let mut left = caller.exchange(&self.requests, self.coming);
+            let mut left = caller.exchange(&self.requests, self.coming + WORD);
             for out in self.outs.drain(..) {
                 let (mine, others) = left.split_at(out.size().next_multiple_of(WORD));
                 out.take(mine);
                 left = others;
             }
+            assert_eq!(left, self.calls.to_le_bytes(), "every call was made");
         });
         self.requests.clear();
         self.coming = 0;
+        self.calls = 0;
     }
 }
 
