@@ -5,8 +5,8 @@
 //! The library is for x86-64. There it is linked into the crate. On another
 //! processor it is linked into the program src/raw/caller.c, which the emulator
 //! of the kit that proved the library runs; src/raw/emulated.rs speaks with it.
-//! SYNC_ARCHIVE names an archive that is for the processor at hand; that one is
-//! then linked into the crate. host/bench alone is built so.
+//! SYNC_ARCHIVE names another libsync.a, for the processor at hand; that one is
+//! then linked into the crate. host/bench alone is run so.
 
 #[path = "build/calls.rs"]
 mod calls;
@@ -100,7 +100,9 @@ fn emulate(source: &Path, library: &Path) -> Result<(), String> {
     ];
     let compiled = Command::new(tools.join("clang"))
         .args(["--target=x86_64-unknown-linux-gnu", "-fuse-ld=lld"])
-        .args(["-O2", "-Wall", "-Wextra", "-Werror", "-mgeneral-regs-only"])
+        .args(["-O2", "-Wall", "-Wextra", "-Werror"])
+        // What vector instructions do, the emulator does slowly.
+        .arg("-mgeneral-regs-only")
         .args(alone)
         .arg("-I")
         .arg(&folder)
@@ -108,7 +110,10 @@ fn emulate(source: &Path, library: &Path) -> Result<(), String> {
         .args([&caller, source, library])
         .status();
     if !compiled.is_ok_and(|status| status.success()) {
-        return Err("the kit's clang didn't build src/raw/caller.c".to_string());
+        let old = "after a change of crates/sync, `make lib` comes first";
+        return Err(format!(
+            "the kit's clang didn't build src/raw/caller.c with it ({old})"
+        ));
     }
     let emulator = tools.join("qemu-x86_64");
     if !emulator.exists() {

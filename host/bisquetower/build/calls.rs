@@ -24,7 +24,7 @@ pub fn rust_text(functions: &[Function], way: Way) -> String {
     let mut text = String::new();
     if way == Way::Linked {
         let lines = functions.iter().map(|f| {
-            let parameters = list(f, |p| declared(p));
+            let parameters = list(f, declared);
             format!("    fn {}({parameters});\n", f.name)
         });
         text += &format!("extern \"C\" {{\n{}}}\n", lines.collect::<String>());
@@ -58,7 +58,7 @@ fn method(f: &Function, number: usize, way: Way) -> String {
             format!("{fill}        unsafe {{ {}({words}) }}\n", f.name)
         }
         Way::Emulated => {
-            let words = list(f, |p| arguments(p));
+            let words = list(f, arguments);
             format!("        self.call({number}, [{words}])\n")
         }
     };
@@ -163,6 +163,7 @@ fn arguments(p: &Parameter) -> String {
     };
     match &p.kind {
         _ if p.is_answer() => format!("Arg::Answer({name})"),
+        Kind::Number(number) if number == "u64" => format!("Arg::Number({name})"),
         Kind::Number(_) => format!("Arg::Number({name} as u64)"),
         Kind::Array(lent, _) => memory(*lent),
         Kind::Slice(lent) => format!("{}, Arg::Length", memory(*lent)),

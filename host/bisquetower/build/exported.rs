@@ -146,9 +146,12 @@ fn read_function(text: &str, comment: Vec<String>) -> Result<Function, String> {
 
 fn read_parameter(text: &str) -> Option<Parameter> {
     let (name, kind) = text.split_once(':')?;
-    Some(Parameter {
-        name: name.trim().to_string(),
-        kind: read_kind(kind.trim())?,
+    let name = name.trim();
+    let plain = name.chars().all(|c| c.is_ascii_alphanumeric() || c == '_');
+    let kind = read_kind(kind.trim())?;
+    plain.then(|| Parameter {
+        name: name.to_string(),
+        kind,
     })
 }
 

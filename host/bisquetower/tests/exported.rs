@@ -87,6 +87,7 @@ fn other_functions_are_refused() {
     refused("bt_f(s: [u64; 4])");
     refused("bt_f(s: &mut [u64; ROWS])");
     refused("bt_f(n: u64) -> u64");
+    refused("bt_f(\n    // A remark.\n    n: u64,\n)");
     refused("f(n: u64)");
     assert_eq!(
         only("#[no_mangle]\npub extern \"C\" fn bt_f()\n{\n}\n").arguments(),
