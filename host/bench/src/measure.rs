@@ -3,12 +3,12 @@
 use std::hint::black_box;
 use std::time::{Duration, Instant};
 
-/// How many batches each side gets, in turn, so that both see the same machine;
-/// the best one counts, since all that disturbs a batch makes it longer.
-const BATCHES: usize = 30;
+/// How many batches each side gets in a run, in turn, so that both see the same
+/// machine; the best one counts, since all that disturbs a batch makes it longer.
+pub const BATCHES: usize = 10;
 
 /// How long a batch takes at least.
-const BATCH: Duration = Duration::from_millis(5);
+const BATCH: Duration = Duration::from_millis(4);
 
 /// What is measured.
 pub struct Line<'a> {
@@ -20,14 +20,38 @@ pub struct Line<'a> {
     pub note: &'a str,
 }
 
-pub fn print_heading() {
-    println!("Nanoseconds a call, the best of {BATCHES} batches; ratio: crate / library.\n");
-    let heading = ["name", "size", "library", "crate", "ratio"];
-    print_columns(heading, "note");
+/// What was measured: nanoseconds a call.
+pub struct Times {
+    pub name: String,
+    pub size: String,
+    pub library: f64,
+    pub published: f64,
+    pub note: String,
 }
 
-fn print_columns([name, size, library, published, ratio]: [&str; 5], note: &str) {
-    println!("{name:<18} {size:<12} {library:>10} {published:>10} {ratio:>7}  {note}");
+impl Times {
+    fn write(&self) {
+        let Times {
+            name,
+            size,
+            library,
+            published,
+            note,
+        } = self;
+        println!("{name}\t{size}\t{library}\t{published}\t{note}");
+    }
+
+    /// From a line as `write` leaves it.
+    pub fn read(line: &str) -> Option<Times> {
+        let mut parts = line.split('\t');
+        Some(Times {
+            name: parts.next()?.to_string(),
+            size: parts.next()?.to_string(),
+            library: parts.next()?.parse().ok()?,
+            published: parts.next()?.parse().ok()?,
+            note: parts.next()?.to_string(),
+        })
+    }
 }
 
 /// Measures both sides. A run of a side makes all of the calls and returns a
@@ -42,18 +66,14 @@ pub fn line(line: Line, mut library: impl FnMut() -> u64, mut published: impl Fn
         ours = ours.min(nanoseconds(&mut library, library_runs));
         theirs = theirs.min(nanoseconds(&mut published, published_runs));
     }
-    let a_call = |a_run: f64| a_run / line.calls as f64;
-    let shown = |time: f64| format!("{time:.2}");
-    print_columns(
-        [
-            line.name,
-            line.size,
-            &shown(a_call(ours)),
-            &shown(a_call(theirs)),
-            &shown(theirs / ours),
-        ],
-        line.note,
-    );
+    let times = Times {
+        name: line.name.to_string(),
+        size: line.size.to_string(),
+        library: ours / line.calls as f64,
+        published: theirs / line.calls as f64,
+        note: line.note.to_string(),
+    };
+    times.write();
 }
 
 /// How many runs fill a batch. Finding it out warms the side up.
