@@ -1,28 +1,80 @@
-//! Links the proved library, which `make lib` builds at the repository's root;
-//! cargo has no part in that.
+//! Links the proved library, which `make lib` builds at the repository's root
+//! (cargo has no part in that), and writes the calls of the module `raw` from the
+//! library's own source.
 //!
 //! The library is for x86-64. There it is linked into the crate. On another
 //! processor it is linked into the program src/raw/caller.c, which the emulator
 //! of the kit that proved the library runs; src/raw/emulated.rs speaks with it.
+//! SYNC_ARCHIVE names another libsync.a, for the processor at hand; that one is
+//! then linked into the crate. host/bench alone is run so.
 
+#[path = "build/calls.rs"]
+mod calls;
+#[path = "build/exported.rs"]
+mod exported;
+
+use calls::Way;
 use std::env;
+use std::fs;
 use std::path::{Path, PathBuf};
 use std::process::Command;
 
 fn main() {
+    println!("cargo::rustc-check-cfg=cfg(linked)");
+    println!("cargo::rerun-if-env-changed=SYNC_ARCHIVE");
+    if let Err(why) = build() {
+        println!("cargo::error={why}");
+    }
+}
+
+fn build() -> Result<(), String> {
     let here = PathBuf::from(variable("CARGO_MANIFEST_DIR"));
-    let folder = here.join("../../target/staticlib");
-    let library = folder.join("libsync.a");
+    let own = env::var_os("SYNC_ARCHIVE").map(PathBuf::from);
+    let way = match own.is_some() || variable("CARGO_CFG_TARGET_ARCH") == "x86_64" {
+        true => Way::Linked,
+        false => Way::Emulated,
+    };
+    write_calls(&here.join("../../crates/sync/src"), way)?;
+
+    let library = own.unwrap_or(here.join("../../target/staticlib/libsync.a"));
     println!("cargo::rerun-if-changed={}", library.display());
     if !library.exists() {
-        let missing = "target/staticlib/libsync.a is missing";
-        println!("cargo::error={missing}: run `make lib` at the repository's root first");
-    } else if variable("CARGO_CFG_TARGET_ARCH") == "x86_64" {
-        println!("cargo::rustc-link-search=native={}", folder.display());
-        println!("cargo::rustc-link-lib=static=sync");
-    } else if let Err(why) = emulate(&here.join("src/raw/caller.c"), &library) {
-        println!("cargo::error=libsync.a is for x86-64 and can't be run here: {why}");
+        let missing = format!("{} is missing", library.display());
+        return Err(format!(
+            "{missing}: run `make lib` at the repository's root"
+        ));
     }
+    match way {
+        Way::Linked => {
+            let folder = library.parent().ok_or("SYNC_ARCHIVE names no file")?;
+            println!("cargo::rustc-cfg=linked");
+            println!("cargo::rustc-link-search=native={}", folder.display());
+            println!("cargo::rustc-link-lib=static=sync");
+            Ok(())
+        }
+        Way::Emulated => emulate(&here.join("src/raw/caller.c"), &library)
+            .map_err(|why| format!("libsync.a is for x86-64 and can't be run here: {why}")),
+    }
+}
+
+/// The most arguments that caller.c passes.
+const ARGUMENTS: usize = 32;
+
+/// Writes calls.rs, which the module `raw` includes, and calls.h, which caller.c
+/// does.
+fn write_calls(source: &Path, way: Way) -> Result<(), String> {
+    println!("cargo::rerun-if-changed={}", source.display());
+    let functions = exported::read_folder(source)?;
+    if let Some(long) = functions.iter().find(|f| f.arguments() > ARGUMENTS) {
+        let name = &long.name;
+        return Err(format!("{name} has more than {ARGUMENTS} arguments in C"));
+    }
+    let write = |name: &str, text: String| {
+        let path = PathBuf::from(variable("OUT_DIR")).join(name);
+        fs::write(&path, text).map_err(|error| format!("{}: {error}", path.display()))
+    };
+    write("calls.rs", calls::rust_text(&functions, way))?;
+    write("calls.h", calls::c_text(&functions))
 }
 
 /// Builds the program that calls the library, and tells emulated.rs where it and
@@ -36,7 +88,8 @@ fn emulate(source: &Path, library: &Path) -> Result<(), String> {
         .join("on")
         .join(env::consts::ARCH)
         .join("toolchain/bin");
-    let caller = PathBuf::from(variable("OUT_DIR")).join("caller");
+    let folder = PathBuf::from(variable("OUT_DIR"));
+    let caller = folder.join("caller");
     // Neither a C library nor its headers are there for x86-64.
     let alone = [
         "-ffreestanding",
@@ -48,12 +101,19 @@ fn emulate(source: &Path, library: &Path) -> Result<(), String> {
     let compiled = Command::new(tools.join("clang"))
         .args(["--target=x86_64-unknown-linux-gnu", "-fuse-ld=lld"])
         .args(["-O2", "-Wall", "-Wextra", "-Werror"])
+        // What vector instructions do, the emulator does slowly.
+        .arg("-mgeneral-regs-only")
         .args(alone)
+        .arg("-I")
+        .arg(&folder)
         .arg("-o")
         .args([&caller, source, library])
         .status();
     if !compiled.is_ok_and(|status| status.success()) {
-        return Err("the kit's clang didn't build src/raw/caller.c".to_string());
+        let old = "after a change of crates/sync, `make lib` comes first";
+        return Err(format!(
+            "the kit's clang didn't build src/raw/caller.c with it ({old})"
+        ));
     }
     let emulator = tools.join("qemu-x86_64");
     if !emulator.exists() {

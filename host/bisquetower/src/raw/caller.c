@@ -1,34 +1,52 @@
 // Calls the proved library for a host that runs on another processor than the library's.
 //
-// Standard input carries batches. A batch is two words, the length of its requests and what an answer word holds before
-// a call; then the requests. A request is five words and two strings: call, first number, second number, length of the
-// buffer, length of the bytes; the buffer, the bytes. Once a batch is read whole, standard output gets for each request
-// the call's answer words and the buffer. Words are 64 bits, little-endian. The end of the input ends the program.
+// Standard input carries batches. A batch is two words, the length of its requests in bytes and what fresh words hold
+// before a call; then the requests. A request is two words, the call's number and above it, from bit 32, how many
+// arguments it has; the arguments' kinds, two bits each, lowest first; then a word for each argument, and what stands in
+// the memory of those that are read or written, each up to a whole word.
+//
+//     number     its word is passed
+//     read       its word is a length in bytes, and a pointer to memory of that length is passed
+//     written    the same
+//     fresh      the same, and nothing stands there yet: a length of whole words
+//
+// Once a batch is read whole, standard output gets for each request the memory of its written and fresh arguments, each
+// up to a whole word, and in the end one word, how many requests there were: so the host waits even for calls that write
+// nothing. Words are 64 bits, little-endian. The end of the input ends the program.
 //
 // There is no C library here: this is built for a processor whose headers the host needn't have.
 
 typedef unsigned char u8;
 typedef unsigned long u64;
 
-// The exported functions, as docs/ABI.md has them.
-void bt_limits(u64 *limits);
-void bt_read_number(const u8 *s, u64 s_length, u64 at, u64 end, u64 *answer);
-void bt_read_filter_number(const u8 *s, u64 s_length, u64 at, u64 end, u64 *answer);
-void bt_read_prefixed(const u8 *s, u64 s_length, u64 at, u64 end, u64 *answer);
-void bt_read_hashes(const u8 *s, u64 s_length, u64 at, u64 end, u64 *answer);
-void bt_write_number(u8 *out, u64 out_length, u64 n, u64 *answer);
-void bt_write_prefixed(u8 *out, u64 out_length, const u8 *bytes, u64 bytes_length, u64 *answer);
-void bt_write_hashes(u8 *out, u64 out_length, const u8 *hashes, u64 hashes_length, u64 *answer);
+// In this processor's C convention a caller puts the arguments away and a function looks at its own alone, so one type
+// with more of them than any function has serves them all.
+typedef void function(u64, u64, u64, u64, u64, u64, u64, u64, u64, u64, u64, u64, u64, u64, u64, u64,
+                      u64, u64, u64, u64, u64, u64, u64, u64, u64, u64, u64, u64, u64, u64, u64, u64);
 
-// The calls, in the order of emulated.rs.
-enum call { LIMITS, READ_NUMBER, READ_FILTER_NUMBER, READ_PREFIXED, READ_HASHES, WRITE_NUMBER, WRITE_PREFIXED, WRITE_HASHES };
+// calls.h is written by build.rs: CALL(name) for every exported function, in the order of their numbers.
+#define CALL(name) function name;
+#include "calls.h"
+#undef CALL
+#define CALL(name) name,
+static function *const calls[] = {
+#include "calls.h"
+};
 
-// How the program ends when something is wrong.
-enum end { DONE, BAD_BATCH, BAD_PIPE, WROTE_OUTSIDE };
+enum { CALLS = sizeof calls / sizeof *calls, ARGUMENTS = 32 };
 
-enum { ROOM = 64 << 20, GUARD = 64, WORD = 8, MOST_WORDS = 12, HEADER = 5 * WORD, GUARD_BYTE = 0xa5 };
+enum kind { NUMBER, READ, WRITTEN, FRESH };
 
-static u8 requests[ROOM], answers[ROOM], lent[ROOM];
+// How the program ends when something is wrong; of WROTE_OUTSIDE the call's number is added.
+enum end { DONE, BAD_BATCH, BAD_PIPE, WROTE_OUTSIDE = 16 };
+
+// GUARD is in words.
+enum { WORD = 8, ROOM = (64 << 20) / WORD, GUARD = 8, GUARD_BYTE = 0xa5 };
+
+static const u64 guard_word = 0xa5a5a5a5a5a5a5a5;
+
+// A call is passed as many words as the longest has, its own first; those after a request's end are read and ignored.
+static u64 requests[ROOM + ARGUMENTS], answers[ROOM], lent[ROOM];
 
 static long system_call(long number, long a, long b, long c) {
     long result;
@@ -36,22 +54,13 @@ static long system_call(long number, long a, long b, long c) {
     return result;
 }
 
-static void finish(enum end status) {
-    for (;;) system_call(231, status, 0, 0);
-}
-
-static void copy(u8 *to, const u8 *from, u64 length) {
-    for (u64 i = 0; i < length; i++) to[i] = from[i];
-}
-
-static u64 word(const u8 *from) {
-    u64 value;
-    copy((u8 *)&value, from, WORD);
-    return value;
+static void finish(u64 status) {
+    for (;;) system_call(231, (long)status, 0, 0);
 }
 
 // Reads it all. The input may end before the first byte of a batch, and nowhere else.
-static void receive(u8 *to, u64 length, int may_end) {
+static void receive(u64 *words, u64 length, int may_end) {
+    u8 *to = (u8 *)words;
     for (u64 got = 0; got < length;) {
         long n = system_call(0, 0, (long)(to + got), (long)(length - got));
         if (n == 0 && got == 0 && may_end) finish(DONE);
@@ -60,7 +69,8 @@ static void receive(u8 *to, u64 length, int may_end) {
     }
 }
 
-static void send(const u8 *from, u64 length) {
+static void send(const u64 *words, u64 length) {
+    const u8 *from = (const u8 *)words;
     for (u64 put = 0; put < length;) {
         long n = system_call(1, 1, (long)(from + put), (long)(length - put));
         if (n <= 0) finish(BAD_PIPE);
@@ -68,58 +78,96 @@ static void send(const u8 *from, u64 length) {
     }
 }
 
-static void call(u64 which, u64 first, u64 second, u8 *out, u64 out_length, const u8 *bytes, u64 length, u64 *answer) {
-    switch (which) {
-    case LIMITS: bt_limits(answer); break;
-    case READ_NUMBER: bt_read_number(bytes, length, first, second, answer); break;
-    case READ_FILTER_NUMBER: bt_read_filter_number(bytes, length, first, second, answer); break;
-    case READ_PREFIXED: bt_read_prefixed(bytes, length, first, second, answer); break;
-    case READ_HASHES: bt_read_hashes(bytes, length, first, second, answer); break;
-    case WRITE_NUMBER: bt_write_number(out, out_length, first, answer); break;
-    case WRITE_PREFIXED: bt_write_prefixed(out, out_length, bytes, length, answer); break;
-    case WRITE_HASHES: bt_write_hashes(out, out_length, bytes, length, answer); break;
-    default: finish(BAD_BATCH);
-    }
+static u64 whole_words(u64 length) { return length / WORD + (length % WORD != 0); }
+
+static void fill(u64 *to, u64 word, u64 count) {
+    for (u64 i = 0; i < count; i++) to[i] = word;
 }
 
-// Sets the bytes on both sides of the lent buffer, or looks whether they still stand.
-static void guard(u64 out_length, int look) {
-    u8 *before = lent, *after = lent + GUARD + out_length;
-    for (u64 i = 0; i < GUARD; i++) {
-        if (look && (before[i] != GUARD_BYTE || after[i] != GUARD_BYTE)) finish(WROTE_OUTSIDE);
-        before[i] = after[i] = GUARD_BYTE;
-    }
+static void copy(u64 *to, const u64 *from, u64 count) {
+    for (u64 i = 0; i < count; i++) to[i] = from[i];
 }
 
-// One request. A buffer is lent between guards, so that a byte written outside of it is seen. Returns the request's size.
-static u64 serve(const u8 *request, u64 left, u64 unwritten, u64 *used) {
-    if (left < HEADER) finish(BAD_BATCH);
-    u64 which = word(request), out_length = word(request + 3 * WORD), length = word(request + 4 * WORD);
-    if (ROOM - 2 * GUARD < out_length || ROOM < length || left - HEADER < out_length + length) finish(BAD_BATCH);
-    if (ROOM - *used < MOST_WORDS * WORD + out_length) finish(BAD_BATCH);
-    int writes = WRITE_NUMBER <= which;
-    if (writes) guard(out_length, 0);
-    copy(lent + GUARD, request + HEADER, out_length);
-    u64 answer[MOST_WORDS];
-    u64 words = which == LIMITS ? MOST_WORDS : 4;
-    for (u64 i = 0; i < words; i++) answer[i] = unwritten;
-    call(which, word(request + WORD), word(request + 2 * WORD), lent + GUARD, out_length, request + HEADER + out_length, length, answer);
-    if (writes) guard(out_length, 1);
-    copy(answers + *used, (const u8 *)answer, words * WORD);
-    copy(answers + *used + words * WORD, lent + GUARD, out_length);
-    *used += words * WORD + out_length;
-    return HEADER + out_length + length;
+// A buffer that a call may write, and the guards around it. Those of two neighbours are one.
+struct buffer {
+    u64 *start, length;
+};
+
+// The bytes from a buffer's last to the next whole word are guards too.
+static void set_guard(struct buffer b) {
+    u64 words = b.length / WORD, cut = b.length % WORD;
+    if (cut != 0) b.start[words] = (b.start[words] & ~(~0ul << 8 * cut)) | (guard_word & ~0ul << 8 * cut), words++;
+    fill(b.start + words, guard_word, GUARD);
+}
+
+static int guarded(struct buffer b) {
+    u64 words = b.length / WORD, cut = b.length % WORD, differing = 0;
+    if (cut != 0) differing = (b.start[words++] ^ guard_word) & ~0ul << 8 * cut;
+    for (u64 i = 0; i < GUARD; i++) differing |= b.start[words + i] ^ guard_word;
+    return differing == 0;
+}
+
+// Six arguments go in registers, and putting none on the stack is the faster call.
+typedef void short_function(u64, u64, u64, u64, u64, u64);
+
+static void call(function *f, const u64 *a, u64 count) {
+    if (count <= 6) return ((short_function *)(u64)f)(a[0], a[1], a[2], a[3], a[4], a[5]);
+    f(a[0], a[1], a[2], a[3], a[4], a[5], a[6], a[7], a[8], a[9], a[10], a[11], a[12], a[13], a[14], a[15],
+      a[16], a[17], a[18], a[19], a[20], a[21], a[22], a[23], a[24], a[25], a[26], a[27], a[28], a[29], a[30], a[31]);
+}
+
+// One request. Memory that is written is lent between guards, so that a byte written outside of it is seen; memory that
+// is read is lent where it stands. Returns the place after the request.
+static u64 *serve(u64 *request, const u64 *end, u64 unwritten, u64 *used) {
+    static struct buffer buffers[ARGUMENTS];
+    if (end - request < 2) finish(BAD_BATCH);
+    u64 which = *request & 0xffffffff, count = *request >> 32, written = 0;
+    if (CALLS <= which || ARGUMENTS < count || (u64)(end - request) < 2 + count) finish(BAD_BATCH);
+    u64 *arguments = request + 2, *at = arguments + count;
+    u64 *free = lent + GUARD, *last = lent + ROOM;
+    for (u64 kinds = request[1]; kinds != 0;) {
+        u64 k = (u64)__builtin_ctzl(kinds) / 2;
+        enum kind kind = kinds >> 2 * k & 3;
+        kinds &= ~(3ul << 2 * k);
+        u64 length = arguments[k], words = whole_words(length), standing = kind == FRESH ? 0 : words;
+        if (count <= k || (u64)(end - at) < standing) finish(BAD_BATCH);
+        arguments[k] = (u64)(kind == READ ? at : free);
+        if (kind != READ) {
+            if ((u64)(last - free) < words + GUARD) finish(BAD_BATCH);
+            struct buffer b = {free, length};
+            if (kind == FRESH) fill(free, unwritten, words);
+            else copy(free, at, words);
+            set_guard(b);
+            buffers[written++] = b;
+            free += words + GUARD;
+        }
+        at += standing;
+    }
+    call(calls[which], arguments, count);
+    struct buffer front = {lent, 0};
+    if (!guarded(front)) finish(WROTE_OUTSIDE + which);
+    for (u64 k = 0; k < written; k++) {
+        if (!guarded(buffers[k])) finish(WROTE_OUTSIDE + which);
+        u64 words = whole_words(buffers[k].length);
+        if (ROOM - *used < words) finish(BAD_BATCH);
+        copy(answers + *used, buffers[k].start, words);
+        *used += words;
+    }
+    return at;
 }
 
 void run(void) {
+    fill(lent, guard_word, GUARD);
     for (;;) {
-        u8 header[2 * WORD];
+        u64 header[2];
         receive(header, sizeof header, 1);
-        u64 length = word(header), used = 0;
-        if (ROOM < length) finish(BAD_BATCH);
-        receive(requests, length, 0);
-        for (u64 at = 0; at < length;) at += serve(requests + at, length - at, word(header + WORD), &used);
-        send(answers, used);
+        u64 words = header[0] / WORD, used = 0, served = 0;
+        if (ROOM < words || header[0] % WORD != 0) finish(BAD_BATCH);
+        receive(requests, header[0], 0);
+        const u64 *end = requests + words;
+        for (u64 *at = requests; at < end; served++) at = serve(at, end, header[1], &used);
+        send(answers, used * WORD);
+        send(&served, WORD);
     }
 }
 

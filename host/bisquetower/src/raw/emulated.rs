@@ -1,123 +1,203 @@
 //! The exported functions, run by an emulator: build.rs links libsync.a into the
-//! program caller.c, which takes calls from its standard input and writes their
-//! answers to its standard output. caller.c says how the bytes stand.
+//! program caller.c, which takes calls from its standard input and writes what
+//! they leave to its standard output. caller.c says how the bytes stand.
 
-use super::{Read, Reader, UNWRITTEN};
+use super::calls::NAMES;
+use super::UNWRITTEN;
 use std::cell::RefCell;
 use std::io::{Read as _, Write as _};
 use std::process::{Child, ChildStdin, ChildStdout, Command, Stdio};
 
-/// The calls, in the order of caller.c.
-#[derive(Clone, Copy)]
-enum Call {
-    Limits,
-    ReadNumber,
-    ReadFilterNumber,
-    ReadPrefixed,
-    ReadHashes,
-    WriteNumber,
-    WritePrefixed,
-    WriteHashes,
+/// An argument in C. Memory that is written goes there and comes back whole, so
+/// that every item which the library changed, and no other, changes here.
+// Which of them are used depends on the functions that are exported.
+#[allow(dead_code)]
+pub enum Arg<'i, 'a> {
+    Number(u64),
+    Bytes(&'i [u8]),
+    Words(&'i [u64]),
+    BytesOut(&'a mut [u8]),
+    WordsOut(&'a mut [u64]),
+    /// Words that a call writes and doesn't read: they needn't go there.
+    Answer(&'a mut [u64]),
+    /// How many items the argument before this one has.
+    Length,
 }
 
-/// How many bytes of requests go in one batch at most; caller.c has room for
-/// more than that and one request.
-const BATCH: usize = 16 << 20;
+/// How caller.c takes an argument.
+#[derive(Clone, Copy)]
+enum Kind {
+    Number,
+    Read,
+    Written,
+    Fresh,
+}
 
-/// How caller.c ends when the bytes around a lent buffer changed.
-const WROTE_OUTSIDE: i32 = 3;
+/// What comes back of a call.
+enum Out<'a> {
+    Bytes(&'a mut [u8]),
+    Words(&'a mut [u64]),
+}
+
+impl Out<'_> {
+    /// In bytes.
+    fn size(&self) -> usize {
+        match self {
+            Out::Bytes(bytes) => bytes.len(),
+            Out::Words(words) => words.len() * WORD,
+        }
+    }
+
+    fn take(self, from: &[u8]) {
+        match self {
+            Out::Bytes(bytes) => bytes.copy_from_slice(&from[..bytes.len()]),
+            Out::Words(words) => {
+                for (word, bytes) in words.iter_mut().zip(from.chunks_exact(WORD)) {
+                    *word = u64::from_le_bytes(bytes.try_into().expect("eight bytes"));
+                }
+            }
+        }
+    }
+}
+
+/// How many bytes go or come in one exchange, but for the last call's: enough
+/// that exchanges cost little, few enough to stay near the processor. caller.c
+/// has room for more.
+const EXCHANGE: usize = 1 << 18;
+
+const WORD: usize = 8;
+
+/// How caller.c ends when the bytes around a lent buffer changed: this and the
+/// call's number.
+const WROTE_OUTSIDE: usize = 16;
 
 thread_local! {
     // One program a thread, so that threads don't wait for each other.
     static CALLER: RefCell<Caller> = RefCell::new(Caller::start());
 }
 
-pub fn limits() -> [u64; 12] {
-    let mut batch = Vec::new();
-    add(&mut batch, Call::Limits, [0, 0], &[], &[]);
-    words(&exchange(&batch, 12 * 8))
+/// Many calls. One exchange with the emulator serves them all; where the library
+/// is linked, each is made at once.
+#[must_use = "what the calls write is there once the batch is run"]
+#[derive(Default)]
+pub struct Batch<'a> {
+    requests: Vec<u8>,
+    outs: Vec<Out<'a>>,
+    coming: usize,
+    calls: u64,
 }
 
-pub fn read_many(reads: &[Read]) -> Vec<[u64; 4]> {
-    let mut answers = Vec::with_capacity(reads.len());
-    let mut batch = Vec::new();
-    let mut waiting = 0;
-    for (k, read) in reads.iter().enumerate() {
-        let numbers = [read.at as u64, read.end as u64];
-        add(&mut batch, Call::from(read.reader), numbers, &[], read.s);
-        waiting += 1;
-        if batch.len() >= BATCH || k + 1 == reads.len() {
-            answers.extend(exchange(&batch, waiting * 4 * 8).chunks(4 * 8).map(words));
-            batch.clear();
-            waiting = 0;
+impl<'a> Batch<'a> {
+    pub fn new() -> Self {
+        Batch::default()
+    }
+
+    /// Makes the calls, and gives back what was lent to them, written.
+    pub fn run(mut self) {
+        self.exchange();
+    }
+
+    /// Adds a call: its head, a word for each argument, what stands in memory.
+    pub(super) fn call<const N: usize>(&mut self, number: u64, args: [Arg<'_, 'a>; N]) {
+        let start = self.requests.len();
+        self.requests.resize(start + (2 + N) * WORD, 0);
+        let mut kinds = 0;
+        let mut items = 0;
+        for (k, arg) in args.into_iter().enumerate() {
+            let (kind, word) = match arg {
+                Arg::Number(n) => (Kind::Number, n),
+                Arg::Length => (Kind::Number, items),
+                memory => {
+                    let (kind, size, length) = self.lend(memory);
+                    items = length as u64;
+                    (kind, (length * size) as u64)
+                }
+            };
+            kinds |= (kind as u64) << (2 * k);
+            self.set_word(start + (2 + k) * WORD, word);
+        }
+        self.set_word(start, number | (N as u64) << 32);
+        self.set_word(start + WORD, kinds);
+        self.calls += 1;
+        if self.requests.len().max(self.coming) >= EXCHANGE {
+            self.exchange();
         }
     }
-    answers
-}
 
-pub fn write_number(out: &mut [u8], n: u64) -> [u64; 4] {
-    write(Call::WriteNumber, out, n, &[])
-}
-
-pub fn write_prefixed(out: &mut [u8], bytes: &[u8]) -> [u64; 4] {
-    write(Call::WritePrefixed, out, 0, bytes)
-}
-
-pub fn write_hashes(out: &mut [u8], hashes: &[u8]) -> [u64; 4] {
-    write(Call::WriteHashes, out, 0, hashes)
-}
-
-/// The buffer goes there and comes back whole, so that every byte which the
-/// library changed, and no other, changes here.
-fn write(call: Call, out: &mut [u8], n: u64, bytes: &[u8]) -> [u64; 4] {
-    let mut batch = Vec::new();
-    add(&mut batch, call, [n, 0], out, bytes);
-    let answer = exchange(&batch, 4 * 8 + out.len());
-    let (answer, buffer) = answer.split_at(4 * 8);
-    out.copy_from_slice(buffer);
-    words(answer)
-}
-
-impl From<Reader> for Call {
-    fn from(reader: Reader) -> Call {
-        match reader {
-            Reader::Number => Call::ReadNumber,
-            Reader::FilterNumber => Call::ReadFilterNumber,
-            Reader::Prefixed => Call::ReadPrefixed,
-            Reader::Hashes => Call::ReadHashes,
+    /// Adds what stands in an argument's memory; returns its kind, the size of
+    /// its items and how many there are.
+    fn lend(&mut self, arg: Arg<'_, 'a>) -> (Kind, usize, usize) {
+        match arg {
+            Arg::Number(_) | Arg::Length => unreachable!("it isn't memory"),
+            Arg::Bytes(bytes) => {
+                self.add_bytes(bytes);
+                (Kind::Read, 1, bytes.len())
+            }
+            Arg::Words(words) => {
+                self.add_words(words);
+                (Kind::Read, WORD, words.len())
+            }
+            Arg::BytesOut(bytes) => {
+                self.add_bytes(bytes);
+                (Kind::Written, 1, self.comes(Out::Bytes(bytes)))
+            }
+            Arg::WordsOut(words) => {
+                self.add_words(words);
+                (Kind::Written, WORD, self.comes(Out::Words(words)))
+            }
+            Arg::Answer(words) => (Kind::Fresh, WORD, self.comes(Out::Words(words))),
         }
     }
-}
 
-/// Adds a request to a batch.
-fn add(batch: &mut Vec<u8>, call: Call, numbers: [u64; 2], out: &[u8], bytes: &[u8]) {
-    let [first, second] = numbers;
-    for word in [
-        call as u64,
-        first,
-        second,
-        out.len() as u64,
-        bytes.len() as u64,
-    ] {
-        batch.extend(word.to_le_bytes());
+    fn set_word(&mut self, place: usize, word: u64) {
+        self.requests[place..place + WORD].copy_from_slice(&word.to_le_bytes());
     }
-    batch.extend(out);
-    batch.extend(bytes);
-}
 
-fn exchange(batch: &[u8], answer_length: usize) -> Vec<u8> {
-    CALLER.with_borrow_mut(|caller| caller.exchange(batch, answer_length))
-}
+    /// Adds bytes, up to a whole word.
+    fn add_bytes(&mut self, bytes: &[u8]) {
+        self.requests.extend_from_slice(bytes);
+        let whole = self.requests.len().next_multiple_of(WORD);
+        self.requests.resize(whole, 0);
+    }
 
-fn words<const N: usize>(bytes: &[u8]) -> [u64; N] {
-    let word = |k: usize| bytes[8 * k..8 * k + 8].try_into().expect("eight bytes");
-    std::array::from_fn(|k| u64::from_le_bytes(word(k)))
+    fn add_words(&mut self, words: &[u64]) {
+        for word in words {
+            self.requests.extend_from_slice(&word.to_le_bytes());
+        }
+    }
+
+    /// Keeps memory until the calls are made; returns how many items it has.
+    fn comes(&mut self, out: Out<'a>) -> usize {
+        self.coming += out.size().next_multiple_of(WORD);
+        let items = match &out {
+            Out::Bytes(bytes) => bytes.len(),
+            Out::Words(words) => words.len(),
+        };
+        self.outs.push(out);
+        items
+    }
+
+    fn exchange(&mut self) {
+        CALLER.with_borrow_mut(|caller| {
+            let mut left = caller.exchange(&self.requests, self.coming + WORD);
+            for out in self.outs.drain(..) {
+                let (mine, others) = left.split_at(out.size().next_multiple_of(WORD));
+                out.take(mine);
+                left = others;
+            }
+            assert_eq!(left, self.calls.to_le_bytes(), "every call was made");
+        });
+        self.requests.clear();
+        self.coming = 0;
+        self.calls = 0;
+    }
 }
 
 struct Caller {
     program: Child,
     input: Option<ChildStdin>,
     output: ChildStdout,
+    answer: Vec<u8>,
 }
 
 impl Caller {
@@ -135,30 +215,33 @@ impl Caller {
             input: program.stdin.take(),
             output,
             program,
+            answer: Vec::new(),
         }
     }
 
     /// The program answers a batch once it has all of it, so neither side waits
     /// on a full pipe that the other doesn't empty.
-    fn exchange(&mut self, batch: &[u8], answer_length: usize) -> Vec<u8> {
-        let mut answer = vec![0; answer_length];
-        if let Err(error) = self.try_exchange(batch, &mut answer) {
+    fn exchange(&mut self, batch: &[u8], answer_length: usize) -> &[u8] {
+        self.answer.resize(answer_length, 0);
+        if let Err(error) = self.try_exchange(batch) {
             drop(self.input.take());
             let end = self.program.wait().ok().and_then(|end| end.code());
-            match end {
-                Some(WROTE_OUTSIDE) => panic!("a call of libsync.a wrote outside its buffer"),
-                _ => panic!("the calls of libsync.a broke off: {error}, {end:?}"),
+            let end = end.and_then(|end| usize::try_from(end).ok());
+            let outside = end.and_then(|end| NAMES.get(end.checked_sub(WROTE_OUTSIDE)?));
+            match outside {
+                Some(name) => panic!("{name} of libsync.a wrote outside its buffers"),
+                None => panic!("the calls of libsync.a broke off: {error}, {end:?}"),
             }
         }
-        answer
+        &self.answer
     }
 
-    fn try_exchange(&mut self, batch: &[u8], answer: &mut [u8]) -> std::io::Result<()> {
+    fn try_exchange(&mut self, batch: &[u8]) -> std::io::Result<()> {
         let input = self.input.as_mut().expect("open until the drop");
         input.write_all(&(batch.len() as u64).to_le_bytes())?;
         input.write_all(&UNWRITTEN.to_le_bytes())?;
         input.write_all(batch)?;
-        self.output.read_exact(answer)
+        self.output.read_exact(&mut self.answer)
     }
 }
 

@@ -1,0 +1,56 @@
+//! Many runs of the program, and the table of their best times.
+//!
+//! Where the system puts a program in memory differs from run to run, and a call
+//! of a few nanoseconds takes up to twice as long in some places; so no one run
+//! tells its time.
+
+use crate::measure::{Times, BATCHES};
+use std::process::Command;
+
+/// The word that asks for one run: its lines, unadorned.
+pub const ONCE: &str = "once";
+
+const RUNS: usize = 8;
+
+pub fn print_best() -> Result<(), String> {
+    let mut best = run()?;
+    for _ in 1..RUNS {
+        for (best, times) in best.iter_mut().zip(run()?) {
+            best.library = best.library.min(times.library);
+            best.published = best.published.min(times.published);
+        }
+    }
+    println!("Nanoseconds a call, the best of {BATCHES} batches in each of {RUNS} runs; ratio: crate / library.\n");
+    print_columns(["name", "size", "library", "crate", "ratio"], "note");
+    for times in best {
+        let [library, published, ratio] = [
+            times.library,
+            times.published,
+            times.published / times.library,
+        ]
+        .map(|number| format!("{number:.2}"));
+        let columns = [&times.name[..], &times.size, &library, &published, &ratio];
+        print_columns(columns, &times.note);
+    }
+    Ok(())
+}
+
+fn print_columns([name, size, library, published, ratio]: [&str; 5], note: &str) {
+    let line = format!("{name:<18} {size:<12} {library:>10} {published:>10} {ratio:>8}  {note}");
+    println!("{}", line.trim_end());
+}
+
+fn run() -> Result<Vec<Times>, String> {
+    let told = |error: std::io::Error| format!("the program can't run itself: {error}");
+    let program = std::env::current_exe().map_err(told)?;
+    let done = Command::new(program).arg(ONCE).output().map_err(told)?;
+    if !done.status.success() {
+        let said = String::from_utf8_lossy(&done.stderr);
+        return Err(format!("a run failed: {said}"));
+    }
+    let lines = String::from_utf8_lossy(&done.stdout);
+    let times = lines.lines().map(Times::read);
+    times
+        .collect::<Option<_>>()
+        .ok_or("a run's lines are no times".to_string())
+}
