@@ -14,7 +14,6 @@ use Rattle.bloom.specs.Filter.{Filter, filterRules, anyContains}
 use Rattle.bloom.specs.declared.contains.Contained.{Contained}
 use Rattle.bloom.specs.declared.contains.Contained.the-variants.{Yes, No, Refused}
 use Rattle.bloom.specs.declared.have.FilterNumbers.{FilterNumbers}
-use Rattle.bloom.specs.declared.have.LastSync.{LastSync}
 
 -- Words of a record, in order: place and count of the last-sync hashes, entries, bits, probes, place and length of the field.
 abbrev pub haveWords : ℕ
@@ -23,10 +22,6 @@ haveWords = 7
 -- How many records a list has.
 abbrev pub haveCount : List ℕ → ℕ
 haveCount haves = length haves / haveWords
-
--- The last-sync hashes' numbers in record i.
-abbrev pub lastSyncIn : List ℕ → ℕ → LastSync
-lastSyncIn haves i = record { place = getD haves (i * haveWords) 0; count = getD haves (i * haveWords + 1) 0 }
 
 -- The filter's numbers in record i.
 abbrev pub numbersIn : List ℕ → ℕ → FilterNumbers
@@ -52,35 +47,28 @@ filtersFrom s haves i (suc count) = filterWith s (numbersIn haves i) ∷ filters
 unfoldable pub filtersOf : List ℕ → List ℕ → List Filter
 filtersOf s haves = filtersFrom s haves 0 (haveCount haves)
 
--- Refusal 10, of a have's numbers: as many last-sync hashes as a list may have, standing inside the lent bytes; and a filter that keeps the
--- filter rules, its field standing there too.
-unfoldable pub lastSyncGood : List ℕ → LastSync → Bool
-lastSyncGood s l = leb (l .count) (sizes .hashes) && leb (l .place + sizes .hash * l .count) (length s)
-
+-- Refusal 10: the numbers keep the filter rules, and the field stands inside the lent bytes.
 unfoldable pub filterGood : List ℕ → FilterNumbers → Bool
 filterGood s f = filterRules (f .entries) (f .bits) (f .probes) (f .size) && leb (f .place + f .size) (length s)
 
-unfoldable pub haveGood : List ℕ → List ℕ → ℕ → Bool
-haveGood s haves i = lastSyncGood s (lastSyncIn haves i) && filterGood s (numbersIn haves i)
+-- So many filters from record i on.
+unfoldable pub filtersGoodFrom : List ℕ → List ℕ → ℕ → ℕ → Bool
+filtersGoodFrom s haves i zero = true
+filtersGoodFrom s haves i (suc count) = filterGood s (numbersIn haves i) && filtersGoodFrom s haves (suc i) count
 
--- So many haves from record i on.
-unfoldable pub havesGoodFrom : List ℕ → List ℕ → ℕ → ℕ → Bool
-havesGoodFrom s haves i zero = true
-havesGoodFrom s haves i (suc count) = haveGood s haves i && havesGoodFrom s haves (suc i) count
-
--- A list of haves passed as numbers: whole records, and of the first 16 each one good.
-unfoldable pub havesGood : List ℕ → List ℕ → Bool
-havesGood s haves = eqb (length haves % haveWords) 0 && havesGoodFrom s haves 0 (min (haveCount haves) (sizes .haves))
+-- A list of haves passed as numbers: whole records, and of the first 16 each filter good.
+unfoldable pub filtersGood : List ℕ → List ℕ → Bool
+filtersGood s haves = eqb (length haves % haveWords) 0 && filtersGoodFrom s haves 0 (min (haveCount haves) (sizes .haves))
 
 -- Every record's filter is good.
 pub record GoodFilters (s haves : List ℕ) : Type 0 where
   pub each : (i : ℕ) → i < haveCount haves → filterGood s (numbersIn haves i) ≡ true
 
--- Whether some filter of the haves contains a hash that is lent as bytes: 10 for the haves, 4 for more than 16, then 4 or 1 for a hash of
+-- Whether some filter of the haves contains a hash that is lent as bytes: 10 for the filters, 4 for more than 16 haves, then 4 or 1 for a hash of
 -- another length.
 unfoldable pub containedIn : List ℕ → List ℕ → List ℕ → Contained
 containedIn s haves hash =
-    cond (havesGood s haves)
+    cond (filtersGood s haves)
     (cond (ltb (sizes .haves) (haveCount haves))
     (Refused (PastSize 0))
     (cond (ltb (sizes .hash) (length hash))

@@ -1,7 +1,7 @@
 // Whether filters contain a hash (`contains_hash`, `get_bit`).
 use crate::have::HAVE_WORDS;
 use crate::have::filter_in;
-use crate::have::haves_good;
+use crate::have::filters_good;
 use crate::probes::count;
 use crate::probes::step;
 use crate::probes::word;
@@ -77,7 +77,7 @@ pub enum Contained {
 pub fn filters_contain(s: &[u8], haves: &[u64], hash: &[u8]) -> Contained
     ensures { λ r. ⌜ r ≡ containedIn (now (s .entry)) (now (haves .entry)) (now (hash .entry)) ⌝ }
 {
-    if !haves_good(s, haves) {
+    if !filters_good(s, haves) {
         return Contained::Refused(Refusal::BadSession);
     }
     if HAVES < haves.len() / HAVE_WORDS {

@@ -10,8 +10,6 @@ use Rattle.bloom.specs.Filter.{bitAt, clearAt}
 use borrow.Author.Needs.{needs}
 use Rattle.bloom.proofs.contains.clear_bit.Statement.{statement}
 use Rattle.bloom.proofs.contains.clear_bit.Tie as tie
-use Rattle.bloom.proofs.contains.clear_bit.Reads as reads
-use Rattle.bloom.proofs.contains.clear_bit.Lts as lts
 
 module _ (field : List ℕ) (k : ℕ) where
   inside : k / 8 < length field → eqb (getD field (k / 8) 0 / 2 ^ (k % 8) % 2) 0 ≡ clearAt field k
@@ -22,23 +20,18 @@ module _ (field : List ℕ) (k : ℕ) where
   unfolding clearAt
   outside h = rw (le-ltb _ _ h)
 
--- src/contains.rt:18:17
 shared-slice-read-result : tie.Need-shared-slice-read-result
 shared-slice-read-result c = search needs
 
--- src/contains.rt:18:31
 cast-result : tie.Need-cast-result
 cast-result c = search needs
 
--- src/contains.rt:18:17
 shr-result : tie.Need-shr-result
 shr-result c = search needs
 
--- src/contains.rt:18:9
 returns : tie.Need-returns
 returns c = inside _ _ (c .before .if1 .taken)
 
--- src/contains.rt:13:1
 returns-2 : tie.Need-returns-2
 returns-2 c = outside _ _ (c .if1 .left)
 

@@ -10,7 +10,7 @@ use Rattle.rules.specs.Hash.{hashAt}
 use Rattle.rules.specs.Sizes.{sizes}
 use Rattle.rules.specs.declared.refusal.Refusal.the-variants.{Cut, PastSize, BadSession}
 use Rattle.bloom.specs.Filter.{anyContains}
-use Rattle.bloom.specs.Have.{haveCount, filtersOf, havesGood, containedIn}
+use Rattle.bloom.specs.Have.{haveCount, filtersOf, filtersGood, containedIn}
 use Rattle.bloom.specs.declared.contains.Contained.the-variants.{Yes, No, Refused}
 use Rattle.bloom.proofs.HaveLaws.{good-filters}
 use borrow.Author.Needs.{needs}
@@ -18,11 +18,11 @@ use Rattle.bloom.proofs.contains.filters_contain.Statement.{statement}
 use Rattle.bloom.proofs.contains.filters_contain.Tie as tie
 
 module _ (s haves hash : List ℕ) where
-  bad : havesGood s haves ≡ false → Refused BadSession ≡ containedIn s haves hash
+  bad : filtersGood s haves ≡ false → Refused BadSession ≡ containedIn s haves hash
   unfolding containedIn
   bad e = rw e
 
-  module _ (good : havesGood s haves ≡ true) where
+  module _ (good : filtersGood s haves ≡ true) where
     many : sizes .haves < haveCount haves → Refused (PastSize 0) ≡ containedIn s haves hash
     unfolding containedIn
     many h = rw (good, lt-ltb _ _ h)
@@ -46,55 +46,47 @@ module _ (s haves hash : List ℕ) where
           unfolding containedIn
           missed e = rw (good, le-ltb _ _ few, le-ltb _ _ most, le-ltb _ _ least, e)
 
--- src/contains.rt:75:9
-haves-good-requires : tie.Need-haves-good-requires
-haves-good-requires c κs = search needs
+filters-good-requires : tie.Need-filters-good-requires
+filters-good-requires c κs = search needs
 
--- src/contains.rt:76:9
 returns : tie.Need-returns
-returns c = bad _ _ _ (sym (c .before .haves-good .ensures) ∙ not-true _ (c .if1 .taken))
+returns c = bad _ _ _ (sym (c .before .filters-good .ensures) ∙ not-true _ (c .if1 .taken))
 
--- src/contains.rt:79:9
 returns-2 : tie.Need-returns-2
-returns-2 c = let g = c .before in many _ _ _ (sym (g .before .haves-good .ensures) ∙ not-false _ (g .if1 .left)) (c .if2 .taken)
+returns-2 c = let g = c .before in many _ _ _ (sym (g .before .filters-good .ensures) ∙ not-false _ (g .if1 .left)) (c .if2 .taken)
 
--- src/contains.rt:82:9
 returns-3 : tie.Need-returns-3
-returns-3 c = let g = c .before .before in long _ _ _ (sym (g .before .haves-good .ensures) ∙ not-false _ (g .if1 .left)) (c .before .if2 .left) (c .if3 .taken)
+returns-3 c = let g = c .before .before in long _ _ _ (sym (g .before .filters-good .ensures) ∙ not-false _ (g .if1 .left)) (c .before .if2 .left) (c .if3 .taken)
 
--- src/contains.rt:85:9
 returns-4 : tie.Need-returns-4
 returns-4 c =
     let g = c .before .before .before in
-    short _ _ _ (sym (g .before .haves-good .ensures) ∙ not-false _ (g .if1 .left)) (c .before .before .if2 .left) (c .before .if3 .left) (c .if4 .taken)
+    short _ _ _ (sym (g .before .filters-good .ensures) ∙ not-false _ (g .if1 .left)) (c .before .before .if2 .left) (c .before .if3 .left) (c .if4 .taken)
 
--- src/contains.rt:87:8
 contains-hash-requires : tie.Need-contains-hash-requires
 contains-hash-requires c κs =
     let g = c .before .before .before in
-    (good-filters _ _ (sym (g .before .haves-good .ensures) ∙ not-false _ (g .if1 .left)) (c .before .before .if2 .left), omega (arith, c .if4 .left))
+    (good-filters _ _ (sym (g .before .filters-good .ensures) ∙ not-false _ (g .if1 .left)) (c .before .before .if2 .left), omega (arith, c .if4 .left))
 
--- src/contains.rt:88:9
 returns-5 : tie.Need-returns-5
 returns-5 c =
     let q = c .before .before in
     let g = q .before .before .before in
-    held _ _ _ (sym (g .before .haves-good .ensures) ∙ not-false _ (g .if1 .left)) (q .before .before .if2 .left) (q .before .if3 .left) (q .if4 .left)
+    held _ _ _ (sym (g .before .filters-good .ensures) ∙ not-false _ (g .if1 .left)) (q .before .before .if2 .left) (q .before .if3 .left) (q .if4 .left)
     (sym (c .before .contains-hash .ensures) ∙ c .if5 .taken)
 
--- src/contains.rt:72:1
 returns-6 : tie.Need-returns-6
 returns-6 c =
     let q = c .before .before in
     let g = q .before .before .before in
-    missed _ _ _ (sym (g .before .haves-good .ensures) ∙ not-false _ (g .if1 .left)) (q .before .before .if2 .left) (q .before .if3 .left) (q .if4 .left)
+    missed _ _ _ (sym (g .before .filters-good .ensures) ∙ not-false _ (g .if1 .left)) (q .before .before .if2 .left) (q .before .if3 .left) (q .if4 .left)
     (sym (c .before .contains-hash .ensures) ∙ c .if5 .left)
 
 pub filters-contain-spec : {M : Type 1} → statement M
 filters-contain-spec =
     tie.close
     (tie.spec
-    haves-good-requires
+    filters-good-requires
     returns
     returns-2
     returns-3

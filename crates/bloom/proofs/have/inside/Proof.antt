@@ -9,8 +9,6 @@ use lib.Dec.{leb}
 use Rattle.rules.proofs.Cases.{split}
 use Rattle.bloom.proofs.have.inside.Statement.{statement}
 use Rattle.bloom.proofs.have.inside.Tie as tie
-use Rattle.bloom.proofs.have.inside.Reads as reads
-use Rattle.bloom.proofs.have.inside.Lts as lts
 
 longer : (place size whole : ℕ) → whole < size → false ≡ leb (place + size) whole
 longer place size whole h = sym (lt-leb (place + size) whole (omega arith))
@@ -21,11 +19,9 @@ place-decides place size whole h =
     (λ e. let l : place ≤ whole - size = leb-true _ _ e in rw (e, le-leb (place + size) whole (omega arith)))
     (λ e. let l : whole - size < place = leb-false _ _ e in rw (e, lt-leb (place + size) whole (omega arith)))
 
--- src/have.rt:59:9
 returns : tie.Need-returns
 returns c = longer _ _ _ (c .if1 .taken)
 
--- src/have.rt:55:1
 returns-2 : tie.Need-returns-2
 returns-2 c = place-decides _ _ _ (c .if1 .left)
 

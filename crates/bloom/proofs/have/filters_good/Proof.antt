@@ -1,72 +1,59 @@
--- `bloom::have::haves_good` meets its contract: the haves from record i on decide what all of them do. Assumes nothing.
+-- `bloom::have::filters_good` meets its contract: the haves from record i on decide what all of them do. Assumes nothing.
 use Prim.Native.Nat.{_-_, _≤_}
 use borrow.Author.Needs.{needs}
 use borrow.Author.Tests.{not-true, not-false}
 use mathlib.Core.Path.{_≡_, sym, _∙_}
 use native.Mathlib.Omega.{arith}
-use Rattle.bloom.specs.Have.{havesGood}
+use Rattle.bloom.specs.Have.{filtersGood}
 use Rattle.bloom.proofs.HaveLaws.{testing, testing-starts, not-whole, testing-fails, testing-on, testing-ends}
-use Rattle.bloom.proofs.have.haves_good.Statement.{statement}
-use Rattle.bloom.proofs.have.haves_good.Tie as tie
-use Rattle.bloom.proofs.have.haves_good.Reads as reads
-use Rattle.bloom.proofs.have.haves_good.Lts as lts
-use Rattle.bloom.proofs.have.at_most.Reads as at-most-reads
-use Rattle.bloom.proofs.have.have_good.Reads as have-good-reads
+use Rattle.bloom.proofs.have.filters_good.Statement.{statement}
+use Rattle.bloom.proofs.have.filters_good.Tie as tie
 
 abbrev Inv-loop : tie.InvT-loop
-Inv-loop s haves total i₀ i = record { upto : i ≤ total; rest : testing s haves total i ≡ havesGood s haves }
+Inv-loop s haves total i₀ i = record { upto : i ≤ total; rest : testing s haves total i ≡ filtersGood s haves }
 
 abbrev μ-loop : tie.MeasureT-loop
 μ-loop s haves total i₀ i = total - i
 
--- src/have.rt:88:9
 returns : tie.Need-returns Inv-loop μ-loop
 returns c = sym (not-whole _ _ (c .if1 .taken))
 
--- src/have.rt:90:9
 at-most-requires : tie.Need-at-most-requires Inv-loop μ-loop
 at-most-requires c κs = search needs
 
--- src/have.rt:92:5
 loop-holds : tie.Need-loop-holds Inv-loop μ-loop
 loop-holds c = record { upto = omega arith; rest = testing-starts _ _ _ (c .at-most .ensures) (c .before .if1 .left) }
 
--- src/have.rt:93:13
-have-good-requires : tie.Need-have-good-requires Inv-loop μ-loop
-have-good-requires c κs = search needs
+filter-good-requires : tie.Need-filter-good-requires Inv-loop μ-loop
+filter-good-requires c κs = search needs
 
--- src/have.rt:94:13
 returns-2 : tie.Need-returns-2 Inv-loop μ-loop
 returns-2 c =
     let t = c .before in
-    sym (testing-fails _ _ _ _ (t .before .loop-test .taken) (sym (t .have-good .ensures) ∙ not-true _ (c .if2 .taken)))
+    sym (testing-fails _ _ _ _ (t .before .loop-test .taken) (sym (t .filter-good .ensures) ∙ not-true _ (c .if2 .taken)))
     ∙ t .before .before .loop .inv .rest
 
--- src/have.rt:96:9
 add-i : tie.Need-add-i Inv-loop μ-loop
 add-i c = search needs
 
--- src/have.rt:92:5
 loop-less : tie.Need-loop-less Inv-loop μ-loop
 loop-less c = search needs
 
--- src/have.rt:92:5
 loop-again : tie.Need-loop-again Inv-loop μ-loop
 loop-again c =
     let t = c .before in
     record {
       upto = omega (arith, t .before .loop-test .taken);
       rest =
-          sym (testing-on _ _ _ _ (t .before .loop-test .taken) (sym (t .have-good .ensures) ∙ not-false _ (c .if2 .left)))
+          sym (testing-on _ _ _ _ (t .before .loop-test .taken) (sym (t .filter-good .ensures) ∙ not-false _ (c .if2 .left)))
           ∙ t .before .before .loop .inv .rest;
     }
 
--- src/have.rt:84:1
 returns-3 : tie.Need-returns-3 Inv-loop μ-loop
 returns-3 c = sym (testing-ends _ _ _ _ (c .loop-test .left)) ∙ c .before .loop .inv .rest
 
-pub haves-good-spec : {M : Type 1} → statement M
-haves-good-spec =
+pub filters-good-spec : {M : Type 1} → statement M
+filters-good-spec =
     tie.close
     (tie.spec
     Inv-loop
@@ -74,7 +61,7 @@ haves-good-spec =
     returns
     at-most-requires
     loop-holds
-    have-good-requires
+    filter-good-requires
     returns-2
     add-i
     loop-less
