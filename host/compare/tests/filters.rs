@@ -479,10 +479,10 @@ fn random_writes() {
 /// How many hashes the lists of the tests have.
 const COUNTS: [usize; 10] = [0, 1, 2, 15, 16, 17, 255, 256, 1_023, 1_024];
 
-/// Hashes of several kinds for a field that has so many of them: random ones, one
-/// hash again and again, and ones that probe at the field's edges.
-fn lists(count: usize, random: &mut Random) -> [Vec<u8>; 3] {
-    let m = 8 * field_size(count as u64, 10) as u32;
+/// Hashes of several kinds for a field of so many entries: random ones, one hash
+/// again and again, and ones that probe at the field's edges.
+fn lists(count: usize, bits: u64, random: &mut Random) -> [Vec<u8>; 3] {
+    let m = 8 * field_size(count as u64, bits) as u32;
     let once = random.bytes(32);
     let edge = |random: &mut Random| hash_of(std::array::from_fn(|_| random.of(&edges(m.max(1)))));
     [
@@ -509,7 +509,7 @@ fn built_filters() {
     let mut random = Random(2);
     for count in COUNTS {
         let wanted = field_size(count as u64, 10) as usize;
-        for (kind, hashes) in lists(count, &mut random).into_iter().enumerate() {
+        for (kind, hashes) in lists(count, 10, &mut random).into_iter().enumerate() {
             let build = built(10, 7, &hashes);
             let written = match kind {
                 0 => compare_writes(build, every(wanted)),
@@ -530,14 +530,14 @@ fn built_with_other_numbers() {
             let count = random.of(&[1, 2, 3, 15, 16, 17]);
             let wanted = field_size(count as u64, bits) as usize;
             let kind = random.below(3);
-            let hashes = &lists(count, &mut random)[kind];
+            let hashes = &lists(count, bits, &mut random)[kind];
             assert_eq!(compare_writes(built(bits, probes, hashes), [wanted]), 1);
         }
     }
     for count in COUNTS {
         for (bits, probes) in [(1, 0), (1, 64), (3, 1), (8, 2), (63, 63), (64, 64)] {
             let wanted = field_size(count as u64, bits) as usize;
-            for hashes in lists(count, &mut random) {
+            for hashes in lists(count, bits, &mut random) {
                 let build = built(bits, probes, &hashes);
                 assert_eq!(compare_writes(build, [wanted, wanted + 1]), 2);
             }
@@ -665,7 +665,7 @@ fn added_hashes_are_contained() {
     let mut random = Random(4);
     for count in COUNTS {
         for (bits, probes) in [(10, 7), (1, 0), (2, 1), (64, 64)] {
-            for hashes in lists(count, &mut random) {
+            for hashes in lists(count, bits, &mut random) {
                 let field = field_of(bits, probes, &hashes);
                 let haves = Haves::one(Filter {
                     entries: count as u64,
@@ -743,7 +743,7 @@ fn random_filter(random: &mut Random) -> ([u64; 3], Vec<u8>) {
     ([entries, bits, probes], field)
 }
 
-/// Half a million questions to one to sixteen random filters in one list over one
+/// Two million questions to one to sixteen random filters in one list over one
 /// buffer, ones without entries among them, against the crate's filters one after
 /// the other and against the model.
 #[test]
@@ -751,7 +751,7 @@ fn random_questions() {
     let seed = seed();
     let mut random = Random(seed);
     let (mut asked, mut yes) = (0, 0);
-    while asked < 500_000 {
+    while asked < 2_000_000 {
         let count = if random.one_in(3) {
             1
         } else {
@@ -780,7 +780,7 @@ fn random_questions() {
         }
         asked += hashes.len();
     }
-    assert!((50_000..450_000).contains(&yes), "{yes}");
+    assert!((200_000..1_800_000).contains(&yes), "{yes}");
 }
 
 /// Sixteen filters of which only the last, a middle one or none contains a hash,
