@@ -9,8 +9,9 @@
 //! ```
 //!
 //! The library and the model must agree in every word. The library and the crate
-//! must agree in values, places and kinds of refusals, but for the two
-//! differences that are intended (`Difference`), and there they must differ.
+//! must agree in values, places and kinds of refusals, but for the differences
+//! that are intended (`Difference`, and `filters::Difference` for filters), and
+//! there they must differ.
 
 pub mod filters;
 pub mod inputs;

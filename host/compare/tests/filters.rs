@@ -9,7 +9,7 @@ use compare::inputs::filter::{edges, hash_of, number_forms_in_filters};
 use compare::inputs::{boundary_values, seed, Random};
 use compare::model::filter::{self, field_size, Filter, HAVE_WORDS};
 use compare::model::number_bytes;
-use compare::{compare_rooms, published, Write};
+use compare::{compare_rooms, compare_write, published, Write};
 
 /// Most of what one exchange with the library is worth.
 const MANY: usize = 1 << 15;
@@ -624,8 +624,8 @@ fn random_builds() {
         let probes = if default { 7 } else { random.below(70) as u64 };
         let wanted = field_size(count as u64, bits) as usize;
         let room = random.below(4 * wanted + 2);
-        match compare_rooms(built(bits, probes, &hashes), [room]) {
-            Ok(words) => answers[words[0][0] as usize] += 1,
+        match compare_write(built(bits, probes, &hashes), room) {
+            Ok([first, ..]) => answers[first as usize] += 1,
             Err(disagreement) => panic!("COMPARE_SEED={seed}, round {round}: {disagreement}"),
         }
     }
@@ -726,21 +726,28 @@ fn words_at_the_edges_of_a_field() {
     assert!(yes > 10_000, "{yes}");
 }
 
-/// A random filter that keeps the rules, its field apart.
+/// A random filter that keeps the rules, now and then one without entries: its
+/// numbers and its field.
 fn random_filter(random: &mut Random) -> ([u64; 3], Vec<u8>) {
-    let (entries, bits) = random.entries_and_bits();
-    let probes = if random.one_in(2) {
-        random.below(8) as u64
-    } else {
-        random.below(65) as u64
-    };
     if random.one_in(12) {
-        let any = u64::from(u32::MAX);
-        let number = |random: &mut Random| random.number() & any;
-        return ([0, number(random), number(random)], Vec::new());
+        let [bits, probes] = [random.number(), random.number()].map(|n| n & 0xffff_ffff);
+        return ([0, bits, probes], Vec::new());
     }
+    let (entries, bits) = random.entries_and_bits();
+    let most = random.of(&[8, 65]);
+    let probes = random.below(most) as u64;
     let field = random.field(field_size(entries, bits) as usize);
     ([entries, bits, probes], field)
+}
+
+fn with_field((numbers, field): &([u64; 3], Vec<u8>)) -> Filter<'_> {
+    let [entries, bits, probes] = *numbers;
+    Filter {
+        entries,
+        bits,
+        probes,
+        field,
+    }
 }
 
 /// Two million questions to one to sixteen random filters in one list over one
@@ -757,16 +764,8 @@ fn random_questions() {
         } else {
             1 + random.below(16)
         };
-        let filters: Vec<_> = (0..count).map(|_| random_filter(&mut random)).collect();
-        let filters: Vec<Filter> = filters
-            .iter()
-            .map(|([entries, bits, probes], field)| Filter {
-                entries: *entries,
-                bits: *bits,
-                probes: *probes,
-                field,
-            })
-            .collect();
+        let parts: Vec<_> = (0..count).map(|_| random_filter(&mut random)).collect();
+        let filters: Vec<Filter> = parts.iter().map(with_field).collect();
         let haves = Haves::new(&filters, random.haves(&filters));
         let hashes: Vec<[u8; 32]> = (0..200)
             .map(|_| {
@@ -932,16 +931,8 @@ fn random_haves_damaged() {
     let mut answers = [0; 11];
     for round in 0..20_000 {
         let count = 1 + random.below(3);
-        let filters: Vec<_> = (0..count).map(|_| random_filter(&mut random)).collect();
-        let filters: Vec<Filter> = filters
-            .iter()
-            .map(|([entries, bits, probes], field)| Filter {
-                entries: *entries,
-                bits: *bits,
-                probes: *probes,
-                field,
-            })
-            .collect();
+        let parts: Vec<_> = (0..count).map(|_| random_filter(&mut random)).collect();
+        let filters: Vec<Filter> = parts.iter().map(with_field).collect();
         let (s, mut haves) = random.haves(&filters);
         for _ in 0..random.below(3) {
             let word = random.below(haves.len());
