@@ -2,13 +2,14 @@
 //! same run. `make bench` at the repository's root runs it.
 //!
 //! ```text
-//!   runs       this program again and again, the best times as a table
+//!   runs           this program again and again, the best times as a table
 //!     |
-//!   wire, ..   what is measured: a line each
+//!   wire, filter   what is measured: a line each
 //!     |
-//!   measure    the times of one line
+//!   measure        the times of one line
 //! ```
 
+mod filter;
 mod measure;
 mod runs;
 mod wire;
@@ -23,6 +24,7 @@ fn main() -> ExitCode {
     }
     if std::env::args().nth(1).as_deref() == Some(runs::ONCE) {
         wire::measure_all();
+        filter::measure_all();
         return ExitCode::SUCCESS;
     }
     let processor = std::env::consts::ARCH;

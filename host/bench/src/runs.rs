@@ -36,7 +36,7 @@ pub fn print_best() -> Result<(), String> {
 }
 
 fn print_columns([name, size, library, published, ratio]: [&str; 5], note: &str) {
-    let line = format!("{name:<18} {size:<12} {library:>10} {published:>10} {ratio:>8}  {note}");
+    let line = format!("{name:<18} {size:<13} {library:>10} {published:>10} {ratio:>8}  {note}");
     println!("{}", line.trim_end());
 }
 

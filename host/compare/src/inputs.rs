@@ -1,6 +1,8 @@
 //! Inputs that are worth trying: boundary numbers in good and bad forms, and
 //! random items, damaged.
 
+pub mod filter;
+
 use crate::model::{number_bytes, prefixed_bytes};
 use std::fmt::Write as _;
 
@@ -65,6 +67,14 @@ pub fn shown(bytes: &[u8]) -> String {
     }
     let _ = write!(text, "] ({} bytes)", bytes.len());
     text
+}
+
+/// The seed of the random tests: COMPARE_SEED, or always the same.
+pub fn seed() -> u64 {
+    match std::env::var("COMPARE_SEED") {
+        Ok(seed) => seed.parse().expect("COMPARE_SEED is a number"),
+        Err(_) => 20_120_047_200,
+    }
 }
 
 /// The same numbers from the same seed (SplitMix64).
@@ -176,9 +186,9 @@ impl Random {
 
     /// Bytes, the place of an item in them, and the end of its part. Both are
     /// now and then anywhere, past the bytes too.
-    pub fn input(&mut self) -> (Vec<u8>, usize, usize) {
+    pub fn input(&mut self, item: impl Fn(&mut Random) -> Vec<u8>) -> (Vec<u8>, usize, usize) {
         let before = self.below(4);
-        let bytes = [self.bytes(before), self.item()].concat();
+        let bytes = [self.bytes(before), item(self)].concat();
         let at = if self.one_in(8) {
             self.place(bytes.len())
         } else {

@@ -9,15 +9,19 @@
 //! ```
 //!
 //! The library and the model must agree in every word. The library and the crate
-//! must agree in values, places and kinds of refusals, but for the two
-//! differences that are intended (`Difference`), and there they must differ.
+//! must agree in values, places and kinds of refusals, but for the differences
+//! that are intended (`Difference`, and `filters::Difference` for filters), and
+//! there they must differ.
 
+pub mod filters;
 pub mod inputs;
 pub mod model;
 pub mod published;
 pub mod vectors;
 
 use bisquetower::raw::{self, Read, Reader};
+use filters::Build;
+use model::filter::Filter;
 
 pub const READERS: [Reader; 4] = [
     Reader::Number,
@@ -158,6 +162,9 @@ pub enum Write<'a> {
     Number(u64),
     Prefixed(&'a [u8]),
     Hashes(&'a [u8]),
+    Filter(Filter<'a>),
+    /// The field of the filter over hashes.
+    Built(Build<'a>),
 }
 
 impl Write<'_> {
@@ -166,6 +173,8 @@ impl Write<'_> {
             Write::Number(n) => format!("the number {n}"),
             Write::Prefixed(bytes) => format!("the string {}", inputs::shown(bytes)),
             Write::Hashes(hashes) => format!("the hashes {}", inputs::shown(hashes)),
+            Write::Filter(filter) => filters::shown(&filter),
+            Write::Built(build) => build.shown(),
         }
     }
 
@@ -174,6 +183,8 @@ impl Write<'_> {
             Write::Number(n) => raw::write_number(out, n),
             Write::Prefixed(bytes) => raw::write_prefixed(out, bytes),
             Write::Hashes(hashes) => raw::write_hashes(out, hashes),
+            Write::Filter(f) => raw::write_filter(out, f.entries, f.bits, f.probes, f.field),
+            Write::Built(b) => raw::build_filter(out, b.bits, b.probes, b.hashes),
         }
     }
 
@@ -182,21 +193,28 @@ impl Write<'_> {
             Write::Number(n) => Ok(model::number_bytes(n)),
             Write::Prefixed(bytes) => Ok(model::prefixed_bytes(bytes)),
             Write::Hashes(hashes) => model::hash_list_bytes(hashes),
+            Write::Filter(filter) => model::filter::bytes(&filter),
+            Write::Built(b) => model::filter::built(b.bits, b.probes, b.hashes),
         }
     }
 
-    /// The crate's bytes. It writes a prefixed string as a number and the bytes,
-    /// one after the other; it takes hashes, never a part of one.
-    pub fn published(&self) -> Vec<u8> {
+    /// The crate's bytes, of what the model writes; none where it has no such call.
+    /// It writes a prefixed string as a number and the bytes, one after the other.
+    pub fn published(&self) -> Option<Vec<u8>> {
         use crate_under_test::facade::{write_hashes, write_u64};
         match *self {
-            Write::Number(n) => write_u64(n),
-            Write::Prefixed(bytes) => [&write_u64(bytes.len() as u64), bytes].concat(),
+            Write::Number(n) => Some(write_u64(n)),
+            Write::Prefixed(bytes) => Some([&write_u64(bytes.len() as u64), bytes].concat()),
             Write::Hashes(hashes) => {
                 let whole = hashes.chunks_exact(32);
                 let list: Vec<[u8; 32]> = whole.map(|h| h.try_into().expect("32 bytes")).collect();
-                write_hashes(&list)
+                Some(write_hashes(&list))
             }
+            Write::Filter(filter) => {
+                let filter = published::filter(&filter).expect("the crate has every filter");
+                Some(filter.to_bytes())
+            }
+            Write::Built(build) => build.published(),
         }
     }
 }
@@ -209,14 +227,33 @@ const GUARD: usize = 16;
 /// buffer is tried over two values, so that a stray write of either is seen.
 /// Returns the answer.
 pub fn compare_write(write: Write, room: usize) -> Result<[u64; 4], String> {
-    let told = || format!("{} into {room} bytes", write.shown());
+    Ok(compare_rooms(write, [room])?[0])
+}
+
+/// The same for buffers of several sizes.
+pub fn compare_rooms(
+    write: Write,
+    rooms: impl IntoIterator<Item = usize>,
+) -> Result<Vec<[u64; 4]>, String> {
     let wanted = write.model();
-    if wanted
-        .as_ref()
-        .is_ok_and(|bytes| *bytes != write.published())
-    {
-        return Err(format!("{}: the model's bytes aren't the crate's", told()));
+    if let Ok(bytes) = &wanted {
+        if write.published().is_some_and(|others| others != *bytes) {
+            let what = write.shown();
+            return Err(format!("{what}: the model's bytes aren't the crate's"));
+        }
     }
+    let each = rooms.into_iter().map(|room| {
+        let told = |why| format!("{} into {room} bytes: {why}", write.shown());
+        compare_room(write, &wanted, room).map_err(told)
+    });
+    each.collect()
+}
+
+fn compare_room(
+    write: Write,
+    wanted: &Result<Vec<u8>, model::Refused>,
+    room: usize,
+) -> Result<[u64; 4], String> {
     let mut answer = [0; 4];
     for flip in [0x00, 0xff] {
         let pattern = (0..room + 2 * GUARD).map(|k| (k * 37 + 11) as u8 ^ flip);
@@ -226,12 +263,13 @@ pub fn compare_write(write: Write, room: usize) -> Result<[u64; 4], String> {
         answer = write.library(&mut memory[lent.clone()]);
         let words = model::write(&mut expected[lent], wanted.clone());
         if answer != words {
-            let both = format!("the library's answer is {answer:?}, the model's {words:?}");
-            return Err(format!("{}: {both}", told()));
+            return Err(format!(
+                "the library's answer is {answer:?}, the model's {words:?}"
+            ));
         }
         if let Some(k) = (0..memory.len()).find(|&k| memory[k] != expected[k]) {
             let place = k as i64 - GUARD as i64;
-            return Err(format!("{}: the byte at {place} is wrong", told()));
+            return Err(format!("the byte at {place} is wrong"));
         }
     }
     Ok(answer)

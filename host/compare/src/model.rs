@@ -2,6 +2,8 @@
 //! Refusal numbers), in plain Rust: written from the document's sentences, by
 //! walking byte after byte and hash after hash, with no eye to speed.
 
+pub mod filter;
+
 use bisquetower::raw::{Read, Reader};
 
 /// "Hash 32 bytes", "Each hash list 1,024".

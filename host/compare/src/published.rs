@@ -1,8 +1,9 @@
 //! The published crate's answers, in the words of docs/ABI.md as far as the
 //! crate says them.
 
+use crate::model::filter::Filter;
 use bisquetower::raw::{Read, Reader};
-use crate_under_test::facade::{self, Kind};
+use crate_under_test::facade::{self, BloomFilter, ChangeHash, FilterParts, Kind};
 
 /// What the crate makes of a read.
 pub struct Answer {
@@ -54,4 +55,33 @@ fn refusal_number(kind: Kind) -> u64 {
         Kind::TooLarge | Kind::Overlong => 3,
         Kind::WrongType(_) | Kind::Other => panic!("no reader of items says {kind:?}"),
     }
+}
+
+/// The parts of the filter that the crate reads, or the refusal's number that the
+/// kind of its error is.
+pub fn read_filter(part: &[u8]) -> Result<FilterParts, u64> {
+    match facade::read_filter(part) {
+        Ok(filter) => Ok(facade::filter_parts(&filter)),
+        Err(kind) => Err(refusal_number(kind)),
+    }
+}
+
+/// The crate's filter with these parts; none if it can't have them.
+pub fn filter(filter: &Filter) -> Option<BloomFilter> {
+    facade::filter_of(&FilterParts {
+        entries: u32::try_from(filter.entries).ok()?,
+        bits_per_entry: u32::try_from(filter.bits).ok()?,
+        probes: u32::try_from(filter.probes).ok()?,
+        field: filter.field.to_vec(),
+    })
+}
+
+/// The parts of the crate's filter over hashes that are lent as bytes.
+pub fn built(lent: &[u8]) -> FilterParts {
+    let hashes = lent.chunks_exact(32).map(change_hash);
+    facade::filter_parts(&BloomFilter::from_hashes(hashes))
+}
+
+pub fn change_hash(hash: &[u8]) -> ChangeHash {
+    ChangeHash(hash.try_into().expect("32 bytes"))
 }

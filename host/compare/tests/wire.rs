@@ -2,7 +2,7 @@
 //! crate and the model. `compare::compare` says what is held against what.
 
 use bisquetower::raw::{self, Read, Reader};
-use compare::inputs::{boundary_values, number_forms, overlong, Random};
+use compare::inputs::{boundary_values, number_forms, overlong, seed, Random};
 use compare::model::{number_bytes, prefixed_bytes};
 use compare::{compare, compare_write, Difference, Tally, Write, READERS};
 
@@ -312,14 +312,6 @@ fn differences_are_the_two_that_are_intended() {
     }
 }
 
-/// The seed of the random tests: COMPARE_SEED, or always the same.
-fn seed() -> u64 {
-    match std::env::var("COMPARE_SEED") {
-        Ok(seed) => seed.parse().expect("COMPARE_SEED is a number"),
-        Err(_) => 20_120_047_200,
-    }
-}
-
 /// A million random and damaged inputs, each as every kind of item, against
 /// crate and model.
 #[test]
@@ -328,7 +320,7 @@ fn random_and_damaged_inputs() {
     let mut random = Random(seed);
     let mut tally = Tally::default();
     for batch in 0..100 {
-        let inputs: Vec<_> = (0..10_000).map(|_| random.input()).collect();
+        let inputs: Vec<_> = (0..10_000).map(|_| random.input(Random::item)).collect();
         let reads: Vec<Read> = inputs
             .iter()
             .flat_map(|(s, place, end)| READERS.map(|reader| at(reader, s, *place, *end)))

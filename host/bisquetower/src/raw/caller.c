@@ -88,6 +88,23 @@ static void copy(u64 *to, const u64 *from, u64 count) {
     for (u64 i = 0; i < count; i++) to[i] = from[i];
 }
 
+// What a compiler may ask of a C library even where there is none; libsync.a is compiled with calls of memset.
+void *memset(void *start, int byte, u64 length) {
+    u8 *to = start;
+    for (u64 i = 0; i < length; i++) to[i] = (u8)byte;
+    return start;
+}
+
+void *memmove(void *start, const void *source, u64 length) {
+    u8 *to = start;
+    const u8 *from = source;
+    if (to < from) for (u64 i = 0; i < length; i++) to[i] = from[i];
+    else for (u64 i = length; i > 0; i--) to[i - 1] = from[i - 1];
+    return start;
+}
+
+void *memcpy(void *start, const void *source, u64 length) { return memmove(start, source, length); }
+
 // A buffer that a call may write, and the guards around it. Those of two neighbours are one.
 struct buffer {
     u64 *start, length;

@@ -1,0 +1,210 @@
+//! Document 01's rules for filters (Wire, "Filter"; "Probes"; refusals 1, 3, 4, 5
+//! and 10): a field is kept as its bits, one by one, and every product is taken
+//! in 128 bits.
+
+use super::{number, number_bytes, part, words, Refused, HASH, HASHES, MOST_OF_A_FILTER};
+use bisquetower::raw::{Read, Reader};
+
+/// "haves 16. Filter bit field 8,192 bytes; probes 64".
+const HAVES: usize = 16;
+const FIELD: u128 = 8_192;
+const PROBES: u64 = 64;
+
+/// "no bytes means entries 0, bits 10, probes 7".
+pub const DEFAULT_BITS: u64 = 10;
+pub const DEFAULT_PROBES: u64 = 7;
+
+/// Words of a have's record: place and count of its last-sync hashes, entries,
+/// bits, probes, place and length of the field.
+pub const HAVE_WORDS: usize = 7;
+
+/// A filter as numbers, and its field.
+#[derive(Clone, Copy, Debug, PartialEq, Eq)]
+pub struct Filter<'a> {
+    pub entries: u64,
+    pub bits: u64,
+    pub probes: u64,
+    pub field: &'a [u8],
+}
+
+/// "n × b / 8 bytes rounded up".
+pub fn field_size(entries: u64, bits: u64) -> u128 {
+    (u128::from(entries) * u128::from(bits)).div_ceil(8)
+}
+
+/// The eight words that a reader has to answer: 0, entries, bits, probes, place
+/// and length of the field, next place; or the refusal.
+pub fn read(s: &[u8], at: usize, end: usize) -> [u64; 8] {
+    match numbers(s, at, end) {
+        Ok([n, b, p, place, length]) => [0, n, b, p, place, length, place + length, 0],
+        Err((number, value)) => [number, value, 0, 0, 0, 0, 0, 0],
+    }
+}
+
+/// Entries, bits, probes, place and length of the field: all three numbers are
+/// read before one is looked at.
+fn numbers(s: &[u8], at: usize, end: usize) -> Result<[u64; 5], Refused> {
+    let item = |at| Read {
+        reader: Reader::FilterNumber,
+        s,
+        at,
+        end,
+    };
+    let filter = at as u64;
+    if part(&item(at)).is_empty() {
+        return Ok([0, DEFAULT_BITS, DEFAULT_PROBES, filter, 0]);
+    }
+    let (n, at_bits) = number(&item(at), MOST_OF_A_FILTER)?;
+    let (b, at_probes) = number(&item(at_bits), MOST_OF_A_FILTER)?;
+    let (p, at_field) = number(&item(at_probes), MOST_OF_A_FILTER)?;
+    let place = at_field as u64;
+    if n == 0 {
+        return Ok([n, b, p, place, 0]);
+    }
+    let size = field_size(n, b);
+    if b == 0 {
+        return Err((5, filter));
+    }
+    if p > PROBES || size > FIELD {
+        return Err((4, filter));
+    }
+    if (part(&item(at_field)).len() as u128) < size {
+        return Err((1, place));
+    }
+    Ok([n, b, p, place, size as u64])
+}
+
+/// Refusal 10: whether numbers and a field of this size keep "the filter rules"
+/// and "its field size".
+pub fn keeps_rules(entries: u64, bits: u64, probes: u64, size: u128) -> bool {
+    let numbers = [entries, bits, probes];
+    let limited = entries == 0 || (bits >= 1 && probes <= PROBES && size <= FIELD);
+    numbers.iter().all(|&n| n <= MOST_OF_A_FILTER) && limited && size == field_size(entries, bits)
+}
+
+/// A filter as bytes: "n = 0 is written as no bytes".
+pub fn bytes(filter: &Filter) -> Result<Vec<u8>, Refused> {
+    let Filter {
+        entries,
+        bits,
+        probes,
+        field,
+    } = *filter;
+    if !keeps_rules(entries, bits, probes, field.len() as u128) {
+        return Err((10, 0));
+    }
+    if entries == 0 {
+        return Ok(Vec::new());
+    }
+    let numbers = [entries, bits, probes].map(number_bytes).concat();
+    Ok([&numbers[..], field].concat())
+}
+
+/// The field of the filter over hashes that are lent as bytes: 10 for the
+/// numbers, 4 for too long a list, 1 for a partial hash.
+pub fn built(bits: u64, probes: u64, lent: &[u8]) -> Result<Vec<u8>, Refused> {
+    let entries = (lent.len() / HASH) as u64;
+    let size = field_size(entries, bits);
+    if !keeps_rules(entries, bits, probes, size) {
+        return Err((10, 0));
+    }
+    if lent.len() > HASH * HASHES as usize {
+        return Err((4, 0));
+    }
+    if !lent.len().is_multiple_of(HASH) {
+        return Err((1, HASH as u64 * entries));
+    }
+    let mut set = vec![false; 8 * size as usize];
+    for hash in lent.chunks(HASH) {
+        for probe in probes_of(hash, set.len(), probes) {
+            set[probe] = true;
+        }
+    }
+    let byte = |bits: &[bool]| (0..8).map(|k| u8::from(bits[k]) << k).sum();
+    Ok(set.chunks(8).map(byte).collect())
+}
+
+/// "x, y, z are the hash's first three little-endian 32-bit words mod m. The
+/// first probe is x; then x becomes (x + y) mod m, after it y becomes (y + z)
+/// mod m, and x is the next. There are max(1, p) probes."
+pub fn probes_of(hash: &[u8], m: usize, p: u64) -> Vec<usize> {
+    let word = |k: usize| {
+        let bytes = hash[4 * k..4 * k + 4].try_into().expect("four bytes");
+        u32::from_le_bytes(bytes) as usize % m
+    };
+    let (mut x, mut y, z) = (word(0), word(1), word(2));
+    let mut probes = vec![x];
+    for _ in 1..p {
+        x = (x + y) % m;
+        y = (y + z) % m;
+        probes.push(x);
+    }
+    probes
+}
+
+/// "Bit k is bit k mod 8 of byte k / 8. n = 0 contains nothing."
+pub fn contains(filter: &Filter, hash: &[u8]) -> bool {
+    let Filter {
+        entries,
+        probes,
+        field,
+        ..
+    } = *filter;
+    let set = |k: usize| field[k / 8] & (1 << (k % 8)) != 0;
+    entries != 0
+        && probes_of(hash, 8 * field.len(), probes)
+            .into_iter()
+            .all(set)
+}
+
+/// What a call has to answer that is asked for a hash in the filters of haves:
+/// 10 for the haves, of which 16 are looked at; 4 for more of them; 4 or 1 for
+/// a hash of another length; else 1 for yes and 0 for no.
+pub fn contained(s: &[u8], haves: &[u64], hash: &[u8]) -> [u64; 4] {
+    let answer = filters(s, haves).and_then(|filters| {
+        if filters.len() > HAVES || hash.len() > HASH {
+            Err((4, 0))
+        } else if hash.len() < HASH {
+            Err((1, 0))
+        } else {
+            let yes = filters.iter().any(|filter| contains(filter, hash));
+            Ok([u64::from(yes), 0, 0])
+        }
+    });
+    words(answer)
+}
+
+/// The filters of a list of haves; those after the sixteenth are never asked.
+fn filters<'a>(s: &'a [u8], haves: &[u64]) -> Result<Vec<Filter<'a>>, Refused> {
+    if !haves.len().is_multiple_of(HAVE_WORDS) {
+        return Err((10, 0));
+    }
+    let records = haves.chunks(HAVE_WORDS);
+    let good = records.clone().take(HAVES).all(|have| good(s, have));
+    if !good {
+        return Err((10, 0));
+    }
+    let filter = |have: &[u64]| Filter {
+        entries: have[2],
+        bits: have[3],
+        probes: have[4],
+        field: at_place(s, have[5], have[6].into()).unwrap_or_default(),
+    };
+    Ok(records.map(filter).collect())
+}
+
+/// Whether a have's counts pass no size, its parts stand inside the bytes and
+/// its filter keeps the rules.
+fn good(s: &[u8], have: &[u64]) -> bool {
+    let last_sync = HASH as u128 * u128::from(have[1]);
+    have[1] <= HASHES
+        && at_place(s, have[0], last_sync).is_some()
+        && keeps_rules(have[2], have[3], have[4], have[6].into())
+        && at_place(s, have[5], have[6].into()).is_some()
+}
+
+fn at_place(s: &[u8], place: u64, length: u128) -> Option<&[u8]> {
+    let end = u128::from(place) + length;
+    let inside = end <= s.len() as u128;
+    inside.then(|| &s[place as usize..end as usize])
+}
