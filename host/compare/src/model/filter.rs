@@ -193,13 +193,10 @@ fn filters<'a>(s: &'a [u8], haves: &[u64]) -> Result<Vec<Filter<'a>>, Refused> {
     Ok(records.map(filter).collect())
 }
 
-/// Whether a have's counts pass no size, its parts stand inside the bytes and
-/// its filter keeps the rules.
+/// Whether a have's filter keeps the rules and its field stands inside the bytes.
+/// The last-sync hashes have no part in the question.
 fn good(s: &[u8], have: &[u64]) -> bool {
-    let last_sync = HASH as u128 * u128::from(have[1]);
-    have[1] <= HASHES
-        && at_place(s, have[0], last_sync).is_some()
-        && keeps_rules(have[2], have[3], have[4], have[6].into())
+    keeps_rules(have[2], have[3], have[4], have[6].into())
         && at_place(s, have[5], have[6].into()).is_some()
 }
 

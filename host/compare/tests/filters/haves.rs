@@ -27,11 +27,8 @@ fn refused_haves() {
     let far = [most, most + 1, 1 << 59, 1 << 63, u64::MAX - 1, u64::MAX];
     // Word, value, and whether the have is still good.
     let mut cases = vec![
-        (0, 36, true),
-        (0, 37, false),
-        (1, 3, true),
-        (1, 4, false),
-        (1, 0, true),
+        (0, 101, true),
+        (1, 1_025, true),
         (2, 19, false),
         (2, 21, false),
         (2, 0, false),
@@ -48,8 +45,9 @@ fn refused_haves() {
         (6, 26, false),
         (6, 0, false),
     ];
+    // The last-sync words are not looked at.
     for word in 0..HAVE_WORDS {
-        cases.extend(far.map(|value| (word, value, false)));
+        cases.extend(far.map(|value| (word, value, word < 2)));
     }
     for (word, value, good) in cases {
         let mut have = GOOD;
@@ -68,25 +66,15 @@ fn refused_haves() {
     }
 }
 
-/// Last-sync counts of 1,024 and 1,025 over bytes enough, and places and lengths
-/// whose sum wraps, against the model.
+/// Places and lengths of a field whose sum wraps or just fits, against the model.
 #[test]
-fn refused_last_sync_hashes() {
-    let s = vec![0xff; 32 * 1_025 + 25];
-    let have = |place, count| [place, count, 20, 10, 7, 32 * 1_025, 25];
-    let good = [0, 1, 0, 0];
-    assert_eq!(question(&s, &have(0, 1_024), &HASH), good);
-    assert_eq!(question(&s, &have(57, 1_024), &HASH), good);
-    assert_eq!(question(&s, &have(58, 1_024), &HASH), BAD);
-    assert_eq!(question(&s, &have(0, 1_025), &HASH), BAD);
-    // 32 × 2^59 is 0 in 64 bits.
-    assert_eq!(question(&s, &have(0, 1 << 59), &HASH), BAD);
-    assert_eq!(question(&s, &have(u64::MAX - 31, 1), &HASH), BAD);
-    assert_eq!(question(&s, &have(u64::MAX, 0), &HASH), BAD);
-    assert_eq!(question(&s, &have(s.len() as u64, 0), &HASH), good);
-    assert_eq!(question(&s, &have(s.len() as u64 + 1, 0), &HASH), BAD);
-    let wraps = [0, 0, 20, 10, 7, u64::MAX - 24, 25];
-    assert_eq!(question(&s, &wraps, &HASH), BAD);
+fn refused_places() {
+    let s = vec![0xff; 100];
+    let have = |place| [0, 0, 20, 10, 7, place, 25];
+    assert_eq!(question(&s, &have(75), &HASH), [0, 1, 0, 0]);
+    for place in [76, u64::MAX - 25, u64::MAX - 24, u64::MAX] {
+        assert_eq!(question(&s, &have(place), &HASH), BAD, "{place}");
+    }
 }
 
 /// Lists that aren't whole records, too many haves and hashes of other lengths,
