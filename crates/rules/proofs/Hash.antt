@@ -60,12 +60,12 @@ pub value-there-and-back : (k x : ℕ) → x < 256 ^ k → bigEndian (bigEndianB
 value-there-and-back k x h = value-of-bytes k x ∙ mod-eq-of-lt h
 
 -- The top digit and the rest tell a number, and decide the order of two.
-digits-equal : (x y c r t : ℕ) → r < c → t < c → x * c + r ≡ y * c + t → (x ≡ y) × (r ≡ t)
+pub digits-equal : (x y c r t : ℕ) → r < c → t < c → x * c + r ≡ y * c + t → (x ≡ y) × (r ≡ t)
 digits-equal x y c r t h k e =
     let top : x ≡ y = sym (digits-div x h) ∙ ap (λ (n : ℕ). n / c) e ∙ digits-div y k in
     (top, sym (digits-mod x h) ∙ ap (λ (n : ℕ). n % c) e ∙ digits-mod y k)
 
-same-test : (a b c d : ℕ) → (a < b → c < d) → (b ≤ a → d ≤ c) → ltb a b ≡ ltb c d
+pub same-test : (a b c d : ℕ) → (a < b → c < d) → (b ≤ a → d ≤ c) → ltb a b ≡ ltb c d
 same-test a b c d f g = go (ltb a b) refl
   where
     go : (p : Bool) → ltb a b ≡ p → p ≡ ltb c d

@@ -1,5 +1,9 @@
 -- Laws that the crates above cite.
 pub mod Cases
+pub mod Compare
 pub mod Hash
+pub mod Insert
+pub mod OrderLaws
 pub mod Outputs
+pub mod ReachLaws
 pub mod Refusals

@@ -12,6 +12,8 @@ use Rattle.rules.specs.Refusal.{numberOf, valueOf}
 use Rattle.rules.specs.declared.output.Write.{Write}
 use Rattle.rules.specs.declared.output.Write.the-variants.{Wrote, Refused as NotWritten}
 use Rattle.rules.specs.declared.refusal.Refusal.{Refusal}
+use Rattle.tables.specs.declared.check.Checked.{Checked}
+use Rattle.tables.specs.declared.check.Checked.the-variants.{Good, Refused as BadTable}
 use Rattle.wire.specs.declared.leb128.Number.{Number}
 use Rattle.wire.specs.declared.leb128.Number.the-variants.{Value, Refused as NoNumber}
 use Rattle.wire.specs.declared.parse.HashList.{HashList}
@@ -46,6 +48,10 @@ abbrev pub containedWords : Contained → List ℕ
 containedWords Yes = 0 ∷ 1 ∷ 0 ∷ 0 ∷ []
 containedWords No = 0 ∷ 0 ∷ 0 ∷ 0 ∷ []
 containedWords (NotTested r) = refusalWords r
+
+abbrev pub checkedWords : Checked → List ℕ
+checkedWords (Good n) = 0 ∷ n ∷ 0 ∷ 0 ∷ []
+checkedWords (BadTable r) = refusalWords r
 
 -- A writing call: its words, and the buffer at exit.
 pub record Answered (o : Output) (before after words : List ℕ) : Type 0 where

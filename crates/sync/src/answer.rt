@@ -3,11 +3,12 @@ use bloom::contains::Contained;
 use bloom::parse::Parsed;
 use rules::output::Write;
 use rules::refusal::Refusal;
+use tables::check::Checked;
 use wire::leb128::Number;
 use wire::parse::HashList;
 use wire::parse::Prefixed;
 ghost use mathlib.Core.Path.{_≡_};
-ghost use Rattle.sync.specs.Answer.{refusalWords, numberWords, prefixedWords, hashListWords, writeWords, filterWords, containedWords};
+ghost use Rattle.sync.specs.Answer.{refusalWords, numberWords, prefixedWords, hashListWords, writeWords, filterWords, containedWords, checkedWords};
 
 pub fn refusal_words(r: Refusal) -> [u64; 4]
     ensures { λ w. ⌜ w ≡ refusalWords r ⌝ }
@@ -83,5 +84,14 @@ pub fn contained_words(k: Contained) -> [u64; 4]
         Contained::Yes => [0, 1, 0, 0],
         Contained::No => [0, 0, 0, 0],
         Contained::Refused(r) => refusal_words(r),
+    }
+}
+
+pub fn checked_words(k: Checked) -> [u64; 4]
+    ensures { λ w. ⌜ w ≡ checkedWords k ⌝ }
+{
+    match k {
+        Checked::Good(rows) => [0, rows as u64, 0, 0],
+        Checked::Refused(r) => refusal_words(r),
     }
 }

@@ -5,4 +5,5 @@
 pub mod answer;
 pub mod bloom_calls;
 pub mod rules_calls;
+pub mod table_calls;
 pub mod wire_calls;

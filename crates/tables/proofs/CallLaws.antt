@@ -1,0 +1,78 @@
+-- What the public calls write, one law for each way through the tests; and what a table that has been accepted gives the functions below them.
+use Prim.Native.Nat.{ℕ, _*_, _/_, _%_, _≤_, _<_}
+use mathlib.Core.Bool.{Bool, true, false}
+use mathlib.Core.List.{List}
+use mathlib.Core.Path.{_≡_, refl, sym, ap, _∙_}
+use native.Mathlib.Omega.{arith}
+use borrow.Author.Tests.{lt-ltb, le-ltb, eq-eqb, ne-eqb}
+use lib.ListN.{length, take}
+use Rattle.rules.specs.Hash.{hashAt, hashesAt, hashesBytes}
+use Rattle.rules.specs.Output.{Output}
+use Rattle.rules.specs.Sizes.{sizes}
+use Rattle.rules.specs.declared.refusal.Refusal.{Refusal}
+use Rattle.rules.specs.declared.refusal.Refusal.the-variants.{Cut, PastSize, BadRowsBefore}
+use Rattle.tables.specs.Bytes.{rowSize, rowsAt, tableOf, tableChecked}
+use Rattle.tables.specs.Calls.{afterCheck, afterHashes, beyondOutput, headsOutput}
+use Rattle.tables.specs.Marks.{GoodRows}
+use Rattle.tables.specs.Table.{GoodTable, hashOf, heads, beyond}
+use Rattle.tables.specs.declared.check.Checked.the-variants.{Good, Refused}
+use Rattle.tables.proofs.MarkLaws.{good-part}
+use Rattle.tables.proofs.TableLaws.{Decoded, table-good, row-has, length-rows-at, deps-of-row, hash-of-row, take-rows-at}
+
+-- the first rows of an accepted table are good
+pub accepted-rows : (s : List ℕ) (n : ℕ) → tableChecked s ≡ Good n → GoodRows s n
+accepted-rows s n e =
+    let d = table-good s n e in
+    let t = rowsAt s 0 n in
+    let good : GoodTable t = rw (d .is) at (d .good) in
+    let long : length t ≡ n = length-rows-at s 0 n in
+    record {
+      few = d .few;
+      inside = omega (arith, d .whole);
+      counts = λ i h. row-has s i (d .each i h) .count;
+      down = λ i k h m. good .down i k (omega arith) (rw (deps-of-row s n i h) m);
+      once =
+          λ i j h k q.
+          good .once i j (omega arith) (omega arith) (hash-of-row s n i h ∙ q ∙ sym (hash-of-row s n j k));
+    }
+
+pub accepted-part : (s : List ℕ) (n k : ℕ) → tableChecked s ≡ Good n → k ≤ n → GoodRows s k
+accepted-part s n k e h = good-part s n k (accepted-rows s n e) h
+
+-- ---- the rows beyond a list
+
+module _ (s l : List ℕ) where
+  pub beyond-refused : (r : Refusal) → tableChecked s ≡ Refused r → beyondOutput s l ≡ Output.refuse r
+  unfolding beyondOutput afterCheck
+  beyond-refused r e = rw e
+
+  module _ (n : ℕ) (good : tableChecked s ≡ Good n) where
+    pub beyond-long : sizes .hashes * sizes .hash < length l → beyondOutput s l ≡ Output.refuse (PastSize 0)
+    unfolding beyondOutput afterCheck afterHashes
+    beyond-long h = rw (good, lt-ltb _ _ h)
+
+    module _ (few : length l ≤ sizes .hashes * sizes .hash) where
+      pub beyond-cut : (length l % sizes .hash ≡ 0 → ⊥) → beyondOutput s l ≡ Output.refuse (Cut (sizes .hash * (length l / sizes .hash)))
+      unfolding beyondOutput afterCheck afterHashes
+      beyond-cut h = rw (good, le-ltb _ _ few, ne-eqb _ _ h)
+
+      pub beyond-written : length l % sizes .hash ≡ 0
+          → beyondOutput s l ≡ Output.bytes (hashesBytes (beyond (rowsAt s 0 n) (hashesAt l 0 (length l / sizes .hash))))
+      unfolding beyondOutput afterCheck afterHashes
+      beyond-written h = rw (good, le-ltb _ _ few, eq-eqb _ _ h, table-good s n good .is)
+
+-- ---- heads
+
+module _ (s : List ℕ) (before : ℕ) where
+  pub heads-refused : (r : Refusal) → tableChecked s ≡ Refused r → headsOutput s before ≡ Output.refuse r
+  unfolding headsOutput afterCheck
+  heads-refused r e = rw e
+
+  module _ (n : ℕ) (good : tableChecked s ≡ Good n) where
+    pub heads-many : n < before → headsOutput s before ≡ Output.refuse BadRowsBefore
+    unfolding headsOutput afterCheck
+    heads-many h = rw (good, lt-ltb _ _ h)
+
+    pub heads-written : before ≤ n → headsOutput s before ≡ Output.bytes (hashesBytes (heads (rowsAt s 0 before)))
+    unfolding headsOutput afterCheck
+    heads-written h = rw (good, le-ltb _ _ h, table-good s n good .is, take-rows-at s 0 before n h)

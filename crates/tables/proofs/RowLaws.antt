@@ -1,0 +1,106 @@
+-- How a row is checked. Each law is one turn of a loop over its numbers, or one way through its tests, with the tests as hypotheses.
+use Prim.Native.Nat.{ℕ, suc, _+_, _-_, _*_, _≤_, _<_}
+use mathlib.Core.Bool.{Bool, true, false}
+use mathlib.Core.List.{List}
+use mathlib.Core.Path.{_≡_, _∙_, ap}
+use native.Mathlib.Numerals.{add-one}
+use native.Mathlib.Omega.{arith}
+use borrow.Author.Tests.{lt-ltb, le-ltb, le-leb, lt-leb, eq-eqb, ne-eqb}
+use lib.Dec.{eqb}
+use lib.ListN.{length}
+use Rattle.rules.specs.Hash.{hashAt}
+use Rattle.rules.specs.Sizes.{sizes}
+use Rattle.tables.specs.Bytes.{twoAt, twosAt, rowSize, countAt, usedAt, unusedAt, rowsAt, climbs, zeros, rowGood}
+use Rattle.tables.specs.Table.{rows, placeIn}
+use Rattle.tables.proofs.TableLaws.{numberAt, length-rows, length-rows-at, place-tells}
+
+-- ---- a row's numbers
+
+number-next : (i j : ℕ) → numberAt i j + 2 ≡ numberAt i (j + 1)
+number-next i j = omega arith
+
+module _ (s : List ℕ) (i count : ℕ) where
+  -- what the numbers from the j-th on say, of those in use
+  pub climbing : ℕ → ℕ → Bool
+  climbing least j = climbs least i (twosAt s (numberAt i j) (count - j))
+
+  pub climb-starts : count ≡ countAt s i → climbing 0 0 ≡ climbs 0 i (usedAt s i)
+  unfolding climbing usedAt
+  climb-starts e =
+      let d : count - 0 ≡ countAt s i = omega arith in
+      let p : numberAt i 0 ≡ i * rowSize + sizes .hash + 2 = omega arith in
+      rw (d, p)
+
+  module _ (least j d : ℕ) (inside : j < count) (read : d ≡ twoAt s (numberAt i j)) where
+    left : count - j ≡ suc (count - (j + 1))
+    left = omega arith
+
+    pub climb-low : d < least → climbing least j ≡ false
+    unfolding climbing climbs twosAt
+    climb-low h = rw (left, ← read, lt-leb least d h)
+
+    pub climb-high : least ≤ d → i ≤ d → climbing least j ≡ false
+    unfolding climbing climbs twosAt
+    climb-high l h = rw (left, ← read, le-leb least d l, le-ltb d i h)
+
+    pub climb-on : least ≤ d → d < i → climbing least j ≡ climbing (d + 1) (j + 1)
+    unfolding climbing climbs twosAt
+    climb-on l h = rw (left, ← read, le-leb least d l, lt-ltb d i h, number-next, add-one d)
+
+  pub climb-ends : (least j : ℕ) → count ≤ j → climbing least j ≡ true
+  unfolding climbing climbs twosAt
+  climb-ends least j h =
+      let d : count - j ≡ 0 = omega arith in
+      rw d
+
+module _ (s : List ℕ) (i : ℕ) where
+  -- the same of those not in use
+  pub zeroing : ℕ → Bool
+  zeroing j = zeros (twosAt s (numberAt i j) (sizes .dependencies - j))
+
+  pub zero-starts : (count : ℕ) → count ≡ countAt s i → zeroing count ≡ zeros (unusedAt s i)
+  unfolding zeroing unusedAt
+  zero-starts count e = rw e
+
+  module _ (j d : ℕ) (inside : j < sizes .dependencies) (read : d ≡ twoAt s (numberAt i j)) where
+    remain : sizes .dependencies - j ≡ suc (sizes .dependencies - (j + 1))
+    remain = omega arith
+
+    pub zero-fails : (d ≡ 0 → ⊥) → zeroing j ≡ false
+    unfolding zeroing zeros twosAt
+    zero-fails h = rw (remain, ← read, ne-eqb d 0 h)
+
+    pub zero-on : d ≡ 0 → zeroing j ≡ zeroing (j + 1)
+    unfolding zeroing zeros twosAt
+    zero-on h = rw (remain, ← read, eq-eqb d 0 h, number-next)
+
+  pub zero-ends : (j : ℕ) → sizes .dependencies ≤ j → zeroing j ≡ true
+  unfolding zeroing zeros twosAt
+  zero-ends j h =
+      let d : sizes .dependencies - j ≡ 0 = omega arith in
+      rw d
+
+-- ---- a row
+
+module _ (s : List ℕ) (i : ℕ) where
+  module _ (count : ℕ) (is : count ≡ countAt s i) where
+    pub row-many : sizes .dependencies < count → rowGood s i ≡ false
+    unfolding rowGood
+    row-many h = rw (← is, lt-leb count (sizes .dependencies) h)
+
+    module _ (few : count ≤ sizes .dependencies) where
+      pub row-numbers : climbs 0 i (usedAt s i) ≡ false → rowGood s i ≡ false
+      unfolding rowGood
+      row-numbers e = rw (← is, le-leb count (sizes .dependencies) few, e)
+
+      module _ (climb : climbs 0 i (usedAt s i) ≡ true) where
+        pub row-unused : zeros (unusedAt s i) ≡ false → rowGood s i ≡ false
+        unfolding rowGood
+        row-unused e = rw (← is, le-leb count (sizes .dependencies) few, climb, e)
+
+        pub row-hash : zeros (unusedAt s i) ≡ true → (r : ℕ) → r ≡ placeIn (rows (rowsAt s 0 i)) (hashAt s (i * rowSize))
+            → rowGood s i ≡ eqb r i
+        unfolding rowGood
+        row-hash e r q =
+            let n : length (rows (rowsAt s 0 i)) ≡ i = length-rows (rowsAt s 0 i) ∙ length-rows-at s 0 i in
+            rw (← is, le-leb count (sizes .dependencies) few, climb, e, place-tells, ← q) (ap (eqb r) n)

@@ -1,0 +1,304 @@
+-- Waiting rows by their numbers; how a waiting table is checked; and what is accepted as one decodes to.
+use Prim.Native.Nat.{ℕ, zero, suc, _+_, _-_, _*_, _/_, _%_, _^_, _≤_, _<_}
+use mathlib.Core.Bool.{Bool, true, false, not, _&&_}
+use mathlib.Core.List.{List, [], _∷_}
+use mathlib.Core.Path.{_≡_, refl, sym, _∙_, ap, ap₂}
+use native.Mathlib.Nat.{add-zero, zero-add, one-le-pow, le-mul-of-pos-right, not-suc-le-zero}
+use native.Mathlib.Numerals.{add-one}
+use native.Mathlib.Omega.{arith}
+use borrow.Author.Tests.{ltb-true, ltb-false, leb-true, eqb-true, eqb-false, not-true, le-leb, lt-leb, eq-eqb, ne-eqb}
+use lib.Dec.{ltb, leb, eqb}
+use lib.ListN.{length, getD, length-map}
+use lib.Seq.{slice, slice-empty, slice-cons}
+use Rattle.rules.specs.Hash.{bigEndian, hashAt, hashesAt}
+use Rattle.rules.specs.Order.{member}
+use Rattle.rules.specs.Sizes.{sizes}
+use Rattle.rules.specs.declared.refusal.Refusal.the-variants.{BadWaitingRow}
+use Rattle.rules.proofs.Cases.{split, both}
+use Rattle.rules.proofs.Hash.{length-hashes-at}
+use Rattle.tables.specs.Bytes.{waitingSize, asksCount, waitingAt, waitingsAt, waitingOf, bytesAt, zeros, waitingGood, waitingChecked}
+use Rattle.tables.specs.Table.{Row, rows, placeIn, held}
+use Rattle.tables.specs.Waiting.{Waiting, noWaiting, waiting, asksOf}
+use Rattle.tables.specs.declared.check.Checked.the-variants.{Good, Refused}
+use Rattle.tables.proofs.CheckLaws.{accepted, good-is-accepted}
+use Rattle.tables.proofs.TableLaws.{length-rows, place-tells, place-once, member-is, place-of-member, at-place}
+
+-- ---- waiting rows by their numbers
+
+pub length-waiting : (w : List Waiting) → length (waiting w) ≡ length w
+unfolding waiting
+length-waiting w = length-map w _
+
+module _ (s : List ℕ) where
+  pub length-waitings-at : (i n : ℕ) → length (waitingsAt s i n) ≡ n
+  unfolding waitingsAt
+  length-waitings-at i zero = refl
+  length-waitings-at i (suc n) = ap suc (length-waitings-at (suc i) n)
+
+  pub waitings-at-index : (i n k : ℕ) → k < n → getD (waitingsAt s i n) k noWaiting ≡ waitingAt s (i + k)
+  unfolding waitingsAt
+  waitings-at-index i zero k b = absurd (not-suc-le-zero b)
+  waitings-at-index i (suc n) zero b = rw add-zero
+  waitings-at-index i (suc n) (suc k) b =
+      let e : i + suc k ≡ suc i + k = omega arith in
+      rw e (waitings-at-index (suc i) n k (omega arith))
+
+  pub asks-of-waiting : (n i : ℕ) → i < n → asksOf (waitingsAt s 0 n) i ≡ hashesAt s (i * waitingSize + 2 * sizes .hash) (asksCount s i)
+  unfolding asksOf waitingAt
+  asks-of-waiting n i b = ap (λ (r : Waiting). r .asks) (waitings-at-index 0 n i b) ∙ rw zero-add
+
+  waiting-hashes-index : (i n k : ℕ) → k < n → getD (waiting (waitingsAt s i n)) k 0 ≡ hashAt s ((i + k) * waitingSize)
+  unfolding waiting waitingsAt waitingAt
+  waiting-hashes-index i zero k b = absurd (not-suc-le-zero b)
+  waiting-hashes-index i (suc n) zero b = rw add-zero
+  waiting-hashes-index i (suc n) (suc k) b =
+      let e : i + suc k ≡ suc i + k = omega arith in
+      rw e (waiting-hashes-index (suc i) n k (omega arith))
+
+  pub hash-of-waiting : (n i : ℕ) → i < n → getD (waiting (waitingsAt s 0 n)) i 0 ≡ hashAt s (i * waitingSize)
+  hash-of-waiting n i b = waiting-hashes-index 0 n i b ∙ rw zero-add
+
+-- ---- zeros
+
+module _ (s : List ℕ) (at count : ℕ) where
+  -- what the bytes from the k-th on say
+  pub blanking : ℕ → Bool
+  blanking k = zeros (bytesAt s (at + k) (count - k))
+
+  pub blank-starts : blanking 0 ≡ zeros (bytesAt s at count)
+  unfolding blanking
+  blank-starts =
+      let d : count - 0 ≡ count = omega arith in
+      rw (d, add-zero)
+
+  module _ (k : ℕ) (inside : k < count) where
+    left : count - k ≡ suc (count - (k + 1))
+    left = omega arith
+
+    pub blank-fails : (getD s (at + k) 0 ≡ 0 → ⊥) → blanking k ≡ false
+    unfolding blanking zeros bytesAt
+    blank-fails h = rw (left, ne-eqb (getD s (at + k) 0) 0 h)
+
+    pub blank-on : getD s (at + k) 0 ≡ 0 → blanking k ≡ blanking (k + 1)
+    unfolding blanking zeros bytesAt
+    blank-on h =
+        let next : at + k + 1 ≡ at + (k + 1) = omega arith in
+        rw (left, eq-eqb (getD s (at + k) 0) 0 h, next)
+
+  pub blank-ends : (k : ℕ) → count ≤ k → blanking k ≡ true
+  unfolding blanking zeros bytesAt
+  blank-ends k h =
+      let d : count - k ≡ 0 = omega arith in
+      rw d
+
+zeros-parts : (s : List ℕ) (at a b : ℕ) → zeros (bytesAt s at (a + b)) ≡ (zeros (bytesAt s at a) && zeros (bytesAt s (at + a) b))
+unfolding zeros bytesAt
+zeros-parts s at zero b = rw (zero-add, add-zero)
+zeros-parts s at (suc a) b =
+    let e : suc a + b ≡ suc (a + b) = omega arith in
+    let f : at + suc a ≡ at + 1 + a = omega arith in
+    split (eqb (getD s at 0) 0)
+    (λ q. rw (e, q, f) (zeros-parts s (at + 1) a b))
+    (λ q. rw (e, q))
+
+-- a number is 0 if its digits are
+digits-zero : (b c r : ℕ) → 1 ≤ c → eqb (b * c + r) 0 ≡ (eqb b 0 && eqb r 0)
+digits-zero b c r h =
+    split (eqb b 0)
+    (λ e.
+    let z : b ≡ 0 = eqb-true b 0 e in
+    let s : b * c + r ≡ r = rw z (omega arith) in
+    rw (e, s))
+    (λ e.
+    let z : b ≡ 0 → ⊥ = eqb-false b 0 e in
+    let l : b ≤ b * c = le-mul-of-pos-right b h in
+    rw (e, ne-eqb (b * c + r) 0 (λ q. omega arith)))
+
+big-endian-zero : (l : List ℕ) → eqb (bigEndian l) 0 ≡ zeros l
+unfolding bigEndian zeros
+big-endian-zero [] = refl
+big-endian-zero (b ∷ bs) =
+    digits-zero b (256 ^ length bs) (bigEndian bs) (one-le-pow (length bs) 256 (omega arith)) ∙ ap (λ (x : Bool). eqb b 0 && x) (big-endian-zero bs)
+
+bytes-at-slice : (s : List ℕ) (at k : ℕ) → at + k ≤ length s → bytesAt s at k ≡ slice at (at + k) s
+unfolding bytesAt
+bytes-at-slice s at zero h = rw (add-zero, slice-empty)
+bytes-at-slice s at (suc k) h =
+    let e : at + 1 + k ≡ at + suc k = omega arith in
+    let next : slice (at + 1) (at + 1 + k) s ≡ slice (suc at) (at + suc k) s = ap₂ (λ (a : ℕ) (z : ℕ). slice a z s) (add-one at) e in
+    ap (λ (l : List ℕ). getD s at 0 ∷ l) (bytes-at-slice s (at + 1) k (omega arith) ∙ next) ∙ sym (slice-cons at (at + suc k) s 0 (omega arith) h)
+
+-- a hash is 0 if its bytes are, and so are hashes
+zero-hash : (s : List ℕ) (at : ℕ) → at + sizes .hash ≤ length s → eqb (hashAt s at) 0 ≡ zeros (bytesAt s at (sizes .hash))
+unfolding hashAt
+zero-hash s at h = big-endian-zero (slice at (at + sizes .hash) s) ∙ sym (ap zeros (bytes-at-slice s at (sizes .hash) h))
+
+pub zero-hashes : (s : List ℕ) (at count : ℕ) → at + sizes .hash * count ≤ length s → zeros (hashesAt s at count) ≡ zeros (bytesAt s at (sizes .hash * count))
+unfolding zeros hashesAt bytesAt
+zero-hashes s at zero h = refl
+zero-hashes s at (suc count) h =
+    let e : sizes .hash * suc count ≡ sizes .hash + sizes .hash * count = omega arith in
+    rw (e, zeros-parts s at (sizes .hash) (sizes .hash * count), ← zero-hashes s (at + sizes .hash) count (omega arith))
+    (ap (λ (x : Bool). x && zeros (hashesAt s (at + sizes .hash) count)) (zero-hash s at (omega arith)))
+
+-- ---- a waiting row's tests
+
+module _ (t : List Row) (s : List ℕ) (i count : ℕ) (is : count ≡ asksCount s i) where
+  pub waiting-many : sizes .dependencies < count → waitingGood t s i ≡ false
+  unfolding waitingGood
+  waiting-many h = rw (← is, lt-leb count (sizes .dependencies) h)
+
+  module _ (few : count ≤ sizes .dependencies) where
+    pub waiting-behind : zeros (bytesAt s (i * waitingSize + sizes .hash + 1) (sizes .hash - 1)) ≡ false → waitingGood t s i ≡ false
+    unfolding waitingGood
+    waiting-behind e = rw (← is, le-leb count (sizes .dependencies) few, e)
+
+    module _ (behind : zeros (bytesAt s (i * waitingSize + sizes .hash + 1) (sizes .hash - 1)) ≡ true) (inside : (i + 1) * waitingSize ≤ length s) where
+      spare-hashes : zeros (hashesAt s (i * waitingSize + 2 * sizes .hash + sizes .hash * count) (sizes .dependencies - count))
+          ≡ zeros (bytesAt s (i * waitingSize + 2 * sizes .hash + sizes .hash * count) (sizes .hash * (sizes .dependencies - count)))
+      spare-hashes = zero-hashes s (i * waitingSize + 2 * sizes .hash + sizes .hash * count) (sizes .dependencies - count) (omega arith)
+
+      pub waiting-spare : zeros (bytesAt s (i * waitingSize + 2 * sizes .hash + sizes .hash * count) (sizes .hash * (sizes .dependencies - count))) ≡ false
+          → waitingGood t s i ≡ false
+      unfolding waitingGood
+      waiting-spare e = rw (← is, le-leb count (sizes .dependencies) few, behind, spare-hashes, e)
+
+      module _ (unused : zeros (bytesAt s (i * waitingSize + 2 * sizes .hash + sizes .hash * count) (sizes .hash * (sizes .dependencies - count))) ≡ true) (r : ℕ) (found : r ≡ placeIn (waiting (waitingsAt s 0 i)) (hashAt s (i * waitingSize))) where
+        found-tells : not (member (hashAt s (i * waitingSize)) (waiting (waitingsAt s 0 i))) ≡ eqb r i
+        found-tells =
+            let n : length (waiting (waitingsAt s 0 i)) ≡ i = length-waiting (waitingsAt s 0 i) ∙ length-waitings-at s 0 i in
+            rw (place-tells, ← found, n)
+
+        pub waiting-twice : (r ≡ i → ⊥) → waitingGood t s i ≡ false
+        unfolding waitingGood
+        waiting-twice h = rw (← is, le-leb count (sizes .dependencies) few, behind, spare-hashes, unused, found-tells, ne-eqb r i h)
+
+        pub waiting-held : r ≡ i → (n q : ℕ) → length t ≡ n → q ≡ placeIn (rows t) (hashAt s (i * waitingSize)) → waitingGood t s i ≡ eqb q n
+        unfolding waitingGood held
+        waiting-held h n q long e =
+            let l : length (rows t) ≡ n = length-rows t ∙ long in
+            rw (← is, le-leb count (sizes .dependencies) few, behind, spare-hashes, unused, found-tells, eq-eqb r i h, place-tells, ← e, l)
+
+-- ---- good waiting rows
+
+-- what a good waiting row has
+pub record RowWaits (t : List Row) (s : List ℕ) (i : ℕ) : Type 0 where
+  pub count : asksCount s i ≤ sizes .dependencies
+  pub behind : zeros (bytesAt s (i * waitingSize + sizes .hash + 1) (sizes .hash - 1)) ≡ true
+  pub spare : zeros (hashesAt s (i * waitingSize + 2 * sizes .hash + sizes .hash * asksCount s i) (sizes .dependencies - asksCount s i)) ≡ true
+  pub new : member (hashAt s (i * waitingSize)) (waiting (waitingsAt s 0 i)) ≡ false
+  pub unheld : held t (hashAt s (i * waitingSize)) ≡ false
+
+pub row-waits : (t : List Row) (s : List ℕ) (i : ℕ) → waitingGood t s i ≡ true → RowWaits t s i
+unfolding waitingGood
+row-waits t s i g =
+    let few : Bool = leb (asksCount s i) (sizes .dependencies) in
+    let behind : Bool = zeros (bytesAt s (i * waitingSize + sizes .hash + 1) (sizes .hash - 1)) in
+    let spare : Bool = zeros (hashesAt s (i * waitingSize + 2 * sizes .hash + sizes .hash * asksCount s i) (sizes .dependencies - asksCount s i)) in
+    let new : Bool = not (member (hashAt s (i * waitingSize)) (waiting (waitingsAt s 0 i))) in
+    let unheld : Bool = not (held t (hashAt s (i * waitingSize))) in
+    let p = both (few && behind) (spare && (new && unheld)) g in
+    let q = both few behind (p .0) in
+    let r = both spare (new && unheld) (p .1) in
+    let z = both new unheld (r .1) in
+    record { count = leb-true _ _ (q .0); behind = q .1; spare = r .0; new = not-true _ (z .0); unheld = not-true _ (z .1) }
+
+-- what a list of waiting rows has beside a table: no row asks for too many, no hash waits twice, and none that waits is held
+pub record GoodWaiting (t : List Row) (w : List Waiting) : Type 0 where
+  pub asks : (i : ℕ) → i < length w → length (asksOf w i) ≤ sizes .dependencies
+  pub once : (i j : ℕ) → i < length w → j < length w → getD (waiting w) i 0 ≡ getD (waiting w) j 0 → i ≡ j
+  pub unheld : (h : ℕ) → member h (waiting w) ≡ true → held t h ≡ false
+
+pub place-of-waiting : (t : List Row) (w : List Waiting) → GoodWaiting t w → (i : ℕ) → i < length w → placeIn (waiting w) (getD (waiting w) i 0) ≡ i
+place-of-waiting t w g i b =
+    place-once (waiting w) (λ j k p q e. g .once j k (rw length-waiting at p) (rw length-waiting at q) e) i (rw length-waiting b)
+
+module _ (t : List Row) (s : List ℕ) (n : ℕ) (each : (i : ℕ) → i < n → waitingGood t s i ≡ true) where
+  earlier-waits : (i j : ℕ) → i < j → j < n → hashAt s (i * waitingSize) ≡ hashAt s (j * waitingSize) → ⊥
+  earlier-waits i j l b e =
+      let h : ℕ = hashAt s (j * waitingSize) in
+      let before : List ℕ = waiting (waitingsAt s 0 j) in
+      let long : length before ≡ j = length-waiting (waitingsAt s 0 j) ∙ length-waitings-at s 0 j in
+      let there : member h before ≡ true = member-is before h i (omega arith) (hash-of-waiting s j i l ∙ e) in
+      let new : member h before ≡ false = row-waits t s j (each j b) .new in
+      let z : _≡_ {A = ℕ} 0 1 = cc in
+      omega arith
+
+  -- rows that are each good make a good waiting list
+  pub waitings-good : GoodWaiting t (waitingsAt s 0 n)
+  waitings-good =
+      let long : length (waitingsAt s 0 n) ≡ n = length-waitings-at s 0 n in
+      record {
+        asks =
+            λ i b.
+            let c : i < n = omega arith in
+            rw (asks-of-waiting s n i c, length-hashes-at) (row-waits t s i (each i c) .count);
+        once =
+            λ i j bi bj e.
+            let ci : i < n = omega arith in
+            let cj : j < n = omega arith in
+            let same : hashAt s (i * waitingSize) ≡ hashAt s (j * waitingSize) = sym (hash-of-waiting s n i ci) ∙ e ∙ hash-of-waiting s n j cj in
+            split (ltb i j)
+            (λ l. absurd (earlier-waits i j (ltb-true i j l) cj same))
+            (λ l.
+            split (ltb j i)
+            (λ k. absurd (earlier-waits j i (ltb-true j i k) ci (sym same)))
+            (λ k. omega (arith, ltb-false i j l, ltb-false j i k)));
+        unheld =
+            λ h m.
+            let w : List ℕ = waiting (waitingsAt s 0 n) in
+            let i : ℕ = placeIn w h in
+            let inside : i < length w = place-of-member w h m in
+            let c : i < n = rw (length-waiting, length-waitings-at) at inside in
+            let there : h ≡ hashAt s (i * waitingSize) = sym (at-place w h inside) ∙ hash-of-waiting s n i c in
+            ap (held t) there ∙ row-waits t s i (each i c) .unheld;
+      }
+
+-- ---- accepted waiting tables
+
+-- what is accepted as a waiting table of n rows beside a table
+pub record WaitingDecoded (t : List Row) (s : List ℕ) (n : ℕ) : Type 0 where
+  pub whole : length s ≡ n * waitingSize
+  pub few : n ≤ sizes .waitingRows
+  pub count : n ≡ length s / waitingSize
+  pub is : waitingOf s ≡ waitingsAt s 0 n
+  pub long : length (waitingOf s) ≡ n
+  pub each : (i : ℕ) → i < n → waitingGood t s i ≡ true
+  pub good : GoodWaiting t (waitingOf s)
+
+pub waiting-good : (t : List Row) (s : List ℕ) (n : ℕ) → waitingChecked t s ≡ Good n → WaitingDecoded t s n
+unfolding waitingChecked waitingOf
+waiting-good t s n e =
+    let a = accepted (λ i. Refused (BadWaitingRow i)) (waitingGood t s) waitingSize (sizes .waitingRows) (length s) (λ i m q. let z : _≡_ {A = ℕ} 0 1 = cc in omega arith) n e in
+    let few : n * waitingSize ≤ sizes .waitingRows * waitingSize = omega (arith, a .whole, a .few) in
+    let is : waitingsAt s 0 (length s / waitingSize) ≡ waitingsAt s 0 n = ap (waitingsAt s 0) (sym (a .count)) in
+    record {
+      whole = a .whole;
+      few = omega arith;
+      count = a .count;
+      is = is;
+      long = ap length is ∙ length-waitings-at s 0 n;
+      each = a .each;
+      good = rw is (waitings-good t s n (a .each));
+    }
+
+-- a whole waiting table that isn't too long and whose rows are good is accepted
+pub good-waiting-accepted : (t : List Row) (s : List ℕ)
+    → length s % waitingSize ≡ 0
+    → length s ≤ sizes .waitingRows * waitingSize
+    → ((i : ℕ) → i < length s / waitingSize → waitingGood t s i ≡ true)
+    → waitingChecked t s ≡ Good (length s / waitingSize)
+unfolding waitingChecked
+good-waiting-accepted t s rest few each =
+    good-is-accepted (λ i. Refused (BadWaitingRow i)) (waitingGood t s) waitingSize (sizes .waitingRows) (length s) few rest each
+
+-- the bytes of an accepted waiting table and its rows
+module _ (t : List Row) (s : List ℕ) (n : ℕ) (d : WaitingDecoded t s n) where
+  pub decoded-asks : (i : ℕ) → i < n → asksOf (waitingOf s) i ≡ hashesAt s (i * waitingSize + 2 * sizes .hash) (asksCount s i)
+  decoded-asks i b = rw (d .is) (asks-of-waiting s n i b)
+
+  pub decoded-waiting : (i : ℕ) → i < n → getD (waiting (waitingOf s)) i 0 ≡ hashAt s (i * waitingSize)
+  decoded-waiting i b = rw (d .is) (hash-of-waiting s n i b)
+
+  pub decoded-asks-count : (i : ℕ) → i < n → asksCount s i ≤ sizes .dependencies
+  decoded-asks-count i b = row-waits t s i (d .each i b) .count

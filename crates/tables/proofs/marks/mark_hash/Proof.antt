@@ -1,0 +1,28 @@
+-- `tables::marks::mark_hash` meets its contract: the row that is found is the hash's place, and there is one if it is below the number of rows.
+-- Assumes nothing.
+use Rattle.tables.proofs.MarkLaws.{hash-known, hash-unknown}
+use borrow.Author.Needs.{needs}
+use Rattle.tables.proofs.marks.mark_hash.Statement.{statement}
+use Rattle.tables.proofs.marks.mark_hash.Tie as tie
+use Rattle.tables.proofs.marks.mark_hash.Reads as reads
+use Rattle.tables.proofs.marks.mark_hash.Lts as lts
+use Rattle.tables.proofs.find.find_row.Reads as find-row-reads
+
+-- src/marks.rt:81:9
+find-row-requires : tie.Need-find-row-requires
+find-row-requires c κs = search needs
+
+-- src/marks.rt:84:9
+array-write-next : tie.Need-array-write-next
+array-write-next c = search needs
+
+-- src/marks.rt:85:9
+returns : tie.Need-returns
+returns c = hash-known _ _ _ _ _ (c .before .find-row .ensures) (c .if1 .taken)
+
+-- src/marks.rt:77:1
+returns-2 : tie.Need-returns-2
+returns-2 c = hash-unknown _ _ _ _ _ (c .before .find-row .ensures) (c .if1 .left)
+
+pub mark-hash-spec : {M : Type 1} → statement M
+mark-hash-spec = tie.close (tie.spec find-row-requires array-write-next returns returns-2)

@@ -1,0 +1,66 @@
+-- `tables::waiting::first_bad_waiting` meets its contract: the first bad one of the waiting rows from i on is that of all, until row i is bad or no row is
+-- left. Assumes nothing.
+use Prim.Native.Nat.{_-_, _≤_}
+use borrow.Author.Needs.{needs}
+use borrow.Author.Tests.{not-true, not-false}
+use mathlib.Core.Path.{_≡_, sym, _∙_}
+use native.Mathlib.Omega.{arith}
+use Rattle.tables.specs.Bytes.{rowsAt, waitingGood, firstBad}
+use Rattle.tables.proofs.CheckLaws.{testing, test-starts, test-fails, test-on, test-ends}
+use Rattle.tables.proofs.waiting.first_bad_waiting.Statement.{statement}
+use Rattle.tables.proofs.waiting.first_bad_waiting.Tie as tie
+
+abbrev Inv-loop : tie.InvT-loop
+Inv-loop table n waiting m i₀ i =
+    record {
+      upto : i ≤ m;
+      rest : testing (waitingGood (rowsAt table 0 n) waiting) m i ≡ firstBad (waitingGood (rowsAt table 0 n) waiting) 0 m;
+    }
+
+abbrev μ-loop : tie.MeasureT-loop
+μ-loop table n waiting m i₀ i = m - i
+
+loop-holds : tie.Need-loop-holds Inv-loop μ-loop
+loop-holds c = record { upto = omega arith; rest = test-starts _ _ }
+
+waiting-good-requires : tie.Need-waiting-good-requires Inv-loop μ-loop
+waiting-good-requires c κs = search needs
+
+returns : tie.Need-returns Inv-loop μ-loop
+returns c =
+    let t = c .before in
+    sym (test-fails _ _ _ (t .before .loop-test .taken) (sym (t .waiting-good .ensures) ∙ not-true _ (c .if1 .taken)))
+    ∙ t .before .before .loop .inv .rest
+
+add-i : tie.Need-add-i Inv-loop μ-loop
+add-i c = search needs
+
+loop-less : tie.Need-loop-less Inv-loop μ-loop
+loop-less c = search needs
+
+loop-again : tie.Need-loop-again Inv-loop μ-loop
+loop-again c =
+    let t = c .before in
+    record {
+      upto = omega (arith, t .before .loop-test .taken);
+      rest =
+          sym (test-on _ _ _ (t .before .loop-test .taken) (sym (t .waiting-good .ensures) ∙ not-false _ (c .if1 .left)))
+          ∙ t .before .before .loop .inv .rest;
+    }
+
+returns-2 : tie.Need-returns-2 Inv-loop μ-loop
+returns-2 c = sym (test-ends _ _ _ (c .before .loop .inv .upto) (c .loop-test .left)) ∙ c .before .loop .inv .rest
+
+pub first-bad-waiting-spec : {M : Type 1} → statement M
+first-bad-waiting-spec =
+    tie.close
+    (tie.spec
+    Inv-loop
+    μ-loop
+    loop-holds
+    waiting-good-requires
+    returns
+    add-i
+    loop-less
+    loop-again
+    returns-2)

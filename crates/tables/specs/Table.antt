@@ -1,0 +1,76 @@
+-- Change tables as values. 01, Change table: heads, ancestors, rows beyond. Above this crate nothing speaks of row bytes.
+use Prim.Native.Nat.{ℕ, zero, suc, _<_}
+use mathlib.Core.Bool.{Bool, true, false, cond, not}
+use mathlib.Core.List.{List, [], _∷_, map}
+use mathlib.Core.Path.{_≡_}
+use lib.Dec.{ltb, eqb}
+use lib.ListN.{length, getD, take}
+use Rattle.rules.specs.Order.{member, ascends, ascend}
+use Rattle.rules.specs.Reach.{someBelow, reach}
+
+-- A change: its hash, and its dependencies by row number. A table is a list of rows.
+pub record Row : Type 0 where
+  pub hash : ℕ
+  pub deps : List ℕ
+
+abbrev pub noRow : Row
+noRow = record { hash = 0; deps = [] }
+
+-- The hashes of a table, in its order, and the hash and dependencies of row i.
+unfoldable pub rows : List Row → List ℕ
+rows t = map (λ (r : Row). r .hash) t
+
+unfoldable pub hashOf : List Row → ℕ → ℕ
+hashOf t i = getD (rows t) i 0
+
+unfoldable pub depsOf : List Row → ℕ → List ℕ
+depsOf t i = getD t i noRow .deps
+
+-- A good table: no hash twice; each row's numbers ascending and below its own.
+pub record GoodTable (t : List Row) : Type 0 where
+  pub once : (i j : ℕ) → i < length t → j < length t → hashOf t i ≡ hashOf t j → i ≡ j
+  pub down : (i k : ℕ) → i < length t → member k (depsOf t i) ≡ true → k < i
+  pub ordered : (i : ℕ) → i < length t → ascends (depsOf t i) ≡ true
+
+-- The place of the first number that is h, or the list's length where none is.
+unfoldable pub placeIn : List ℕ → ℕ → ℕ
+placeIn [] h = 0
+placeIn (x ∷ xs) h = cond (eqb x h) 0 (suc (placeIn xs h))
+
+-- The row of a hash, and whether there is one.
+unfoldable pub place : List Row → ℕ → ℕ
+place t h = placeIn (rows t) h
+
+unfoldable pub held : List Row → ℕ → Bool
+held t h = member h (rows t)
+
+-- The hashes that a hash's row depends on; none for an unknown hash.
+unfoldable pub deps : List Row → ℕ → List ℕ
+deps t h = map (hashOf t) (depsOf t (place t h))
+
+-- The hashes of the rows, in table order, whose numbers are some of p; numbers are counted from i.
+unfoldable pub rowsFrom : ℕ → List Row → (ℕ → Bool) → List ℕ
+rowsFrom i [] p = []
+rowsFrom i (r ∷ rs) p = cond (p i) (r .hash ∷ rowsFrom (suc i) rs p) (rowsFrom (suc i) rs p)
+
+unfoldable pub rowsWhere : List Row → (ℕ → Bool) → List ℕ
+rowsWhere t p = rowsFrom 0 t p
+
+-- Heads: rows that no row depends on, ascending bytes.
+unfoldable pub needed : List Row → ℕ → Bool
+needed t i = someBelow (length t) (λ k. member i (depsOf t k))
+
+unfoldable pub heads : List Row → List ℕ
+heads t = ascend (rowsWhere t (λ i. not (needed t i)))
+
+-- Rows in L and their ancestors, by row number: reached from L's known rows over dependencies. Unknown hashes in L are ignored.
+unfoldable pub belowRow : List Row → List ℕ → ℕ → Bool
+belowRow t l i = reach (length t) (λ k. member (hashOf t k) l) (λ k j. member j (depsOf t k)) i
+
+-- The same of a hash.
+unfoldable pub below : List Row → List ℕ → ℕ → Bool
+below t l h = cond (held t h) (belowRow t l (place t h)) false
+
+-- Rows beyond L: neither in L nor ancestors of it, in table order.
+unfoldable pub beyond : List Row → List ℕ → List ℕ
+beyond t l = rowsWhere t (λ i. not (belowRow t l i))

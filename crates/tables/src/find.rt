@@ -1,0 +1,42 @@
+// Rows found by their hashes.
+use crate::row::ROW_SIZE;
+use crate::row::WAITING_SIZE;
+use rules::hashes::same_hash;
+ghost use mathlib.Core.Path.{_≡_};
+ghost use Prim.Native.Nat.{_+_, _*_, _≤_};
+ghost use lib.ListN.{length};
+ghost use Rattle.rules.specs.Hash.{hashAt};
+ghost use Rattle.rules.specs.Sizes.{sizes};
+ghost use Rattle.tables.specs.Bytes.{rowSize, rowsAt, waitingSize, waitingsAt};
+ghost use Rattle.tables.specs.Table.{rows, placeIn};
+ghost use Rattle.tables.specs.Waiting.{waiting};
+
+// The first of the first n rows that has the hash at a place, or n where none has.
+pub fn find_row(table: &[u8], n: usize, s: &[u8], at: usize) -> usize
+    requires { ⌜ (n * rowSize ≤ length (now table)) × (at + sizes .hash ≤ length (now s)) ⌝ }
+    ensures { λ r. ⌜ r ≡ placeIn (rows (rowsAt (now (table .entry)) 0 n)) (hashAt (now (s .entry)) at) ⌝ }
+{
+    let mut i = 0;
+    while i < n {
+        if same_hash(table, i * ROW_SIZE, s, at) {
+            return i;
+        }
+        i += 1;
+    }
+    n
+}
+
+// The same of waiting rows.
+pub fn find_waiting(table: &[u8], n: usize, s: &[u8], at: usize) -> usize
+    requires { ⌜ (n * waitingSize ≤ length (now table)) × (at + sizes .hash ≤ length (now s)) ⌝ }
+    ensures { λ r. ⌜ r ≡ placeIn (waiting (waitingsAt (now (table .entry)) 0 n)) (hashAt (now (s .entry)) at) ⌝ }
+{
+    let mut i = 0;
+    while i < n {
+        if same_hash(table, i * WAITING_SIZE, s, at) {
+            return i;
+        }
+        i += 1;
+    }
+    n
+}
