@@ -15,6 +15,8 @@
 pub mod inputs;
 pub mod model;
 pub mod published;
+pub mod table_inputs;
+pub mod table_model;
 pub mod vectors;
 
 use bisquetower::raw::{self, Read, Reader};
