@@ -17,6 +17,7 @@ pub mod model;
 pub mod published;
 pub mod table_inputs;
 pub mod table_model;
+pub mod tables;
 pub mod vectors;
 
 use bisquetower::raw::{self, Read, Reader};
