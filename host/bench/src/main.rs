@@ -11,6 +11,7 @@
 
 mod measure;
 mod runs;
+mod tables;
 mod wire;
 
 use bisquetower::raw;
@@ -23,6 +24,7 @@ fn main() -> ExitCode {
     }
     if std::env::args().nth(1).as_deref() == Some(runs::ONCE) {
         wire::measure_all();
+        tables::measure_all();
         return ExitCode::SUCCESS;
     }
     let processor = std::env::consts::ARCH;

@@ -11,6 +11,8 @@
 //! The library and the model must agree in every word. The library and the crate
 //! must agree in values, places and kinds of refusals, but for the two
 //! differences that are intended (`Difference`), and there they must differ.
+//! `tables` has the calls on tables; the crate's graph can't be had, and its
+//! stand-in takes the crate's place there.
 
 pub mod inputs;
 pub mod model;

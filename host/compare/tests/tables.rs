@@ -699,6 +699,29 @@ fn missing_through_many_waiting_rows() {
     }
 }
 
+/// Both tables at their largest: one good, one whose last waiting row is held by
+/// the last row, and what is missing from every waiting row and from every row.
+#[test]
+fn both_tables_at_their_largest() {
+    let mut random = Random(22);
+    let all = random.hashes(ROWS + WAITING_ROWS + 100, Likeness::Spread);
+    let (held, others) = all.split_at(ROWS);
+    let (own, _) = others.split_at(WAITING_ROWS);
+    let table = table_bytes(&random.rows_of(held, Shape::Any));
+    let rows = random.waiting_rows(own, &all);
+    let waiting = waiting_bytes(&rows);
+    assert_eq!(answer(check_waiting(&table, &waiting), 0), [0, 1_024]);
+    for list in [own.concat(), held.concat(), own[0].to_vec()] {
+        agree(&[(missing(&table, &waiting, &list), Rooms::Enough)]);
+    }
+    let mut last = rows[WAITING_ROWS - 1].clone();
+    for taken in [held[ROWS - 1], own[WAITING_ROWS - 2], own[0]] {
+        last.hash = taken;
+        let bad = with_record(&waiting, WAITING_ROWS - 1, &last.bytes());
+        assert_eq!(answer(check_waiting(&table, &bad), 0), [9, 1_023]);
+    }
+}
+
 /// Waiting rows that ask so many different unknown hashes, one of them each or
 /// fifteen, and each again and again.
 fn asking(own: &[Hash], unknown: &[Hash], each: usize, repeats: usize) -> Bytes {
