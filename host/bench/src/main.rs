@@ -2,16 +2,17 @@
 //! same run. `make bench` at the repository's root runs it.
 //!
 //! ```text
-//!   runs           this program again and again, the best times as a table
+//!   runs       this program again and again, the best times as a table
 //!     |
-//!   wire, filter   what is measured: a line each
+//!   wire, ..   what is measured: a line each
 //!     |
-//!   measure        the times of one line
+//!   measure    the times of one line
 //! ```
 
 mod filter;
 mod measure;
 mod runs;
+mod tables;
 mod wire;
 
 use bisquetower::raw;
@@ -25,6 +26,7 @@ fn main() -> ExitCode {
     if std::env::args().nth(1).as_deref() == Some(runs::ONCE) {
         wire::measure_all();
         filter::measure_all();
+        tables::measure_all();
         return ExitCode::SUCCESS;
     }
     let processor = std::env::consts::ARCH;

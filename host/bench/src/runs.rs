@@ -20,23 +20,42 @@ pub fn print_best() -> Result<(), String> {
             best.published = best.published.min(times.published);
         }
     }
-    println!("Nanoseconds a call, the best of {BATCHES} batches in each of {RUNS} runs; ratio: crate / library.\n");
-    print_columns(["name", "size", "library", "crate", "ratio"], "note");
-    for times in best {
-        let [library, published, ratio] = [
-            times.library,
-            times.published,
-            times.published / times.library,
+    println!("Nanoseconds a call, the best of {BATCHES} batches in each of {RUNS} runs; ratio: crate / library;");
+    println!(
+        "growth: the library's time over that of the line above, where that has the same name.\n"
+    );
+    print_columns(
+        ["name", "size", "library", "crate", "ratio", "growth"],
+        "note",
+    );
+    for (k, times) in best.iter().enumerate() {
+        let above = k.checked_sub(1).map(|k| &best[k]);
+        let smaller = above.filter(|above| above.name == times.name);
+        let growth = smaller.map(|smaller| times.library / smaller.library);
+        let [library, published, ratio, growth] = [
+            Some(times.library),
+            Some(times.published),
+            Some(times.published / times.library),
+            growth,
         ]
-        .map(|number| format!("{number:.2}"));
-        let columns = [&times.name[..], &times.size, &library, &published, &ratio];
+        .map(|number| number.map_or(String::new(), |number| format!("{number:.2}")));
+        let columns = [
+            &times.name[..],
+            &times.size,
+            &library,
+            &published,
+            &ratio,
+            &growth,
+        ];
         print_columns(columns, &times.note);
     }
     Ok(())
 }
 
-fn print_columns([name, size, library, published, ratio]: [&str; 5], note: &str) {
-    let line = format!("{name:<18} {size:<13} {library:>10} {published:>10} {ratio:>8}  {note}");
+fn print_columns([name, size, library, published, ratio, growth]: [&str; 6], note: &str) {
+    let line = format!(
+        "{name:<18} {size:<13} {library:>12} {published:>12} {ratio:>8} {growth:>8}  {note}"
+    );
     println!("{}", line.trim_end());
 }
 

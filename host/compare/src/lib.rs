@@ -11,12 +11,16 @@
 //! The library and the model must agree in every word. The library and the crate
 //! must agree in values, places and kinds of refusals, but for the differences
 //! that are intended (`Difference`, and `filters::Difference` for filters), and
-//! there they must differ.
+//! there they must differ. `tables` has the calls on tables; the crate's graph
+//! can't be had, and its stand-in takes the crate's place there.
 
 pub mod filters;
 pub mod inputs;
 pub mod model;
 pub mod published;
+pub mod table_inputs;
+pub mod table_model;
+pub mod tables;
 pub mod vectors;
 
 use bisquetower::raw::{self, Read, Reader};

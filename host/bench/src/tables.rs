@@ -1,0 +1,150 @@
+//! Tables tested, heads, rows beyond a list and what is missing, at sizes of
+//! which each is four times the one before. Beside the library stands the
+//! stand-in document, for information: the crate's graph can't be had.
+
+use crate::measure::{line, Line};
+use bisquetower::raw;
+use compare::inputs::Random;
+use compare::table_inputs::{table_bytes, waiting_bytes, Likeness, Row, Shape, WaitingRow};
+use compare::table_model::{Hash, HASH};
+use compare::tables::document;
+use crate_under_test::facade::{Automerge, ChangeHash};
+use std::hint::black_box;
+
+const SIZES: [(&str, usize); 3] = [("64 rows", 64), ("256 rows", 256), ("1,024 rows", 1_024)];
+
+const STAND_IN: &str =
+    "library: tests the tables too; crate: the stand-in document, made before; the crate's graph can't be had";
+
+pub fn measure_all() {
+    let tables = SIZES.map(|(size, count)| (size, Tables::new(count)));
+    for (size, tables) in &tables {
+        tables.check(size);
+    }
+    for (size, tables) in &tables {
+        tables.heads(size);
+    }
+    for (size, tables) in &tables {
+        tables.beyond(size);
+    }
+    for (size, tables) in &tables {
+        tables.missing(size);
+    }
+}
+
+/// Rows on up to three of the eight before them, and as many waiting rows: each
+/// asks the next one, the last one the first, and an unknown hash of its own.
+struct Tables {
+    rows: Vec<Row>,
+    table: Vec<u8>,
+    waiting: Vec<u8>,
+    first_waiting: Hash,
+    document: Automerge,
+}
+
+impl Tables {
+    fn new(count: usize) -> Tables {
+        let mut random = Random(1);
+        let hashes = random.hashes(3 * count, Likeness::Spread);
+        let (held, others) = hashes.split_at(count);
+        let (own, unknown) = others.split_at(count);
+        let rows = random.rows_of(held, Shape::Recent);
+        let waiting: Vec<WaitingRow> = (0..count)
+            .map(|k| WaitingRow {
+                hash: own[k],
+                dependencies: vec![own[(k + 1) % count], unknown[k]],
+            })
+            .collect();
+        let (table, waiting) = (table_bytes(&rows), waiting_bytes(&waiting));
+        let document = document(&table, &waiting);
+        Tables {
+            rows,
+            table,
+            waiting,
+            first_waiting: own[0],
+            document,
+        }
+    }
+
+    fn check(&self, size: &str) {
+        let changes = self.document.rows().to_vec();
+        let library = || raw::check_table(black_box(&self.table))[1];
+        let stand_in = || {
+            let rows = black_box(&changes).clone();
+            let document = Automerge::from_rows(rows, Vec::new());
+            black_box(document).expect("a good table").rows().len() as u64
+        };
+        let note =
+            "crate: making the stand-in document, of copied changes; the crate's graph can't be had";
+        measure("check table", size, note, library, stand_in);
+    }
+
+    fn heads(&self, size: &str) {
+        let count = self.rows.len();
+        let library = |out: &mut [u8]| raw::heads(black_box(&self.table), count, out);
+        let stand_in = || black_box(&self.document).get_heads();
+        self.hashes("heads", size, library, stand_in);
+    }
+
+    /// Beyond the middle row.
+    fn beyond(&self, size: &str) {
+        let middle = self.rows[self.rows.len() / 2].hash;
+        let library = |out: &mut [u8]| raw::beyond(black_box(&self.table), &middle, out);
+        let list = [ChangeHash(middle)];
+        let stand_in = || black_box(&self.document).rows_beyond(&list);
+        self.hashes("beyond", size, library, stand_in);
+    }
+
+    /// Through all waiting rows, as many hashes as there are of them.
+    fn missing(&self, size: &str) {
+        let first = self.first_waiting;
+        let (table, waiting) = (&self.table, &self.waiting);
+        let library = |out: &mut [u8]| {
+            let (table, waiting) = (black_box(table), black_box(waiting));
+            raw::missing(table, waiting, &first, out)
+        };
+        let asked = [ChangeHash(first)];
+        let stand_in = || black_box(&self.document).missing_deps_from(asked.into_iter());
+        self.hashes("missing", size, library, stand_in);
+    }
+
+    /// Measures a call that writes hashes, once both sides have found the same.
+    fn hashes(
+        &self,
+        name: &str,
+        size: &str,
+        library: impl Fn(&mut [u8]) -> [u64; 4],
+        stand_in: impl Fn() -> Vec<ChangeHash>,
+    ) {
+        let mut out = vec![0; HASH * self.rows.len()];
+        let written = library(&mut out)[1] as usize;
+        let found: Vec<Hash> = stand_in().iter().map(|hash| hash.0).collect();
+        assert!(
+            !found.is_empty() && out[..written] == found.concat(),
+            "{name}"
+        );
+        let library = || {
+            let written = library(&mut out)[1];
+            black_box(&out);
+            written
+        };
+        let stand_in = || (HASH * black_box(stand_in()).len()) as u64;
+        measure(name, size, STAND_IN, library, stand_in);
+    }
+}
+
+fn measure(
+    name: &str,
+    size: &str,
+    note: &str,
+    library: impl FnMut() -> u64,
+    stand_in: impl FnMut() -> u64,
+) {
+    let what = Line {
+        name,
+        size,
+        calls: 1,
+        note,
+    };
+    line(what, library, stand_in);
+}

@@ -1,0 +1,197 @@
+//! Document 01's change table and waiting table, heads, rows beyond and what is
+//! missing, in plain Rust: written from the document's sentences, with sets, maps
+//! and a list of what is still open, and no eye to speed.
+
+use crate::model::Refused;
+use std::collections::{BTreeSet, HashMap, HashSet};
+
+/// "Hash 32 bytes", "Change row, 64 bytes", "Waiting row, 544 bytes".
+pub const HASH: usize = 32;
+pub const ROW: usize = 64;
+pub const WAITING_ROW: usize = 544;
+
+/// "Rows 1,024; waiting rows 1,024; dependencies of a change 15. Each hash list
+/// 1,024".
+pub const ROWS: usize = 1_024;
+pub const WAITING_ROWS: usize = 1_024;
+pub const DEPENDENCIES: usize = 15;
+pub const HASHES: usize = 1_024;
+
+pub type Hash = [u8; HASH];
+
+/// A good change table.
+#[derive(Default)]
+pub struct Table {
+    rows: Vec<Row>,
+    row_of: HashMap<Hash, usize>,
+}
+
+struct Row {
+    hash: Hash,
+    dependencies: Vec<usize>,
+}
+
+/// A good waiting table: each waiting change and the hashes it depends on.
+pub type Waiting = HashMap<Hash, Vec<Hash>>;
+
+/// "A table of more bytes than its limit gives 4 just before its rows are
+/// tested"; 6 names the first bad row.
+pub fn table(lent: &[u8]) -> Result<Table, Refused> {
+    if lent.len() > ROW * ROWS {
+        return Err((4, 0));
+    }
+    let mut table = Table::default();
+    for (number, record) in lent.chunks(ROW).enumerate() {
+        let row = change_row(record, number);
+        let row = row.filter(|row| !table.row_of.contains_key(&row.hash));
+        let row = row.ok_or((6, number as u64))?;
+        table.row_of.insert(row.hash, number);
+        table.rows.push(row);
+    }
+    Ok(table)
+}
+
+/// "hash; count (u16, little-endian, at most 15); fifteen u16 row numbers, those
+/// in use strictly ascending and below the own row, the others 0". None if the
+/// record isn't so, or isn't whole.
+fn change_row(record: &[u8], own: usize) -> Option<Row> {
+    if record.len() < ROW {
+        return None;
+    }
+    let (hash, numbers) = record.split_at(HASH);
+    let numbers = numbers.chunks(2);
+    let numbers: Vec<usize> = numbers
+        .map(|two| usize::from(two[0]) + 256 * usize::from(two[1]))
+        .collect();
+    let count = numbers[0];
+    if count > DEPENDENCIES {
+        return None;
+    }
+    let (used, unused) = numbers[1..].split_at(count);
+    let good = used.windows(2).all(|two| two[0] < two[1])
+        && used.iter().all(|&number| number < own)
+        && unused.iter().all(|&number| number == 0);
+    good.then(|| Row {
+        hash: as_hash(hash),
+        dependencies: used.to_vec(),
+    })
+}
+
+/// The rows of a waiting table beside this change table; 9 names the first bad
+/// row, 4 a table that is too long.
+pub fn waiting(table: &Table, lent: &[u8]) -> Result<Waiting, Refused> {
+    if lent.len() > WAITING_ROW * WAITING_ROWS {
+        return Err((4, 0));
+    }
+    let mut waiting = Waiting::new();
+    for (number, record) in lent.chunks(WAITING_ROW).enumerate() {
+        let row = waiting_row(record);
+        let fresh = |hash: &Hash| !waiting.contains_key(hash) && !table.row_of.contains_key(hash);
+        let row = row.filter(|(hash, _)| fresh(hash));
+        let (hash, dependencies) = row.ok_or((9, number as u64))?;
+        waiting.insert(hash, dependencies);
+    }
+    Ok(waiting)
+}
+
+/// "hash; count byte (at most 15) and 31 zeros; fifteen hashes, unused ones
+/// zero".
+fn waiting_row(record: &[u8]) -> Option<(Hash, Vec<Hash>)> {
+    if record.len() < WAITING_ROW {
+        return None;
+    }
+    let parts: Vec<Hash> = record.chunks(HASH).map(as_hash).collect();
+    let count = usize::from(parts[1][0]);
+    if count > DEPENDENCIES {
+        return None;
+    }
+    let (used, unused) = parts[2..].split_at(count);
+    let zeros = parts[1][1..].iter().chain(unused.iter().flatten());
+    let good = zeros.copied().all(|byte| byte == 0);
+    good.then(|| (parts[0], used.to_vec()))
+}
+
+/// A hash list that is lent as bytes: more bytes than its limit is 4, else a
+/// partial hash at its end is 1 at that hash's start.
+fn hash_list(lent: &[u8]) -> Result<Vec<Hash>, Refused> {
+    if lent.len() > HASH * HASHES {
+        return Err((4, 0));
+    }
+    let cut = lent.len() % HASH;
+    if cut > 0 {
+        return Err((1, (lent.len() - cut) as u64));
+    }
+    Ok(lent.chunks(HASH).map(as_hash).collect())
+}
+
+fn as_hash(bytes: &[u8]) -> Hash {
+    bytes.try_into().expect("a hash's bytes")
+}
+
+/// How many rows a change table has.
+pub fn check_table(lent: &[u8]) -> Result<usize, Refused> {
+    Ok(table(lent)?.rows.len())
+}
+
+/// How many rows a waiting table has.
+pub fn check_waiting(lent: &[u8], waiting_lent: &[u8]) -> Result<usize, Refused> {
+    Ok(waiting(&table(lent)?, waiting_lent)?.len())
+}
+
+/// "Heads: rows that no row depends on, ascending bytes", of the first rows
+/// alone; 11 if there are fewer.
+pub fn heads(lent: &[u8], before: usize) -> Result<Vec<Hash>, Refused> {
+    let table = table(lent)?;
+    let first = table.rows.get(..before).ok_or((11, 0))?;
+    let depended_on: HashSet<usize> = first
+        .iter()
+        .flat_map(|row| row.dependencies.iter().copied())
+        .collect();
+    let heads = (0..before).filter(|row| !depended_on.contains(row));
+    let heads: BTreeSet<Hash> = heads.map(|row| first[row].hash).collect();
+    Ok(heads.into_iter().collect())
+}
+
+/// "Rows beyond L: rows neither in L nor ancestors of it, in table order; unknown
+/// hashes in L are ignored".
+pub fn beyond(lent: &[u8], list: &[u8]) -> Result<Vec<Hash>, Refused> {
+    let table = table(lent)?;
+    let list = hash_list(list)?;
+    let held = list.iter().filter_map(|hash| table.row_of.get(hash));
+    let mut open: Vec<usize> = held.copied().collect();
+    let mut reached = HashSet::new();
+    while let Some(row) = open.pop() {
+        if reached.insert(row) {
+            open.extend(&table.rows[row].dependencies);
+        }
+    }
+    let beyond = (0..table.rows.len()).filter(|row| !reached.contains(row));
+    Ok(beyond.map(|row| table.rows[row].hash).collect())
+}
+
+/// "Missing from H: a held hash gives nothing, an unknown one gives itself; a
+/// waiting change asks its dependency list, and the list asks each change in
+/// turn. Each hash once, ascending; a cycle gives nothing new". More of them than
+/// a list may have are 4.
+pub fn missing(lent: &[u8], waiting_lent: &[u8], list: &[u8]) -> Result<Vec<Hash>, Refused> {
+    let table = table(lent)?;
+    let waiting = waiting(&table, waiting_lent)?;
+    let mut open = hash_list(list)?;
+    let mut asked = HashSet::new();
+    let mut missing = BTreeSet::new();
+    while let Some(hash) = open.pop() {
+        if table.row_of.contains_key(&hash) || !asked.insert(hash) {
+            continue;
+        }
+        match waiting.get(&hash) {
+            Some(dependencies) => open.extend(dependencies),
+            None => {
+                missing.insert(hash);
+            }
+        }
+    }
+    if missing.len() > HASHES {
+        return Err((4, 0));
+    }
+    Ok(missing.into_iter().collect())
+}

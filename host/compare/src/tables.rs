@@ -1,0 +1,331 @@
+//! The calls on tables: the library against the model in every word and byte,
+//! and, where the tables are good, against the stand-in document of the crate
+//! under test, which keeps rows and waiting changes in its own way. The crate's
+//! own graph can't be had.
+
+use crate::model::{self, Refused};
+use crate::table_model::{self, Hash, HASH, ROW, WAITING_ROW};
+use crate::GUARD;
+use bisquetower::raw::{self, Batch};
+use crate_under_test::facade::{Automerge, Change, ChangeHash};
+
+/// A call on lent tables and lists.
+#[derive(Clone, Copy)]
+pub enum Call<'a> {
+    CheckTable {
+        table: &'a [u8],
+    },
+    CheckWaiting {
+        table: &'a [u8],
+        waiting: &'a [u8],
+    },
+    Heads {
+        table: &'a [u8],
+        before: usize,
+    },
+    Beyond {
+        table: &'a [u8],
+        hashes: &'a [u8],
+    },
+    Missing {
+        table: &'a [u8],
+        waiting: &'a [u8],
+        hashes: &'a [u8],
+    },
+}
+
+/// What a call that isn't refused finds.
+#[derive(Clone, Debug, PartialEq, Eq)]
+enum Found {
+    Rows(usize),
+    Hashes(Vec<Hash>),
+}
+
+/// The calls by name.
+pub const NAMES: [&str; 5] = ["check_table", "check_waiting", "heads", "beyond", "missing"];
+
+impl Call<'_> {
+    /// The call's place in `NAMES`.
+    pub fn kind(&self) -> usize {
+        match self {
+            Call::CheckTable { .. } => 0,
+            Call::CheckWaiting { .. } => 1,
+            Call::Heads { .. } => 2,
+            Call::Beyond { .. } => 3,
+            Call::Missing { .. } => 4,
+        }
+    }
+
+    /// Whether it writes hashes.
+    fn writes(&self) -> bool {
+        self.kind() >= 2
+    }
+
+    fn library<'a>(&self, batch: &mut Batch<'a>, out: &'a mut [u8], answer: &'a mut [u64; 4]) {
+        match *self {
+            Call::CheckTable { table } => batch.check_table(table, answer),
+            Call::CheckWaiting { table, waiting } => batch.check_waiting(table, waiting, answer),
+            Call::Heads { table, before } => batch.heads(table, before, out, answer),
+            Call::Beyond { table, hashes } => batch.beyond(table, hashes, out, answer),
+            Call::Missing {
+                table,
+                waiting,
+                hashes,
+            } => batch.missing(table, waiting, hashes, out, answer),
+        }
+    }
+
+    fn model(&self) -> Result<Found, Refused> {
+        match *self {
+            Call::CheckTable { table } => table_model::check_table(table).map(Found::Rows),
+            Call::CheckWaiting { table, waiting } => {
+                table_model::check_waiting(table, waiting).map(Found::Rows)
+            }
+            Call::Heads { table, before } => table_model::heads(table, before).map(Found::Hashes),
+            Call::Beyond { table, hashes } => table_model::beyond(table, hashes).map(Found::Hashes),
+            Call::Missing {
+                table,
+                waiting,
+                hashes,
+            } => table_model::missing(table, waiting, hashes).map(Found::Hashes),
+        }
+    }
+
+    /// What the stand-in document finds. The tables and lists must be good.
+    fn stand_in(&self) -> Found {
+        let found = |hashes: Vec<ChangeHash>| Found::Hashes(hashes.iter().map(|h| h.0).collect());
+        match *self {
+            Call::CheckTable { table } => Found::Rows(document(table, &[]).rows().len()),
+            Call::CheckWaiting { table, waiting } => {
+                Found::Rows(document(table, waiting).waiting().len())
+            }
+            Call::Heads { table, before } => {
+                found(document(&table[..ROW * before], &[]).get_heads())
+            }
+            Call::Beyond { table, hashes } => {
+                found(document(table, &[]).rows_beyond(&change_hashes(hashes)))
+            }
+            Call::Missing {
+                table,
+                waiting,
+                hashes,
+            } => {
+                let asked = change_hashes(hashes).into_iter();
+                found(document(table, waiting).missing_deps_from(asked))
+            }
+        }
+    }
+
+    fn shown(&self) -> String {
+        let name = NAMES[self.kind()];
+        let (table, rest) = match *self {
+            Call::CheckTable { table } => (table, String::new()),
+            Call::CheckWaiting { table, waiting } => {
+                (table, format!(", {} waiting bytes", waiting.len()))
+            }
+            Call::Heads { table, before } => (table, format!(", before {before}")),
+            Call::Beyond { table, hashes } => (table, format!(", a list of {}", hashes.len())),
+            Call::Missing {
+                table,
+                waiting,
+                hashes,
+            } => {
+                let (waiting, hashes) = (waiting.len(), hashes.len());
+                (
+                    table,
+                    format!(", {waiting} waiting bytes, a list of {hashes}"),
+                )
+            }
+        };
+        format!("{name} of a table of {} bytes{rest}", table.len())
+    }
+}
+
+fn change_hashes(bytes: &[u8]) -> Vec<ChangeHash> {
+    let hashes = bytes.chunks_exact(HASH);
+    hashes
+        .map(|hash| ChangeHash(hash.try_into().expect("a hash's bytes")))
+        .collect()
+}
+
+/// The document that good tables tell of.
+pub fn document(table: &[u8], waiting: &[u8]) -> Automerge {
+    let hash_of = |row: usize| change_hashes(&table[ROW * row..][..HASH])[0];
+    let number = |record: &[u8], place: usize| {
+        usize::from(u16::from_le_bytes([record[place], record[place + 1]]))
+    };
+    let rows = table.chunks_exact(ROW).enumerate().map(|(row, record)| {
+        let places = (0..number(record, HASH)).map(|k| HASH + 2 + 2 * k);
+        let dependencies = places.map(|place| hash_of(number(record, place)));
+        Change::new(hash_of(row), dependencies.collect(), &[])
+    });
+    let waiting = waiting.chunks_exact(WAITING_ROW).map(|record| {
+        let hashes = change_hashes(record);
+        let used = usize::from(record[HASH]);
+        Change::new(hashes[0], hashes[2..2 + used].to_vec(), &[])
+    });
+    Automerge::from_rows(rows.collect(), waiting.collect()).expect("the tables are good")
+}
+
+/// Which buffers a call gets: their sizes, in bytes.
+#[derive(Clone, Copy)]
+pub enum Rooms {
+    /// Every one from none to three bytes too many.
+    Every,
+    /// Some, around what is wanted and around a hash.
+    Around,
+    One(usize),
+    /// What is wanted, and as much again as a hash.
+    Enough,
+}
+
+impl Rooms {
+    fn sizes(self, wanted: usize) -> Vec<usize> {
+        match self {
+            Rooms::Every => (0..=wanted + 3).collect(),
+            Rooms::Around => {
+                let below = [33, 32, 31, 1].map(|less| wanted.saturating_sub(less));
+                let above = [1, 3, 31, 32].map(|more| wanted + more);
+                let mut all = [&[0, 1, 31, 32, wanted][..], &below, &above].concat();
+                all.sort();
+                all.dedup();
+                all
+            }
+            Rooms::One(room) => vec![room],
+            Rooms::Enough => vec![wanted + HASH],
+        }
+    }
+}
+
+/// How often each call gave each answer. A test asks this, so that none passes
+/// by having tried too little.
+#[derive(Clone, Copy, Debug, Default)]
+pub struct Tally {
+    /// By call, then by the answer's first word.
+    answers: [[u64; 12]; 5],
+}
+
+impl Tally {
+    pub fn of(&self, kind: usize, first_word: usize) -> u64 {
+        self.answers[kind][first_word]
+    }
+
+    pub fn add(&mut self, other: &Tally) {
+        let mine = self.answers.iter_mut().flatten();
+        for (mine, theirs) in mine.zip(other.answers.iter().flatten()) {
+            *mine += theirs;
+        }
+    }
+}
+
+/// A call with one buffer, before and after.
+struct Asked<'a> {
+    call: Call<'a>,
+    room: usize,
+    expected: [u64; 4],
+    expected_memory: Vec<u8>,
+    answer: [u64; 4],
+    memory: Vec<u8>,
+}
+
+impl<'a> Asked<'a> {
+    /// Every byte of the buffer and some around it hold a value that `flip` makes
+    /// another, so that over two flips a stray write of either is seen.
+    fn new(call: Call<'a>, found: &Result<Found, Refused>, room: usize, flip: u8) -> Self {
+        let pattern = (0..room + 2 * GUARD).map(|k| (k * 37 + 11) as u8 ^ flip);
+        let memory: Vec<u8> = pattern.collect();
+        let mut expected_memory = memory.clone();
+        let lent = &mut expected_memory[GUARD..GUARD + room];
+        let expected = match found {
+            Ok(Found::Rows(rows)) => [0, *rows as u64, 0, 0],
+            Ok(Found::Hashes(hashes)) => model::write(lent, Ok(hashes.concat())),
+            Err(refused) => model::write(lent, Err(*refused)),
+        };
+        Asked {
+            call,
+            room,
+            expected,
+            expected_memory,
+            answer: [raw::UNWRITTEN; 4],
+            memory,
+        }
+    }
+
+    fn ask<'m>(&'m mut self, batch: &mut Batch<'m>) {
+        let lent = &mut self.memory[GUARD..GUARD + self.room];
+        self.call.library(batch, lent, &mut self.answer);
+    }
+
+    fn agrees(&self) -> Result<(), String> {
+        let told = format!("{} into {} bytes", self.call.shown(), self.room);
+        let (answer, expected) = (self.answer, self.expected);
+        if answer != expected {
+            return Err(format!(
+                "{told}: the library's answer is {answer:?}, the model's {expected:?}"
+            ));
+        }
+        let mut bytes = self.memory.iter().zip(&self.expected_memory);
+        match bytes.position(|(byte, expected)| byte != expected) {
+            Some(k) => {
+                let place = k as i64 - GUARD as i64;
+                Err(format!("{told}: the byte at {place} is wrong"))
+            }
+            None => Ok(()),
+        }
+    }
+}
+
+/// Makes each call with each of its buffers, and compares answer and memory with
+/// the model's; what the model finds is the stand-in's too. The first that
+/// disagrees is the error.
+pub fn compare(calls: &[(Call, Rooms)]) -> Result<Tally, String> {
+    let mut asked = Vec::new();
+    for &(call, rooms) in calls {
+        let found = call.model();
+        if let Ok(found) = &found {
+            if *found != call.stand_in() {
+                let shown = call.shown();
+                return Err(format!("{shown}: the model's answer isn't the stand-in's"));
+            }
+        }
+        if !call.writes() {
+            asked.push(Asked::new(call, &found, 0, 0));
+            continue;
+        }
+        // A refused call gets some buffers too, long enough for its hashes.
+        let wanted = match &found {
+            Ok(Found::Hashes(hashes)) => HASH * hashes.len(),
+            _ => 2 * HASH,
+        };
+        for room in rooms.sizes(wanted) {
+            asked.extend([0x00, 0xff].map(|flip| Asked::new(call, &found, room, flip)));
+        }
+    }
+    let mut batch = Batch::new();
+    for one in &mut asked {
+        one.ask(&mut batch);
+    }
+    batch.run();
+    let mut tally = Tally::default();
+    for one in &asked {
+        one.agrees()?;
+        tally.answers[one.call.kind()][one.answer[0] as usize] += 1;
+    }
+    Ok(tally)
+}
+
+/// The library's answer to one call, and the bytes that it wrote.
+pub fn ask(call: Call, room: usize) -> ([u64; 4], Vec<u8>) {
+    let mut out = vec![0; room];
+    let mut answer = [raw::UNWRITTEN; 4];
+    let mut batch = Batch::new();
+    call.library(&mut batch, &mut out, &mut answer);
+    batch.run();
+    let written = if answer[0] == 0 && call.writes() {
+        answer[1] as usize
+    } else {
+        0
+    };
+    out.truncate(written);
+    (answer, out)
+}
