@@ -113,19 +113,19 @@ module _ (x y : ℕ → Bool) where
           → record { most : count n x ≤ count n y; more : (count n x < count n y) ⊎ ((k : ℕ) → k < n → y k ≡ x k) }
           → record {
             most : cond a (suc (count n x)) (count n x) ≤ cond b (suc (count n y)) (count n y);
-            more : (cond a (suc (count n x)) (count n x) < cond b (suc (count n y)) (count n y)) ⊎ ((k : ℕ) → k < suc n → y k ≡ x k)
+            more : (cond a (suc (count n x)) (count n x) < cond b (suc (count n y)) (count n y)) ⊎ ((k : ℕ) → k < suc n → y k ≡ x k);
           }
       step true true p q r =
           record {
             most = omega arith;
-            more = ⊎-elim (λ l. inl (omega arith)) (λ s. inr (below-suc (λ k. y k ≡ x k) n s (q ∙ sym p))) (r .more)
+            more = ⊎-elim (λ l. inl (omega arith)) (λ s. inr (below-suc (λ k. y k ≡ x k) n s (q ∙ sym p))) (r .more);
           }
       step true false p q r = absurd (true-false (y n) (f n (omega arith) p) q)
       step false true p q r = record { most = omega (arith, r .most); more = inl (omega (arith, r .most)) }
       step false false p q r =
           record {
             most = r .most;
-            more = ⊎-elim (λ l. inl l) (λ s. inr (below-suc (λ k. y k ≡ x k) n s (q ∙ sym p))) (r .more)
+            more = ⊎-elim (λ l. inl l) (λ s. inr (below-suc (λ k. y k ≡ x k) n s (q ∙ sym p))) (r .more);
           }
 
 -- ---- what is reached
@@ -234,8 +234,8 @@ module _ (n : ℕ) (f g : ℕ → Bool) (to tow : ℕ → ℕ → Bool)
   same-in zero i h = refl
   same-in (suc s) i h =
       let rest =
-          same-below n (λ k. reachIn s n f to k && to k i) (λ k. reachIn s n g tow k && tow k i)
-          (λ k l. ap (λ (b : Bool). b && to k i) (same-in s k l) ∙ ap (λ (b : Bool). reachIn s n g tow k && b) (step k i l h))
+      same-below n (λ k. reachIn s n f to k && to k i) (λ k. reachIn s n g tow k && tow k i)
+      (λ k l. ap (λ (b : Bool). b && to k i) (same-in s k l) ∙ ap (λ (b : Bool). reachIn s n g tow k && b) (step k i l h))
       in
       ap (λ (b : Bool). b || someBelow n (λ k. reachIn s n f to k && to k i)) (base i h)
       ∙ ap (λ (b : Bool). g i || b) rest

@@ -1,5 +1,6 @@
 // Calls of the crate `tables`.
-use crate::answer::{checked_words, write_words};
+use crate::answer::checked_words;
+use crate::answer::write_words;
 ghost use mathlib.Core.Path.{_≡_};
 ghost use Rattle.sync.specs.Answer.{checkedWords, Answered};
 ghost use Rattle.tables.specs.Bytes.{tableChecked};

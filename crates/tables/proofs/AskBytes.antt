@@ -1,16 +1,15 @@
 -- Asking over the bytes: one law for each way that a change is asked, with the code's tests as hypotheses, and one for each turn through a list.
 use Prim.Native.Nat.{ℕ, zero, suc, _+_, _-_, _*_, _/_, _≤_, _<_}
 use mathlib.Core.Bool.{Bool, true, false}
-use mathlib.Core.List.{List, [], _∷_}
-use mathlib.Core.Path.{_≡_, refl, sym, ap, _∙_}
-use native.Mathlib.Nat.{not-suc-le-zero, add-zero, zero-add}
+use mathlib.Core.List.{List}
+use mathlib.Core.Path.{_≡_, refl, _∙_}
 use native.Mathlib.Omega.{arith}
 use lib.ListN.{length, getD, set, length-set, replicate, length-replicate}
 use Rattle.rules.specs.Hash.{hashAt, hashesAt}
-use Rattle.rules.specs.Order.{member, insertUpTo, Inserted}
+use Rattle.rules.specs.Order.{member, Inserted}
 use Rattle.rules.specs.Sizes.{sizes}
 use Rattle.rules.proofs.Hash.{length-hashes-at}
-use Rattle.tables.specs.Ask.{Request, change, list, Asks, known, marked, waits, strange, none, more, Askable, Asked, Found}
+use Rattle.tables.specs.Ask.{Request, change, list, known, marked, waits, strange, none, more, Askable, Asked, Found}
 use Rattle.tables.specs.Bytes.{rowSize, rowsAt, waitingSize, asksCount, waitingsAt, waitingOf}
 use Rattle.tables.specs.Table.{rows, held, placeIn}
 use Rattle.tables.specs.Waiting.{waiting, asks, missing}
@@ -59,15 +58,16 @@ module _ {table : List ℕ} {n : ℕ} {waitings : List ℕ} {m h r : ℕ} {marks
     pub gives-nothing-new : k < m → getD marks k false ≡ true → Asked table n waitings m (change h) marks found count marks found count
     gives-nothing-new b i = record { way = marked {m = marks} (not-held table n h r e away) (is-waiting waitings m h k q b) (rw (← q) i) }
 
-    pub asks-its-list : (marks′ : List Bool) (found′ : List ℕ) (count′ : ℕ) → k < m → k < length marks → getD marks k false ≡ false
-        → Asked table n waitings m (list (hashesAt waitings (k * waitingSize + 2 * sizes .hash) (getD waitings (k * waitingSize + sizes .hash) 0))) (set marks k true) found count marks′ found′ count′
+    pub asks-its-list : (marks′ : List Bool) (found′ : List ℕ) (count′ : ℕ) {entries : ℕ} → k < m → k < length marks → getD marks k false ≡ false
+        → entries ≡ asksCount waitings k
+        → Asked table n waitings m (list (hashesAt waitings (k * waitingSize + 2 * sizes .hash) entries)) (set marks k true) found count marks′ found′ count′
         → Asked table n waitings m (change h) marks found count marks′ found′ count′
-    unfolding asks asksCount
-    asks-its-list marks′ found′ count′ b l i d =
+    unfolding asks
+    asks-its-list marks′ found′ count′ b l i c d =
         record {
           way =
               waits {m = marks} {l = hashesAt found 0 count} {m′ = marks′} {l′ = hashesAt found′ 0 count′} (not-held table n h r e away) (is-waiting waitings m h k q b) (rw (← q) l) (rw (← q) i)
-              (rw (← q, asks-of-waiting waitings m k b) (d .way));
+              (rw (← q, asks-of-waiting waitings m k b, ← c) (d .way));
         }
 
 -- A row that gets its mark: one less has none, and what the functions need stays.
@@ -81,10 +81,9 @@ module _ {table : List ℕ} {n : ℕ} {waitings : List ℕ} {m : ℕ} {marks : L
   mark-set k = record { rows = a .rows; waitingRows = a .waitingRows; few = a .few; marked = rw length-set (a .marked); room = a .room }
 
   -- its list stands in the table
-  pub asks-inside : (k : ℕ) → k < m
-      → k * waitingSize + 2 * sizes .hash + sizes .hash * getD waitings (k * waitingSize + sizes .hash) 0 ≤ length waitings
-  unfolding asksCount
-  asks-inside k b = omega (arith, a .few k b, a .waitingRows)
+  pub asks-inside : (k entries : ℕ) → k < m → entries ≡ asksCount waitings k
+      → k * waitingSize + 2 * sizes .hash + sizes .hash * entries ≤ length waitings
+  asks-inside k entries b c = omega (arith, a .few k b, a .waitingRows)
 
   -- with other marks and found hashes
   pub still-askable : {marks′ : List Bool} {found′ : List ℕ} {count′ : ℕ} → length marks′ ≡ length marks → length found′ ≡ length found

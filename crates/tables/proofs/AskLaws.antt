@@ -1,17 +1,17 @@
 -- What asking leaves: marks and found hashes stay; what is found is missing; and while the list isn't full, whatever was asked is settled, that
 -- is held, or waiting at a marked row, or found, and so is all that a newly marked row asks for.
 use Prim.Native.Nat.{ℕ, zero, suc, _+_, _≤_, _<_}
-use mathlib.Core.Bool.{Bool, true, false, cond, not, _||_, _&&_}
+use mathlib.Core.Bool.{Bool, true, false, cond, not, _&&_}
 use mathlib.Core.List.{List, [], _∷_}
 use mathlib.Core.Path.{_≡_, refl, sym, ap, _∙_}
 use native.Mathlib.Nat.{not-suc-le-zero}
 use native.Mathlib.Omega.{arith}
-use borrow.Author.Tests.{lt-ltb, le-ltb, ltb-true, ltb-false, eqb-true, eq-eqb}
+use borrow.Author.Tests.{ltb-false, eqb-true, eq-eqb}
 use lib.Dec.{ltb, eqb}
 use lib.ListN.{length, getD, set, length-set}
 use lib.Seq.{getD-set-same}
 use Rattle.rules.proofs.Cases.{split}
-use Rattle.rules.proofs.OrderLaws.{insert-member, insert-ascends, member-here, member-there}
+use Rattle.rules.proofs.OrderLaws.{insert-member, up-to-fits, up-to-ascends, member-here, member-there}
 use Rattle.rules.proofs.ReachLaws.{either, or-right}
 use Rattle.rules.specs.Order.{member, ascends, insertOnce, insertUpTo}
 use Rattle.tables.specs.Table.{Row, held, placeIn}
@@ -61,23 +61,16 @@ single : (g h : ℕ) → member g (h ∷ []) ≡ true → g ≡ h
 unfolding member
 single g h e = either (eqb g h) false e (λ p. eqb-true _ _ p) (λ p. true-false _ p refl)
 
-length-insert : (h : ℕ) (l : List ℕ) → (length l ≤ length (insertOnce h l)) × (length (insertOnce h l) ≤ suc (length l))
+no-shorter-once : (h : ℕ) (l : List ℕ) → length l ≤ length (insertOnce h l)
 unfolding insertOnce
-length-insert h [] = (omega arith, omega arith)
-length-insert h (y ∷ ys) =
-    let i = length-insert h ys in
-    split (ltb h y) (λ p. rw p (omega arith, omega arith))
-    (λ p. split (eqb h y) (λ q. rw (p, q) (omega arith, omega arith))
-    (λ q. rw (p, q) (omega (arith, i .0), omega (arith, i .1))))
+no-shorter-once h [] = omega arith
+no-shorter-once h (y ∷ ys) =
+    split (ltb h y) (λ p. rw p (omega arith))
+    (λ p. split (eqb h y) (λ q. rw (p, q) (omega arith)) (λ q. rw (p, q) (omega (arith, no-shorter-once h ys))))
 
 insert-no-shorter : (most h : ℕ) (l : List ℕ) → length l ≤ length (insertUpTo most h l)
 unfolding insertUpTo
-insert-no-shorter most h l = split (ltb (length l) most) (λ p. rw p (length-insert h l .0)) (λ p. rw p (omega arith))
-
-insert-short : (most h : ℕ) (l : List ℕ) → length l ≤ most → length (insertUpTo most h l) ≤ most
-unfolding insertUpTo
-insert-short most h l s =
-    split (ltb (length l) most) (λ p. rw p (omega (arith, ltb-true (length l) most p, length-insert h l .1))) (λ p. rw p s)
+insert-no-shorter most h l = split (ltb (length l) most) (λ p. rw p (no-shorter-once h l)) (λ p. rw p (omega arith))
 
 insert-found : (most h x : ℕ) (l : List ℕ) → member x l ≡ true → member x (insertUpTo most h l) ≡ true
 unfolding insertUpTo
@@ -90,10 +83,6 @@ insert-of most h x l e f g =
     split (ltb (length l) most)
     (λ p. either (eqb x h) (member x l) (sym (insert-member x h l) ∙ (rw p at e)) (λ q. f (eqb-true _ _ q)) g)
     (λ p. g (rw p at e))
-
-insert-up-ascends : (most h : ℕ) (l : List ℕ) → ascends l ≡ true → ascends (insertUpTo most h l) ≡ true
-unfolding insertUpTo
-insert-up-ascends most h l a = split (ltb (length l) most) (λ p. rw p (insert-ascends h l a)) (λ p. rw p a)
 
 insert-has : (most h : ℕ) (l : List ℕ) → length (insertUpTo most h l) < most → member h (insertUpTo most h l) ≡ true
 unfolding insertUpTo
@@ -218,7 +207,7 @@ module _ {t : List Row} {w : List Waiting} {most : ℕ} where
   within-most (known a) s = s
   within-most (marked a b c) s = s
   within-most (waits a b i c d) s = within-most d s
-  within-most (strange a b) s = insert-short _ _ _ s
+  within-most (strange {h} {m} {l} a b) s = up-to-fits most h l s
   within-most none s = s
   within-most (more d f) s = within-most f (within-most d s)
 
@@ -227,7 +216,7 @@ module _ {t : List Row} {w : List Waiting} {most : ℕ} where
   still-ascending (known a) s = s
   still-ascending (marked a b c) s = s
   still-ascending (waits a b i c d) s = still-ascending d s
-  still-ascending (strange {h} {m} {l} a b) s = insert-up-ascends most h l s
+  still-ascending (strange {h} {m} {l} a b) s = up-to-ascends most h l s
   still-ascending none s = s
   still-ascending (more d f) s = still-ascending f (still-ascending d s)
 

@@ -1,23 +1,22 @@
 -- What the public calls write, one law for each way through the tests; and what a table that has been accepted gives the functions below them.
 use Prim.Native.Nat.{ℕ, _*_, _/_, _%_, _≤_, _<_}
-use mathlib.Core.Bool.{Bool, true, false}
 use mathlib.Core.List.{List}
-use mathlib.Core.Path.{_≡_, refl, sym, ap, _∙_}
+use mathlib.Core.Path.{_≡_, sym, _∙_}
 use native.Mathlib.Omega.{arith}
 use borrow.Author.Tests.{lt-ltb, le-ltb, eq-eqb, ne-eqb}
-use lib.ListN.{length, take}
-use Rattle.rules.specs.Hash.{hashAt, hashesAt, hashesBytes}
+use lib.ListN.{length}
+use Rattle.rules.specs.Hash.{hashesAt, hashesBytes}
 use Rattle.rules.specs.Output.{Output}
 use Rattle.rules.specs.Sizes.{sizes}
 use Rattle.rules.specs.declared.refusal.Refusal.{Refusal}
 use Rattle.rules.specs.declared.refusal.Refusal.the-variants.{Cut, PastSize, BadRowsBefore}
-use Rattle.tables.specs.Bytes.{rowSize, rowsAt, tableOf, tableChecked}
+use Rattle.tables.specs.Bytes.{rowsAt, tableChecked}
 use Rattle.tables.specs.Calls.{afterCheck, afterHashes, beyondOutput, headsOutput}
 use Rattle.tables.specs.Marks.{GoodRows}
-use Rattle.tables.specs.Table.{GoodTable, hashOf, heads, beyond}
+use Rattle.tables.specs.Table.{GoodTable, heads, beyond}
 use Rattle.tables.specs.declared.check.Checked.the-variants.{Good, Refused}
 use Rattle.tables.proofs.MarkLaws.{good-part}
-use Rattle.tables.proofs.TableLaws.{Decoded, table-good, row-has, length-rows-at, deps-of-row, hash-of-row, take-rows-at}
+use Rattle.tables.proofs.TableLaws.{table-good, row-has, length-rows-at, deps-of-row, hash-of-row, take-rows-at}
 
 -- the first rows of an accepted table are good
 pub accepted-rows : (s : List ℕ) (n : ℕ) → tableChecked s ≡ Good n → GoodRows s n

@@ -2,7 +2,7 @@
 -- which marks it leaves: those there were, and those that the pass means. In a downward pass a row's mark is final when the pass comes to it,
 -- since only rows after it can name it; so what the pass leaves satisfies the equation of what is reached, and that is the only such set.
 use Prim.Native.Nat.{ℕ, zero, suc, _+_, _-_, _*_, _≤_, _<_}
-use mathlib.Core.Bool.{Bool, true, false, cond, not, _||_, _&&_}
+use mathlib.Core.Bool.{Bool, true, false, _||_, _&&_}
 use mathlib.Core.List.{List, [], _∷_}
 use mathlib.Core.Path.{_≡_, refl, sym, ap, _∙_}
 use native.Mathlib.Nat.{not-suc-le-zero}
@@ -19,7 +19,7 @@ use Rattle.tables.specs.Bytes.{twoAt, twosAt, rowSize, countAt, usedAt, 
 use Rattle.tables.specs.Marks.{GoodRows, Marks, markAll, markRow, markHash}
 use Rattle.tables.specs.Table.{Row, rows, hashOf, depsOf, placeIn, needed}
 use Rattle.rules.proofs.Cases.{split, both}
-use Rattle.rules.proofs.ReachLaws.{true-false, same-truth, or-left, or-right, and-false, some-below, some-witness, same-below, reach-unique}
+use Rattle.rules.proofs.ReachLaws.{same-truth, or-left, or-right, some-witness, reach-unique}
 use Rattle.tables.proofs.TableLaws.{at-place, place-first, length-rows, length-rows-at, deps-of-row, hash-of-row}
 
 -- ---- Booleans
@@ -107,11 +107,11 @@ module _ (deps : ℕ → List ℕ) where
         let l : length next ≡ length m = length-mark-row n m in
         let rest = mark-down n next (omega arith) (omega arith) in
         let same : getD (markDown n next) n false ≡ getD m n false =
-            rest n (omega arith)
-            ∙ ap (λ (b : Bool). getD next n false || b) (none-later (λ k. getD (markDown n next) k false) n (omega arith))
-            ∙ or-false (getD next n false)
-            ∙ mark-row n m n (omega arith)
-            ∙ or-again (getD m n false) (member n (deps n)) in
+        rest n (omega arith)
+        ∙ ap (λ (b : Bool). getD next n false || b) (none-later (λ k. getD (markDown n next) k false) n (omega arith))
+        ∙ or-false (getD next n false)
+        ∙ mark-row n m n (omega arith)
+        ∙ or-again (getD m n false) (member n (deps n)) in
         rest i (omega arith) ∙ rw (same, mark-row n m i h) (or-assoc (getD m i false) _ _)
 
     -- the marks that were, and what is reached from them
@@ -249,13 +249,13 @@ module _ (hs : List ℕ) where
         let inside : placeIn hs h < length hs = ltb-true _ _ e in
         let at : getD hs (placeIn hs h) 0 ≡ h = at-place hs h inside in
         let same : eqb i (placeIn hs h) ≡ eqb (getD hs i 0) h =
-            same-truth (eqb i (placeIn hs h)) (eqb (getD hs i 0) h)
-            (λ q. eq-eqb (getD hs i 0) h (ap (λ (k : ℕ). getD hs k 0) (eqb-true i (placeIn hs h) q) ∙ at))
-            (λ q. eq-eqb i (placeIn hs h) (once i (placeIn hs h) l inside (eqb-true (getD hs i 0) h q ∙ sym at))) in
+        same-truth (eqb i (placeIn hs h)) (eqb (getD hs i 0) h)
+        (λ q. eq-eqb (getD hs i 0) h (ap (λ (k : ℕ). getD hs k 0) (eqb-true i (placeIn hs h) q) ∙ at))
+        (λ q. eq-eqb i (placeIn hs h) (once i (placeIn hs h) l inside (eqb-true (getD hs i 0) h q ∙ sym at))) in
         rw e (mark-at m (placeIn hs h) i (omega arith) ∙ rw same))
         (λ e.
         let none : eqb (getD hs i 0) h ≡ false =
-            ne-eqb (getD hs i 0) h (λ q. let p = place-first hs h i l q in omega (arith, ltb-false (placeIn hs h) (length hs) e)) in
+        ne-eqb (getD hs i 0) h (λ q. let p = place-first hs h i l q in omega (arith, ltb-false (placeIn hs h) (length hs) e)) in
         rw (e, none) (sym (or-false (getD m i false))))
 
     mark-list : (m : List Bool) (l : List ℕ) (i : ℕ) → length hs ≤ length m → i < length hs
@@ -314,5 +314,6 @@ module _ (s : List ℕ) (n : ℕ) where
       where
         at : (i : ℕ) → i < length hs → getD hs i 0 ≡ hashAt s (i * rowSize)
         at i h = hash-of-row s n i (rw long at h)
+
         once : (i j : ℕ) → i < length hs → j < length hs → getD hs i 0 ≡ getD hs j 0 → i ≡ j
         once i j h k e = g .once i j (rw long at h) (rw long at k) (sym (at i h) ∙ e ∙ at j k)

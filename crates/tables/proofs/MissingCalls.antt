@@ -1,12 +1,12 @@
 -- What the call for missing hashes writes: one law for each way out, with the code's tests as hypotheses.
 use Prim.Native.Nat.{ℕ, suc, _+_, _*_, _-_, _/_, _%_, _≤_, _<_}
 use mathlib.Core.List.{List}
-use mathlib.Core.Path.{_≡_, refl, sym, ap, _∙_}
+use mathlib.Core.Path.{_≡_, sym, ap, _∙_}
 use native.Mathlib.Nat.{zero-add, sub-zero}
 use native.Mathlib.Omega.{arith}
 use borrow.Author.Tests.{lt-ltb, le-ltb, eq-eqb, ne-eqb}
 use lib.ListN.{length, take, drop, replicate, length-replicate}
-use lib.Seq.{sets, slice}
+use lib.Seq.{sets}
 use Rattle.rules.specs.Hash.{Bytes, hashesAt, hashesBytes}
 use Rattle.rules.specs.Output.{Output, Written}
 use Rattle.rules.specs.Sizes.{sizes}
@@ -17,7 +17,7 @@ use Rattle.rules.specs.declared.refusal.Refusal.the-variants.{Cut, PastSize, No
 use Rattle.rules.proofs.Hash.{length-hashes-at, length-hashes-bytes, hashes-at-bytes}
 use Rattle.rules.proofs.Outputs.{written-bytes, no-room, refused}
 use Rattle.tables.specs.Ask.{Found}
-use Rattle.tables.specs.Bytes.{rowsAt, tableOf, waitingOf, tableChecked, waitingChecked}
+use Rattle.tables.specs.Bytes.{rowsAt, waitingOf, tableChecked, waitingChecked}
 use Rattle.tables.specs.Calls.{afterCheck, afterHashes, missingFrom, missingBeside, missingOutput}
 use Rattle.tables.specs.Table.{Row}
 use Rattle.tables.specs.Waiting.{Waiting, missing}

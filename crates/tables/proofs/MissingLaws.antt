@@ -1,21 +1,21 @@
 -- What is missing, as a relation and as a list: both have the same members. A hash that is asked for on the way is one of the list's or of the
 -- asks of an asked row, and an asked row's asks lead back to the list. The list ascends, so its members tell it; asking finds just them.
 use Prim.Native.Nat.{ℕ, zero, suc, _+_, _≤_, _<_}
-use mathlib.Core.Bool.{Bool, true, false, cond, not, _||_, _&&_}
+use mathlib.Core.Bool.{Bool, true, false, not, _&&_}
 use mathlib.Core.List.{List, [], _∷_, _++_}
-use mathlib.Core.Path.{_≡_, refl, sym, ap, _∙_}
+use mathlib.Core.Path.{_≡_, refl, sym, _∙_}
 use native.Mathlib.Nat.{not-suc-le-zero, add-zero, zero-add}
 use native.Mathlib.Omega.{arith}
-use borrow.Author.Tests.{eqb-true, eq-eqb, not-true, lt-ltb, le-ltb}
-use lib.Dec.{ltb, eqb}
+use borrow.Author.Tests.{eqb-true, not-true}
+use lib.Dec.{eqb}
 use lib.ListN.{length, getD}
-use Rattle.rules.specs.Order.{member, ascends, ascend}
+use Rattle.rules.specs.Order.{member, ascends}
 use Rattle.rules.proofs.Cases.{split, both}
 use Rattle.rules.proofs.OrderLaws.{ascend-ascends, ascend-members, member-append, member-here, member-none, ascending-unique, ascending-shorter}
 use Rattle.rules.proofs.ReachLaws.{true-false, same-truth, either, or-left, or-right, and-true, reach-base, reach-closed, reach-least}
 use Rattle.tables.specs.Table.{Row, held, placeIn}
 use Rattle.tables.specs.Waiting.{Waiting, noWaiting, waiting, asks, asksOf, unknown, Missing, itself, through, askedRow, asksFrom, keep, missing}
-use Rattle.tables.specs.Ask.{Request, list, Asks}
+use Rattle.tables.specs.Ask.{list, Asks}
 use Rattle.tables.proofs.AskLaws.{asked, more-missing, missing-found, asked-settled, newly-settled, found-missing, still-ascending}
 use Rattle.tables.proofs.TableLaws.{place-of-member, at-place, member-at, place-once}
 use Rattle.tables.proofs.WaitingLaws.{length-waiting}

@@ -95,7 +95,7 @@ unfoldable pub waitingAt : List ℕ → ℕ → Waiting
 waitingAt s i =
     record {
       hash = hashAt s (i * waitingSize);
-      asks = hashesAt s (i * waitingSize + 2 * sizes .hash) (asksCount s i)
+      asks = hashesAt s (i * waitingSize + 2 * sizes .hash) (asksCount s i);
     }
 
 unfoldable pub waitingsAt : List ℕ → ℕ → ℕ → List Waiting

@@ -35,8 +35,8 @@ unknown t w h = not (held t h) && not (member h (waiting w))
 pub data Missing (t : List Row) (w : List Waiting) : List ℕ → ℕ → Type 0 where
   itself : {l : List ℕ} {h : ℕ} → member h l ≡ true → unknown t w h ≡ true → Missing t w l h
   through : {l : List ℕ} {h : ℕ} (g : ℕ) → member g l ≡ true → held t g ≡ false → member g (waiting w) ≡ true
-    → Missing t w (asks w g) h
-    → Missing t w l h
+      → Missing t w (asks w g) h
+      → Missing t w l h
 
 -- The waiting rows that are asked, by row number: those of H, and those that an asked row asks for.
 unfoldable pub askedRow : List Row → List Waiting → List ℕ → ℕ → Bool

@@ -7,6 +7,8 @@
 pub mod beyond;
 pub mod check;
 pub mod find;
+pub mod heads;
+pub mod list;
 pub mod marks;
 pub mod missing;
 pub mod row;

@@ -88,7 +88,14 @@ fn mark_hash(table: &[u8], n: usize, l: &[u8], at: usize, marks: [bool; ROWS]) -
 }
 
 // Marks the rows of the hashes of a list; unknown ones are ignored.
-pub fn mark_list(table: &[u8], n: usize, l: &[u8], place: usize, count: usize, marks: [bool; ROWS]) -> [bool; ROWS]
+pub fn mark_list(
+    table: &[u8],
+    n: usize,
+    l: &[u8],
+    place: usize,
+    count: usize,
+    marks: [bool; ROWS],
+) -> [bool; ROWS]
     requires { ⌜ GoodRows (now table) n × (place + sizes .hash * count ≤ length (now l)) ⌝ }
     ensures { λ r. ⌜ Marks n r (λ i. getD marks i false || member (hashOf (rowsAt (now (table .entry)) 0 n) i) (hashesAt (now (l .entry)) place count)) ⌝ }
 {

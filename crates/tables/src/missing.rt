@@ -3,7 +3,9 @@ use crate::check::Checked;
 use crate::check::check_table;
 use crate::find::find_row;
 use crate::find::find_waiting;
+use crate::list::put_list;
 use crate::row::WAITING_SIZE;
+use crate::waiting::asks_count;
 use crate::waiting::check_waiting;
 use rules::hashes::insert_hash;
 use rules::output::Write;
@@ -11,7 +13,6 @@ use rules::refusal::Refusal;
 use rules::sizes::HASH_SIZE;
 use rules::sizes::HASHES;
 use rules::sizes::WAITING_ROWS;
-use wire::encode::copy_into;
 ghost use mathlib.Core.Path.{_≡_};
 ghost use Prim.Native.Nat.{_+_, _*_, _/_, _≤_};
 ghost use lib.ListN.{length};
@@ -19,7 +20,7 @@ ghost use Rattle.rules.specs.Hash.{hashAt, hashesAt, hashesBytes};
 ghost use Rattle.rules.specs.Output.{Output, Written};
 ghost use Rattle.rules.specs.Sizes.{sizes};
 ghost use Rattle.tables.specs.Ask.{Request, Askable, Asked, Found};
-ghost use Rattle.tables.specs.Bytes.{rowSize, rowsAt, waitingOf, tableOf, tableChecked, waitingChecked};
+ghost use Rattle.tables.specs.Bytes.{rowSize, rowsAt, waitingOf, waitingChecked};
 ghost use Rattle.tables.specs.Calls.{missingFrom, missingBeside, missingOutput};
 ghost use Rattle.tables.specs.Waiting.{missing};
 ghost use Rattle.tables.specs.declared.check.Checked.the-variants.{Good};
@@ -55,7 +56,7 @@ fn ask_change(
     }
     marks[row] = true;
     let place = row * WAITING_SIZE + 2 * HASH_SIZE;
-    let entries = waiting[row * WAITING_SIZE + HASH_SIZE] as usize;
+    let entries = asks_count(waiting, row);
     ask_list(
         table,
         n,
@@ -122,19 +123,6 @@ pub fn find_missing(
 {
     let mut marks = [false; WAITING_ROWS];
     ask_list(table, n, waiting, m, &mut marks, list, 0, s, place, entries)
-}
-
-// Writes the first hashes of a list.
-fn put_list(list: &[u8], count: usize, out: &mut [u8]) -> Write
-    requires { ⌜ sizes .hash * count ≤ length (now list) ⌝ }
-    ensures { λ r. ⌜ Written (Output.bytes (hashesBytes (hashesAt (now (list .entry)) 0 count))) (now (out .entry)) (now (out .exit)) r ⌝ }
-{
-    let size = HASH_SIZE * count;
-    if out.len() < size {
-        return Write::Refused(Refusal::NoRoom(size));
-    }
-    copy_into(out, 0, &list[0..size]);
-    Write::Wrote(size)
 }
 
 // What is missing from a list, for tables that are good: the list's own refusals, then 4 for too many hashes, then 7.

@@ -1,6 +1,6 @@
 // Whether a waiting table is good beside a change table.
-use crate::check::check_table;
 use crate::check::Checked;
+use crate::check::check_table;
 use crate::find::find_row;
 use crate::find::find_waiting;
 use crate::row::WAITING_SIZE;

@@ -1,6 +1,5 @@
 -- `tables::beyond::beyond` meets its contract: one law for each answer (CallLaws), and the rows of an accepted table are good. Assumes nothing.
 use mathlib.Core.Path.{_≡_, sym, _∙_}
-use native.Mathlib.Omega.{arith}
 use denote.Ref.{now}
 use Rattle.rules.proofs.Outputs.{refused}
 use Rattle.tables.specs.Bytes.{tableChecked}
@@ -9,10 +8,6 @@ use Rattle.tables.proofs.CallLaws.{accepted-rows, beyond-refused, beyon
 use borrow.Author.Needs.{needs}
 use Rattle.tables.proofs.beyond.beyond.Statement.{statement}
 use Rattle.tables.proofs.beyond.beyond.Tie as tie
-use Rattle.tables.proofs.beyond.beyond.Reads as reads
-use Rattle.tables.proofs.beyond.beyond.Lts as lts
-use Rattle.tables.proofs.beyond.put_beyond.Reads as put-beyond-reads
-use Rattle.tables.proofs.check.check_table.Reads as check-table-reads
 
 -- what the good answer says of the table
 told : (c : tie.After-known-told2)
@@ -20,51 +15,40 @@ told : (c : tie.After-known-told2)
     tableChecked (now (start .args .table)) ≡ Good (c .before .n .given .0 .0)
 told c = sym (c .before .before .before .check-table .ensures) ∙ c .before .n .given .1
 
--- src/beyond.rt:90:11
 check-table-requires : tie.Need-check-table-requires
 check-table-requires c κs = search needs
 
--- src/beyond.rt:91:26
 enum-known-r : tie.Need-enum-known-r
 enum-known-r c = search needs
 
--- src/beyond.rt:92:23
 enum-known-n : tie.Need-enum-known-n
 enum-known-n c = search needs
 
--- src/beyond.rt:93:16
 mul-if1 : tie.Need-mul-if1
 mul-if1 c = search needs
 
--- src/beyond.rt:94:17
 returns : tie.Need-returns
 returns c =
     let known = c .before in
     rw (beyond-long _ _ _ (told known) (c .if1 .taken)) (refused _ _)
 
--- src/beyond.rt:97:52
 mul-t14 : tie.Need-mul-t14
 mul-t14 c = search needs
 
--- src/beyond.rt:97:17
 returns-2 : tie.Need-returns-2
 returns-2 c =
     let e = c .before in
     rw (beyond-cut _ _ _ (told (e .before)) (e .if1 .left) (c .if2 .taken)) (refused _ _)
 
--- src/beyond.rt:99:13
 put-beyond-requires : tie.Need-put-beyond-requires
 put-beyond-requires c κs = accepted-rows _ _ (told (c .before .before .before))
 
--- src/beyond.rt:87:1
 returns-3 : tie.Need-returns-3
 returns-3 c = rw (beyond-refused _ _ _ (sym (c .before .before .before .check-table .ensures) ∙ c .before .r .given .1)) (refused _ _)
 
--- src/beyond.rt:87:1
 same-length : tie.Need-same-length
 same-length c = search needs
 
--- src/beyond.rt:87:1
 returns-4 : tie.Need-returns-4
 returns-4 c =
     let p = c .before .before in

@@ -1,19 +1,15 @@
 -- `tables::beyond::count_unmarked` meets its contract: what is counted and what is left make the whole. Assumes nothing.
-use Prim.Native.Nat.{ℕ, _+_, _-_, _*_, _≤_, _<_}
-use mathlib.Core.Bool.{Bool, true, false, not}
-use mathlib.Core.List.{List}
-use mathlib.Core.Path.{_≡_, refl, sym, ap, _∙_}
+use Prim.Native.Nat.{_+_, _-_, _≤_}
+use mathlib.Core.Bool.{false, not}
+use mathlib.Core.Path.{_≡_}
 use native.Mathlib.Omega.{arith}
 use borrow.Author.Needs.{needs}
-use denote.Ref.{now}
 use lib.ListN.{length, getD}
 use Rattle.tables.specs.Bytes.{rowsAt}
 use Rattle.tables.specs.Table.{rowsWhere}
 use Rattle.tables.proofs.BeyondLaws.{remaining, count-starts, count-passed, count-taken, count-ends}
 use Rattle.tables.proofs.beyond.count_unmarked.Statement.{statement}
 use Rattle.tables.proofs.beyond.count_unmarked.Tie as tie
-use Rattle.tables.proofs.beyond.count_unmarked.Reads as reads
-use Rattle.tables.proofs.beyond.count_unmarked.Lts as lts
 
 abbrev Inv-loop : tie.InvT-loop
 Inv-loop table n marks count₀ i₀ count i =
@@ -26,45 +22,36 @@ Inv-loop table n marks count₀ i₀ count i =
 abbrev μ-loop : tie.MeasureT-loop
 μ-loop table n marks count₀ i₀ count i = n - i
 
--- src/beyond.rt:33:5
 loop-holds : tie.Need-loop-holds Inv-loop μ-loop
 loop-holds c = record { upto = omega arith; most = omega arith; rest = count-starts _ _ _ }
 
--- src/beyond.rt:35:9
 add-i : tie.Need-add-i Inv-loop μ-loop
 add-i c = search needs
 
--- src/beyond.rt:36:12
 array-read-if1 : tie.Need-array-read-if1 Inv-loop μ-loop
 array-read-if1 c = omega (arith, c .before .before .pre)
 
--- src/beyond.rt:33:5
 loop-less : tie.Need-loop-less Inv-loop μ-loop
 loop-less c = search needs
 
--- src/beyond.rt:33:5
 loop-again : tie.Need-loop-again Inv-loop μ-loop
 loop-again c =
     let b = c .before .before in
     let more = c .before .loop-test .taken in
     record { upto = omega arith; most = omega (arith, b .loop .inv .most); rest = count-passed _ _ _ _ _ more (c .if1 .taken) (b .loop .inv .rest) }
 
--- src/beyond.rt:39:9
 add-count : tie.Need-add-count Inv-loop μ-loop
 add-count c = search needs
 
--- src/beyond.rt:33:5
 loop-less-2 : tie.Need-loop-less-2 Inv-loop μ-loop
 loop-less-2 c = search needs
 
--- src/beyond.rt:33:5
 loop-again-2 : tie.Need-loop-again-2 Inv-loop μ-loop
 loop-again-2 c =
     let b = c .before .before in
     let more = c .before .loop-test .taken in
     record { upto = omega arith; most = omega (arith, b .loop .inv .most); rest = count-taken _ _ _ _ _ more (c .if1 .left) (b .loop .inv .rest) }
 
--- src/beyond.rt:27:1
 returns : tie.Need-returns Inv-loop μ-loop
 returns c = count-ends _ _ _ _ _ (c .loop-test .left) (c .before .loop .inv .rest)
 

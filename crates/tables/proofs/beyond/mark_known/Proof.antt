@@ -3,20 +3,13 @@ use Rattle.tables.proofs.BeyondLaws.{below-list}
 use borrow.Author.Needs.{needs}
 use Rattle.tables.proofs.beyond.mark_known.Statement.{statement}
 use Rattle.tables.proofs.beyond.mark_known.Tie as tie
-use Rattle.tables.proofs.beyond.mark_known.Reads as reads
-use Rattle.tables.proofs.beyond.mark_known.Lts as lts
-use Rattle.tables.proofs.marks.mark_below.Reads as mark-below-reads
-use Rattle.tables.proofs.marks.mark_list.Reads as mark-list-reads
 
--- src/beyond.rt:68:9
 mark-list-requires : tie.Need-mark-list-requires
 mark-list-requires c κs = search needs
 
--- src/beyond.rt:69:5
 mark-below-requires : tie.Need-mark-below-requires
 mark-below-requires c κs = search needs
 
--- src/beyond.rt:63:1
 returns : tie.Need-returns
 returns c = below-list _ _ _ _ _ (c .before .before .before .before .pre .0 .few) (c .before .mark-list .ensures) (c .mark-below .ensures)
 

@@ -1,14 +1,12 @@
 -- `tables::beyond::put_unmarked` meets its contract: putting the hashes that are left behind those that were put gives the buffer that putting all
 -- of them gives, and there is room for as many as are left. Assumes nothing.
-use Prim.Native.Nat.{ℕ, _+_, _-_, _*_, _≤_, _<_}
-use mathlib.Core.Bool.{Bool, true, false, not}
-use mathlib.Core.List.{List}
-use mathlib.Core.Path.{_≡_, refl, sym, ap, _∙_}
+use Prim.Native.Nat.{_+_, _-_, _*_, _≤_}
+use mathlib.Core.Bool.{false, not}
+use mathlib.Core.Path.{_≡_, refl, _∙_}
 use native.Mathlib.Omega.{arith}
 use borrow.Author.Needs.{needs}
-use denote.Ref.{now}
 use lib.ListN.{length, getD}
-use lib.Seq.{sets, length-sets}
+use lib.Seq.{sets}
 use Rattle.rules.specs.Hash.{hashesBytes}
 use Rattle.rules.specs.Sizes.{sizes}
 use Rattle.tables.specs.Bytes.{rowsAt}
@@ -16,9 +14,6 @@ use Rattle.tables.specs.Table.{rowsWhere}
 use Rattle.tables.proofs.BeyondLaws.{remaining, room-starts, room-passed, room-taken, put-starts, put-passed, put-taken, put-ends}
 use Rattle.tables.proofs.beyond.put_unmarked.Statement.{statement}
 use Rattle.tables.proofs.beyond.put_unmarked.Tie as tie
-use Rattle.tables.proofs.beyond.put_unmarked.Reads as reads
-use Rattle.tables.proofs.beyond.put_unmarked.Lts as lts
-use Rattle.rules.proofs.hashes.put_hash.Reads as put-hash-reads
 
 abbrev Inv-loop : tie.InvT-loop
 Inv-loop table n out₀ marks at₀ i₀ out at i =
@@ -32,23 +27,18 @@ Inv-loop table n out₀ marks at₀ i₀ out at i =
 abbrev μ-loop : tie.MeasureT-loop
 μ-loop table n out₀ marks at₀ i₀ out at i = n - i
 
--- src/beyond.rt:51:5
 loop-holds : tie.Need-loop-holds Inv-loop μ-loop
 loop-holds c = record { upto = omega arith; long = refl; room = room-starts _ _ _ _ (c .before .before .pre .2); rest = put-starts _ _ _ _ }
 
--- src/beyond.rt:53:9
 add-i : tie.Need-add-i Inv-loop μ-loop
 add-i c = search needs
 
--- src/beyond.rt:54:12
 array-read-if1 : tie.Need-array-read-if1 Inv-loop μ-loop
 array-read-if1 c = omega (arith, c .before .before .before .before .pre .0)
 
--- src/beyond.rt:51:5
 loop-less : tie.Need-loop-less Inv-loop μ-loop
 loop-less c = search needs
 
--- src/beyond.rt:51:5
 loop-again : tie.Need-loop-again Inv-loop μ-loop
 loop-again c =
     let b = c .before .before in
@@ -60,11 +50,9 @@ loop-again c =
       rest = put-passed _ _ _ _ _ _ _ more (c .if1 .taken) (b .loop .inv .rest);
     }
 
--- src/beyond.rt:57:34
 mul-put-hash : tie.Need-mul-put-hash Inv-loop μ-loop
 mul-put-hash c = omega (arith, c .before .before .loop-test .taken, c .before .before .before .before .before .before .pre .0)
 
--- src/beyond.rt:57:9
 put-hash-requires : tie.Need-put-hash-requires Inv-loop μ-loop
 put-hash-requires c κs =
     let b = c .before .before .before in
@@ -72,7 +60,6 @@ put-hash-requires c κs =
     let room = room-taken _ _ _ _ _ _ more (c .before .if1 .left) (b .loop .inv .room) in
     (omega (arith, room, b .loop .inv .long), omega (arith, more, b .before .before .before .pre .1))
 
--- src/beyond.rt:58:9
 add-at : tie.Need-add-at Inv-loop μ-loop
 add-at c =
     let e = c .before .before .before .before in
@@ -80,11 +67,9 @@ add-at c =
     let room = room-taken _ _ _ _ _ _ (e .before .loop-test .taken) (e .if1 .left) (b .loop .inv .room) in
     omega (arith, room)
 
--- src/beyond.rt:51:5
 loop-less-2 : tie.Need-loop-less-2 Inv-loop μ-loop
 loop-less-2 c = search needs
 
--- src/beyond.rt:51:5
 loop-again-2 : tie.Need-loop-again-2 Inv-loop μ-loop
 loop-again-2 c =
     let e = c .before .before .before .before in
@@ -92,16 +77,14 @@ loop-again-2 c =
     let more = e .before .loop-test .taken in
     record {
       upto = omega (arith, more);
-      long = ap length (c .before .before .put-hash .ensures) ∙ simp length-sets (b .loop .inv .long);
+      long = c .before .before .put-hash .kept .0 ∙ b .loop .inv .long;
       room = room-taken _ _ _ _ _ _ more (e .if1 .left) (b .loop .inv .room);
       rest = put-taken _ _ _ _ _ _ _ _ (λ k. b .before .before .shared-slice-known .given k .fits) (omega (arith, more, b .before .before .before .pre .1)) more (e .if1 .left) (c .before .before .put-hash .ensures) (b .loop .inv .rest);
     }
 
--- src/beyond.rt:45:1
 same-length : tie.Need-same-length Inv-loop μ-loop
 same-length c = search needs
 
--- src/beyond.rt:45:1
 returns : tie.Need-returns Inv-loop μ-loop
 returns c = put-ends _ _ _ _ _ _ _ (c .loop-test .left) (c .before .loop .inv .rest)
 

@@ -1,6 +1,6 @@
 -- `tables::marks::mark_below` meets its contract: the rows that are left, passed downward after those that were, are the whole pass; and the whole
 -- pass marks what is reached, since a row's mark is final when its turn comes (MarkLaws). Assumes nothing.
-use Prim.Native.Nat.{ℕ, _+_, _-_, _≤_, _<_}
+use Prim.Native.Nat.{_≤_}
 use mathlib.Core.Path.{_≡_, refl, sym, _∙_}
 use native.Mathlib.Omega.{arith}
 use borrow.Author.Needs.{needs}
@@ -9,9 +9,6 @@ use Rattle.tables.specs.Table.{depsOf}
 use Rattle.tables.proofs.MarkLaws.{good-part, markDown, down-on, down-done, below-marked}
 use Rattle.tables.proofs.marks.mark_below.Statement.{statement}
 use Rattle.tables.proofs.marks.mark_below.Tie as tie
-use Rattle.tables.proofs.marks.mark_below.Reads as reads
-use Rattle.tables.proofs.marks.mark_below.Lts as lts
-use Rattle.tables.proofs.marks.mark_row.Reads as mark-row-reads
 
 abbrev Inv-loop : tie.InvT-loop
 Inv-loop table n next₀ i₀ next i =
@@ -23,23 +20,18 @@ Inv-loop table n next₀ i₀ next i =
 abbrev μ-loop : tie.MeasureT-loop
 μ-loop table n next₀ i₀ next i = i
 
--- src/marks.rt:53:5
 loop-holds : tie.Need-loop-holds Inv-loop μ-loop
 loop-holds c = record { upto = omega arith; rest = refl }
 
--- src/marks.rt:54:9
 sub-i : tie.Need-sub-i Inv-loop μ-loop
 sub-i c = search needs
 
--- src/marks.rt:55:13
 mark-row-requires : tie.Need-mark-row-requires Inv-loop μ-loop
 mark-row-requires c κs = good-part _ _ _ (c .before .before .before .pre) (omega (arith, c .before .loop .inv .upto, c .loop-test .taken))
 
--- src/marks.rt:53:5
 loop-less : tie.Need-loop-less Inv-loop μ-loop
 loop-less c = search needs
 
--- src/marks.rt:53:5
 loop-again : tie.Need-loop-again Inv-loop μ-loop
 loop-again c =
     let b = c .before .before in
@@ -49,7 +41,6 @@ loop-again c =
       rest = sym (down-on _ _ _ _ _ some (b .loop .inv .upto) (c .mark-row .ensures)) ∙ b .loop .inv .rest;
     }
 
--- src/marks.rt:47:1
 returns : tie.Need-returns Inv-loop μ-loop
 returns c =
     let start = c .before .before .before in

@@ -1,20 +1,15 @@
 -- `tables::marks::mark_deps` meets its contract: the numbers that are left, marked after those that were, are all of them marked. A number of a
 -- good row is below the row's own, so it has a mark. Assumes nothing.
-use Prim.Native.Nat.{ℕ, _+_, _-_, _*_, _≤_, _<_}
-use mathlib.Core.Path.{_≡_, refl, sym, _∙_}
+use Prim.Native.Nat.{_+_, _-_, _*_, _≤_}
+use mathlib.Core.Path.{_≡_, sym, _∙_}
 use native.Mathlib.Omega.{arith}
 use borrow.Author.Needs.{needs}
-use denote.Ref.{now}
 use Rattle.rules.specs.Sizes.{sizes}
-use Rattle.tables.specs.Bytes.{rowSize, countAt, usedAt, twosAt}
+use Rattle.tables.specs.Bytes.{rowSize, usedAt, twosAt}
 use Rattle.tables.specs.Marks.{markAll}
 use Rattle.tables.proofs.MarkLaws.{number-member, numbers-start, numbers-on, numbers-done}
 use Rattle.tables.proofs.marks.mark_deps.Statement.{statement}
 use Rattle.tables.proofs.marks.mark_deps.Tie as tie
-use Rattle.tables.proofs.marks.mark_deps.Reads as reads
-use Rattle.tables.proofs.marks.mark_deps.Lts as lts
-use Rattle.tables.proofs.row.dep.Reads as dep-reads
-use Rattle.tables.proofs.row.dep_count.Reads as dep-count-reads
 
 abbrev Inv-loop : tie.InvT-loop
 Inv-loop table i next₀ count j₀ next j =

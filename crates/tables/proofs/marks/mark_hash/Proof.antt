@@ -4,23 +4,16 @@ use Rattle.tables.proofs.MarkLaws.{hash-known, hash-unknown}
 use borrow.Author.Needs.{needs}
 use Rattle.tables.proofs.marks.mark_hash.Statement.{statement}
 use Rattle.tables.proofs.marks.mark_hash.Tie as tie
-use Rattle.tables.proofs.marks.mark_hash.Reads as reads
-use Rattle.tables.proofs.marks.mark_hash.Lts as lts
-use Rattle.tables.proofs.find.find_row.Reads as find-row-reads
 
--- src/marks.rt:81:9
 find-row-requires : tie.Need-find-row-requires
 find-row-requires c κs = search needs
 
--- src/marks.rt:84:9
 array-write-next : tie.Need-array-write-next
 array-write-next c = search needs
 
--- src/marks.rt:85:9
 returns : tie.Need-returns
 returns c = hash-known _ _ _ _ _ (c .before .find-row .ensures) (c .if1 .taken)
 
--- src/marks.rt:77:1
 returns-2 : tie.Need-returns-2
 returns-2 c = hash-unknown _ _ _ _ _ (c .before .find-row .ensures) (c .if1 .left)
 

@@ -1,7 +1,7 @@
 -- `tables::marks::mark_list` meets its contract: the hashes that are left, marked after those that were, are all of them marked; and where no
 -- two rows have one hash, a row is marked exactly if its hash stands in the list (MarkLaws). Assumes nothing.
-use Prim.Native.Nat.{ℕ, _+_, _-_, _*_, _≤_, _<_}
-use mathlib.Core.Path.{_≡_, refl, sym, _∙_}
+use Prim.Native.Nat.{_+_, _-_, _*_, _≤_}
+use mathlib.Core.Path.{_≡_, sym, _∙_}
 use native.Mathlib.Omega.{arith}
 use borrow.Author.Needs.{needs}
 use Rattle.rules.specs.Hash.{hashesAt}
@@ -11,9 +11,6 @@ use Rattle.tables.specs.Table.{rows}
 use Rattle.tables.proofs.MarkLaws.{markList, list-start, list-on, list-done, list-marked}
 use Rattle.tables.proofs.marks.mark_list.Statement.{statement}
 use Rattle.tables.proofs.marks.mark_list.Tie as tie
-use Rattle.tables.proofs.marks.mark_list.Reads as reads
-use Rattle.tables.proofs.marks.mark_list.Lts as lts
-use Rattle.tables.proofs.marks.mark_hash.Reads as mark-hash-reads
 
 abbrev Inv-loop : tie.InvT-loop
 Inv-loop table n l place count next₀ k₀ next k =
@@ -27,31 +24,24 @@ Inv-loop table n l place count next₀ k₀ next k =
 abbrev μ-loop : tie.MeasureT-loop
 μ-loop table n l place count next₀ k₀ next k = count - k
 
--- src/marks.rt:97:5
 loop-holds : tie.Need-loop-holds Inv-loop μ-loop
 loop-holds c = record { upto = omega arith; rest = list-start _ _ _ _ _ _ }
 
--- src/marks.rt:98:52
 mul-mark-hash : tie.Need-mul-mark-hash Inv-loop μ-loop
 mul-mark-hash c = omega (arith, c .before .before .before .before .pre .1)
 
--- src/marks.rt:98:44
 add-mark-hash : tie.Need-add-mark-hash Inv-loop μ-loop
 add-mark-hash c = omega (arith, c .before .before .before .before .pre .1)
 
--- src/marks.rt:98:13
 mark-hash-requires : tie.Need-mark-hash-requires Inv-loop μ-loop
 mark-hash-requires c κs = (c .before .before .before .before .pre .0, omega (arith, c .before .before .before .before .pre .1))
 
--- src/marks.rt:100:9
 add-k : tie.Need-add-k Inv-loop μ-loop
 add-k c = search needs
 
--- src/marks.rt:97:5
 loop-less : tie.Need-loop-less Inv-loop μ-loop
 loop-less c = search needs
 
--- src/marks.rt:97:5
 loop-again : tie.Need-loop-again Inv-loop μ-loop
 loop-again c =
     let b = c .before .before in
@@ -60,7 +50,6 @@ loop-again c =
       rest = sym (list-on _ _ _ _ _ _ _ _ (c .before .loop-test .taken) (c .mark-hash .ensures)) ∙ b .loop .inv .rest;
     }
 
--- src/marks.rt:91:1
 returns : tie.Need-returns Inv-loop μ-loop
 returns c =
     let start = c .before .before .before .before in

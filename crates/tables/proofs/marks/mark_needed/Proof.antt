@@ -1,6 +1,6 @@
 -- `tables::marks::mark_needed` meets its contract: the rows that are left, after those that were, are all rows; and all of them mark each row that
 -- some row depends on (MarkLaws). Assumes nothing.
-use Prim.Native.Nat.{ℕ, _+_, _-_, _≤_, _<_}
+use Prim.Native.Nat.{_≤_}
 use mathlib.Core.Bool.{false}
 use mathlib.Core.Path.{_≡_, refl, sym, _∙_}
 use native.Mathlib.Omega.{arith}
@@ -12,9 +12,6 @@ use Rattle.tables.specs.Table.{depsOf}
 use Rattle.tables.proofs.MarkLaws.{good-part, markNeeded, needed-on, needed-done, needed-marked}
 use Rattle.tables.proofs.marks.mark_needed.Statement.{statement}
 use Rattle.tables.proofs.marks.mark_needed.Tie as tie
-use Rattle.tables.proofs.marks.mark_needed.Reads as reads
-use Rattle.tables.proofs.marks.mark_needed.Lts as lts
-use Rattle.tables.proofs.marks.mark_deps.Reads as mark-deps-reads
 
 abbrev Inv-loop : tie.InvT-loop
 Inv-loop table n next₀ i₀ next i =
@@ -26,23 +23,18 @@ Inv-loop table n next₀ i₀ next i =
 abbrev μ-loop : tie.MeasureT-loop
 μ-loop table n next₀ i₀ next i = i
 
--- src/marks.rt:68:5
 loop-holds : tie.Need-loop-holds Inv-loop μ-loop
 loop-holds c = record { upto = omega arith; rest = refl }
 
--- src/marks.rt:69:9
 sub-i : tie.Need-sub-i Inv-loop μ-loop
 sub-i c = search needs
 
--- src/marks.rt:70:13
 mark-deps-requires : tie.Need-mark-deps-requires Inv-loop μ-loop
 mark-deps-requires c κs = good-part _ _ _ (c .before .before .before .pre) (omega (arith, c .before .loop .inv .upto, c .loop-test .taken))
 
--- src/marks.rt:68:5
 loop-less : tie.Need-loop-less Inv-loop μ-loop
 loop-less c = search needs
 
--- src/marks.rt:68:5
 loop-again : tie.Need-loop-again Inv-loop μ-loop
 loop-again c =
     let b = c .before .before in
@@ -52,7 +44,6 @@ loop-again c =
       rest = sym (needed-on _ _ _ _ _ some (b .loop .inv .upto) (c .mark-deps .ensures)) ∙ b .loop .inv .rest;
     }
 
--- src/marks.rt:62:1
 returns : tie.Need-returns Inv-loop μ-loop
 returns c = needed-marked _ _ (c .before .before .before .pre) _ (sym (needed-done _ _ _ _ (c .loop-test .left)) ∙ c .before .loop .inv .rest)
 

@@ -3,24 +3,17 @@ use Rattle.tables.specs.Marks.{markRow}
 use borrow.Author.Needs.{needs}
 use Rattle.tables.proofs.marks.mark_row.Statement.{statement}
 use Rattle.tables.proofs.marks.mark_row.Tie as tie
-use Rattle.tables.proofs.marks.mark_row.Reads as reads
-use Rattle.tables.proofs.marks.mark_row.Lts as lts
-use Rattle.tables.proofs.marks.mark_deps.Reads as mark-deps-reads
 
--- src/marks.rt:40:8
 array-read-if1 : tie.Need-array-read-if1
 array-read-if1 c = search needs
 
--- src/marks.rt:41:9
 mark-deps-requires : tie.Need-mark-deps-requires
 mark-deps-requires c κs = search needs
 
--- src/marks.rt:41:9
 returns : tie.Need-returns
 unfolding markRow
 returns c = rw (c .before .if1 .taken) (c .mark-deps .ensures)
 
--- src/marks.rt:36:1
 returns-2 : tie.Need-returns-2
 unfolding markRow
 returns-2 c = rw (c .if1 .left)

@@ -8,12 +8,11 @@ use native.Mathlib.Omega.{arith}
 use Prim.Native.Nat.{ℕ, suc, _+_, _-_, _*_, _≤_, _<_}
 use mathlib.Core.Bool.{Bool}
 use mathlib.Core.List.{List}
-use mathlib.Core.Path.{_≡_, refl, sym, _∙_}
+use mathlib.Core.Path.{_≡_, refl, _∙_}
 use native.Mathlib.Nat.{add-zero, sub-zero}
 use lib.ListN.{length, length-set}
 use Rattle.rules.specs.Hash.{hashesAt}
 use Rattle.rules.specs.Sizes.{sizes}
-use Rattle.tables.specs.Bytes.{waitingSize}
 use Rattle.tables.specs.Ask.{Request, Asked}
 use Rattle.tables.proofs.AskBytes.{gives-nothing, gives-itself, gives-nothing-new, asks-its-list, one-less, mark-set, asks-inside, still-askable, list-ends, list-on, no-more-unmarked, still-room}
 use Rattle.tables.proofs.AskLaws.{unmarked}
@@ -28,6 +27,7 @@ use Rattle.tables.proofs.missing.+ask_change+ask_list.Lts-ask_list as a
 use Rattle.tables.proofs.find.find_row.Reads as find-row-reads
 use Rattle.tables.proofs.find.find_waiting.Reads as find-waiting-reads
 use Rattle.rules.proofs.hashes.insert_hash.Reads as insert-hash-reads
+use Rattle.tables.proofs.waiting.asks_count.Reads as asks-count-reads
 use Rattle.tables.proofs.missing.+ask_change+ask_list.{statement}
 use Rattle.tables.proofs.missing.+ask_change+ask_list.Tie.{close}
 
@@ -60,6 +60,8 @@ change-calls t = (
   find-waiting-reads.Learnt,
   insert-hash-reads.Asked,
   insert-hash-reads.Learnt,
+  asks-count-reads.Asked,
+  asks-count-reads.Learnt,
   ask-list-below t,
   ask-list.Post,
 )
@@ -112,18 +114,8 @@ ask-change-mul-place-2 t c = search needs
 ask-change-add-place : (t : ℕ) → ask-change-lts.Need-add-place (change-calls t) (ask-change-at t) ask-change.Post
 ask-change-add-place t c = search needs
 
-ask-change-mul-entries : (t : ℕ) → ask-change-lts.Need-mul-entries (change-calls t) (ask-change-at t) ask-change.Post
-ask-change-mul-entries t c = search needs
-
-ask-change-add-entries : (t : ℕ) → ask-change-lts.Need-add-entries (change-calls t) (ask-change-at t) ask-change.Post
-ask-change-add-entries t c = search needs
-
-ask-change-shared-slice-read-entries : (t : ℕ) → ask-change-lts.Need-shared-slice-read-entries (change-calls t) (ask-change-at t) ask-change.Post
-ask-change-shared-slice-read-entries t c = search needs
-
-ask-change-cast-entries : (t : ℕ) → ask-change-lts.Need-cast-entries (change-calls t) (ask-change-at t) ask-change.Post
-ask-change-cast-entries t c =
-    omega (arith, c .shared-slice-known4 .given (c .before .before .before .before .find-waiting .result * waitingSize + sizes .hash))
+ask-change-asks-count-requires : (t : ℕ) → ask-change-lts.Need-asks-count-requires (change-calls t) (ask-change-at t) ask-change.Post
+ask-change-asks-count-requires t c κs = search needs
 
 ask-change-ask-list-requires : (t : ℕ) → ask-change-lts.Need-ask-list-requires (change-calls t) (ask-change-at t) ask-change.Post
 ask-change-ask-list-requires t c κs =
@@ -132,7 +124,7 @@ ask-change-ask-list-requires t c κs =
     let w = b .before in
     let a = w .before .before .before .before .before .before .before .before in (
       one-less _ _ _ (omega (arith, a .pre .1 .0 .marked, b .if2 .left)) (f .if3 .left) (a .pre .0),
-      (mark-set (a .pre .1 .0) _, asks-inside (a .pre .1 .0) _ (b .if2 .left)),
+      (mark-set (a .pre .1 .0) _, asks-inside (a .pre .1 .0) _ _ (b .if2 .left) (c .before .before .asks-count .ensures)),
     )
 
 ask-change-same-length-2 : (t : ℕ) → ask-change-lts.Need-same-length-2 (change-calls t) (ask-change-at t) ask-change.Post
@@ -153,6 +145,7 @@ ask-change-returns-4 t c =
     (b .if2 .left)
     (omega (arith, a .pre .1 .0 .marked, b .if2 .left))
     (f .if3 .left)
+    (d .before .before .before .asks-count .ensures)
     (d .ask-list .ensures)
 
 abbrev ask-list-Inv-loop : ask-list-lts.InvT-loop
@@ -245,10 +238,7 @@ pub +ask-change+ask-list-spec : {M : Type 1} → statement M
     (ask-change-mul-place t)
     (ask-change-mul-place-2 t)
     (ask-change-add-place t)
-    (ask-change-mul-entries t)
-    (ask-change-add-entries t)
-    (ask-change-shared-slice-read-entries t)
-    (ask-change-cast-entries t)
+    (ask-change-asks-count-requires t)
     (ask-change-ask-list-requires t)
     (ask-change-same-length-2 t)
     (ask-change-same-length-3 t)

@@ -1,5 +1,7 @@
 -- `tables::missing::find_missing` meets its contract: the list is asked with no row marked and nothing found, which finds just what is missing, or
 -- fills the list with some of it (AskBytes). A checked waiting table has a mark for each row. Assumes nothing.
+use denote.Ref.{now}
+use Rattle.rules.specs.Hash.{hashesAt}
 use Rattle.tables.proofs.AskBytes.{askable-first, list-found}
 use Rattle.tables.proofs.WaitingLaws.{waiting-good}
 use borrow.Author.Needs.{needs}
@@ -21,7 +23,7 @@ returns : tie.Need-returns
 returns c =
     let d = c .before .before .before in
     let a = d .before .before .before .before .before .before .before in
-    list-found _ _ _ _ (waiting-good _ _ _ (a .pre .1 .0)) (d .ask-list .ensures)
+    list-found _ _ _ _ (waiting-good _ _ _ (a .pre .1 .0)) {hs = hashesAt (now (a .args .s)) (a .args .place) (a .args .entries)} (d .ask-list .ensures)
 
 pub find-missing-spec : {M : Type 1} → statement M
 find-missing-spec =
