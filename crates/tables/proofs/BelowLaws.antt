@@ -190,6 +190,13 @@ module _ (t : List Row) (good : GoodTable t) (l : List ℕ) where
       (row-of-held t h e)
       (sym (below-row h e) ∙ b))
 
+  -- ancestors of a closed part stay in it
+  pub below-stays : (part : ℕ → Bool)
+      → ((h : ℕ) → held t h ≡ true → member h l ≡ true → part h ≡ true)
+      → ((h g : ℕ) → held t h ≡ true → part h ≡ true → member g (deps t h) ≡ true → part g ≡ true)
+      → (h : ℕ) → below t l h ≡ true → part h ≡ true
+  below-stays part = below-least (λ (h : ℕ). part h ≡ true)
+
   -- ---- beyond
 
   -- the rows that aren't below

@@ -10,8 +10,8 @@ use Rattle.rules.specs.Order.{member, ascends, ascend}
 use Rattle.rules.proofs.Cases.{split, both}
 use Rattle.rules.proofs.OrderLaws.{ascend-ascends, ascend-members}
 use Rattle.rules.proofs.ReachLaws.{true-false, some-below, some-witness}
-use Rattle.tables.specs.Table.{Row, hashOf, depsOf, GoodTable, place, held, deps, rowsWhere, needed, heads}
-use Rattle.tables.proofs.BelowLaws.{dependency, deps-of-hash, rows-where}
+use Rattle.tables.specs.Table.{Row, hashOf, depsOf, GoodTable, place, held, deps, rowsWhere, needed, heads, below}
+use Rattle.tables.proofs.BelowLaws.{dependency, deps-of-hash, rows-where, below-known, below-deps}
 use Rattle.tables.proofs.TableLaws.{place-of-row, held-row, row-of-held, hash-of-held}
 
 pub heads-ascend : (t : List Row) → ascends (heads t) ≡ true
@@ -59,3 +59,10 @@ module _ (t : List Row) (good : GoodTable t) where
 
     pub heads-cover : (h : ℕ) → held t h ≡ true → P h
     heads-cover h e = subst P (hash-of-held t h e) (from-last (length t) (place t h) (omega arith) (row-of-held t h e))
+
+  -- every row is a head or an ancestor of one
+  pub rows-below-heads : (h : ℕ) → held t h ≡ true → below t (heads t) h ≡ true
+  rows-below-heads =
+      heads-cover (λ (h : ℕ). below t (heads t) h ≡ true)
+      (λ h m. below-known t good (heads t) h (head-held h m) m)
+      (λ h g e b d. below-deps t good (heads t) h g b d)

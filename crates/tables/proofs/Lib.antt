@@ -6,6 +6,7 @@ pub mod BeyondLaws
 pub mod CallLaws
 pub mod CheckLaws
 pub mod CollectLaws
+pub mod ExtendLaws
 pub mod FindLaws
 pub mod HeadLaws
 pub mod MarkLaws
