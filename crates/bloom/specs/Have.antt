@@ -47,33 +47,54 @@ filtersFrom s haves i (suc count) = filterWith s (numbersIn haves i) ∷ filters
 unfoldable pub filtersOf : List ℕ → List ℕ → List Filter
 filtersOf s haves = filtersFrom s haves 0 (haveCount haves)
 
+-- The last-sync hashes of record i: where the first stands, and how many they are.
+abbrev pub syncPlace : List ℕ → ℕ → ℕ
+syncPlace haves i = getD haves (i * haveWords) 0
+
+abbrev pub syncCount : List ℕ → ℕ → ℕ
+syncCount haves i = getD haves (i * haveWords + 1) 0
+
 -- Refusal 10: the numbers keep the filter rules, and the field stands inside the lent bytes.
 unfoldable pub filterGood : List ℕ → FilterNumbers → Bool
 filterGood s f = filterRules (f .entries) (f .bits) (f .probes) (f .size) && leb (f .place + f .size) (length s)
 
--- So many filters from record i on.
-unfoldable pub filtersGoodFrom : List ℕ → List ℕ → ℕ → ℕ → Bool
-filtersGoodFrom s haves i zero = true
-filtersGoodFrom s haves i (suc count) = filterGood s (numbersIn haves i) && filtersGoodFrom s haves (suc i) count
+-- Refusal 10 for record i: its last-sync hashes stand inside the lent bytes too.
+unfoldable pub haveGood : List ℕ → List ℕ → ℕ → Bool
+haveGood s haves i = leb (syncPlace haves i + sizes .hash * syncCount haves i) (length s) && filterGood s (numbersIn haves i)
 
--- A list of haves passed as numbers: whole records, and of the first 16 each filter good.
-unfoldable pub filtersGood : List ℕ → List ℕ → Bool
-filtersGood s haves = eqb (length haves % haveWords) 0 && filtersGoodFrom s haves 0 (min (haveCount haves) (sizes .haves))
+-- So many records from record i on.
+unfoldable pub havesGoodFrom : List ℕ → List ℕ → ℕ → ℕ → Bool
+havesGoodFrom s haves i zero = true
+havesGoodFrom s haves i (suc count) = haveGood s haves i && havesGoodFrom s haves (suc i) count
+
+-- Refusal 10 for a list of haves that is passed: whole records, each good. Of more than 16 haves the first 16 are looked at; the number
+-- itself is refusal 4, which comes later.
+unfoldable pub passedGood : List ℕ → List ℕ → Bool
+passedGood s haves = eqb (length haves % haveWords) 0 && havesGoodFrom s haves 0 (min (haveCount haves) (sizes .haves))
+
+-- So many records from record i on have no more last-sync hashes than a list may have.
+unfoldable pub syncsFew : List ℕ → ℕ → ℕ → Bool
+syncsFew haves i zero = true
+syncsFew haves i (suc count) = leb (syncCount haves i) (sizes .hashes) && syncsFew haves (suc i) count
+
+-- Refusal 4 for a list of haves that is passed: at most 16, and no list of last-sync hashes too long.
+unfoldable pub passedFew : List ℕ → Bool
+passedFew haves = leb (haveCount haves) (sizes .haves) && syncsFew haves 0 (haveCount haves)
 
 -- Every record's filter is good.
 pub record GoodFilters (s haves : List ℕ) : Type 0 where
   pub each : (i : ℕ) → i < haveCount haves → filterGood s (numbersIn haves i) ≡ true
 
--- Whether some filter of the haves contains a hash that is lent as bytes: 10 for the filters, 4 for more than 16 haves, then 4 or 1 for a hash of
+-- Whether some filter of the haves contains a hash that is lent as bytes: 10 and 4 for the haves, then 4 or 1 for a hash of
 -- another length.
 unfoldable pub containedIn : List ℕ → List ℕ → List ℕ → Contained
 containedIn s haves hash =
-    cond (filtersGood s haves)
-    (cond (ltb (sizes .haves) (haveCount haves))
-    (Refused (PastSize 0))
+    cond (passedGood s haves)
+    (cond (passedFew haves)
     (cond (ltb (sizes .hash) (length hash))
     (Refused (PastSize 0))
     (cond (ltb (length hash) (sizes .hash))
     (Refused (Cut 0))
-    (cond (anyContains (filtersOf s haves) (hashAt hash 0)) Yes No))))
+    (cond (anyContains (filtersOf s haves) (hashAt hash 0)) Yes No)))
+    (Refused (PastSize 0)))
     (Refused BadSession)

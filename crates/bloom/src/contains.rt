@@ -1,13 +1,13 @@
 // Whether filters contain a hash (`contains_hash`, `get_bit`).
 use crate::have::HAVE_WORDS;
 use crate::have::filter_in;
-use crate::have::filters_good;
+use crate::have::passed_few;
+use crate::have::passed_good;
 use crate::probes::count;
 use crate::probes::step;
 use crate::probes::word;
 use rules::refusal::Refusal;
 use rules::sizes::HASH_SIZE;
-use rules::sizes::HAVES;
 ghost use mathlib.Core.Path.{_≡_};
 ghost use Prim.Native.Nat.{_+_, _≤_, _<_};
 ghost use lib.ListN.{length};
@@ -77,10 +77,10 @@ pub enum Contained {
 pub fn filters_contain(s: &[u8], haves: &[u64], hash: &[u8]) -> Contained
     ensures { λ r. ⌜ r ≡ containedIn (now (s .entry)) (now (haves .entry)) (now (hash .entry)) ⌝ }
 {
-    if !filters_good(s, haves) {
+    if !passed_good(s, haves) {
         return Contained::Refused(Refusal::BadSession);
     }
-    if HAVES < haves.len() / HAVE_WORDS {
+    if !passed_few(haves) {
         return Contained::Refused(Refusal::PastSize(0));
     }
     if HASH_SIZE < hash.len() {

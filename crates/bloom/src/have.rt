@@ -1,10 +1,12 @@
 // A have as numbers: the words of its record in a lent list. Places count from the first byte of the buffer that is lent beside it.
 use crate::rule::filter_rules;
+use rules::sizes::HASH_SIZE;
+use rules::sizes::HASHES;
 use rules::sizes::HAVES;
 ghost use mathlib.Core.Path.{_≡_};
 ghost use Prim.Native.Nat.{_+_, _<_, min};
 ghost use lib.Dec.{leb};
-ghost use Rattle.bloom.specs.Have.{haveCount, numbersIn, filterGood, filtersGood};
+ghost use Rattle.bloom.specs.Have.{haveCount, numbersIn, filterGood, haveGood, passedGood, passedFew};
 
 // A record: place and count of the last-sync hashes, then the filter's entries, bits per entry, probes, place and length of its field.
 pub const HAVE_WORDS: usize = 7;
@@ -55,9 +57,25 @@ pub fn filter_good(s: &[u8], haves: &[u64], i: usize) -> bool
     inside(f.place, f.size, s.len())
 }
 
-// Whether a list is whole records, each with a good filter; of more than a list may have, the first are looked at.
-pub fn filters_good(s: &[u8], haves: &[u64]) -> bool
-    ensures { λ r. ⌜ r ≡ filtersGood (now (s .entry)) (now (haves .entry)) ⌝ }
+// Whether record i is a have over the lent bytes: its last-sync hashes stand there, and its filter is good.
+pub fn have_good(s: &[u8], haves: &[u64], i: usize) -> bool
+    requires { ⌜ i < haveCount (now haves) ⌝ }
+    ensures { λ r. ⌜ r ≡ haveGood (now (s .entry)) (now (haves .entry)) i ⌝ }
+{
+    let at = i * HAVE_WORDS;
+    let count = haves[at + 1] as usize;
+    if s.len() / HASH_SIZE < count {
+        return false;
+    }
+    if !inside(haves[at] as usize, HASH_SIZE * count, s.len()) {
+        return false;
+    }
+    filter_good(s, haves, i)
+}
+
+// Whether a list that is passed is whole records, each a have; of more than a list may have, the first are looked at.
+pub fn passed_good(s: &[u8], haves: &[u64]) -> bool
+    ensures { λ r. ⌜ r ≡ passedGood (now (s .entry)) (now (haves .entry)) ⌝ }
 {
     if haves.len() % HAVE_WORDS != 0 {
         return false;
@@ -65,7 +83,25 @@ pub fn filters_good(s: &[u8], haves: &[u64]) -> bool
     let total = at_most(haves.len() / HAVE_WORDS);
     let mut i = 0;
     while i < total {
-        if !filter_good(s, haves, i) {
+        if !have_good(s, haves, i) {
+            return false;
+        }
+        i += 1;
+    }
+    true
+}
+
+// Whether a list that is passed has no more haves than a list may have, and each no more last-sync hashes.
+pub fn passed_few(haves: &[u64]) -> bool
+    ensures { λ r. ⌜ r ≡ passedFew (now (haves .entry)) ⌝ }
+{
+    let total = haves.len() / HAVE_WORDS;
+    if HAVES < total {
+        return false;
+    }
+    let mut i = 0;
+    while i < total {
+        if (HASHES as u64) < haves[i * HAVE_WORDS + 1] {
             return false;
         }
         i += 1;

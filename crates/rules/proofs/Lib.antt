@@ -5,5 +5,6 @@ pub mod Hash
 pub mod Insert
 pub mod OrderLaws
 pub mod Outputs
+pub mod PassedLaws
 pub mod ReachLaws
 pub mod Refusals

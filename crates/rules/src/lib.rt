@@ -4,5 +4,6 @@
 // definition `sizes` of specs/, and `limits` is proved to give the same numbers.
 pub mod hashes;
 pub mod output;
+pub mod passed;
 pub mod refusal;
 pub mod sizes;

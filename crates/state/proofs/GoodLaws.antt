@@ -7,8 +7,9 @@ use native.Mathlib.Numerals.{add-one}
 use native.Mathlib.Omega.{arith}
 use borrow.Author.Tests.{lt-leb, le-leb, leb-true, eqb-true, eqb-false}
 use lib.Dec.{leb, ltb, eqb}
-use lib.ListN.{length, getD}
-use Rattle.bloom.specs.Have.{haveWords, numbersIn, filterGood}
+use lib.ListN.{length}
+use Rattle.bloom.specs.Have.{haveWords, syncCount, haveGood}
+use Rattle.bloom.proofs.HaveLaws.{HaveParts, have-parts}
 use Rattle.rules.specs.Hash.{hashAt, hashesAt}
 use Rattle.rules.specs.Order.{ascends}
 use Rattle.rules.specs.Sizes.{sizes}
@@ -50,20 +51,13 @@ haves-count s haves h n e = rw e
 -- ---- a kept have
 
 module _ (s haves : List ℕ) (i : ℕ) where
-  pub kept-many : sizes .hashes < getD haves (i * haveWords + 1) 0 → keptGood s haves i ≡ false
+  pub kept-many : sizes .hashes < syncCount haves i → keptGood s haves i ≡ false
   unfolding keptGood
-  kept-many h = rw (lt-leb (getD haves (i * haveWords + 1) 0) (sizes .hashes) h)
+  kept-many h = rw (lt-leb (syncCount haves i) (sizes .hashes) h)
 
-  module _ (few : getD haves (i * haveWords + 1) 0 ≤ sizes .hashes) where
-    pub kept-outside : leb (getD haves (i * haveWords) 0 + sizes .hash * getD haves (i * haveWords + 1) 0) (length s) ≡ false
-        → keptGood s haves i ≡ false
-    unfolding keptGood
-    kept-outside e = rw (le-leb (getD haves (i * haveWords + 1) 0) (sizes .hashes) few, e)
-
-    pub kept-filter : leb (getD haves (i * haveWords) 0 + sizes .hash * getD haves (i * haveWords + 1) 0) (length s) ≡ true
-        → keptGood s haves i ≡ filterGood s (numbersIn haves i)
-    unfolding keptGood
-    kept-filter e = rw (le-leb (getD haves (i * haveWords + 1) 0) (sizes .hashes) few, e)
+  pub kept-have : syncCount haves i ≤ sizes .hashes → keptGood s haves i ≡ haveGood s haves i
+  unfolding keptGood
+  kept-have h = rw (le-leb (syncCount haves i) (sizes .hashes) h)
 
 -- ---- the kept haves
 
@@ -209,18 +203,14 @@ sent-parts s count e =
     record { few = leb-true _ _ (q .0); there = leb-true _ _ (q .1); ascending = p .1 }
 
 pub record KeptParts (s haves : List ℕ) (i : ℕ) : Type 0 where
-  pub few : getD haves (i * haveWords + 1) 0 ≤ sizes .hashes
-  pub there : getD haves (i * haveWords) 0 + sizes .hash * getD haves (i * haveWords + 1) 0 ≤ length s
-  pub filter : filterGood s (numbersIn haves i) ≡ true
+  pub few : syncCount haves i ≤ sizes .hashes
+  pub have : HaveParts s haves i
 
 pub kept-parts : (s haves : List ℕ) (i : ℕ) → keptGood s haves i ≡ true → KeptParts s haves i
 unfolding keptGood
 kept-parts s haves i e =
-    let few : Bool = leb (getD haves (i * haveWords + 1) 0) (sizes .hashes) in
-    let there : Bool = leb (getD haves (i * haveWords) 0 + sizes .hash * getD haves (i * haveWords + 1) 0) (length s) in
-    let p = both (few && there) (filterGood s (numbersIn haves i)) e in
-    let q = both few there (p .0) in
-    record { few = leb-true _ _ (q .0); there = leb-true _ _ (q .1); filter = p .1 }
+    let p = both (leb (syncCount haves i) (sizes .hashes)) (haveGood s haves i) e in
+    record { few = leb-true _ _ (p .0); have = have-parts s haves i (p .1) }
 
 each-kept : (s haves : List ℕ) (count i j : ℕ) → keptGoodFrom s haves i count ≡ true → i ≤ j → j < i + count → KeptParts s haves j
 unfolding keptGoodFrom

@@ -1,11 +1,11 @@
 -- When a session is bad. 01, Refusal numbers, 10: "bad session (a count passes its size, sent hashes not strictly ascending), or a filter kept
 -- .. as numbers breaks the filter rules or its field size". A count passes its size also where the lent buffer is shorter.
-use Prim.Native.Nat.{ℕ, zero, suc, _+_, _*_}
+use Prim.Native.Nat.{ℕ, zero, suc, _*_}
 use mathlib.Core.Bool.{Bool, true, _&&_}
 use mathlib.Core.List.{List}
 use lib.Dec.{leb}
-use lib.ListN.{length, getD}
-use Rattle.bloom.specs.Have.{haveWords, numbersIn, filterGood}
+use lib.ListN.{length}
+use Rattle.bloom.specs.Have.{haveWords, syncCount, haveGood}
 use Rattle.rules.specs.Hash.{hashesAt}
 use Rattle.rules.specs.Order.{ascends}
 use Rattle.rules.specs.Sizes.{sizes}
@@ -29,12 +29,9 @@ unfoldable pub heardGood : List ℕ → Heard → Bool
 heardGood s Nothing = true
 heardGood s (Count n) = sharedGood s n
 
--- A kept have: as many last-sync hashes as a list may have, standing inside the bytes, and a good filter.
+-- A kept have: no more last-sync hashes than a list may have, and a good have over the bytes.
 unfoldable pub keptGood : List ℕ → List ℕ → ℕ → Bool
-keptGood s haves i =
-    (leb (getD haves (i * haveWords + 1) 0) (sizes .hashes)
-    && leb (getD haves (i * haveWords) 0 + sizes .hash * getD haves (i * haveWords + 1) 0) (length s))
-    && filterGood s (numbersIn haves i)
+keptGood s haves i = leb (syncCount haves i) (sizes .hashes) && haveGood s haves i
 
 -- So many kept haves from record i on.
 unfoldable pub keptGoodFrom : List ℕ → List ℕ → ℕ → ℕ → Bool

@@ -3,8 +3,7 @@ use crate::saved::shared_good;
 use crate::session::Heard;
 use crate::session::Session;
 use bloom::have::HAVE_WORDS;
-use bloom::have::filter_good;
-use bloom::have::inside;
+use bloom::have::have_good;
 use rules::hashes::hash_before;
 use rules::sizes::HASH_SIZE;
 use rules::sizes::HASHES;
@@ -34,15 +33,10 @@ fn kept_good(s: &[u8], haves: &[u64], i: usize) -> bool
     requires { ⌜ i < haveCount (now haves) ⌝ }
     ensures { λ r. ⌜ r ≡ keptGood (now (s .entry)) (now (haves .entry)) i ⌝ }
 {
-    let at = i * HAVE_WORDS;
-    let count = haves[at + 1] as usize;
-    if HASHES < count {
+    if (HASHES as u64) < haves[i * HAVE_WORDS + 1] {
         return false;
     }
-    if !inside(haves[at] as usize, HASH_SIZE * count, s.len()) {
-        return false;
-    }
-    filter_good(s, haves, i)
+    have_good(s, haves, i)
 }
 
 // Whether so many records stand in the list, each a have.

@@ -1,66 +1,32 @@
--- `state::good::kept_good` meets its contract: the hashes' count is tested first, then where they stand, and then the filter decides. Assumes
--- nothing.
+-- `state::good::kept_good` meets its contract: the hashes' count is tested first, and then the have decides. Assumes nothing.
 use mathlib.Core.Path.{sym, _∙_}
+use Rattle.state.proofs.GoodLaws.{kept-many, kept-have}
 use borrow.Author.Needs.{needs}
-use borrow.Author.Tests.{not-true, not-false}
-use Rattle.state.proofs.GoodLaws.{kept-many, kept-outside, kept-filter}
 use Rattle.state.proofs.good.kept_good.Statement.{statement}
 use Rattle.state.proofs.good.kept_good.Tie as tie
 
-mul-at : tie.Need-mul-at
-mul-at c = search needs
+mul-if1 : tie.Need-mul-if1
+mul-if1 c = search needs
 
-add-count : tie.Need-add-count
-add-count c = search needs
+add-if1 : tie.Need-add-if1
+add-if1 c = search needs
 
-mul-count : tie.Need-mul-count
-mul-count c = search needs
+mul-if1-2 : tie.Need-mul-if1-2
+mul-if1-2 c = search needs
 
-shared-slice-read-count : tie.Need-shared-slice-read-count
-shared-slice-read-count c = search needs
+shared-slice-read-if1 : tie.Need-shared-slice-read-if1
+shared-slice-read-if1 c = search needs
 
 returns : tie.Need-returns
 returns c = sym (kept-many _ _ _ (c .if1 .taken))
 
-mul-inside : tie.Need-mul-inside
-mul-inside c = search needs
-
-shared-slice-read-inside : tie.Need-shared-slice-read-inside
-shared-slice-read-inside c = search needs
-
-mul-inside-2 : tie.Need-mul-inside-2
-mul-inside-2 c = search needs
-
-inside-requires : tie.Need-inside-requires
-inside-requires c κs = search needs
+have-good-requires : tie.Need-have-good-requires
+have-good-requires c κs = search needs
 
 returns-2 : tie.Need-returns-2
-returns-2 c =
-    let n = c .before in
-    sym (kept-outside _ _ _ (n .before .before .if1 .left) (sym (n .inside .ensures) ∙ not-true _ (c .if2 .taken)))
-
-filter-good-requires : tie.Need-filter-good-requires
-filter-good-requires c κs = search needs
-
-returns-3 : tie.Need-returns-3
-returns-3 c =
-    let n = c .before .before in
-    c .filter-good .ensures
-    ∙ sym (kept-filter _ _ _ (n .before .before .if1 .left) (sym (n .inside .ensures) ∙ not-false _ (c .before .if2 .left)))
+returns-2 c = c .have-good .ensures ∙ sym (kept-have _ _ _ (c .before .if1 .left))
 
 pub kept-good-spec : {M : Type 1} → statement M
 kept-good-spec =
     tie.close
-    (tie.spec
-    mul-at
-    add-count
-    mul-count
-    shared-slice-read-count
-    returns
-    mul-inside
-    shared-slice-read-inside
-    mul-inside-2
-    inside-requires
-    returns-2
-    filter-good-requires
-    returns-3)
+    (tie.spec mul-if1 add-if1 mul-if1-2 shared-slice-read-if1 returns have-good-requires returns-2)

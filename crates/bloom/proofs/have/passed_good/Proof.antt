@@ -1,16 +1,16 @@
--- `bloom::have::filters_good` meets its contract: the haves from record i on decide what all of them do. Assumes nothing.
+-- `bloom::have::passed_good` meets its contract: the haves from record i on decide what all of them do. Assumes nothing.
 use Prim.Native.Nat.{_-_, _≤_}
 use borrow.Author.Needs.{needs}
 use borrow.Author.Tests.{not-true, not-false}
 use mathlib.Core.Path.{_≡_, sym, _∙_}
 use native.Mathlib.Omega.{arith}
-use Rattle.bloom.specs.Have.{filtersGood}
+use Rattle.bloom.specs.Have.{passedGood}
 use Rattle.bloom.proofs.HaveLaws.{testing, testing-starts, not-whole, testing-fails, testing-on, testing-ends}
-use Rattle.bloom.proofs.have.filters_good.Statement.{statement}
-use Rattle.bloom.proofs.have.filters_good.Tie as tie
+use Rattle.bloom.proofs.have.passed_good.Statement.{statement}
+use Rattle.bloom.proofs.have.passed_good.Tie as tie
 
 abbrev Inv-loop : tie.InvT-loop
-Inv-loop s haves total i₀ i = record { upto : i ≤ total; rest : testing s haves total i ≡ filtersGood s haves }
+Inv-loop s haves total i₀ i = record { upto : i ≤ total; rest : testing s haves total i ≡ passedGood s haves }
 
 abbrev μ-loop : tie.MeasureT-loop
 μ-loop s haves total i₀ i = total - i
@@ -24,13 +24,13 @@ at-most-requires c κs = search needs
 loop-holds : tie.Need-loop-holds Inv-loop μ-loop
 loop-holds c = record { upto = omega arith; rest = testing-starts _ _ _ (c .at-most .ensures) (c .before .if1 .left) }
 
-filter-good-requires : tie.Need-filter-good-requires Inv-loop μ-loop
-filter-good-requires c κs = search needs
+have-good-requires : tie.Need-have-good-requires Inv-loop μ-loop
+have-good-requires c κs = search needs
 
 returns-2 : tie.Need-returns-2 Inv-loop μ-loop
 returns-2 c =
     let t = c .before in
-    sym (testing-fails _ _ _ _ (t .before .loop-test .taken) (sym (t .filter-good .ensures) ∙ not-true _ (c .if2 .taken)))
+    sym (testing-fails _ _ _ _ (t .before .loop-test .taken) (sym (t .have-good .ensures) ∙ not-true _ (c .if2 .taken)))
     ∙ t .before .before .loop .inv .rest
 
 add-i : tie.Need-add-i Inv-loop μ-loop
@@ -45,15 +45,15 @@ loop-again c =
     record {
       upto = omega (arith, t .before .loop-test .taken);
       rest =
-          sym (testing-on _ _ _ _ (t .before .loop-test .taken) (sym (t .filter-good .ensures) ∙ not-false _ (c .if2 .left)))
+          sym (testing-on _ _ _ _ (t .before .loop-test .taken) (sym (t .have-good .ensures) ∙ not-false _ (c .if2 .left)))
           ∙ t .before .before .loop .inv .rest;
     }
 
 returns-3 : tie.Need-returns-3 Inv-loop μ-loop
 returns-3 c = sym (testing-ends _ _ _ _ (c .loop-test .left)) ∙ c .before .loop .inv .rest
 
-pub filters-good-spec : {M : Type 1} → statement M
-filters-good-spec =
+pub passed-good-spec : {M : Type 1} → statement M
+passed-good-spec =
     tie.close
     (tie.spec
     Inv-loop
@@ -61,7 +61,7 @@ filters-good-spec =
     returns
     at-most-requires
     loop-holds
-    filter-good-requires
+    have-good-requires
     returns-2
     add-i
     loop-less

@@ -1,0 +1,57 @@
+-- A passed list: one law for each way through its tests, and what stands behind one that is accepted.
+use Prim.Native.Nat.{ℕ, _*_, _/_, _%_, _≤_, _<_}
+use mathlib.Core.List.{List}
+use mathlib.Core.Path.{_≡_, refl, sym, _∙_}
+use native.Mathlib.Omega.{arith}
+use borrow.Author.Tests.{lt-ltb, le-ltb, ltb-false, eq-eqb, ne-eqb, eqb-true}
+use lib.Dec.{ltb, eqb}
+use lib.ListN.{length}
+use Rattle.rules.specs.Passed.{passedHashes, afterPassed}
+use Rattle.rules.specs.Sizes.{sizes}
+use Rattle.rules.specs.declared.passed.Passed.{Passed}
+use Rattle.rules.specs.declared.passed.Passed.the-variants.{Hashes, Refused}
+use Rattle.rules.specs.declared.refusal.Refusal.{Refusal}
+use Rattle.rules.specs.declared.refusal.Refusal.the-variants.{Cut, PastSize}
+use Rattle.rules.proofs.Cases.{split}
+
+module _ (s : List ℕ) where
+  pub passed-long : sizes .hashes * sizes .hash < length s → passedHashes s ≡ Refused (PastSize 0)
+  unfolding passedHashes
+  passed-long h = rw (lt-ltb _ _ h)
+
+  pub passed-cut : length s ≤ sizes .hashes * sizes .hash → (length s % sizes .hash ≡ 0 → ⊥)
+      → passedHashes s ≡ Refused (Cut (sizes .hash * (length s / sizes .hash)))
+  unfolding passedHashes
+  passed-cut h g = rw (le-ltb _ _ h, ne-eqb _ _ g)
+
+  pub passed-whole : length s ≤ sizes .hashes * sizes .hash → length s % sizes .hash ≡ 0 → passedHashes s ≡ Hashes (length s / sizes .hash)
+  unfolding passedHashes
+  passed-whole h g = rw (le-ltb _ _ h, eq-eqb _ _ g)
+
+  -- an accepted list is just its hashes, and no more than a list may have
+  pub record PassedIs (n : ℕ) : Type 0 where
+    pub whole : length s ≡ sizes .hash * n
+    pub few : n ≤ sizes .hashes
+
+  pub passed-is : (n : ℕ) → passedHashes s ≡ Hashes n → PassedIs n
+  unfolding passedHashes
+  passed-is n e =
+      split (ltb (sizes .hashes * sizes .hash) (length s))
+      (λ t. absurd (let z : _≡_ {A = ℕ} 0 1 = cc in omega arith))
+      (λ t.
+      split (eqb (length s % sizes .hash) 0)
+      (λ u.
+      let q : length s / 32 ≡ n = cc in
+      let l : length s ≤ sizes .hashes * sizes .hash = ltb-false _ _ t in
+      let w : length s % sizes .hash ≡ 0 = eqb-true _ _ u in
+      record { whole = omega arith; few = omega arith })
+      (λ u. absurd (let z : _≡_ {A = ℕ} 0 1 = cc in omega arith)))
+
+module _ {A : Type 0} (refused : Refusal → A) (k : ℕ → A) where
+  pub after-refused : (p : Passed) (r : Refusal) → p ≡ Refused r → afterPassed p refused k ≡ refused r
+  unfolding afterPassed
+  after-refused p r e = rw e
+
+  pub after-hashes : (p : Passed) (n : ℕ) → p ≡ Hashes n → afterPassed p refused k ≡ k n
+  unfolding afterPassed
+  after-hashes p n e = rw e

@@ -1,0 +1,26 @@
+// A list of hashes that a call is passed as bytes, which isn't a session's: tested before it is used.
+use crate::refusal::Refusal;
+use crate::sizes::HASH_SIZE;
+use crate::sizes::HASHES;
+ghost use mathlib.Core.Path.{_≡_};
+ghost use Rattle.rules.specs.Passed.{passedHashes};
+
+pub enum Passed {
+    // The bytes are so many hashes.
+    Hashes(usize),
+    Refused(Refusal),
+}
+
+// How many hashes the bytes are: 4 for more than a list may have, 1 for a partial hash at the end.
+pub fn passed_hashes(s: &[u8]) -> Passed
+    ensures { λ r. ⌜ r ≡ passedHashes (now (s .entry)) ⌝ }
+{
+    if HASHES * HASH_SIZE < s.len() {
+        return Passed::Refused(Refusal::PastSize(0));
+    }
+    let count = s.len() / HASH_SIZE;
+    if s.len() % HASH_SIZE != 0 {
+        return Passed::Refused(Refusal::Cut(HASH_SIZE * count));
+    }
+    Passed::Hashes(count)
+}
