@@ -1,8 +1,8 @@
 -- A filter's tests, one law for each way through them, and what they say of a list of haves.
 use Prim.Native.Nat.{ℕ, zero, suc, _+_, _-_, _*_, _/_, _%_, _≤_, _<_, min}
 use mathlib.Core.Bool.{Bool, true, false, _&&_}
-use mathlib.Core.List.{List}
-use mathlib.Core.Path.{_≡_}
+use mathlib.Core.List.{List, _∷_, map}
+use mathlib.Core.Path.{_≡_, refl, ap}
 use native.Mathlib.Numerals.{add-one}
 use native.Mathlib.Omega.{arith}
 use borrow.Author.Tests.{lt-leb, le-leb, leb-true, eq-eqb, ne-eqb, eqb-true, eqb-false}
@@ -10,7 +10,7 @@ use lib.Dec.{leb, eqb}
 use lib.ListN.{length}
 use Rattle.rules.specs.Sizes.{sizes}
 use Rattle.rules.proofs.Cases.{both, split}
-use Rattle.bloom.specs.Filter.{filterRules}
+use Rattle.bloom.specs.Filter.{Filter, filterRules}
 use Rattle.bloom.specs.Have.{
   haveWords,
   haveCount,
@@ -24,6 +24,13 @@ use Rattle.bloom.specs.Have.{
   syncsFew,
   passedFew,
   GoodFilters,
+  filterWith,
+  filtersFrom,
+  filtersOf,
+  Have,
+  haveIn,
+  havesFrom,
+  havesOf,
 }
 use Rattle.bloom.specs.declared.have.FilterNumbers.{FilterNumbers}
 
@@ -188,3 +195,14 @@ passed-haves s haves e f =
 
 pub good-filters : (s haves : List ℕ) → PassedHaves s haves → GoodFilters s haves
 good-filters s haves p = record { each = λ i h. p .each i h .filter }
+
+-- ---- haves as values
+
+filters-from : (s haves : List ℕ) (count i : ℕ) → map (λ (h : Have). h .filter) (havesFrom s haves i count) ≡ filtersFrom s haves i count
+unfolding havesFrom filtersFrom haveIn
+filters-from s haves zero i = refl
+filters-from s haves (suc count) i = ap (λ (l : List Filter). filterWith s (numbersIn haves i) ∷ l) (filters-from s haves count (suc i))
+
+pub filters-of-haves : (s haves : List ℕ) → map (λ (h : Have). h .filter) (havesOf s haves) ≡ filtersOf s haves
+unfolding havesOf filtersOf
+filters-of-haves s haves = filters-from s haves (haveCount haves) 0

@@ -7,7 +7,7 @@ use mathlib.Core.Path.{_≡_}
 use lib.Dec.{ltb, leb, eqb}
 use lib.ListN.{length, getD}
 use lib.Seq.{slice}
-use Rattle.rules.specs.Hash.{hashAt}
+use Rattle.rules.specs.Hash.{hashAt, hashesAt}
 use Rattle.rules.specs.Sizes.{sizes}
 use Rattle.rules.specs.declared.refusal.Refusal.the-variants.{Cut, PastSize, BadSession}
 use Rattle.bloom.specs.Filter.{Filter, filterRules, anyContains}
@@ -53,6 +53,26 @@ syncPlace haves i = getD haves (i * haveWords) 0
 
 abbrev pub syncCount : List ℕ → ℕ → ℕ
 syncCount haves i = getD haves (i * haveWords + 1) 0
+
+-- A have as a value: its last-sync hashes, and its filter.
+pub record Have : Type 0 where
+  pub lastSync : List ℕ
+  pub filter : Filter
+
+-- The have that record i is over the lent bytes, so many from record i on, and those of a whole list.
+unfoldable pub haveIn : List ℕ → List ℕ → ℕ → Have
+haveIn s haves i =
+    record {
+      lastSync = hashesAt s (syncPlace haves i) (syncCount haves i);
+      filter = filterWith s (numbersIn haves i);
+    }
+
+unfoldable pub havesFrom : List ℕ → List ℕ → ℕ → ℕ → List Have
+havesFrom s haves i zero = []
+havesFrom s haves i (suc count) = haveIn s haves i ∷ havesFrom s haves (suc i) count
+
+unfoldable pub havesOf : List ℕ → List ℕ → List Have
+havesOf s haves = havesFrom s haves 0 (haveCount haves)
 
 -- Refusal 10: the numbers keep the filter rules, and the field stands inside the lent bytes.
 unfoldable pub filterGood : List ℕ → FilterNumbers → Bool
