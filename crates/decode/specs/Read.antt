@@ -1,0 +1,141 @@
+-- A message as it is read. 01, Wire ("Message", "Flags") and Refusal numbers: the total size first, then from the first byte on; "if bytes
+-- remain, a prefixed flags section. What follows that is ignored."
+use Prim.Native.Nat.{ℕ}
+use mathlib.Core.Bool.{cond}
+use mathlib.Core.List.{List}
+use mathlib.Core.Path.{_≡_}
+use lib.Dec.{ltb, leb, eqb}
+use lib.ListN.{length, getD}
+use lib.Seq.{slice, sets}
+use Rattle.bloom.specs.Have.{havesOf}
+use Rattle.message.specs.Flags.{flagsOf, flagsIn}
+use Rattle.message.specs.Message.{Message, typeOf}
+use Rattle.message.specs.declared.flags.Section.{Section}
+use Rattle.message.specs.declared.flags.Section.the-variants.{Absent, Present}
+use Rattle.message.specs.declared.version.MessageVersion.{MessageVersion}
+use Rattle.message.specs.declared.version.MessageVersion.the-variants.{V1, V2}
+use Rattle.rules.specs.Hash.{hashesAt}
+use Rattle.rules.specs.Sizes.{sizes}
+use Rattle.rules.specs.declared.refusal.Refusal.{Refusal}
+use Rattle.rules.specs.declared.refusal.Refusal.the-variants.{Cut, WrongType, PastSize, NoRoom}
+use Rattle.wire.specs.Item.{prefixedAt, hashListAt}
+use Rattle.decode.specs.Items.{afterHashes, afterPart, afterList, havesAt, chunksAt, chunksOf}
+use Rattle.decode.specs.declared.opening.Opening.{Opening}
+use Rattle.decode.specs.declared.opening.Opening.the-variants.{Heads, Refused as NotOpened}
+use Rattle.decode.specs.declared.parse.Decoded.{Decoded}
+use Rattle.decode.specs.declared.parse.Decoded.the-variants.{Message as Placed, Refused}
+use Rattle.decode.specs.declared.parse.Flagged.{Flagged}
+use Rattle.decode.specs.declared.parse.Flagged.the-variants.{Section as Sectioned, Refused as NoSection}
+use Rattle.decode.specs.declared.parse.Places.{Places}
+use Rattle.decode.specs.declared.parse.Run.{Run}
+
+-- A message that was read: where its parts stand, and the words of its haves and of its chunks; or a refusal.
+pub data Reading : Type 0 where
+  read : Places → List ℕ → List ℕ → Reading
+  refused : Refusal → Reading
+
+abbrev pub run : ℕ → ℕ → Run
+run start count = record { start = start; count = count }
+
+-- The first stage: 4 for the total size, 1 for no bytes, 2 for another first byte, then the heads.
+unfoldable pub headsAt : List ℕ → MessageVersion → Opening
+headsAt s version = afterHashes (hashListAt s 1 (length s)) NotOpened (λ start count next. Heads version start count next)
+
+unfoldable pub openingAt : List ℕ → Opening
+openingAt s =
+    cond (ltb (sizes .message) (length s))
+    (NotOpened (PastSize 0))
+    (cond (eqb (length s) 0)
+    (NotOpened (Cut 0))
+    (cond (eqb (getD s 0 0) (typeOf V1))
+    (headsAt s V1)
+    (cond (eqb (getD s 0 0) (typeOf V2)) (headsAt s V2) (NotOpened (WrongType (getD s 0 0))))))
+
+-- The flags section: absent where no bytes remain; an empty one is present.
+unfoldable pub sectionAt : List ℕ → ℕ → Flagged
+sectionAt s at =
+    cond (leb (length s) at)
+    (Sectioned Absent at)
+    (afterPart (prefixedAt s at (length s)) NoSection (λ start end. Sectioned (Present (flagsOf (flagsIn (slice start end s)))) end))
+
+-- What follows each stage, or its refusal passed on.
+unfoldable pub afterOpening : Opening → (MessageVersion → ℕ → ℕ → ℕ → Reading) → Reading
+afterOpening (Heads version start count next) k = k version start count next
+afterOpening (NotOpened r) k = refused r
+
+unfoldable pub afterSection : Flagged → (Section → ℕ → Reading) → Reading
+afterSection (Sectioned flags next) k = k flags next
+afterSection (NoSection r) k = refused r
+
+-- Haves, chunks and the flags section.
+unfoldable pub listsAt : List ℕ → MessageVersion → Run → Run → ℕ → Reading
+listsAt s version heads need at =
+    afterList (havesAt s at)
+    refused
+    (λ havesStart havesCount havesWords i.
+    afterList (chunksAt s i)
+    refused
+    (λ chunksStart chunksCount chunksWords j.
+    afterSection (sectionAt s j)
+    (λ flags next.
+    read
+    (record {
+      version = version;
+      heads = heads;
+      need = need;
+      haves = run havesStart havesCount;
+      chunks = run chunksStart chunksCount;
+      flags = flags;
+      next = next;
+    })
+    havesWords
+    chunksWords)))
+
+-- The need, and what follows it.
+unfoldable pub needAt : List ℕ → MessageVersion → Run → ℕ → Reading
+needAt s version heads at =
+    afterHashes (hashListAt s at (length s)) refused (λ start count next. listsAt s version heads (run start count) next)
+
+-- The message.
+unfoldable pub messageAt : List ℕ → Reading
+messageAt s = afterOpening (openingAt s) (λ version start count next. needAt s version (run start count) next)
+
+-- Its places alone.
+unfoldable pub decodedOf : Reading → Decoded
+decodedOf (read places haves chunks) = Placed places
+decodedOf (refused r) = Refused r
+
+-- Refusal 7, which comes last, in words: first the haves' list, then the chunks'.
+unfoldable pub roomFor : Reading → ℕ → ℕ → Reading
+roomFor (read places haves chunks) haveRoom chunkRoom =
+    cond (ltb haveRoom (length haves))
+    (refused (NoRoom (length haves)))
+    (cond (ltb chunkRoom (length chunks)) (refused (NoRoom (length chunks))) (read places haves chunks))
+roomFor (refused r) haveRoom chunkRoom = refused r
+
+-- The lent lists at exit: the words at their start and the rest as it was; after a refusal all of it as it was.
+unfoldable pub havesInto : Reading → List ℕ → List ℕ
+havesInto (read places haves chunks) before = sets before 0 haves
+havesInto (refused r) before = before
+
+unfoldable pub chunksInto : Reading → List ℕ → List ℕ
+chunksInto (read places haves chunks) before = sets before 0 chunks
+chunksInto (refused r) before = before
+
+-- What the call leaves.
+pub record DecodedInto (s haves₀ haves₁ chunks₀ chunks₁ : List ℕ) (r : Decoded) : Type 0 where
+  pub answer : r ≡ decodedOf (roomFor (messageAt s) (length haves₀) (length chunks₀))
+  pub haves : haves₁ ≡ havesInto (roomFor (messageAt s) (length haves₀) (length chunks₀)) haves₀
+  pub chunks : chunks₁ ≡ chunksInto (roomFor (messageAt s) (length haves₀) (length chunks₀)) chunks₀
+
+-- The message as a value, from its places and words.
+unfoldable pub messageOf : List ℕ → Places → List ℕ → List ℕ → Message
+messageOf s p haves chunks =
+    record {
+      version = p .version;
+      heads = hashesAt s (p .heads .start) (p .heads .count);
+      need = hashesAt s (p .need .start) (p .need .count);
+      haves = havesOf s haves;
+      chunks = chunksOf s chunks;
+      flags = p .flags;
+    }

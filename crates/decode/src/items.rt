@@ -1,0 +1,218 @@
+// Haves and chunks: one of them, all of them passed over, and all of them as words.
+use bloom::have::HAVE_WORDS;
+use bloom::parse::Parsed;
+use rules::refusal::Refusal;
+use rules::sizes::CHUNKS;
+use rules::sizes::HAVES;
+use wire::leb128::Number;
+use wire::parse::HashList;
+use wire::parse::Prefixed;
+use wire::parse::length_prefix;
+use wire::parse::length_prefixed_bytes;
+use wire::parse::length_prefixed_hashes;
+ghost use mathlib.Core.Path.{_≡_};
+ghost use lib.ListN.{length};
+ghost use lib.Seq.{sets};
+ghost use Rattle.decode.specs.Items.{haveAt, haveItem, chunkItem, manyAt, listFrom, listedOf, havesAt, chunksAt, wordsOf, AllRead};
+
+// A have: where its last-sync hashes stand, its filter's numbers, where the field stands, and the next place.
+pub enum HaveRead {
+    Have {
+        start: usize,
+        count: usize,
+        entries: u64,
+        bits: u64,
+        probes: u64,
+        field: usize,
+        size: usize,
+        next: usize,
+    },
+    Refused(Refusal),
+}
+
+// A list that was passed over: where its first item stands, how many there are, and the next place.
+pub enum Listed {
+    Items {
+        start: usize,
+        count: usize,
+        next: usize,
+    },
+    Refused(Refusal),
+}
+
+// Words of a chunk: where its first byte stands, and its length.
+pub const CHUNK_WORDS: usize = 2;
+
+// The have at a place: its hash list, then its filter string, which is there whole before the filter is looked for in it.
+pub fn parse_have(s: &[u8], at: usize) -> HaveRead
+    ensures { λ r. ⌜ r ≡ haveAt (now (s .entry)) at ⌝ }
+{
+    let list = length_prefixed_hashes(s, at, s.len());
+    match list {
+        HashList::Hashes { start, count, next } => {
+            let part = length_prefixed_bytes(s, next, s.len());
+            match part {
+                Prefixed::Part { start: from, end } => {
+                    let filter = bloom::parse::parse(s, from, end);
+                    match filter {
+                        Parsed::Filter {
+                            entries,
+                            bits,
+                            probes,
+                            field,
+                            size,
+                            next: _,
+                        } => HaveRead::Have {
+                            start,
+                            count,
+                            entries,
+                            bits,
+                            probes,
+                            field,
+                            size,
+                            next: end,
+                        },
+                        Parsed::Refused(r) => HaveRead::Refused(r),
+                    }
+                }
+                Prefixed::Refused(r) => HaveRead::Refused(r),
+            }
+        }
+        HashList::Refused(r) => HaveRead::Refused(r),
+    }
+}
+
+// Passes over so many haves.
+fn skip_haves(s: &[u8], start: usize, count: usize) -> Listed
+    ensures { λ r. ⌜ r ≡ listedOf (listFrom start count (manyAt (haveItem (now (s .entry))) count start)) ⌝ }
+{
+    let mut next = start;
+    let mut k = 0;
+    while k < count {
+        let have = parse_have(s, next);
+        match have {
+            HaveRead::Have {
+                start: _,
+                count: _,
+                entries: _,
+                bits: _,
+                probes: _,
+                field: _,
+                size: _,
+                next: after,
+            } => {
+                next = after;
+            }
+            HaveRead::Refused(r) => {
+                return Listed::Refused(r);
+            }
+        }
+        k += 1;
+    }
+    Listed::Items { start, count, next }
+}
+
+// Passes over so many chunks.
+fn skip_chunks(s: &[u8], start: usize, count: usize) -> Listed
+    ensures { λ r. ⌜ r ≡ listedOf (listFrom start count (manyAt (chunkItem (now (s .entry))) count start)) ⌝ }
+{
+    let mut next = start;
+    let mut k = 0;
+    while k < count {
+        let chunk = length_prefixed_bytes(s, next, s.len());
+        match chunk {
+            Prefixed::Part { start: _, end } => {
+                next = end;
+            }
+            Prefixed::Refused(r) => {
+                return Listed::Refused(r);
+            }
+        }
+        k += 1;
+    }
+    Listed::Items { start, count, next }
+}
+
+// The haves at a place: their count is tested before any of them.
+pub fn parse_haves(s: &[u8], at: usize) -> Listed
+    ensures { λ r. ⌜ r ≡ listedOf (havesAt (now (s .entry)) at) ⌝ }
+{
+    let n = length_prefix(s, at, s.len(), HAVES as u64);
+    match n {
+        Number::Value { value, next } => skip_haves(s, next, value as usize),
+        Number::Refused(r) => Listed::Refused(r),
+    }
+}
+
+// The chunks at a place.
+pub fn parse_chunks(s: &[u8], at: usize) -> Listed
+    ensures { λ r. ⌜ r ≡ listedOf (chunksAt (now (s .entry)) at) ⌝ }
+{
+    let n = length_prefix(s, at, s.len(), CHUNKS as u64);
+    match n {
+        Number::Value { value, next } => skip_chunks(s, next, value as usize),
+        Number::Refused(r) => Listed::Refused(r),
+    }
+}
+
+// Puts the words of so many haves, which were passed over before, at the start of the list.
+pub fn put_haves(s: &[u8], start: usize, count: usize, out: &mut [u64])
+    requires { ⌜ AllRead (manyAt (haveItem (now s)) count start) (length (now out)) ⌝ }
+    ensures { λ _. ⌜ now (out .exit) ≡ sets (now (out .entry)) 0 (wordsOf (manyAt (haveItem (now (s .entry))) count start)) ⌝ }
+{
+    let mut next = start;
+    let mut k = 0;
+    while k < count {
+        let have = parse_have(s, next);
+        match have {
+            HaveRead::Have {
+                start: place,
+                count: hashes,
+                entries,
+                bits,
+                probes,
+                field,
+                size,
+                next: after,
+            } => {
+                let at = HAVE_WORDS * k;
+                out[at] = place as u64;
+                out[at + 1] = hashes as u64;
+                out[at + 2] = entries;
+                out[at + 3] = bits;
+                out[at + 4] = probes;
+                out[at + 5] = field as u64;
+                out[at + 6] = size as u64;
+                next = after;
+            }
+            HaveRead::Refused(_) => {
+                return;
+            }
+        }
+        k += 1;
+    }
+}
+
+// Puts the words of so many chunks, which were passed over before, at the start of the list.
+pub fn put_chunks(s: &[u8], start: usize, count: usize, out: &mut [u64])
+    requires { ⌜ AllRead (manyAt (chunkItem (now s)) count start) (length (now out)) ⌝ }
+    ensures { λ _. ⌜ now (out .exit) ≡ sets (now (out .entry)) 0 (wordsOf (manyAt (chunkItem (now (s .entry))) count start)) ⌝ }
+{
+    let mut next = start;
+    let mut k = 0;
+    while k < count {
+        let chunk = length_prefixed_bytes(s, next, s.len());
+        match chunk {
+            Prefixed::Part { start: place, end } => {
+                let at = CHUNK_WORDS * k;
+                out[at] = place as u64;
+                out[at + 1] = (end - place) as u64;
+                next = end;
+            }
+            Prefixed::Refused(_) => {
+                return;
+            }
+        }
+        k += 1;
+    }
+}

@@ -1,0 +1,55 @@
+// The first stage of a message: its size, its version and its heads.
+use message::version::MESSAGE_TYPE_SYNC;
+use message::version::MESSAGE_TYPE_SYNC_V2;
+use message::version::MessageVersion;
+use rules::refusal::Refusal;
+use rules::sizes::MESSAGE_SIZE;
+use wire::parse::HashList;
+use wire::parse::length_prefixed_hashes;
+ghost use mathlib.Core.Path.{_≡_};
+ghost use Rattle.decode.specs.Read.{openingAt, headsAt};
+
+// The version, where the heads stand, and the next place.
+pub enum Opening {
+    Heads {
+        version: MessageVersion,
+        start: usize,
+        count: usize,
+        next: usize,
+    },
+    Refused(Refusal),
+}
+
+pub fn parse_opening(s: &[u8]) -> Opening
+    ensures { λ r. ⌜ r ≡ openingAt (now (s .entry)) ⌝ }
+{
+    if MESSAGE_SIZE < s.len() {
+        return Opening::Refused(Refusal::PastSize(0));
+    }
+    if s.len() == 0 {
+        return Opening::Refused(Refusal::Cut(0));
+    }
+    let message_type = s[0];
+    if message_type == MESSAGE_TYPE_SYNC {
+        return parse_heads(s, MessageVersion::V1);
+    }
+    if message_type == MESSAGE_TYPE_SYNC_V2 {
+        return parse_heads(s, MessageVersion::V2);
+    }
+    Opening::Refused(Refusal::WrongType(message_type))
+}
+
+fn parse_heads(s: &[u8], version: MessageVersion) -> Opening
+    ensures { λ r. ⌜ r ≡ headsAt (now (s .entry)) version ⌝ }
+{
+    let list = length_prefixed_hashes(s, 1, s.len());
+    match list {
+        HashList::Hashes { start, count, next } => Opening::Heads {
+            version,
+            start,
+            count,
+            next,
+        },
+        HashList::Refused(r) => Opening::Refused(r),
+    }
+}

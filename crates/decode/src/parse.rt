@@ -1,0 +1,141 @@
+// The places of a message's parts, stage by stage.
+use crate::items::Listed;
+use crate::items::parse_chunks;
+use crate::items::parse_haves;
+use crate::opening::Opening;
+use crate::opening::parse_opening;
+use message::flags::MessageFlags;
+use message::flags::Section;
+use message::version::MessageVersion;
+use rules::refusal::Refusal;
+use wire::parse::HashList;
+use wire::parse::Prefixed;
+use wire::parse::length_prefixed_bytes;
+use wire::parse::length_prefixed_hashes;
+ghost use mathlib.Core.Path.{_≡_};
+ghost use Rattle.decode.specs.Read.{sectionAt, listsAt, needAt, messageAt, decodedOf};
+
+// Where items stand: the place of the first, and how many there are.
+pub struct Run {
+    pub start: usize,
+    pub count: usize,
+}
+
+// Where the parts of a message stand, its flags, and the place after all that was read.
+pub struct Places {
+    pub version: MessageVersion,
+    pub heads: Run,
+    pub need: Run,
+    pub haves: Run,
+    pub chunks: Run,
+    pub flags: Section,
+    pub next: usize,
+}
+
+pub enum Decoded {
+    Message(Places),
+    Refused(Refusal),
+}
+
+// The flags section, and the next place.
+pub enum Flagged {
+    Section { flags: Section, next: usize },
+    Refused(Refusal),
+}
+
+// The flags section at a place, if bytes remain there.
+pub fn parse_section(s: &[u8], at: usize) -> Flagged
+    ensures { λ r. ⌜ r ≡ sectionAt (now (s .entry)) at ⌝ }
+{
+    if s.len() <= at {
+        return Flagged::Section {
+            flags: Section::Absent,
+            next: at,
+        };
+    }
+    let part = length_prefixed_bytes(s, at, s.len());
+    match part {
+        Prefixed::Part { start, end } => {
+            let flags = MessageFlags::parse_bytes(s, start, end);
+            Flagged::Section {
+                flags: Section::Present(flags),
+                next: end,
+            }
+        }
+        Prefixed::Refused(r) => Flagged::Refused(r),
+    }
+}
+
+// The haves, the chunks and the flags, which stand after the need.
+fn parse_lists(s: &[u8], version: MessageVersion, heads: Run, need: Run, at: usize) -> Decoded
+    ensures { λ r. ⌜ r ≡ decodedOf (listsAt (now (s .entry)) version heads need at) ⌝ }
+{
+    let haves = parse_haves(s, at);
+    match haves {
+        Listed::Items {
+            start: haves_start,
+            count: haves_count,
+            next: at_chunks,
+        } => {
+            let chunks = parse_chunks(s, at_chunks);
+            match chunks {
+                Listed::Items {
+                    start: chunks_start,
+                    count: chunks_count,
+                    next: at_section,
+                } => {
+                    let section = parse_section(s, at_section);
+                    match section {
+                        Flagged::Section { flags, next } => Decoded::Message(Places {
+                            version,
+                            heads,
+                            need,
+                            haves: Run {
+                                start: haves_start,
+                                count: haves_count,
+                            },
+                            chunks: Run {
+                                start: chunks_start,
+                                count: chunks_count,
+                            },
+                            flags,
+                            next,
+                        }),
+                        Flagged::Refused(r) => Decoded::Refused(r),
+                    }
+                }
+                Listed::Refused(r) => Decoded::Refused(r),
+            }
+        }
+        Listed::Refused(r) => Decoded::Refused(r),
+    }
+}
+
+// The need, which stands after the heads, and what follows it.
+fn parse_need(s: &[u8], version: MessageVersion, heads: Run, at: usize) -> Decoded
+    ensures { λ r. ⌜ r ≡ decodedOf (needAt (now (s .entry)) version heads at) ⌝ }
+{
+    let list = length_prefixed_hashes(s, at, s.len());
+    match list {
+        HashList::Hashes { start, count, next } => {
+            parse_lists(s, version, heads, Run { start, count }, next)
+        }
+        HashList::Refused(r) => Decoded::Refused(r),
+    }
+}
+
+// The places of a message's parts.
+pub fn parse(s: &[u8]) -> Decoded
+    ensures { λ r. ⌜ r ≡ decodedOf (messageAt (now (s .entry))) ⌝ }
+{
+    let opening = parse_opening(s);
+    match opening {
+        Opening::Heads {
+            version,
+            start,
+            count,
+            next,
+        } => parse_need(s, version, Run { start, count }, next),
+        Opening::Refused(r) => Decoded::Refused(r),
+    }
+}

@@ -1,0 +1,37 @@
+-- Flags. 01, Wire: "each byte of 80 or more adds its low seven bits; lower bytes are ignored. No section and an empty section differ. Written as
+-- 02, 02, 80 + f."
+use Prim.Native.Nat.{ℕ, _+_, _-_, _%_}
+use mathlib.Core.Bool.{cond}
+use mathlib.Core.List.{List, [], _∷_}
+use lib.Bits.{bitOr}
+use lib.Dec.{ltb}
+use Rattle.message.specs.declared.flags.MessageFlags.{MessageFlags}
+use Rattle.message.specs.declared.flags.Section.{Section}
+use Rattle.message.specs.declared.flags.Section.the-variants.{Absent, Present}
+
+-- The three flags that have a meaning.
+abbrev pub syncReset : ℕ
+syncReset = 1
+
+abbrev pub readOnly : ℕ
+readOnly = 2
+
+abbrev pub supportsSyncReset : ℕ
+supportsSyncReset = 4
+
+-- Flags by their number.
+abbrev pub flagsOf : ℕ → MessageFlags
+flagsOf f = record { 0 = f }
+
+-- What the bytes of a section say: "adds" is or, so a bit that is said twice is set.
+unfoldable pub addFlags : ℕ → List ℕ → ℕ
+addFlags f [] = f
+addFlags f (b ∷ bs) = cond (ltb b 0x80) (addFlags f bs) (addFlags (bitOr f (b - 0x80)) bs)
+
+unfoldable pub flagsIn : List ℕ → ℕ
+flagsIn bs = addFlags 0 bs
+
+-- A section as bytes. 80 + f is or as well: the byte has bit 80 whatever f is.
+unfoldable pub sectionBytes : Section → List ℕ
+sectionBytes Absent = []
+sectionBytes (Present f) = 0x02 ∷ 0x02 ∷ (0x80 + f .0 % 0x80) ∷ []

@@ -1,0 +1,46 @@
+-- Messages as values and as bytes. 01, Wire: "Message: 42 (V1) or 43 (V2); heads; need; count of haves, each a hash list and a prefixed filter;
+-- count of chunks, each prefixed; if bytes remain, a prefixed flags section."
+use Prim.Native.Nat.{ℕ}
+use mathlib.Core.List.{List, [], _∷_, _++_}
+use lib.ListN.{length}
+use Rattle.bloom.specs.Filter.{filterBytes}
+use Rattle.bloom.specs.Have.{Have}
+use Rattle.wire.specs.Item.{prefixedBytes, hashListBytes}
+use Rattle.wire.specs.Number.{shortest}
+use Rattle.message.specs.Flags.{sectionBytes}
+use Rattle.message.specs.declared.flags.Section.{Section}
+use Rattle.message.specs.declared.version.MessageVersion.{MessageVersion}
+use Rattle.message.specs.declared.version.MessageVersion.the-variants.{V1, V2}
+
+pub record Message : Type 0 where
+  pub version : MessageVersion
+  pub heads : List ℕ
+  pub need : List ℕ
+  pub haves : List Have
+  -- each as its bytes
+  pub chunks : List (List ℕ)
+  pub flags : Section
+
+-- The first byte.
+abbrev pub typeOf : MessageVersion → ℕ
+typeOf V1 = 0x42
+typeOf V2 = 0x43
+
+-- Items one after the other, and with their count before them.
+unfoldable pub joined : {A : Type 0} → (A → List ℕ) → List A → List ℕ
+joined bytes [] = []
+joined bytes (x ∷ xs) = bytes x ++ joined bytes xs
+
+unfoldable pub counted : {A : Type 0} → (A → List ℕ) → List A → List ℕ
+counted bytes xs = shortest (length xs) ++ joined bytes xs
+
+-- A have: a hash list and a prefixed filter.
+unfoldable pub haveBytes : Have → List ℕ
+haveBytes h = hashListBytes (h .lastSync) ++ prefixedBytes (filterBytes (h .filter))
+
+unfoldable pub messageBytes : Message → List ℕ
+messageBytes m =
+    typeOf (m .version)
+    ∷ (hashListBytes (m .heads)
+    ++ (hashListBytes (m .need)
+    ++ (counted haveBytes (m .haves) ++ (counted prefixedBytes (m .chunks) ++ sectionBytes (m .flags)))))
