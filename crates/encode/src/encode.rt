@@ -1,0 +1,23 @@
+// A message written.
+use message::flags::Section;
+use message::version::MessageVersion;
+use rules::output::Write;
+ghost use Rattle.encode.specs.Write.{Parts, messageOutput};
+ghost use Rattle.rules.specs.Output.{Written};
+
+// Writes a message from its parts; order and repeats are kept.
+pub fn encode(
+    out: &mut [u8],
+    version: MessageVersion,
+    heads: &[u8],
+    need: &[u8],
+    s: &[u8],
+    haves: &[u64],
+    chunks: &[u8],
+    lengths: &[u64],
+    flags: Section,
+) -> Write
+    ensures { λ r. ⌜ Written (messageOutput (record { version = version; heads = now (heads .entry); need = now (need .entry); bytes = now (s .entry); haves = now (haves .entry); chunks = now (chunks .entry); lengths = now (lengths .entry); flags = flags })) (now (out .entry)) (now (out .exit)) r ⌝ }
+{
+    Write::Wrote(0)
+}
