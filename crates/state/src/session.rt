@@ -1,6 +1,6 @@
 // Sessions, and read-only mode.
 ghost use mathlib.Core.Path.{_≡_};
-ghost use Rattle.state.specs.Session.{fresh, freshReadOnly, restored, setReadOnly};
+ghost use Rattle.state.specs.Session.{quiet, fresh, freshReadOnly, restored, setReadOnly};
 
 // How many hashes or haves the peer's last message had, if there was one.
 pub enum Heard {
@@ -34,55 +34,53 @@ pub struct Session {
 }
 
 impl Session {
-    // A session in which nothing was said yet.
-    pub fn new() -> Session
-        ensures { λ r. ⌜ r ≡ fresh ⌝ }
-    {
-        Session {
-            shared_heads: 0,
-            last_sent_heads: 0,
-            their_heads: Heard::Nothing,
-            their_need: Heard::Nothing,
-            their_have: Heard::Nothing,
-            sent_hashes: 0,
-            in_flight: false,
-            have_responded: false,
-            supports_v2: false,
-            supports_reset: false,
-            read_only: false,
-            peer_read_only: false,
-            needs_reset: false,
-        }
-    }
-
-    // The same for a unit that takes no changes.
-    pub fn new_read_only() -> Session
-        ensures { λ r. ⌜ r ≡ freshReadOnly ⌝ }
-    {
-        let mut s = Session::new();
-        s.read_only = true;
-        s
-    }
-
-    // What a saved state gives: so many shared heads, and haves that are present and none.
-    pub fn restored(shared_heads: usize) -> Session
-        ensures { λ r. ⌜ r ≡ restored «shared_heads» ⌝ }
+    // A session in which nothing was sent, and of which nothing was heard but perhaps haves.
+    fn quiet(
+        shared_heads: usize,
+        their_have: Heard,
+        supports_v2: bool,
+        supports_reset: bool,
+        read_only: bool,
+        needs_reset: bool,
+    ) -> Session
+        ensures { λ r. ⌜ r ≡ quiet «shared_heads» «their_have» «supports_v2» «supports_reset» «read_only» «needs_reset» ⌝ }
     {
         Session {
             shared_heads,
             last_sent_heads: 0,
             their_heads: Heard::Nothing,
             their_need: Heard::Nothing,
-            their_have: Heard::Count(0),
+            their_have,
             sent_hashes: 0,
             in_flight: false,
             have_responded: false,
-            supports_v2: false,
-            supports_reset: false,
-            read_only: false,
+            supports_v2,
+            supports_reset,
+            read_only,
             peer_read_only: false,
-            needs_reset: false,
+            needs_reset,
         }
+    }
+
+    // A session in which nothing was said yet.
+    pub fn new() -> Session
+        ensures { λ r. ⌜ r ≡ fresh ⌝ }
+    {
+        Session::quiet(0, Heard::Nothing, false, false, false, false)
+    }
+
+    // The same for a unit that takes no changes.
+    pub fn new_read_only() -> Session
+        ensures { λ r. ⌜ r ≡ freshReadOnly ⌝ }
+    {
+        Session::quiet(0, Heard::Nothing, false, false, true, false)
+    }
+
+    // What a saved state gives: so many shared heads, and haves that are present and none.
+    pub fn restored(shared_heads: usize) -> Session
+        ensures { λ r. ⌜ r ≡ restored «shared_heads» ⌝ }
+    {
+        Session::quiet(shared_heads, Heard::Count(0), false, false, false, false)
     }
 
     // Hands back the changed session. Switching on makes the next message tell the peer; switching off starts afresh and asks the peer to
@@ -102,11 +100,9 @@ impl Session {
             return s;
         }
         if was {
-            let mut s = Session::new();
-            s.supports_v2 = self.supports_v2;
-            s.supports_reset = self.supports_reset;
-            s.needs_reset = true;
-            return s;
+            let v2 = self.supports_v2;
+            let reset = self.supports_reset;
+            return Session::quiet(0, Heard::Nothing, v2, reset, false, true);
         }
         self
     }

@@ -3,12 +3,14 @@ use bloom::contains::Contained;
 use bloom::parse::Parsed;
 use rules::output::Write;
 use rules::refusal::Refusal;
+use state::saved::Loaded;
 use tables::check::Checked;
 use wire::leb128::Number;
 use wire::parse::HashList;
 use wire::parse::Prefixed;
 ghost use mathlib.Core.Path.{_≡_};
 ghost use Rattle.sync.specs.Answer.{refusalWords, numberWords, prefixedWords, hashListWords, writeWords, filterWords, containedWords, checkedWords};
+ghost use Rattle.sync.specs.SessionWords.{goodWords, loadedWords};
 
 pub fn refusal_words(r: Refusal) -> [u64; 4]
     ensures { λ w. ⌜ w ≡ refusalWords r ⌝ }
@@ -93,5 +95,23 @@ pub fn checked_words(k: Checked) -> [u64; 4]
     match k {
         Checked::Good(rows) => [0, rows as u64, 0, 0],
         Checked::Refused(r) => refusal_words(r),
+    }
+}
+
+pub fn good_words(good: bool) -> [u64; 4]
+    ensures { λ w. ⌜ w ≡ goodWords good ⌝ }
+{
+    if good {
+        return [0, 0, 0, 0];
+    }
+    refusal_words(Refusal::BadSession)
+}
+
+pub fn loaded_words(l: Loaded) -> [u64; 4]
+    ensures { λ w. ⌜ w ≡ loadedWords l ⌝ }
+{
+    match l {
+        Loaded::Session(session) => [0, session.shared_heads as u64, 0, 0],
+        Loaded::Refused(r) => refusal_words(r),
     }
 }

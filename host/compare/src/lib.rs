@@ -12,12 +12,14 @@
 //! must agree in values, places and kinds of refusals, but for the differences
 //! that are intended (`Difference`, and `filters::Difference` for filters), and
 //! there they must differ. `tables` has the calls on tables; the crate's graph
-//! can't be had, and its stand-in takes the crate's place there.
+//! can't be had, and its stand-in takes the crate's place there. `states` has
+//! sessions and saved states.
 
 pub mod filters;
 pub mod inputs;
 pub mod model;
 pub mod published;
+pub mod states;
 pub mod table_inputs;
 pub mod table_model;
 pub mod tables;
@@ -169,6 +171,11 @@ pub enum Write<'a> {
     Filter(Filter<'a>),
     /// The field of the filter over hashes.
     Built(Build<'a>),
+    /// A saved state of the first hashes of a buffer.
+    State {
+        shared: &'a [u8],
+        count: usize,
+    },
 }
 
 impl Write<'_> {
@@ -179,6 +186,9 @@ impl Write<'_> {
             Write::Hashes(hashes) => format!("the hashes {}", inputs::shown(hashes)),
             Write::Filter(filter) => filters::shown(&filter),
             Write::Built(build) => build.shown(),
+            Write::State { shared, count } => {
+                format!("a state of {count} in {}", inputs::shown(shared))
+            }
         }
     }
 
@@ -189,6 +199,7 @@ impl Write<'_> {
             Write::Hashes(hashes) => raw::write_hashes(out, hashes),
             Write::Filter(f) => raw::write_filter(out, f.entries, f.bits, f.probes, f.field),
             Write::Built(b) => raw::build_filter(out, b.bits, b.probes, b.hashes),
+            Write::State { shared, count } => raw::write_state(out, shared, count),
         }
     }
 
@@ -199,6 +210,7 @@ impl Write<'_> {
             Write::Hashes(hashes) => model::hash_list_bytes(hashes),
             Write::Filter(filter) => model::filter::bytes(&filter),
             Write::Built(b) => model::filter::built(b.bits, b.probes, b.hashes),
+            Write::State { shared, count } => model::state::bytes(shared, count),
         }
     }
 
@@ -219,6 +231,7 @@ impl Write<'_> {
                 Some(filter.to_bytes())
             }
             Write::Built(build) => build.published(),
+            Write::State { shared, count } => Some(published::state_bytes(&shared[..32 * count])),
         }
     }
 }

@@ -3,7 +3,7 @@
 
 use crate::model::filter::Filter;
 use bisquetower::raw::{Read, Reader};
-use crate_under_test::facade::{self, BloomFilter, ChangeHash, FilterParts, Kind};
+use crate_under_test::facade::{self, BloomFilter, ChangeHash, FilterParts, Kind, State};
 
 /// What the crate makes of a read.
 pub struct Answer {
@@ -80,6 +80,26 @@ pub fn filter(filter: &Filter) -> Option<BloomFilter> {
 pub fn built(lent: &[u8]) -> FilterParts {
     let hashes = lent.chunks_exact(32).map(change_hash);
     facade::filter_parts(&BloomFilter::from_hashes(hashes))
+}
+
+/// The saved state that the crate writes of hashes that are lent as bytes.
+pub fn state_bytes(shared: &[u8]) -> Vec<u8> {
+    let state = State {
+        shared_heads: shared.chunks_exact(32).map(change_hash).collect(),
+        ..State::new()
+    };
+    state.encode()
+}
+
+/// The session that the crate reads from a saved state, or the words of the
+/// refusal that the kind of its error is; it tells no places.
+pub fn read_state(s: &[u8]) -> Result<State, [u64; 2]> {
+    facade::read_state(s).map_err(|kind| match kind {
+        Kind::NotEnoughInput => [1, 0],
+        Kind::WrongType(byte) => [2, byte.into()],
+        // A bad number of either kind: state.rs keeps no difference.
+        Kind::TooLarge | Kind::Overlong | Kind::Other => [3, 0],
+    })
 }
 
 pub fn change_hash(hash: &[u8]) -> ChangeHash {

@@ -6,7 +6,7 @@ use super::{number, number_bytes, part, words, Refused, HASH, HASHES, MOST_OF_A_
 use bisquetower::raw::{Read, Reader};
 
 /// "haves 16. Filter bit field 8,192 bytes; probes 64".
-const HAVES: usize = 16;
+pub const HAVES: usize = 16;
 const FIELD: u128 = 8_192;
 const PROBES: u64 = 64;
 
@@ -180,7 +180,7 @@ fn filters<'a>(s: &'a [u8], haves: &[u64]) -> Result<Vec<Filter<'a>>, Refused> {
         return Err((10, 0));
     }
     let records = haves.chunks(HAVE_WORDS);
-    let good = records.clone().take(HAVES).all(|have| good(s, have));
+    let good = records.clone().take(HAVES).all(|have| good_have(s, have));
     if !good {
         return Err((10, 0));
     }
@@ -195,7 +195,7 @@ fn filters<'a>(s: &'a [u8], haves: &[u64]) -> Result<Vec<Filter<'a>>, Refused> {
 
 /// Whether a have's filter keeps the rules and its field stands inside the bytes.
 /// The last-sync hashes have no part in the question.
-fn good(s: &[u8], have: &[u64]) -> bool {
+pub fn good_have(s: &[u8], have: &[u64]) -> bool {
     keeps_rules(have[2], have[3], have[4], have[6].into())
         && at_place(s, have[5], have[6].into()).is_some()
 }
