@@ -34,12 +34,12 @@ unfoldable pub missed : List Row → List Have → ℕ → Bool
 missed t haves i = candidate t haves i && not (anyContains (filters haves) (hashOf t i))
 
 -- S, by row number: the missed ones, and from each member to the candidates that depend on it.
-unfoldable pub inS : List Row → List Have → ℕ → Bool
-inS t haves i = reach (length t) (missed t haves) (λ k j. candidate t haves j && member k (depsOf t j)) i
+unfoldable pub inTheS : List Row → List Have → ℕ → Bool
+inTheS t haves i = reach (length t) (missed t haves) (λ k j. candidate t haves j && member k (depsOf t j)) i
 
 -- S in table order.
 unfoldable pub theS : List Row → List Have → List ℕ
-theS t haves = rowsWhere t (inS t haves)
+theS t haves = rowsWhere t (inTheS t haves)
 
 -- The hashes of a list that are some of p, in its order, repeats kept.
 unfoldable pub keep : (ℕ → Bool) → List ℕ → List ℕ

@@ -1,0 +1,5 @@
+-- Laws that the crates above cite.
+pub mod AnswerLaws
+pub mod MemberLaws
+pub mod PutLaws
+pub mod SendCalls

@@ -1,0 +1,102 @@
+-- `selection::members::mark_syncs` meets its contract: the marks that were, with the lists that are left, are the marks of all lists. Assumes
+-- nothing.
+use Prim.Native.Nat.{ℕ, _-_, _≤_, _<_}
+use mathlib.Core.Bool.{false, _||_}
+use mathlib.Core.Path.{_≡_, refl, sym, _∙_}
+use native.Mathlib.Omega.{arith}
+use borrow.Author.Needs.{needs}
+use lib.ListN.{getD, getD-replicate}
+use Rattle.bloom.specs.Have.{havesOf}
+use Rattle.rules.specs.Order.{member}
+use Rattle.rules.specs.Sizes.{sizes}
+use Rattle.tables.specs.Bytes.{rowsAt}
+use Rattle.tables.specs.Table.{hashOf}
+use Rattle.selection.specs.ToSend.{lastSyncs}
+use Rattle.selection.proofs.MemberLaws.{syncsFrom, syncs-start, syncs-on, syncs-done}
+use Rattle.selection.proofs.members.mark_syncs.Statement.{statement}
+use Rattle.selection.proofs.members.mark_syncs.Tie as tie
+
+abbrev Inv-loop : tie.InvT-loop
+Inv-loop table n s haves next₀ total i₀ next i =
+    record {
+      upto : i ≤ total;
+      rest :
+          (k : ℕ) → k < n
+          → (getD next k false || member (hashOf (rowsAt table 0 n) k) (syncsFrom s haves total i))
+          ≡ member (hashOf (rowsAt table 0 n) k) (lastSyncs (havesOf s haves));
+    }
+
+abbrev μ-loop : tie.MeasureT-loop
+μ-loop table n s haves next₀ total i₀ next i = total - i
+
+loop-holds : tie.Need-loop-holds Inv-loop μ-loop
+loop-holds c =
+    record {
+      upto = omega arith;
+      rest = λ k h. rw (getD-replicate (sizes .rows) k false false (omega (arith, c .before .before .before .pre .0 .few))) (syncs-start _ _ _ refl _);
+    }
+
+mul-place : tie.Need-mul-place Inv-loop μ-loop
+mul-place c = search needs
+
+mul-place-2 : tie.Need-mul-place-2 Inv-loop μ-loop
+mul-place-2 c = search needs
+
+shared-slice-read-place : tie.Need-shared-slice-read-place Inv-loop μ-loop
+shared-slice-read-place c = search needs
+
+mul-count : tie.Need-mul-count Inv-loop μ-loop
+mul-count c = search needs
+
+add-count : tie.Need-add-count Inv-loop μ-loop
+add-count c = search needs
+
+mul-count-2 : tie.Need-mul-count-2 Inv-loop μ-loop
+mul-count-2 c = search needs
+
+shared-slice-read-count : tie.Need-shared-slice-read-count Inv-loop μ-loop
+shared-slice-read-count c = search needs
+
+mark-list-requires : tie.Need-mark-list-requires Inv-loop μ-loop
+mark-list-requires c κs =
+    let l = c .before .before in
+    let start = l .before .before .before .before .before in
+    (start .pre .0, start .pre .1 .each (l .before .loop .i) (l .loop-test .taken))
+
+add-i : tie.Need-add-i Inv-loop μ-loop
+add-i c = search needs
+
+loop-less : tie.Need-loop-less Inv-loop μ-loop
+loop-less c = search needs
+
+loop-again : tie.Need-loop-again Inv-loop μ-loop
+loop-again c =
+    let l = c .before .before .before in
+    record {
+      upto = omega (arith, l .loop-test .taken);
+      rest = λ k h. syncs-on _ _ _ _ _ (getD (l .before .loop .next) k false) _ (l .loop-test .taken) (c .mark-list .ensures .each k h) ∙ l .before .loop .inv .rest k h;
+    }
+
+returns : tie.Need-returns Inv-loop μ-loop
+returns c =
+    record { each = λ k h. sym (syncs-done _ _ _ _ _ _ (c .loop-test .left)) ∙ c .before .loop .inv .rest k h }
+
+pub mark-syncs-spec : {M : Type 1} → statement M
+mark-syncs-spec =
+    tie.close
+    (tie.spec
+    Inv-loop
+    μ-loop
+    loop-holds
+    mul-place
+    mul-place-2
+    shared-slice-read-place
+    mul-count
+    add-count
+    mul-count-2
+    shared-slice-read-count
+    mark-list-requires
+    add-i
+    loop-less
+    loop-again
+    returns)

@@ -1,0 +1,57 @@
+-- `selection::to_send::get_hashes_to_send` meets its contract: one law for each answer (SendCalls). Assumes nothing.
+use mathlib.Core.Path.{_≡_, sym, _∙_}
+use borrow.Author.Needs.{needs}
+use borrow.Author.Tests.{not-true, not-false}
+use Rattle.rules.proofs.Outputs.{refused}
+use Rattle.selection.proofs.SendCalls.{send-bad, send-table}
+use Rattle.selection.proofs.to_send.get_hashes_to_send.Statement.{statement}
+use Rattle.selection.proofs.to_send.get_hashes_to_send.Tie as tie
+
+passed-good-requires : tie.Need-passed-good-requires
+passed-good-requires c κs = search needs
+
+returns : tie.Need-returns
+returns c = rw (send-bad _ _ _ _ (sym (c .before .passed-good .ensures) ∙ not-true _ (c .if1 .taken))) (refused _ _)
+
+check-table-requires : tie.Need-check-table-requires
+check-table-requires c κs = search needs
+
+enum-known-r : tie.Need-enum-known-r
+enum-known-r c = search needs
+
+enum-known-n : tie.Need-enum-known-n
+enum-known-n c = search needs
+
+send-needs-requires : tie.Need-send-needs-requires
+send-needs-requires c κs =
+    let k = c .before .before in
+    let t = k .before .before in
+    let e = t .before in
+    (sym (t .check-table .ensures) ∙ k .n .given .1, sym (e .before .passed-good .ensures) ∙ not-false _ (e .if1 .left))
+
+returns-2 : tie.Need-returns-2
+returns-2 c =
+    let k = c .before in
+    let t = k .before .before in
+    let e = t .before in
+    rw (send-table _ _ _ _ (sym (e .before .passed-good .ensures) ∙ not-false _ (e .if1 .left)) _ (sym (t .check-table .ensures) ∙ k .r .given .1)) (refused _ _)
+
+same-length : tie.Need-same-length
+same-length c = search needs
+
+returns-3 : tie.Need-returns-3
+returns-3 c = search needs
+
+pub get-hashes-to-send-spec : {M : Type 1} → statement M
+get-hashes-to-send-spec =
+    tie.close
+    (tie.spec
+    passed-good-requires
+    returns
+    check-table-requires
+    enum-known-r
+    enum-known-n
+    send-needs-requires
+    returns-2
+    same-length
+    returns-3)
