@@ -5,6 +5,7 @@
 pub mod answer;
 pub mod bloom_calls;
 pub mod rules_calls;
+pub mod selection_calls;
 pub mod session_words;
 pub mod state_calls;
 pub mod table_calls;
