@@ -57,7 +57,7 @@ rows-same (r ∷ rs) p q i f =
     rw e at (f (suc k) (omega arith))) in
     rw (here, rest)
 
-no-rows : (t : List Row) (i : ℕ) → rowsFrom i t (λ k. false) ≡ []
+pub no-rows : (t : List Row) (i : ℕ) → rowsFrom i t (λ k. false) ≡ []
 unfolding rowsFrom
 no-rows [] i = refl
 no-rows (r ∷ rs) i = no-rows rs (suc i)

@@ -2,4 +2,6 @@
 pub mod AnswerLaws
 pub mod MemberLaws
 pub mod PutLaws
+pub mod SelectLaws
 pub mod SendCalls
+pub mod Vectors

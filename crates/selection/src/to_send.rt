@@ -72,7 +72,13 @@ fn send_needs(table: &[u8], n: usize, s: &[u8], haves: &[u64], need: &[u8], out:
 }
 
 // The hashes to send for haves that are records over the bytes s, and a need list that is lent as the bytes of its hashes.
-pub fn get_hashes_to_send(table: &[u8], s: &[u8], haves: &[u64], need: &[u8], out: &mut [u8]) -> Write
+pub fn get_hashes_to_send(
+    table: &[u8],
+    s: &[u8],
+    haves: &[u64],
+    need: &[u8],
+    out: &mut [u8],
+) -> Write
     ensures { λ r. ⌜ Written (toSendOutput (now (table .entry)) (now (s .entry)) (now (haves .entry)) (now (need .entry))) (now (out .entry)) (now (out .exit)) r ⌝ }
 {
     if !passed_good(s, haves) {
