@@ -5,7 +5,7 @@ use mathlib.Core.Path.{_≡_, _∙_}
 use native.Mathlib.Omega.{arith}
 use borrow.Author.Tests.{lt-ltb, le-ltb, eq-eqb, ne-eqb}
 use lib.ListN.{length, getD, take, drop}
-use Rattle.sync.specs.Answer.{numberWords, prefixedWords, hashListWords}
+use Rattle.wire_calls.specs.Answer.{numberWords, prefixedWords, hashListWords}
 use Rattle.wire.specs.Item.{prefixedAt, hashListAt}
 use Rattle.wire.specs.Number.{numberAt, most64, mostFilter}
 use Rattle.replay.specs.Record.{sizeAt, answerAt, inputAt, agreeing, compare, verdictOf, recordOf, recordAt}

@@ -4,7 +4,7 @@ use mathlib.Core.Bool.{Bool, true, false, cond, not, _&&_, _||_}
 use mathlib.Core.List.{List}
 use lib.Dec.{ltb, eqb}
 use lib.ListN.{length, getD, take, drop}
-use Rattle.sync.specs.Answer.{numberWords, prefixedWords, hashListWords}
+use Rattle.wire_calls.specs.Answer.{numberWords, prefixedWords, hashListWords}
 use Rattle.wire.specs.Item.{prefixedAt, hashListAt}
 use Rattle.wire.specs.Number.{numberAt, most64, mostFilter}
 use Rattle.replay.specs.Words.{u16At, wordsAt}

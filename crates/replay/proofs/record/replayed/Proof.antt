@@ -1,7 +1,7 @@
 -- `replay::record::replayed` meets its contract: one case of `verdictOf` for each kind, by what the reader and its words ensure. Assumes nothing.
 use mathlib.Core.Path.{ap, _∙_}
 use borrow.Author.Needs.{needs}
-use Rattle.sync.specs.Answer.{numberWords, prefixedWords, hashListWords}
+use Rattle.wire_calls.specs.Answer.{numberWords, prefixedWords, hashListWords}
 use Rattle.replay.proofs.Records.{of-number, of-filter-number, of-prefixed, of-hash-list, of-none}
 use Rattle.replay.proofs.record.replayed.Statement.{statement}
 use Rattle.replay.proofs.record.replayed.Tie as tie

@@ -1,0 +1,18 @@
+-- The words of an answer, as exported calls write them: 0 and what was found, or the refusal's number and value.
+use Prim.Native.Nat.{ℕ}
+use mathlib.Core.List.{List, [], _∷_}
+use Rattle.rules.specs.Refusal.{numberOf, valueOf}
+use Rattle.bloom.specs.declared.parse.Parsed.{Parsed}
+use Rattle.bloom.specs.declared.parse.Parsed.the-variants.{Filter, Refused as NoFilter}
+use Rattle.bloom.specs.declared.contains.Contained.{Contained}
+use Rattle.bloom.specs.declared.contains.Contained.the-variants.{Yes, No, Refused as NotTested}
+use Rattle.words.specs.Answer.{refusalWords}
+
+abbrev pub filterWords : Parsed → List ℕ
+filterWords (Filter n b p field size next) = 0 ∷ n ∷ b ∷ p ∷ field ∷ size ∷ next ∷ 0 ∷ []
+filterWords (NoFilter r) = numberOf r ∷ valueOf r ∷ 0 ∷ 0 ∷ 0 ∷ 0 ∷ 0 ∷ 0 ∷ []
+
+abbrev pub containedWords : Contained → List ℕ
+containedWords Yes = 0 ∷ 1 ∷ 0 ∷ 0 ∷ []
+containedWords No = 0 ∷ 0 ∷ 0 ∷ 0 ∷ []
+containedWords (NotTested r) = refusalWords r

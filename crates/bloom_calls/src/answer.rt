@@ -1,0 +1,41 @@
+// An answer as words.
+use bloom::contains::Contained;
+use bloom::parse::Parsed;
+use words::answer::refusal_words;
+ghost use mathlib.Core.Path.{_≡_};
+ghost use Rattle.bloom_calls.specs.Answer.{filterWords, containedWords};
+
+pub fn filter_words(f: Parsed) -> [u64; 8]
+    ensures { λ w. ⌜ w ≡ filterWords f ⌝ }
+{
+    match f {
+        Parsed::Filter {
+            entries,
+            bits,
+            probes,
+            field,
+            size,
+            next,
+        } => [
+            0,
+            entries,
+            bits,
+            probes,
+            field as u64,
+            size as u64,
+            next as u64,
+            0,
+        ],
+        Parsed::Refused(r) => [r.number(), r.value(), 0, 0, 0, 0, 0, 0],
+    }
+}
+
+pub fn contained_words(k: Contained) -> [u64; 4]
+    ensures { λ w. ⌜ w ≡ containedWords k ⌝ }
+{
+    match k {
+        Contained::Yes => [0, 1, 0, 0],
+        Contained::No => [0, 0, 0, 0],
+        Contained::Refused(r) => refusal_words(r),
+    }
+}

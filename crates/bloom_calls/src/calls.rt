@@ -1,0 +1,55 @@
+// Calls of the crate `bloom`.
+use crate::answer::contained_words;
+use crate::answer::filter_words;
+use words::answer::write_words;
+ghost use mathlib.Core.Path.{_≡_};
+ghost use Rattle.bloom.specs.Filter.{buildOutput, filterOutput, filterOf4};
+ghost use Rattle.bloom.specs.Have.{containedIn};
+ghost use Rattle.bloom.specs.Read.{filterAt};
+ghost use Rattle.words.specs.Answer.{Answered};
+ghost use Rattle.bloom_calls.specs.Answer.{filterWords, containedWords};
+
+// The filter at a place: 0, entries, bits, probes, place of the field, its length, next place.
+#[no_mangle]
+pub extern "C" fn bt_read_filter(s: &[u8], at: usize, end: usize, answer: &mut [u64; 8])
+    ensures { λ _. ⌜ now (answer .exit) ≡ filterWords (filterAt (now (s .entry)) at end) ⌝ }
+{
+    *answer = filter_words(bloom::parse::parse(s, at, end));
+}
+
+// Writes a filter: 0, bytes written.
+#[no_mangle]
+pub extern "C" fn bt_write_filter(
+    out: &mut [u8],
+    entries: u64,
+    bits: u64,
+    probes: u64,
+    field: &[u8],
+    answer: &mut [u64; 4],
+)
+    ensures { λ _. ⌜ Answered (filterOutput (filterOf4 entries bits probes (now (field .entry)))) (now (out .entry)) (now (out .exit)) (now (answer .exit)) ⌝ }
+{
+    *answer = write_words(bloom::to_bytes::to_bytes(out, entries, bits, probes, field));
+}
+
+// Builds the field of a filter over hashes that are lent as bytes: 0, the field's length.
+#[no_mangle]
+pub extern "C" fn bt_build_filter(
+    field: &mut [u8],
+    bits: u64,
+    probes: u64,
+    hashes: &[u8],
+    answer: &mut [u64; 4],
+)
+    ensures { λ _. ⌜ Answered (buildOutput bits probes (now (hashes .entry))) (now (field .entry)) (now (field .exit)) (now (answer .exit)) ⌝ }
+{
+    *answer = write_words(bloom::build::from_hashes(field, bits, probes, hashes));
+}
+
+// Whether some filter of the haves contains a hash: 0, then 1 or 0.
+#[no_mangle]
+pub extern "C" fn bt_filters_contain(s: &[u8], haves: &[u64], hash: &[u8], answer: &mut [u64; 4])
+    ensures { λ _. ⌜ now (answer .exit) ≡ containedWords (containedIn (now (s .entry)) (now (haves .entry)) (now (hash .entry))) ⌝ }
+{
+    *answer = contained_words(bloom::contains::filters_contain(s, haves, hash));
+}

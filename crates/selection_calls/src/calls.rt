@@ -1,0 +1,21 @@
+// Calls of the crate `selection`.
+use words::answer::write_words;
+ghost use Rattle.selection.specs.ToSend.{toSendOutput};
+ghost use Rattle.words.specs.Answer.{Answered};
+
+// Writes the hashes to send to a peer: 0, bytes written.
+#[no_mangle]
+pub extern "C" fn bt_hashes_to_send(
+    table: &[u8],
+    s: &[u8],
+    haves: &[u64],
+    need: &[u8],
+    out: &mut [u8],
+    answer: &mut [u64; 4],
+)
+    ensures { λ _. ⌜ Answered (toSendOutput (now (table .entry)) (now (s .entry)) (now (haves .entry)) (now (need .entry))) (now (out .entry)) (now (out .exit)) (now (answer .exit)) ⌝ }
+{
+    *answer = write_words(selection::to_send::get_hashes_to_send(
+        table, s, haves, need, out,
+    ));
+}

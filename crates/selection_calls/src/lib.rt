@@ -1,0 +1,2 @@
+// Exported calls of the crate `selection`.
+pub mod calls;

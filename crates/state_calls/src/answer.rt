@@ -1,0 +1,24 @@
+// An answer as words.
+use rules::refusal::Refusal;
+use state::saved::Loaded;
+use words::answer::refusal_words;
+ghost use mathlib.Core.Path.{_≡_};
+ghost use Rattle.state_calls.specs.SessionWords.{goodWords, loadedWords};
+
+pub fn good_words(good: bool) -> [u64; 4]
+    ensures { λ w. ⌜ w ≡ goodWords good ⌝ }
+{
+    if good {
+        return [0, 0, 0, 0];
+    }
+    refusal_words(Refusal::BadSession)
+}
+
+pub fn loaded_words(l: Loaded) -> [u64; 4]
+    ensures { λ w. ⌜ w ≡ loadedWords l ⌝ }
+{
+    match l {
+        Loaded::Session(session) => [0, session.shared_heads as u64, 0, 0],
+        Loaded::Refused(r) => refusal_words(r),
+    }
+}

@@ -1,0 +1,88 @@
+// Calls of the crate `state`.
+use crate::answer::good_words;
+use crate::answer::loaded_words;
+use words::answer::write_words;
+use crate::session_words::loaded_session;
+use crate::session_words::session_of;
+use crate::session_words::session_words;
+use state::session::Session;
+ghost use mathlib.Core.Path.{_≡_};
+ghost use Rattle.state.specs.Good.{sessionGood};
+ghost use Rattle.state.specs.Saved.{stateOutput};
+ghost use Rattle.state.specs.Session.{fresh, freshReadOnly, setReadOnly};
+ghost use Rattle.words.specs.Answer.{Answered};
+ghost use Rattle.state_calls.specs.SessionWords.{flagOf, sessionWords, sessionOf, goodWords, StateRead};
+
+// Writes the words of a session in which nothing was said yet.
+#[no_mangle]
+pub extern "C" fn bt_fresh(session: &mut [u64; 16])
+    ensures { λ _. ⌜ now (session .exit) ≡ sessionWords fresh ⌝ }
+{
+    *session = session_words(Session::new());
+}
+
+// The same for a unit that takes no changes.
+#[no_mangle]
+pub extern "C" fn bt_fresh_read_only(session: &mut [u64; 16])
+    ensures { λ _. ⌜ now (session .exit) ≡ sessionWords freshReadOnly ⌝ }
+{
+    *session = session_words(Session::new_read_only());
+}
+
+// Changes the words of a session to those that it has once read-only is set: off for 0, else on.
+#[no_mangle]
+pub extern "C" fn bt_set_read_only(session: &mut [u64; 16], on: u64)
+    ensures { λ _. ⌜ now (session .exit) ≡ sessionWords (setReadOnly (sessionOf (now (session .entry))) (flagOf on)) ⌝ }
+{
+    *session = session_words(session_of(*session).set_read_only(on != 0));
+}
+
+// Checks a session and the lists that are lent with it: 0.
+#[no_mangle]
+pub extern "C" fn bt_check_session(
+    session: &[u64; 16],
+    shared: &[u8],
+    last_sent: &[u8],
+    their_heads: &[u8],
+    their_need: &[u8],
+    haves: &[u64],
+    bytes: &[u8],
+    sent: &[u8],
+    answer: &mut [u64; 4],
+)
+    ensures { λ _. ⌜ now (answer .exit) ≡ goodWords (sessionGood (sessionOf (now (session .entry))) (record { shared = now (shared .entry); lastSent = now («last_sent» .entry); theirHeads = now («their_heads» .entry); theirNeed = now («their_need» .entry); haves = now (haves .entry); bytes = now (bytes .entry); sent = now (sent .entry) })) ⌝ }
+{
+    *answer = good_words(state::good::session_good(
+        session_of(*session),
+        shared,
+        last_sent,
+        their_heads,
+        their_need,
+        haves,
+        bytes,
+        sent,
+    ));
+}
+
+// Writes a saved state from the first hashes of a buffer, the shared heads: 0, bytes written.
+#[no_mangle]
+pub extern "C" fn bt_write_state(out: &mut [u8], shared: &[u8], count: usize, answer: &mut [u64; 4])
+    ensures { λ _. ⌜ Answered (stateOutput (now (shared .entry)) count) (now (out .entry)) (now (out .exit)) (now (answer .exit)) ⌝ }
+{
+    *answer = write_words(state::saved::encode(out, shared, count));
+}
+
+// Reads a saved state into a buffer for its shared heads and the words of a session: 0, shared heads.
+#[no_mangle]
+pub extern "C" fn bt_read_state(
+    s: &[u8],
+    shared: &mut [u8],
+    session: &mut [u64; 16],
+    answer: &mut [u64; 4],
+)
+    ensures { λ _. ⌜ StateRead (now (s .entry)) (now (shared .entry)) (now (shared .exit)) (now (session .entry)) (now (session .exit)) (now (answer .exit)) ⌝ }
+{
+    let loaded = state::saved::decode(s, shared);
+    *session = loaded_session(loaded, *session);
+    *answer = loaded_words(loaded);
+}

@@ -1,0 +1,18 @@
+-- `table_calls::calls::bt_check_waiting` meets its contract: the words of what the check ensures. Assumes nothing.
+use mathlib.Core.Path.{ap, _∙_}
+use Rattle.table_calls.specs.Answer.{checkedWords}
+use borrow.Author.Needs.{needs}
+use Rattle.table_calls.proofs.calls.bt_check_waiting.Statement.{statement}
+use Rattle.table_calls.proofs.calls.bt_check_waiting.Tie as tie
+
+check-tables-requires : tie.Need-check-tables-requires
+check-tables-requires c κs = search needs
+
+checked-words-requires : tie.Need-checked-words-requires
+checked-words-requires c κs = search needs
+
+returns : tie.Need-returns
+returns c = c .checked-words .ensures ∙ ap checkedWords (c .before .check-tables .ensures)
+
+pub bt-check-waiting-spec : {M : Type 1} → statement M
+bt-check-waiting-spec = tie.close (tie.spec check-tables-requires checked-words-requires returns)

@@ -1,0 +1,20 @@
+-- `table_calls::calls::bt_heads` meets its contract: the words and the buffer of what the call ensures. Assumes nothing.
+use Rattle.words.proofs.Answers.{answered}
+use borrow.Author.Needs.{needs}
+use Rattle.table_calls.proofs.calls.bt_heads.Statement.{statement}
+use Rattle.table_calls.proofs.calls.bt_heads.Tie as tie
+
+heads-requires : tie.Need-heads-requires
+heads-requires c κs = search needs
+
+write-words-requires : tie.Need-write-words-requires
+write-words-requires c κs = search needs
+
+same-length : tie.Need-same-length
+same-length c = search needs
+
+returns : tie.Need-returns
+returns c = answered _ _ _ _ _ (c .before .before .before .heads .ensures) (c .write-words .ensures)
+
+pub bt-heads-spec : {M : Type 1} → statement M
+bt-heads-spec = tie.close (tie.spec heads-requires write-words-requires same-length returns)

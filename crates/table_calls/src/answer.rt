@@ -1,0 +1,14 @@
+// An answer as words.
+use tables::check::Checked;
+use words::answer::refusal_words;
+ghost use mathlib.Core.Path.{_≡_};
+ghost use Rattle.table_calls.specs.Answer.{checkedWords};
+
+pub fn checked_words(k: Checked) -> [u64; 4]
+    ensures { λ w. ⌜ w ≡ checkedWords k ⌝ }
+{
+    match k {
+        Checked::Good(rows) => [0, rows as u64, 0, 0],
+        Checked::Refused(r) => refusal_words(r),
+    }
+}

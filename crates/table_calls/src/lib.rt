@@ -1,0 +1,3 @@
+// Exported calls of the crate `tables`.
+pub mod answer;
+pub mod calls;

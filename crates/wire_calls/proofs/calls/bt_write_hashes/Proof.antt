@@ -1,0 +1,21 @@
+-- `wire_calls::calls::bt_write_hashes` meets its contract: the words and the buffer of what the writer ensures. Assumes nothing.
+use Rattle.words.proofs.Answers.{answered}
+use borrow.Author.Needs.{needs}
+use Rattle.wire_calls.proofs.calls.bt_write_hashes.Statement.{statement}
+use Rattle.wire_calls.proofs.calls.bt_write_hashes.Tie as tie
+
+encode-hashes-requires : tie.Need-encode-hashes-requires
+encode-hashes-requires c κs = search needs
+
+write-words-requires : tie.Need-write-words-requires
+write-words-requires c κs = search needs
+
+same-length : tie.Need-same-length
+same-length c = search needs
+
+returns : tie.Need-returns
+returns c = answered _ _ _ _ _ (c .before .before .before .encode-hashes .ensures) (c .write-words .ensures)
+
+pub bt-write-hashes-spec : {M : Type 1} → statement M
+bt-write-hashes-spec =
+    tie.close (tie.spec encode-hashes-requires write-words-requires same-length returns)

@@ -1,0 +1,22 @@
+-- The words of an answer, as exported calls write them: 0 and what was found, or the refusal's number and value.
+use Prim.Native.Nat.{ℕ}
+use mathlib.Core.List.{List, [], _∷_}
+use Rattle.wire.specs.declared.leb128.Number.{Number}
+use Rattle.wire.specs.declared.leb128.Number.the-variants.{Value, Refused as NoNumber}
+use Rattle.wire.specs.declared.parse.Prefixed.{Prefixed}
+use Rattle.wire.specs.declared.parse.Prefixed.the-variants.{Part, Refused as NoPart}
+use Rattle.wire.specs.declared.parse.HashList.{HashList}
+use Rattle.wire.specs.declared.parse.HashList.the-variants.{Hashes, Refused as NoHashes}
+use Rattle.words.specs.Answer.{refusalWords}
+
+abbrev pub numberWords : Number → List ℕ
+numberWords (Value n next) = 0 ∷ n ∷ next ∷ 0 ∷ []
+numberWords (NoNumber r) = refusalWords r
+
+abbrev pub prefixedWords : Prefixed → List ℕ
+prefixedWords (Part start end) = 0 ∷ start ∷ end ∷ 0 ∷ []
+prefixedWords (NoPart r) = refusalWords r
+
+abbrev pub hashListWords : HashList → List ℕ
+hashListWords (Hashes start count next) = 0 ∷ start ∷ count ∷ next ∷ []
+hashListWords (NoHashes r) = refusalWords r

@@ -1,0 +1,34 @@
+// An answer as words.
+use wire::leb128::Number;
+use wire::parse::HashList;
+use wire::parse::Prefixed;
+use words::answer::refusal_words;
+ghost use mathlib.Core.Path.{_≡_};
+ghost use Rattle.wire_calls.specs.Answer.{numberWords, prefixedWords, hashListWords};
+
+pub fn number_words(n: Number) -> [u64; 4]
+    ensures { λ w. ⌜ w ≡ numberWords n ⌝ }
+{
+    match n {
+        Number::Value { value, next } => [0, value, next as u64, 0],
+        Number::Refused(r) => refusal_words(r),
+    }
+}
+
+pub fn prefixed_words(p: Prefixed) -> [u64; 4]
+    ensures { λ w. ⌜ w ≡ prefixedWords p ⌝ }
+{
+    match p {
+        Prefixed::Part { start, end } => [0, start as u64, end as u64, 0],
+        Prefixed::Refused(r) => refusal_words(r),
+    }
+}
+
+pub fn hash_list_words(h: HashList) -> [u64; 4]
+    ensures { λ w. ⌜ w ≡ hashListWords h ⌝ }
+{
+    match h {
+        HashList::Hashes { start, count, next } => [0, start as u64, count as u64, next as u64],
+        HashList::Refused(r) => refusal_words(r),
+    }
+}
