@@ -7,8 +7,9 @@ use lib.Dec.{ltb, leb, eqb}
 use lib.ListN.{length, getD, set, replicate}
 use Rattle.rules.specs.Hash.{hashBytes, hashesAt}
 use Rattle.rules.specs.Output.{Output}
+use Rattle.rules.specs.Passed.{passedHashes, afterPassed}
 use Rattle.rules.specs.Sizes.{sizes}
-use Rattle.rules.specs.declared.refusal.Refusal.the-variants.{Cut, PastSize, BadSession}
+use Rattle.rules.specs.declared.refusal.Refusal.the-variants.{BadSession}
 use Rattle.wire.specs.Number.{shortest, mostFilter}
 
 -- Entries n, bits per entry b, probes p, and the bit field's bytes.
@@ -100,16 +101,12 @@ filterOf b p hs =
       field = addHashes p (replicate (fieldSize (length hs) b) 0) hs;
     }
 
--- What building writes for a list that is lent as the bytes s: 10 for numbers that break the filter rules, 4 for too long a list, 1 for a
--- partial hash at its end.
+-- What building writes for a list that is lent as the bytes s: 10 for numbers that break the filter rules, with as many entries as there are
+-- whole hashes, then what the list's own tests say.
 unfoldable pub buildOutput : ℕ → ℕ → List ℕ → Output
 buildOutput b p s =
     cond (filterRules (length s / sizes .hash) b p (fieldSize (length s / sizes .hash) b))
-    (cond (ltb (sizes .hashes * sizes .hash) (length s))
-    (Output.refuse (PastSize 0))
-    (cond (eqb (length s % sizes .hash) 0)
-    (Output.bytes (filterOf b p (hashesAt s 0 (length s / sizes .hash)) .field))
-    (Output.refuse (Cut (sizes .hash * (length s / sizes .hash))))))
+    (afterPassed (passedHashes s) Output.refuse (λ n. Output.bytes (filterOf b p (hashesAt s 0 n) .field)))
     (Output.refuse BadSession)
 
 -- A filter as bytes: n = 0 is written as no bytes.

@@ -5,16 +5,18 @@ use crate::probes::word;
 use crate::rule::bits_capacity;
 use crate::rule::build_rules;
 use rules::output::Write;
+use rules::passed::Passed;
+use rules::passed::passed_hashes;
 use rules::refusal::Refusal;
 use rules::sizes::HASH_SIZE;
-use rules::sizes::HASHES;
+ghost use mathlib.Core.Bool.{true};
 ghost use mathlib.Core.Path.{_≡_};
 ghost use Prim.Native.Nat.{_+_, _*_, _≤_, _<_};
 ghost use lib.ListN.{length, replicate};
 ghost use lib.Seq.{sets};
-ghost use Rattle.bloom.specs.Filter.{setBit, addHash, addHashes, buildOutput};
+ghost use Rattle.bloom.specs.Filter.{fieldSize, filterRules, setBit, addHash, addHashes, filterOf, buildOutput};
 ghost use Rattle.rules.specs.Hash.{hashAt, hashesAt};
-ghost use Rattle.rules.specs.Output.{Written};
+ghost use Rattle.rules.specs.Output.{Written, Output};
 ghost use Rattle.rules.specs.Sizes.{sizes};
 
 // Sets a bit; a probe outside the field has none.
@@ -79,25 +81,29 @@ fn fill(field: &mut [u8], probes: u64, hashes: &[u8], n: usize)
     add_hashes(field, probes, hashes, n);
 }
 
-// Builds the field of a filter over the hashes of a list, at the start of the buffer that is lent for it. The filter has as many entries
-// as the list has hashes.
-pub fn from_hashes(field: &mut [u8], bits: u64, probes: u64, hashes: &[u8]) -> Write
-    ensures { λ r. ⌜ Written (buildOutput bits probes (now (hashes .entry))) (now (field .entry)) (now (field .exit)) r ⌝ }
+// Builds the field of a filter over the first n hashes of a list, at the start of the buffer that is lent for it.
+fn build(field: &mut [u8], bits: u64, probes: u64, hashes: &[u8], n: usize) -> Write
+    requires { ⌜ (filterRules n bits probes (fieldSize n bits) ≡ true) × (sizes .hash * n ≤ length (now hashes)) ⌝ }
+    ensures { λ r. ⌜ Written (Output.bytes (filterOf bits probes (hashesAt (now (hashes .entry)) 0 n) .field)) (now (field .entry)) (now (field .exit)) r ⌝ }
 {
-    let n = hashes.len() / HASH_SIZE;
-    if !build_rules(n as u64, bits, probes) {
-        return Write::Refused(Refusal::BadSession);
-    }
-    if HASHES * HASH_SIZE < hashes.len() {
-        return Write::Refused(Refusal::PastSize(0));
-    }
-    if hashes.len() % HASH_SIZE != 0 {
-        return Write::Refused(Refusal::Cut(HASH_SIZE * n));
-    }
     let size = bits_capacity(n as u64, bits) as usize;
     if field.len() < size {
         return Write::Refused(Refusal::NoRoom(size));
     }
     fill(&mut field[..size], probes, hashes, n);
     Write::Wrote(size)
+}
+
+// Builds the field of a filter over the hashes of a list. The filter has as many entries as the list has hashes.
+pub fn from_hashes(field: &mut [u8], bits: u64, probes: u64, hashes: &[u8]) -> Write
+    ensures { λ r. ⌜ Written (buildOutput bits probes (now (hashes .entry))) (now (field .entry)) (now (field .exit)) r ⌝ }
+{
+    let entries = hashes.len() / HASH_SIZE;
+    if !build_rules(entries as u64, bits, probes) {
+        return Write::Refused(Refusal::BadSession);
+    }
+    match passed_hashes(hashes) {
+        Passed::Refused(refusal) => Write::Refused(refusal),
+        Passed::Hashes(n) => build(field, bits, probes, hashes, n),
+    }
 }

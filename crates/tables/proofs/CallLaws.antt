@@ -1,17 +1,20 @@
 -- What the public calls write, one law for each way through the tests; and what a table that has been accepted gives the functions below them.
-use Prim.Native.Nat.{ℕ, _*_, _/_, _%_, _≤_, _<_}
+use Prim.Native.Nat.{ℕ, _≤_, _<_}
 use mathlib.Core.List.{List}
 use mathlib.Core.Path.{_≡_, sym, _∙_}
 use native.Mathlib.Omega.{arith}
-use borrow.Author.Tests.{lt-ltb, le-ltb, eq-eqb, ne-eqb}
+use borrow.Author.Tests.{lt-ltb, le-ltb}
 use lib.ListN.{length}
 use Rattle.rules.specs.Hash.{hashesAt, hashesBytes}
 use Rattle.rules.specs.Output.{Output}
-use Rattle.rules.specs.Sizes.{sizes}
+use Rattle.rules.specs.Passed.{passedHashes}
+use Rattle.rules.specs.declared.passed.Passed.the-variants.{Hashes}
+use Rattle.rules.specs.declared.passed.Passed.the-variants as passed
 use Rattle.rules.specs.declared.refusal.Refusal.{Refusal}
-use Rattle.rules.specs.declared.refusal.Refusal.the-variants.{Cut, PastSize, BadRowsBefore}
+use Rattle.rules.specs.declared.refusal.Refusal.the-variants.{BadRowsBefore}
+use Rattle.rules.proofs.PassedLaws.{after-refused, after-hashes}
 use Rattle.tables.specs.Bytes.{rowsAt, tableChecked}
-use Rattle.tables.specs.Calls.{afterCheck, afterHashes, beyondOutput, headsOutput}
+use Rattle.tables.specs.Calls.{afterCheck, beyondOutput, headsOutput}
 use Rattle.tables.specs.Marks.{GoodRows}
 use Rattle.tables.specs.Table.{GoodTable, heads, beyond}
 use Rattle.tables.specs.declared.check.Checked.the-variants.{Good, Refused}
@@ -46,19 +49,14 @@ module _ (s l : List ℕ) where
   beyond-refused r e = rw e
 
   module _ (n : ℕ) (good : tableChecked s ≡ Good n) where
-    pub beyond-long : sizes .hashes * sizes .hash < length l → beyondOutput s l ≡ Output.refuse (PastSize 0)
-    unfolding beyondOutput afterCheck afterHashes
-    beyond-long h = rw (good, lt-ltb _ _ h)
+    pub beyond-no-list : (r : Refusal) → passedHashes l ≡ passed.Refused r → beyondOutput s l ≡ Output.refuse r
+    unfolding beyondOutput afterCheck
+    beyond-no-list r e = rw good (after-refused _ _ _ r e)
 
-    module _ (few : length l ≤ sizes .hashes * sizes .hash) where
-      pub beyond-cut : (length l % sizes .hash ≡ 0 → ⊥) → beyondOutput s l ≡ Output.refuse (Cut (sizes .hash * (length l / sizes .hash)))
-      unfolding beyondOutput afterCheck afterHashes
-      beyond-cut h = rw (good, le-ltb _ _ few, ne-eqb _ _ h)
-
-      pub beyond-written : length l % sizes .hash ≡ 0
-          → beyondOutput s l ≡ Output.bytes (hashesBytes (beyond (rowsAt s 0 n) (hashesAt l 0 (length l / sizes .hash))))
-      unfolding beyondOutput afterCheck afterHashes
-      beyond-written h = rw (good, le-ltb _ _ few, eq-eqb _ _ h, table-good s n good .is)
+    pub beyond-written : (count : ℕ) → passedHashes l ≡ Hashes count
+        → beyondOutput s l ≡ Output.bytes (hashesBytes (beyond (rowsAt s 0 n) (hashesAt l 0 count)))
+    unfolding beyondOutput afterCheck
+    beyond-written count e = rw (good, table-good s n good .is) (after-hashes _ _ _ count e)
 
 -- ---- heads
 

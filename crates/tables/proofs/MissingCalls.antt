@@ -1,24 +1,28 @@
 -- What the call for missing hashes writes: one law for each way out, with the code's tests as hypotheses.
-use Prim.Native.Nat.{ℕ, suc, _+_, _*_, _-_, _/_, _%_, _≤_, _<_}
+use Prim.Native.Nat.{ℕ, suc, _+_, _*_, _-_, _/_, _≤_, _<_}
 use mathlib.Core.List.{List}
 use mathlib.Core.Path.{_≡_, sym, ap, _∙_}
 use native.Mathlib.Nat.{zero-add, sub-zero}
 use native.Mathlib.Omega.{arith}
-use borrow.Author.Tests.{lt-ltb, le-ltb, eq-eqb, ne-eqb}
+use borrow.Author.Tests.{lt-ltb, le-ltb}
 use lib.ListN.{length, take, drop, replicate, length-replicate}
 use lib.Seq.{sets}
 use Rattle.rules.specs.Hash.{Bytes, hashesAt, hashesBytes}
 use Rattle.rules.specs.Output.{Output, Written}
+use Rattle.rules.specs.Passed.{passedHashes}
 use Rattle.rules.specs.Sizes.{sizes}
 use Rattle.rules.specs.declared.output.Write.{Write}
 use Rattle.rules.specs.declared.output.Write.the-variants.{Wrote, Refused}
+use Rattle.rules.specs.declared.passed.Passed.the-variants.{Hashes}
+use Rattle.rules.specs.declared.passed.Passed.the-variants as passed
 use Rattle.rules.specs.declared.refusal.Refusal.{Refusal}
-use Rattle.rules.specs.declared.refusal.Refusal.the-variants.{Cut, PastSize, NoRoom}
+use Rattle.rules.specs.declared.refusal.Refusal.the-variants.{PastSize, NoRoom}
 use Rattle.rules.proofs.Hash.{length-hashes-at, length-hashes-bytes, hashes-at-bytes}
 use Rattle.rules.proofs.Outputs.{written-bytes, no-room, refused}
+use Rattle.rules.proofs.PassedLaws.{after-refused, after-hashes}
 use Rattle.tables.specs.Ask.{Found}
 use Rattle.tables.specs.Bytes.{rowsAt, waitingOf, tableChecked, waitingChecked}
-use Rattle.tables.specs.Calls.{afterCheck, afterHashes, missingFrom, missingBeside, missingOutput}
+use Rattle.tables.specs.Calls.{afterCheck, missingOf, missingFrom, missingBeside, missingOutput}
 use Rattle.tables.specs.Table.{Row}
 use Rattle.tables.specs.Waiting.{Waiting, missing}
 use Rattle.tables.specs.declared.check.Checked.the-variants.{Good}
@@ -51,31 +55,31 @@ pub one-more : length (replicate {A = ℕ} (sizes .hash * (sizes .hashes + 1)) 0
 one-more = ap (λ (n : ℕ). n / sizes .hash) (length-replicate {A = ℕ} (sizes .hash * (sizes .hashes + 1)) 0)
 
 module _ (t : List Row) (w : List Waiting) (l out : List ℕ) where
-  pub list-long : sizes .hashes * sizes .hash < length l → Written (missingFrom t w l) out out (Refused (PastSize 0))
-  unfolding missingFrom afterHashes
-  list-long h = rw (lt-ltb _ _ h) (refused _ _)
+  pub no-list : (r : Refusal) → passedHashes l ≡ passed.Refused r → Written (missingFrom t w l) out out (Refused r)
+  unfolding missingFrom
+  no-list r e = rw (after-refused Output.refuse (λ n. missingOf t w (hashesAt l 0 n)) _ r e) (refused r out)
 
-  module _ (fits : length l ≤ sizes .hashes * sizes .hash) where
-    pub list-cut : (length l % sizes .hash ≡ 0 → ⊥) → Written (missingFrom t w l) out out (Refused (Cut (sizes .hash * (length l / sizes .hash))))
-    unfolding missingFrom afterHashes
-    list-cut h = rw (le-ltb _ _ fits, ne-eqb _ _ h) (refused _ _)
+  module _ {n : ℕ} (e : passedHashes l ≡ Hashes n) where
+    from-list : missingFrom t w l ≡ missingOf t w (hashesAt l 0 n)
+    unfolding missingFrom
+    from-list = after-hashes _ _ _ n e
 
-    module _ (whole : length l % sizes .hash ≡ 0) {most : ℕ} {after : List ℕ} {count : ℕ} (room : most ≡ suc (sizes .hashes))
-        (f : Found (missing t w (hashesAt l 0 (length l / sizes .hash))) most after count) where
+    module _ {most : ℕ} {after : List ℕ} {count : ℕ} (room : most ≡ suc (sizes .hashes))
+        (f : Found (missing t w (hashesAt l 0 n)) most after count) where
       pub too-many : sizes .hashes < count → Written (missingFrom t w l) out out (Refused (PastSize 0))
-      unfolding missingFrom afterHashes
+      unfolding missingOf
       too-many h =
-          let many : sizes .hashes < length (missing t w (hashesAt l 0 (length l / sizes .hash))) = omega (arith, f .full (omega (arith, f .within))) in
-          rw (le-ltb _ _ fits, eq-eqb _ _ whole, lt-ltb _ _ many) (refused _ _)
+          let many : sizes .hashes < length (missing t w (hashesAt l 0 n)) = omega (arith, f .full (omega (arith, f .within))) in
+          rw (from-list, lt-ltb _ _ many) (refused _ _)
 
       pub few-enough : {out′ : List ℕ} {r : Write} → count ≤ sizes .hashes
           → Written (Output.bytes (hashesBytes (hashesAt after 0 count))) out out′ r
           → Written (missingFrom t w l) out out′ r
-      unfolding missingFrom afterHashes
+      unfolding missingOf
       few-enough h v =
-          let e : hashesAt after 0 count ≡ missing t w (hashesAt l 0 (length l / sizes .hash)) = f .all (omega arith) in
-          let few : length (missing t w (hashesAt l 0 (length l / sizes .hash))) ≤ sizes .hashes = omega (arith, ap length e, length-hashes-at after 0 count) in
-          rw (le-ltb _ _ fits, eq-eqb _ _ whole, le-ltb _ _ few) (rw e at v)
+          let q : hashesAt after 0 count ≡ missing t w (hashesAt l 0 n) = f .all (omega arith) in
+          let few : length (missing t w (hashesAt l 0 n)) ≤ sizes .hashes = omega (arith, ap length q, length-hashes-at after 0 count) in
+          rw (from-list, le-ltb _ _ few) (rw q at v)
 
 -- ---- after the checks
 

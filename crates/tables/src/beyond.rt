@@ -6,13 +6,14 @@ use crate::marks::mark_list;
 use crate::row::ROW_SIZE;
 use rules::hashes::put_hash;
 use rules::output::Write;
+use rules::passed::Passed;
+use rules::passed::passed_hashes;
 use rules::refusal::Refusal;
 use rules::sizes::HASH_SIZE;
-use rules::sizes::HASHES;
 use rules::sizes::ROWS;
 ghost use mathlib.Core.Bool.{false, not};
 ghost use mathlib.Core.Path.{_≡_};
-ghost use Prim.Native.Nat.{_+_, _*_, _/_, _≤_};
+ghost use Prim.Native.Nat.{_+_, _*_, _≤_};
 ghost use lib.ListN.{length, getD};
 ghost use lib.Seq.{sets};
 ghost use Rattle.rules.specs.Hash.{hashesAt, hashesBytes};
@@ -69,12 +70,12 @@ pub fn mark_known(table: &[u8], n: usize, l: &[u8], place: usize, count: usize) 
     mark_below(table, n, listed)
 }
 
-// The rows beyond a list, of a table that has been checked.
-pub fn put_beyond(table: &[u8], n: usize, l: &[u8], out: &mut [u8]) -> Write
-    requires { ⌜ GoodRows (now table) n ⌝ }
-    ensures { λ r. ⌜ Written (Output.bytes (hashesBytes (beyond (rowsAt (now (table .entry)) 0 n) (hashesAt (now (l .entry)) 0 (length (now (l .entry)) / sizes .hash))))) (now (out .entry)) (now (out .exit)) r ⌝ }
+// The rows beyond the first hashes of a list, of a table that has been checked.
+pub fn put_beyond(table: &[u8], n: usize, l: &[u8], count: usize, out: &mut [u8]) -> Write
+    requires { ⌜ GoodRows (now table) n × (sizes .hash * count ≤ length (now l)) ⌝ }
+    ensures { λ r. ⌜ Written (Output.bytes (hashesBytes (beyond (rowsAt (now (table .entry)) 0 n) (hashesAt (now (l .entry)) 0 count)))) (now (out .entry)) (now (out .exit)) r ⌝ }
 {
-    let marks = mark_known(table, n, l, 0, l.len() / HASH_SIZE);
+    let marks = mark_known(table, n, l, 0, count);
     let size = HASH_SIZE * count_unmarked(table, n, marks);
     if out.len() < size {
         return Write::Refused(Refusal::NoRoom(size));
@@ -89,14 +90,9 @@ pub fn beyond(table: &[u8], l: &[u8], out: &mut [u8]) -> Write
 {
     match check_table(table) {
         Checked::Refused(r) => Write::Refused(r),
-        Checked::Good(n) => {
-            if HASHES * HASH_SIZE < l.len() {
-                return Write::Refused(Refusal::PastSize(0));
-            }
-            if l.len() % HASH_SIZE != 0 {
-                return Write::Refused(Refusal::Cut(HASH_SIZE * (l.len() / HASH_SIZE)));
-            }
-            put_beyond(table, n, l, out)
-        }
+        Checked::Good(n) => match passed_hashes(l) {
+            Passed::Refused(refusal) => Write::Refused(refusal),
+            Passed::Hashes(count) => put_beyond(table, n, l, count, out),
+        },
     }
 }

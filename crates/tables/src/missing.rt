@@ -9,6 +9,8 @@ use crate::waiting::asks_count;
 use crate::waiting::check_waiting;
 use rules::hashes::insert_hash;
 use rules::output::Write;
+use rules::passed::Passed;
+use rules::passed::passed_hashes;
 use rules::refusal::Refusal;
 use rules::sizes::HASH_SIZE;
 use rules::sizes::HASHES;
@@ -130,19 +132,17 @@ fn missing_from(table: &[u8], n: usize, waiting: &[u8], m: usize, l: &[u8], out:
     requires { ⌜ (n * rowSize ≤ length (now table)) × (waitingChecked (rowsAt (now table) 0 n) (now waiting) ≡ Good m) ⌝ }
     ensures { λ r. ⌜ Written (missingFrom (rowsAt (now (table .entry)) 0 n) (waitingOf (now (waiting .entry))) (now (l .entry))) (now (out .entry)) (now (out .exit)) r ⌝ }
 {
-    let entries = l.len() / HASH_SIZE;
-    if HASHES * HASH_SIZE < l.len() {
-        return Write::Refused(Refusal::PastSize(0));
+    match passed_hashes(l) {
+        Passed::Refused(refusal) => Write::Refused(refusal),
+        Passed::Hashes(entries) => {
+            let mut list = [0u8; LIST_SIZE];
+            let count = find_missing(table, n, waiting, m, l, 0, entries, &mut list);
+            if HASHES < count {
+                return Write::Refused(Refusal::PastSize(0));
+            }
+            put_list(&list, count, out)
+        }
     }
-    if l.len() % HASH_SIZE != 0 {
-        return Write::Refused(Refusal::Cut(HASH_SIZE * entries));
-    }
-    let mut list = [0u8; LIST_SIZE];
-    let count = find_missing(table, n, waiting, m, l, 0, entries, &mut list);
-    if HASHES < count {
-        return Write::Refused(Refusal::PastSize(0));
-    }
-    put_list(&list, count, out)
 }
 
 // The same after the waiting table's check.

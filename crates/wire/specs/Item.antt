@@ -1,13 +1,14 @@
 -- Counts, prefixed strings and hash lists, read and written. 01, Wire; Refusal numbers, 1 and 4; "The count's limit is tested before any
 -- element".
-use Prim.Native.Nat.{ℕ, _+_, _*_, _/_, _%_}
+use Prim.Native.Nat.{ℕ, _+_, _*_, _/_}
 use mathlib.Core.Bool.{cond}
 use mathlib.Core.List.{List, _++_}
-use lib.Dec.{ltb, eqb}
+use lib.Dec.{ltb}
 use lib.ListN.{length}
 use lib.Seq.{slice}
 use Rattle.rules.specs.Hash.{hashesAt, hashesBytes}
 use Rattle.rules.specs.Output.{Output}
+use Rattle.rules.specs.Passed.{passedHashes, afterPassed}
 use Rattle.rules.specs.Sizes.{sizes}
 use Rattle.rules.specs.declared.refusal.Refusal.{Refusal}
 use Rattle.rules.specs.declared.refusal.Refusal.the-variants.{Cut, PastSize}
@@ -60,11 +61,6 @@ prefixedBytes s = shortest (length s) ++ s
 unfoldable pub hashListBytes : List ℕ → List ℕ
 hashListBytes hs = shortest (length hs) ++ hashesBytes hs
 
--- What is written for a list that is lent as the bytes s: 4 for more than its limit, then 1 for a partial hash at its end.
+-- What is written for a list that is lent as the bytes s, after its tests.
 unfoldable pub hashListOutput : List ℕ → Output
-hashListOutput s =
-    cond (ltb (sizes .hashes * sizes .hash) (length s))
-    (Output.refuse (PastSize 0))
-    (cond (eqb (length s % sizes .hash) 0)
-    (Output.bytes (hashListBytes (hashesAt s 0 (length s / sizes .hash))))
-    (Output.refuse (Cut (sizes .hash * (length s / sizes .hash)))))
+hashListOutput s = afterPassed (passedHashes s) Output.refuse (λ n. Output.bytes (hashListBytes (hashesAt s 0 n)))

@@ -2,9 +2,9 @@
 use crate::leb128::put_unsigned;
 use crate::leb128::unsigned_size;
 use rules::output::Write;
+use rules::passed::Passed;
+use rules::passed::passed_hashes;
 use rules::refusal::Refusal;
-use rules::sizes::HASH_SIZE;
-use rules::sizes::HASHES;
 ghost use mathlib.Core.Path.{_≡_};
 ghost use Prim.Native.Nat.{_+_, _≤_};
 ghost use mathlib.Core.List.{_++_};
@@ -50,12 +50,8 @@ pub fn encode_bytes(out: &mut [u8], bytes: &[u8]) -> Write
 pub fn encode_hashes(out: &mut [u8], hashes: &[u8]) -> Write
     ensures { λ r. ⌜ Written (hashListOutput (now (hashes .entry))) (now (out .entry)) (now (out .exit)) r ⌝ }
 {
-    let count = hashes.len() / HASH_SIZE;
-    if HASHES * HASH_SIZE < hashes.len() {
-        return Write::Refused(Refusal::PastSize(0));
+    match passed_hashes(hashes) {
+        Passed::Refused(refusal) => Write::Refused(refusal),
+        Passed::Hashes(count) => encode(out, count as u64, hashes),
     }
-    if hashes.len() % HASH_SIZE != 0 {
-        return Write::Refused(Refusal::Cut(HASH_SIZE * count));
-    }
-    encode(out, count as u64, hashes)
 }

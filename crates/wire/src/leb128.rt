@@ -11,7 +11,7 @@ ghost use Rattle.wire.specs.Number.{shortest, numberAt, most64, mostFilt
 // The largest number of 64 bits.
 const MOST_64: u64 = 18_446_744_073_709_551_615;
 // The largest number in a filter.
-const MOST_FILTER: u64 = 4_294_967_295;
+pub const MOST_FILTER: u64 = 4_294_967_295;
 
 // A number that was read, and the place after it.
 pub enum Number {

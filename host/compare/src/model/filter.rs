@@ -158,11 +158,13 @@ pub fn contains(filter: &Filter, hash: &[u8]) -> bool {
 }
 
 /// What a call has to answer that is asked for a hash in the filters of haves:
-/// 10 for the haves, of which 16 are looked at; 4 for more of them; 4 or 1 for
-/// a hash of another length; else 1 for yes and 0 for no.
+/// 10 for the haves, of which 16 are looked at; 4 for more of them, or for more
+/// than 1,024 last-sync hashes of one; 4 or 1 for a hash of another length; else
+/// 1 for yes and 0 for no.
 pub fn contained(s: &[u8], haves: &[u64], hash: &[u8]) -> [u64; 4] {
     let answer = filters(s, haves).and_then(|filters| {
-        if filters.len() > HAVES || hash.len() > HASH {
+        let long = haves.chunks(HAVE_WORDS).any(|have| have[1] > HASHES);
+        if filters.len() > HAVES || long || hash.len() > HASH {
             Err((4, 0))
         } else if hash.len() < HASH {
             Err((1, 0))
@@ -193,10 +195,11 @@ fn filters<'a>(s: &'a [u8], haves: &[u64]) -> Result<Vec<Filter<'a>>, Refused> {
     Ok(records.map(filter).collect())
 }
 
-/// Whether a have's filter keeps the rules and its field stands inside the bytes.
-/// The last-sync hashes have no part in the question.
+/// Whether a have's last-sync hashes and its filter's field stand inside the
+/// bytes, and the filter keeps the rules.
 pub fn good_have(s: &[u8], have: &[u64]) -> bool {
-    keeps_rules(have[2], have[3], have[4], have[6].into())
+    at_place(s, have[0], HASH as u128 * u128::from(have[1])).is_some()
+        && keeps_rules(have[2], have[3], have[4], have[6].into())
         && at_place(s, have[5], have[6].into()).is_some()
 }
 

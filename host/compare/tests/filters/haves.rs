@@ -27,8 +27,13 @@ fn refused_haves() {
     let far = [most, most + 1, 1 << 59, 1 << 63, u64::MAX - 1, u64::MAX];
     // Word, value, and whether the have is still good.
     let mut cases = vec![
-        (0, 101, true),
-        (1, 1_025, true),
+        (0, 0, true),
+        (0, 36, true),
+        (0, 37, false),
+        (1, 0, true),
+        (1, 3, true),
+        (1, 4, false),
+        (1, 1_025, false),
         (2, 19, false),
         (2, 21, false),
         (2, 0, false),
@@ -45,9 +50,8 @@ fn refused_haves() {
         (6, 26, false),
         (6, 0, false),
     ];
-    // The last-sync words are not looked at.
     for word in 0..HAVE_WORDS {
-        cases.extend(far.map(|value| (word, value, word < 2)));
+        cases.extend(far.map(|value| (word, value, false)));
     }
     for (word, value, good) in cases {
         let mut have = GOOD;
@@ -74,6 +78,68 @@ fn refused_places() {
     assert_eq!(question(&s, &have(75), &HASH), [0, 1, 0, 0]);
     for place in [76, u64::MAX - 25, u64::MAX - 24, u64::MAX] {
         assert_eq!(question(&s, &have(place), &HASH), BAD, "{place}");
+    }
+}
+
+/// Places and numbers of last-sync hashes that just fit, stand one past the end, or
+/// whose product or sum wraps, against the model.
+#[test]
+fn refused_last_sync_places() {
+    let s = [0xff; 100];
+    let have = |place, count| [place, count, 20, 10, 7, 70, 25];
+    for (place, count) in [(0, 3), (4, 3), (68, 1), (100, 0)] {
+        let told = format!("{count} at {place}");
+        assert_eq!(
+            question(&s, &have(place, count), &HASH),
+            [0, 1, 0, 0],
+            "{told}"
+        );
+        let past = have(place + 1, count);
+        let expected = if place == 0 { [0, 1, 0, 0] } else { BAD };
+        assert_eq!(question(&s, &past, &HASH), expected, "past {told}");
+    }
+    // 2^59 hashes are 2^64 bytes.
+    let counts = [4, 1 << 27, 1 << 58, 1 << 59, (1 << 59) + 1, u64::MAX];
+    for count in counts {
+        for place in [0, 4, 100, u64::MAX - 31, u64::MAX] {
+            let told = format!("{count} at {place}");
+            assert_eq!(question(&s, &have(place, count), &HASH), BAD, "{told}");
+        }
+    }
+    for (place, count) in [(u64::MAX - 31, 1), (u64::MAX - 95, 3), (u64::MAX, 0)] {
+        let told = format!("{count} at {place}");
+        assert_eq!(question(&s, &have(place, count), &HASH), BAD, "{told}");
+    }
+}
+
+/// 1,024 and 1,025 last-sync hashes, all of them there, in one have and in one of
+/// several, against the model: 4 after 10, before the hash's length.
+#[test]
+fn too_many_last_sync_hashes() {
+    const LONG: [u64; 4] = [4, 0, 0, 0];
+    let s = vec![0xff; 32 * 1_025];
+    let have = |count| [0, count, 20, 10, 7, 70, 25];
+    let mut bad = GOOD;
+    bad[4] = 65;
+    for (count, expected) in [(1_024, [0, 1, 0, 0]), (1_025, LONG), (1_026, BAD)] {
+        let one = have(count);
+        assert_eq!(question(&s, &one, &HASH), expected, "{count}");
+        for before in [1, 7, 15] {
+            let several = [GOOD.repeat(before), one.to_vec()].concat();
+            assert_eq!(question(&s, &several, &HASH), expected, "{count}");
+        }
+        let seventeen = [one.to_vec(), GOOD.repeat(16)].concat();
+        let first = if count > 1_025 { BAD } else { LONG };
+        assert_eq!(question(&s, &seventeen, &HASH), first, "{count}");
+        // A bad have after it comes first, a hash of another length last.
+        let both = [one, bad].concat();
+        assert_eq!(question(&s, &both, &HASH), BAD, "{count}");
+        let short = if count > 1_024 {
+            expected
+        } else {
+            [1, 0, 0, 0]
+        };
+        assert_eq!(question(&s, &one, &HASH[..31]), short, "{count}");
     }
 }
 

@@ -16,7 +16,7 @@ count-unmarked-requires c κs = search needs
 mul-size : tie.Need-mul-size
 mul-size c =
     let start = c .before .before .before .before .before in
-    omega (arith, few-unmarked _ _ _ _ (c .count-unmarked .ensures), start .pre .few)
+    omega (arith, few-unmarked _ _ _ _ (c .count-unmarked .ensures), start .pre .0 .few)
 
 returns : tie.Need-returns
 returns c =
