@@ -13,5 +13,4 @@ bench: lib
 
 # The proved library as an archive that Rust and C link.
 lib:
-	@mkdir -p target
-	@rt staticlib sync > target/staticlib.log 2>&1 || { cat target/staticlib.log; exit 1; }
+	@bash .ci/lib

@@ -34,7 +34,7 @@ fn build() -> Result<(), String> {
         true => Way::Linked,
         false => Way::Emulated,
     };
-    write_calls(&here.join("../../crates/sync/src"), way)?;
+    write_calls(&here.join("../../crates"), way)?;
 
     let library = own.unwrap_or(here.join("../../target/staticlib/libsync.a"));
     println!("cargo::rerun-if-changed={}", library.display());
@@ -62,9 +62,9 @@ const ARGUMENTS: usize = 32;
 
 /// Writes calls.rs, which the module `raw` includes, and calls.h, which caller.c
 /// does.
-fn write_calls(source: &Path, way: Way) -> Result<(), String> {
-    println!("cargo::rerun-if-changed={}", source.display());
-    let functions = exported::read_folder(source)?;
+fn write_calls(crates: &Path, way: Way) -> Result<(), String> {
+    println!("cargo::rerun-if-changed={}", crates.display());
+    let functions = exported::read_crates(crates)?;
     if let Some(long) = functions.iter().find(|f| f.arguments() > ARGUMENTS) {
         let name = &long.name;
         return Err(format!("{name} has more than {ARGUMENTS} arguments in C"));
@@ -110,7 +110,7 @@ fn emulate(source: &Path, library: &Path) -> Result<(), String> {
         .args([&caller, source, library])
         .status();
     if !compiled.is_ok_and(|status| status.success()) {
-        let old = "after a change of crates/sync, `make lib` comes first";
+        let old = "after a change of an exported call, `make lib` comes first";
         return Err(format!(
             "the kit's clang didn't build src/raw/caller.c with it ({old})"
         ));

@@ -1,9 +1,9 @@
 //! The exported functions, read from where they are declared: the source of the
-//! proved crate `sync`. So no declaration of a call stands in host/, and none can
-//! differ from the library's.
+//! proved crates NAME_calls. So no declaration of a call stands in host/, and none
+//! can differ from the library's.
 
 use std::fs;
-use std::path::Path;
+use std::path::{Path, PathBuf};
 
 #[derive(Debug, PartialEq, Eq)]
 pub struct Function {
@@ -66,29 +66,45 @@ impl Parameter {
     }
 }
 
+const CALLS: &str = "_calls";
 const PREFIX: &str = "bt_";
 const MARK: &str = "#[no_mangle]";
 const START: &str = "pub extern \"C\" fn ";
 const NUMBERS: [&str; 6] = ["u8", "u16", "u32", "u64", "usize", "bool"];
 
-/// Every exported function of the files in a folder and below it.
-pub fn read_folder(folder: &Path) -> Result<Vec<Function>, String> {
+/// Every exported function of the proved crates that have some: NAME_calls.
+pub fn read_crates(crates: &Path) -> Result<Vec<Function>, String> {
+    let mut functions = Vec::new();
+    for path in entries(crates)? {
+        let name = path.file_name().unwrap_or_default().to_string_lossy();
+        if name.ends_with(CALLS) {
+            functions.extend(read_folder(&path.join("src"))?);
+        }
+    }
+    Ok(functions)
+}
+
+/// What stands in a folder, in the same order on every machine.
+fn entries(folder: &Path) -> Result<Vec<PathBuf>, String> {
     let told = |error| format!("{}: {error}", folder.display());
-    let entries = fs::read_dir(folder).map_err(told)?;
     let mut paths = Vec::new();
-    for entry in entries {
+    for entry in fs::read_dir(folder).map_err(told)? {
         paths.push(entry.map_err(told)?.path());
     }
-    // In the same order on every machine.
     paths.sort();
+    Ok(paths)
+}
+
+/// Every exported function of the files in a folder and below it.
+fn read_folder(folder: &Path) -> Result<Vec<Function>, String> {
     let mut functions = Vec::new();
-    for path in paths {
+    for path in entries(folder)? {
         if path.is_dir() {
             functions.extend(read_folder(&path)?);
         } else if path.extension().is_some_and(|end| end == "rt") {
-            let source = fs::read_to_string(&path).map_err(told)?;
-            let read = read_source(&source).map_err(|why| format!("{}: {why}", path.display()))?;
-            functions.extend(read);
+            let told = |why: String| format!("{}: {why}", path.display());
+            let source = fs::read_to_string(&path).map_err(|error| told(error.to_string()))?;
+            functions.extend(read_source(&source).map_err(told)?);
         }
     }
     Ok(functions)

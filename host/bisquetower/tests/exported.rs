@@ -4,7 +4,7 @@
 #[allow(dead_code)]
 mod exported;
 
-use exported::{read_folder, read_source, Function, Item, Kind, Lent};
+use exported::{read_crates, read_source, Function, Item, Kind, Lent};
 use std::path::Path;
 
 /// A function with every kind of parameter, and what the others stand in for.
@@ -99,7 +99,7 @@ fn other_functions_are_refused() {
 #[test]
 fn the_page_lists_every_call() {
     let root = Path::new(env!("CARGO_MANIFEST_DIR")).join("../..");
-    let mut found: Vec<String> = read_folder(&root.join("crates/sync/src"))
+    let mut found: Vec<String> = read_crates(&root.join("crates"))
         .unwrap()
         .into_iter()
         .map(|f| f.name)
