@@ -17,17 +17,17 @@ use Rattle.selection.proofs.members.mark_syncs.Statement.{statement}
 use Rattle.selection.proofs.members.mark_syncs.Tie as tie
 
 abbrev Inv-loop : tie.InvT-loop
-Inv-loop table n s haves next₀ total i₀ next i =
+Inv-loop table n s haves next₀ total k₀ next k =
     record {
-      upto : i ≤ total;
+      upto : k ≤ total;
       rest :
-          (k : ℕ) → k < n
-          → (getD next k false || member (hashOf (rowsAt table 0 n) k) (syncsFrom s haves total i))
-          ≡ member (hashOf (rowsAt table 0 n) k) (lastSyncs (havesOf s haves));
+          (i : ℕ) → i < n
+          → (getD next i false || member (hashOf (rowsAt table 0 n) i) (syncsFrom s haves total k))
+          ≡ member (hashOf (rowsAt table 0 n) i) (lastSyncs (havesOf s haves));
     }
 
 abbrev μ-loop : tie.MeasureT-loop
-μ-loop table n s haves next₀ total i₀ next i = total - i
+μ-loop table n s haves next₀ total k₀ next k = total - k
 
 loop-holds : tie.Need-loop-holds Inv-loop μ-loop
 loop-holds c =
@@ -61,10 +61,10 @@ mark-list-requires : tie.Need-mark-list-requires Inv-loop μ-loop
 mark-list-requires c κs =
     let l = c .before .before in
     let start = l .before .before .before .before .before in
-    (start .pre .0, start .pre .1 .each (l .before .loop .i) (l .loop-test .taken))
+    (start .pre .0, start .pre .1 .each (l .before .loop .k) (l .loop-test .taken))
 
-add-i : tie.Need-add-i Inv-loop μ-loop
-add-i c = search needs
+add-k : tie.Need-add-k Inv-loop μ-loop
+add-k c = search needs
 
 loop-less : tie.Need-loop-less Inv-loop μ-loop
 loop-less c = search needs
@@ -96,7 +96,7 @@ mark-syncs-spec =
     mul-count-2
     shared-slice-read-count
     mark-list-requires
-    add-i
+    add-k
     loop-less
     loop-again
     returns)
