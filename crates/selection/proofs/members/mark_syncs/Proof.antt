@@ -1,6 +1,6 @@
 -- `selection::members::mark_syncs` meets its contract: the marks that were, with the lists that are left, are the marks of all lists. Assumes
 -- nothing.
-use Prim.Native.Nat.{ℕ, _-_, _≤_, _<_}
+use Prim.Native.Nat.{ℕ, _-_, _<_}
 use mathlib.Core.Bool.{false, _||_}
 use mathlib.Core.Path.{_≡_, refl, sym, _∙_}
 use native.Mathlib.Omega.{arith}
@@ -19,7 +19,6 @@ use Rattle.selection.proofs.members.mark_syncs.Tie as tie
 abbrev Inv-loop : tie.InvT-loop
 Inv-loop table n s haves next₀ total k₀ next k =
     record {
-      upto : k ≤ total;
       rest :
           (i : ℕ) → i < n
           → (getD next i false || member (hashOf (rowsAt table 0 n) i) (syncsFrom s haves total k))
@@ -32,7 +31,6 @@ abbrev μ-loop : tie.MeasureT-loop
 loop-holds : tie.Need-loop-holds Inv-loop μ-loop
 loop-holds c =
     record {
-      upto = omega arith;
       rest = λ k h. rw (getD-replicate (sizes .rows) k false false (omega (arith, c .before .before .before .pre .0 .few))) (syncs-start _ _ _ refl _);
     }
 
@@ -73,7 +71,6 @@ loop-again : tie.Need-loop-again Inv-loop μ-loop
 loop-again c =
     let l = c .before .before .before in
     record {
-      upto = omega (arith, l .loop-test .taken);
       rest = λ k h. syncs-on _ _ _ _ _ (getD (l .before .loop .next) k false) _ (l .loop-test .taken) (c .mark-list .ensures .each k h) ∙ l .before .loop .inv .rest k h;
     }
 
