@@ -28,13 +28,13 @@ fn mark_syncs(table: &[u8], n: usize, s: &[u8], haves: &[u64]) -> [bool; ROWS]
 {
     let mut next = [false; ROWS];
     let total = haves.len() / HAVE_WORDS;
-    let mut i = 0;
-    while i < total {
-        let place = haves[i * HAVE_WORDS] as usize;
-        let count = haves[i * HAVE_WORDS + 1] as usize;
+    let mut k = 0;
+    while k < total {
+        let place = haves[k * HAVE_WORDS] as usize;
+        let count = haves[k * HAVE_WORDS + 1] as usize;
         let after = mark_list(table, n, s, place, count, next);
         next = after;
-        i += 1;
+        k += 1;
     }
     next
 }

@@ -1,6 +1,6 @@
 -- `selection::members::mark_syncs` meets its contract: the marks that were, with the lists that are left, are the marks of all lists. Assumes
 -- nothing.
-use Prim.Native.Nat.{ℕ, _-_, _≤_, _<_}
+use Prim.Native.Nat.{ℕ, _-_, _<_}
 use mathlib.Core.Bool.{false, _||_}
 use mathlib.Core.Path.{_≡_, refl, sym, _∙_}
 use native.Mathlib.Omega.{arith}
@@ -17,22 +17,20 @@ use Rattle.selection.proofs.members.mark_syncs.Statement.{statement}
 use Rattle.selection.proofs.members.mark_syncs.Tie as tie
 
 abbrev Inv-loop : tie.InvT-loop
-Inv-loop table n s haves next₀ total i₀ next i =
+Inv-loop table n s haves next₀ total k₀ next k =
     record {
-      upto : i ≤ total;
       rest :
-          (k : ℕ) → k < n
-          → (getD next k false || member (hashOf (rowsAt table 0 n) k) (syncsFrom s haves total i))
-          ≡ member (hashOf (rowsAt table 0 n) k) (lastSyncs (havesOf s haves));
+          (i : ℕ) → i < n
+          → (getD next i false || member (hashOf (rowsAt table 0 n) i) (syncsFrom s haves total k))
+          ≡ member (hashOf (rowsAt table 0 n) i) (lastSyncs (havesOf s haves));
     }
 
 abbrev μ-loop : tie.MeasureT-loop
-μ-loop table n s haves next₀ total i₀ next i = total - i
+μ-loop table n s haves next₀ total k₀ next k = total - k
 
 loop-holds : tie.Need-loop-holds Inv-loop μ-loop
 loop-holds c =
     record {
-      upto = omega arith;
       rest = λ k h. rw (getD-replicate (sizes .rows) k false false (omega (arith, c .before .before .before .pre .0 .few))) (syncs-start _ _ _ refl _);
     }
 
@@ -61,10 +59,10 @@ mark-list-requires : tie.Need-mark-list-requires Inv-loop μ-loop
 mark-list-requires c κs =
     let l = c .before .before in
     let start = l .before .before .before .before .before in
-    (start .pre .0, start .pre .1 .each (l .before .loop .i) (l .loop-test .taken))
+    (start .pre .0, start .pre .1 .each (l .before .loop .k) (l .loop-test .taken))
 
-add-i : tie.Need-add-i Inv-loop μ-loop
-add-i c = search needs
+add-k : tie.Need-add-k Inv-loop μ-loop
+add-k c = search needs
 
 loop-less : tie.Need-loop-less Inv-loop μ-loop
 loop-less c = search needs
@@ -73,7 +71,6 @@ loop-again : tie.Need-loop-again Inv-loop μ-loop
 loop-again c =
     let l = c .before .before .before in
     record {
-      upto = omega (arith, l .loop-test .taken);
       rest = λ k h. syncs-on _ _ _ _ _ (getD (l .before .loop .next) k false) _ (l .loop-test .taken) (c .mark-list .ensures .each k h) ∙ l .before .loop .inv .rest k h;
     }
 
@@ -96,7 +93,7 @@ mark-syncs-spec =
     mul-count-2
     shared-slice-read-count
     mark-list-requires
-    add-i
+    add-k
     loop-less
     loop-again
     returns)
