@@ -16,6 +16,7 @@ use Rattle.rules.specs.Sizes.{sizes}
 use Rattle.rules.specs.declared.refusal.Refusal.{Refusal}
 use Rattle.rules.proofs.Outputs.{sets-append}
 use Rattle.wire.specs.Item.{afterNumber, countAt, prefixedAt, hashListAt}
+use Rattle.wire.proofs.Item.{prefixed-inside}
 use Rattle.wire.specs.declared.leb128.Number.{Number}
 use Rattle.wire.specs.declared.leb128.Number.the-variants.{Value, Refused as NoCount}
 use Rattle.wire.specs.declared.parse.HashList.{HashList}
@@ -271,30 +272,51 @@ module _ (s : List ℕ) (at : ℕ) where
 
 -- ---- what stands behind items that were read
 
+-- the first of many items, and the rest
+module _ (one : ℕ → Item) (at : ℕ) (words : List ℕ) (next : ℕ) where
+  pub record ManyBehind (count : ℕ) : Type 0 where
+    pub first : List ℕ
+    pub more : List ℕ
+    pub after : ℕ
+    pub is : one at ≡ item first after
+    pub rest : manyAt one count after ≡ item more next
+    pub are : first ++ more ≡ words
+
+  pub many-behind : (count : ℕ) → manyAt one (suc count) at ≡ item words next → ManyBehind count
+  many-behind count e = go (one at) refl
+    where
+      rest : (first : List ℕ) (after : ℕ) → one at ≡ item first after → (i : Item) → manyAt one count after ≡ i → ManyBehind count
+      rest first after q (item more end) d =
+          let same : item (first ++ more) end ≡ item words next = sym (many-read one count at first after q more end d) ∙ e in
+          let l : end ≡ next = cc in
+          record { first = first; more = more; after = after; is = q; rest = d ∙ ap (item more) l; are = cc }
+      rest first after q (stopped r) d = not-item r words next (sym (many-later one count at first after q r d) ∙ e)
+
+      go : (i : Item) → one at ≡ i → ManyBehind count
+      go (item first after) q = rest first after q (manyAt one count after) refl
+      go (stopped r) q = not-item r words next (sym (many-stopped one count at r q) ∙ e)
+
+  pub none-behind : manyAt one 0 at ≡ item words next → (words ≡ []) × (at ≡ next)
+  unfolding manyAt
+  none-behind e = (cc, cc)
+
 -- many items of one size
 module _ (one : ℕ → Item) (size : ℕ) (sized : (at : ℕ) (words : List ℕ) (next : ℕ) → one at ≡ item words next → length words ≡ size) where
   pub many-sized : (count at : ℕ) (words : List ℕ) (next : ℕ) → manyAt one count at ≡ item words next → length words ≡ size * count
-  unfolding manyAt
-  many-sized zero at words next e =
-      let w : _≡_ {A = List ℕ} [] words = cc in
-      rw (← w) (omega arith)
-  many-sized (suc count) at words next e = first (many-sized count) (one at) refl
-    where
-      rest : (w : List ℕ) (after : ℕ) → one at ≡ item w after
-          → ((more : List ℕ) (end : ℕ) → manyAt one count after ≡ item more end → length more ≡ size * count)
-          → (i : Item) → manyAt one count after ≡ i → length words ≡ size * suc count
-      rest w after q again (item more end) d =
-          let same : item (w ++ more) end ≡ item words next = sym (many-read one count at w after q more end d) ∙ e in
-          let l : w ++ more ≡ words = cc in
-          let a = sized at w after q in
-          let b = again more end d in
-          rw (← l, length-append w more, mul-suc size count) (omega arith)
-      rest w after q again (stopped r) d = not-item r words next (sym (many-later one count at w after q r d) ∙ e)
+  many-sized zero at words next e = rw (none-behind one at words next e .0) (omega arith)
+  many-sized (suc count) at words next e =
+      let b = many-behind one at words next count e in
+      let x = sized at (b .first) (b .after) (b .is) in
+      let y = many-sized count (b .after) (b .more) next (b .rest) in
+      rw (← b .are, length-append (b .first) (b .more), mul-suc size count) (omega arith)
 
-      first : ((from : ℕ) (more : List ℕ) (end : ℕ) → manyAt one count from ≡ item more end → length more ≡ size * count)
-          → (i : Item) → one at ≡ i → length words ≡ size * suc count
-      first again (item w after) q = rest w after q (again after) (manyAt one count after) refl
-      first again (stopped r) q = not-item r words next (sym (many-stopped one count at r q) ∙ e)
+-- items that end below a bound
+module _ (one : ℕ → Item) (bound : ℕ) (below : (at : ℕ) (words : List ℕ) (next : ℕ) → one at ≡ item words next → next ≤ bound) where
+  pub many-below : (count at : ℕ) (words : List ℕ) (next : ℕ) → at ≤ bound → manyAt one count at ≡ item words next → next ≤ bound
+  many-below zero at words next h e = omega (arith, none-behind one at words next e .1)
+  many-below (suc count) at words next h e =
+      let b = many-behind one at words next count e in
+      many-below count (b .after) (b .more) next (below at (b .first) (b .after) (b .is)) (b .rest)
 
 -- a have and a chunk, from their words
 module _ (s : List ℕ) (at : ℕ) (words : List ℕ) (next : ℕ) where
@@ -371,6 +393,16 @@ have-sized s at words next e = rw (have-behind s at words next e .are)
 
 pub chunk-sized : (s : List ℕ) (at : ℕ) (words : List ℕ) (next : ℕ) → chunkItem s at ≡ item words next → length words ≡ chunkWords
 chunk-sized s at words next e = rw (chunk-behind s at words next e .are)
+
+pub have-below : (s : List ℕ) (at : ℕ) (words : List ℕ) (next : ℕ) → haveItem s at ≡ item words next → next ≤ length s
+have-below s at words next e =
+    let b = have-behind s at words next e in
+    prefixed-inside s (b .i) (length s) (b .from) next (b .part) .there
+
+pub chunk-below : (s : List ℕ) (at : ℕ) (words : List ℕ) (next : ℕ) → chunkItem s at ≡ item words next → next ≤ length s
+chunk-below s at words next e =
+    let b = chunk-behind s at words next e in
+    prefixed-inside s at (length s) (b .start) next (b .part) .there
 
 -- a list
 module _ (limit : ℕ) (one : ℕ → Item) (s : List ℕ) (at start count : ℕ) (words : List ℕ) (next : ℕ) where

@@ -72,7 +72,7 @@ use Rattle.decode.specs.declared.parse.Flagged.{Flagged}
 use Rattle.decode.specs.declared.parse.Flagged.the-variants.{Section as Sectioned, Refused as NoSection}
 use Rattle.decode.specs.declared.parse.Places.{Places}
 use Rattle.decode.specs.declared.parse.Run.{Run}
-use Rattle.decode.proofs.ItemLaws.{list-behind, many-sized, have-sized, chunk-sized}
+use Rattle.decode.proofs.ItemLaws.{list-behind, many-sized, many-below, have-sized, chunk-sized, have-below, chunk-below}
 
 -- ---- the first stage
 
@@ -315,6 +315,7 @@ module _ (s : List ℕ) (at start count : ℕ) (words : List ℕ) (next : ℕ) w
     pub there : start ≤ length s
     pub items : manyAt one count start ≡ item words next
     pub long : length words ≡ size * count
+    pub upTo : next ≤ length s
 
   pub haves-behind : havesAt s at ≡ list start count words next → ItemsBehind (sizes .haves) haveWords (haveItem s)
   unfolding havesAt
@@ -327,6 +328,7 @@ module _ (s : List ℕ) (at start count : ℕ) (words : List ℕ) (next : ℕ) w
         there = c .there;
         items = b .items;
         long = many-sized (haveItem s) haveWords (have-sized s) count start words next (b .items);
+        upTo = many-below (haveItem s) (length s) (have-below s) count start words next (c .there) (b .items);
       }
 
   pub chunks-behind : chunksAt s at ≡ list start count words next → ItemsBehind (sizes .chunks) chunkWords (chunkItem s)
@@ -340,6 +342,7 @@ module _ (s : List ℕ) (at start count : ℕ) (words : List ℕ) (next : ℕ) w
         there = c .there;
         items = b .items;
         long = many-sized (chunkItem s) chunkWords (chunk-sized s) count start words next (b .items);
+        upTo = many-below (chunkItem s) (length s) (chunk-below s) count start words next (c .there) (b .items);
       }
 
 -- ---- what the call leaves
