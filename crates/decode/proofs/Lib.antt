@@ -1,0 +1,5 @@
+-- Laws that the crates above cite.
+pub mod ItemLaws
+pub mod Messages
+pub mod ReadLaws
+pub mod Vectors

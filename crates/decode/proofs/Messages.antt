@@ -1,0 +1,301 @@
+-- Laws of messages that were read: one result a call, the order of the first refusals, how many words there are and where the parts stand, haves
+-- that pass every test of passed haves, and small flags.
+use Prim.Native.Nat.{ℕ, zero, suc, _+_, _-_, _*_, _/_, _%_, _^_, _≤_, _<_, min}
+use mathlib.Core.Bool.{Bool, true, false, _&&_}
+use mathlib.Core.List.{List, [], _∷_, _++_, append-assoc}
+use mathlib.Core.Path.{_≡_, refl, sym, _∙_, ap}
+use native.Mathlib.Nat.{mul-comm}
+use native.Mathlib.Omega.{arith}
+use borrow.Author.Tests.{le-leb, ltb-true, ltb-false, eq-eqb, eqb-true, eqb-false, leb-true, leb-false}
+use lib.Bits.{bitOr, or-lt}
+use lib.Dec.{ltb, leb, eqb}
+use lib.ListN.{length, getD, length-append}
+use lib.Seq.{slice, getD-append-add, getD-append-seam}
+use Rattle.bloom.specs.Filter.{filterRules}
+use Rattle.bloom.specs.Have.{haveWords, haveCount, filterGood, haveGood, havesGoodFrom, passedGood, syncsFew, passedFew}
+use Rattle.bloom.proofs.Filters.{filter-inside, filter-ruled}
+use Rattle.message.specs.Flags.{addFlags, flagsIn, flagsOf}
+use Rattle.message.specs.Message.{typeOf}
+use Rattle.message.specs.declared.flags.MessageFlags.{MessageFlags}
+use Rattle.message.specs.declared.flags.Section.{Section}
+use Rattle.message.specs.declared.flags.Section.the-variants.{Absent, Present}
+use Rattle.message.specs.declared.version.MessageVersion.{MessageVersion}
+use Rattle.message.specs.declared.version.MessageVersion.the-variants.{V1, V2}
+use Rattle.rules.specs.Hash.{Bytes}
+use Rattle.rules.specs.Sizes.{sizes}
+use Rattle.rules.specs.declared.refusal.Refusal.{Refusal}
+use Rattle.rules.specs.declared.refusal.Refusal.the-variants.{Cut, WrongType, PastSize}
+use Rattle.rules.proofs.Cases.{split}
+use Rattle.rules.proofs.Hash.{bytes-head, bytes-tail, bytes-slice}
+use Rattle.wire.specs.Item.{prefixedAt, hashListAt}
+use Rattle.wire.specs.declared.parse.HashList.{HashList}
+use Rattle.wire.specs.declared.parse.HashList.the-variants.{Hashes, Refused as NoHashes}
+use Rattle.wire.specs.declared.parse.Prefixed.{Prefixed}
+use Rattle.wire.specs.declared.parse.Prefixed.the-variants.{Part, Refused as NoPart}
+use Rattle.wire.proofs.Item.{prefixed-inside, hash-list-inside}
+use Rattle.decode.specs.Items.{haveItem, chunkItem, item, manyAt, chunkWords}
+use Rattle.decode.specs.Read.{read, refused, headsAt, openingAt, sectionAt, messageAt, DecodedInto}
+use Rattle.decode.specs.declared.opening.Opening.{Opening}
+use Rattle.decode.specs.declared.opening.Opening.the-variants.{Heads, Refused as NotOpened}
+use Rattle.decode.specs.declared.parse.Decoded.{Decoded}
+use Rattle.decode.specs.declared.parse.Flagged.the-variants.{Section as Sectioned, Refused as NoSection}
+use Rattle.decode.specs.declared.parse.Places.{Places}
+use Rattle.decode.proofs.ItemLaws.{none-behind, many-behind, have-behind, chunk-behind}
+use Rattle.decode.proofs.ReadLaws.{
+  heads-refused,
+  heads-read,
+  opening-long,
+  opening-empty,
+  opening-first,
+  opening-second,
+  opening-other,
+  section-none,
+  section-refused,
+  section-read,
+  message-refused,
+  message-behind,
+  haves-behind,
+  chunks-behind,
+}
+
+-- ---- one result
+
+pub decoded-once : (s haves₀ haves₁ haves₂ chunks₀ chunks₁ chunks₂ : List ℕ) (r₁ r₂ : Decoded)
+    → DecodedInto s haves₀ haves₁ chunks₀ chunks₁ r₁
+    → DecodedInto s haves₀ haves₂ chunks₀ chunks₂ r₂
+    → (r₁ ≡ r₂) × (haves₁ ≡ haves₂) × (chunks₁ ≡ chunks₂)
+decoded-once s haves₀ haves₁ haves₂ chunks₀ chunks₁ chunks₂ r₁ r₂ a b =
+    (a .answer ∙ sym (b .answer), a .haves ∙ sym (b .haves), a .chunks ∙ sym (b .chunks))
+
+-- ---- the first refusals, in their order
+
+module _ (s : List ℕ) where
+  pub message-long : sizes .message < length s → messageAt s ≡ refused (PastSize 0)
+  message-long h = message-refused s (PastSize 0) (opening-long s h)
+
+  pub message-empty : length s ≡ 0 → messageAt s ≡ refused (Cut 0)
+  message-empty e = message-refused s (Cut 0) (opening-empty s (omega arith) e)
+
+  pub message-other : 0 < length s → length s ≤ sizes .message → (getD s 0 0 ≡ typeOf V1 → ⊥) → (getD s 0 0 ≡ typeOf V2 → ⊥)
+      → messageAt s ≡ refused (WrongType (getD s 0 0))
+  message-other some small f g = message-refused s (WrongType (getD s 0 0)) (opening-other s small (omega arith) f g)
+
+-- ---- what stands behind the first stage and the last
+
+not-heads : {A : Type 0} (r : Refusal) (v : MessageVersion) (start count next : ℕ) → NotOpened r ≡ Heads v start count next → A
+not-heads r v start count next e = absurd (let z : _≡_ {A = ℕ} 0 1 = cc in omega arith)
+
+module _ (s : List ℕ) (version : MessageVersion) (start count next : ℕ) where
+  pub record OpeningBehind : Type 0 where
+    pub small : length s ≤ sizes .message
+    pub some : 0 < length s
+    pub type : getD s 0 0 ≡ typeOf version
+    pub heads : hashListAt s 1 (length s) ≡ Hashes start count next
+
+  heads-behind : (v : MessageVersion) → headsAt s v ≡ Heads version start count next
+      → (v ≡ version) × (hashListAt s 1 (length s) ≡ Hashes start count next)
+  heads-behind v e = go (hashListAt s 1 (length s)) refl
+    where
+      go : (x : HashList) → hashListAt s 1 (length s) ≡ x → (v ≡ version) × (hashListAt s 1 (length s) ≡ Hashes start count next)
+      go (Hashes a b c) q =
+          let same : Heads v a b c ≡ Heads version start count next = sym (heads-read s v a b c q) ∙ e in
+          let w : Hashes a b c ≡ Hashes start count next = cc in
+          (cc, q ∙ w)
+      go (NoHashes r) q = not-heads r version start count next (sym (heads-refused s v r q) ∙ e)
+
+  pub opening-behind : openingAt s ≡ Heads version start count next → OpeningBehind
+  opening-behind e =
+      split (ltb (sizes .message) (length s))
+      (λ t. not-heads _ _ _ _ _ (sym (opening-long s (ltb-true _ _ t)) ∙ e))
+      (λ t.
+      let small = ltb-false _ _ t in
+      split (eqb (length s) 0)
+      (λ u. not-heads _ _ _ _ _ (sym (opening-empty s small (eqb-true _ _ u)) ∙ e))
+      (λ u.
+      let some = eqb-false _ _ u in
+      split (eqb (getD s 0 0) (typeOf V1))
+      (λ v.
+      let is = eqb-true _ _ v in
+      let h = heads-behind V1 (sym (opening-first s small some is) ∙ e) in
+      record { small = small; some = omega arith; type = is ∙ ap typeOf (h .0); heads = h .1 })
+      (λ v.
+      let other = eqb-false _ _ v in
+      split (eqb (getD s 0 0) (typeOf V2))
+      (λ w.
+      let is = eqb-true _ _ w in
+      let h = heads-behind V2 (sym (opening-second s small some other is) ∙ e) in
+      record { small = small; some = omega arith; type = is ∙ ap typeOf (h .0); heads = h .1 })
+      (λ w. not-heads _ _ _ _ _ (sym (opening-other s small some other (eqb-false _ _ w)) ∙ e)))))
+
+not-sectioned : {A : Type 0} (r : Refusal) (flags : Section) (next : ℕ) → NoSection r ≡ Sectioned flags next → A
+not-sectioned r flags next e = absurd (let z : _≡_ {A = ℕ} 0 1 = cc in omega arith)
+
+-- A section that was read: there is none and no bytes remain, or it is a prefixed string.
+section-apart : {A : Type 0} (s : List ℕ) (at : ℕ) (flags : Section) (next : ℕ) → sectionAt s at ≡ Sectioned flags next
+    → (length s ≤ at → Sectioned Absent at ≡ Sectioned flags next → A)
+    → ((start end : ℕ) → at < length s → prefixedAt s at (length s) ≡ Part start end
+    → Sectioned (Present (flagsOf (flagsIn (slice start end s)))) end ≡ Sectioned flags next
+    → A)
+    → A
+section-apart {A} s at flags next e none some =
+    split (leb (length s) at)
+    (λ t. let h = leb-true _ _ t in none h (sym (section-none s at h) ∙ e))
+    (λ t. go (leb-false _ _ t) (prefixedAt s at (length s)) refl)
+  where
+    go : at < length s → (x : Prefixed) → prefixedAt s at (length s) ≡ x → A
+    go h (Part start end) q = some start end h q (sym (section-read s at h start end _ q refl) ∙ e)
+    go h (NoPart r) q = not-sectioned r flags next (sym (section-refused s at h r q) ∙ e)
+
+-- ---- words and places
+
+pub record MessageWords (s : List ℕ) (p : Places) (haves chunks : List ℕ) : Type 0 where
+  pub small : length s ≤ sizes .message
+  pub fewHeads : p .heads .count ≤ sizes .hashes
+  pub fewNeed : p .need .count ≤ sizes .hashes
+  pub fewHaves : p .haves .count ≤ sizes .haves
+  pub fewChunks : p .chunks .count ≤ sizes .chunks
+  pub haveLong : length haves ≡ haveWords * p .haves .count
+  pub chunkLong : length chunks ≡ chunkWords * p .chunks .count
+  pub headsThere : p .heads .start + sizes .hash * p .heads .count ≤ length s
+  pub needThere : p .need .start + sizes .hash * p .need .count ≤ length s
+  pub havesThere : p .haves .start ≤ length s
+  pub chunksThere : p .chunks .start ≤ length s
+  pub upTo : p .next ≤ length s
+
+pub message-words : (s : List ℕ) (p : Places) (haves chunks : List ℕ) → messageAt s ≡ read p haves chunks → MessageWords s p haves chunks
+message-words s p haves chunks e =
+    let b = message-behind s p haves chunks e in
+    let o = opening-behind s (p .version) (p .heads .start) (p .heads .count) (b .atNeed) (b .opening) in
+    let l = hash-list-inside s 1 (length s) (p .heads .start) (p .heads .count) (b .atNeed) (o .heads) in
+    let n = hash-list-inside s (b .atNeed) (length s) (p .need .start) (p .need .count) (b .atHaves) (b .need) in
+    let h = haves-behind s (b .atHaves) (p .haves .start) (p .haves .count) haves (b .atChunks) (b .haveList) in
+    let c = chunks-behind s (b .atChunks) (p .chunks .start) (p .chunks .count) chunks (b .atSection) (b .chunkList) in
+    record {
+      small = o .small;
+      fewHeads = l .small;
+      fewNeed = n .small;
+      fewHaves = h .few;
+      fewChunks = c .few;
+      haveLong = h .long;
+      chunkLong = c .long;
+      headsThere = omega (arith, l .whole, l .there);
+      needThere = omega (arith, n .whole, n .there);
+      havesThere = h .there;
+      chunksThere = c .there;
+      upTo =
+          section-apart s (b .atSection) (p .flags) (p .next) (b .section)
+          (λ past q. let w : b .atSection ≡ p .next = cc in omega (arith, c .upTo))
+          (λ start end here part q.
+          let w : end ≡ p .next = cc in
+          omega (arith, prefixed-inside s (b .atSection) (length s) start end part));
+    }
+
+-- ---- haves
+
+-- the words of record i, behind those of the records before it
+module _ (before more : List ℕ) (i x y n b p f z : ℕ) (long : length before ≡ i * haveWords) where
+  abbrev records : List ℕ
+  records = before ++ (x ∷ y ∷ n ∷ b ∷ p ∷ f ∷ z ∷ more)
+
+  first-word : getD records (i * haveWords) 0 ≡ x
+  first-word = rw (← long) (getD-append-seam before x (y ∷ n ∷ b ∷ p ∷ f ∷ z ∷ more) 0)
+
+  word : (j : ℕ) → getD records (i * haveWords + j) 0 ≡ getD (x ∷ y ∷ n ∷ b ∷ p ∷ f ∷ z ∷ more) j 0
+  word j = rw (← long) (getD-append-add before (x ∷ y ∷ n ∷ b ∷ p ∷ f ∷ z ∷ more) j 0)
+
+  one-good : (s : List ℕ) → x + sizes .hash * y ≤ length s → filterRules n b p z ≡ true → f + z ≤ length s → haveGood s records i ≡ true
+  unfolding haveGood filterGood
+  one-good s there rules inside =
+      rw (first-word, word 1, word 2, word 3, word 4, word 5, word 6, le-leb _ _ there, rules, le-leb _ _ inside)
+
+module _ (s : List ℕ) (all : Bytes s) where
+  -- so many records from record i on, their words standing behind those of the records before
+  records-good : (count i at : ℕ) (before words : List ℕ) (next : ℕ) → length before ≡ i * haveWords → manyAt (haveItem s) count at ≡ item words next
+      → (havesGoodFrom s (before ++ words) i count ≡ true) × (syncsFew (before ++ words) i count ≡ true)
+  unfolding havesGoodFrom syncsFew
+  records-good zero i at before words next long e = (refl, refl)
+  records-good (suc count) i at before words next long e =
+      let m = many-behind (haveItem s) at words next count e in
+      let h = have-behind s at (m .first) (m .after) (m .is) in
+      let l = hash-list-inside s at (length s) (h .start) (h .count) (h .i) (h .syncs) in
+      let q = prefixed-inside s (h .i) (length s) (h .from) (m .after) (h .part) in
+      let f = filter-inside s (h .from) (m .after) (h .n) (h .b) (h .p) (h .field) (h .size) (h .past) (h .filter) in
+      let r = filter-ruled s (h .from) (m .after) (h .n) (h .b) (h .p) (h .field) (h .size) (h .past) (h .filter) all in
+      let there : h .start + sizes .hash * h .count ≤ length s = omega arith in
+      let there2 : h .field + h .size ≤ length s = omega (arith, f .there (omega arith), f .whole) in
+      let w = h .are in
+      let first : List ℕ = h .start ∷ h .count ∷ h .n ∷ h .b ∷ h .p ∷ h .field ∷ h .size ∷ [] in
+      let is : before ++ (first ++ m .more) ≡ before ++ words = ap (λ (v : List ℕ). before ++ v) (ap (λ (v : List ℕ). v ++ m .more) (sym w) ∙ m .are) in
+      let good = one-good before (m .more) i (h .start) (h .count) (h .n) (h .b) (h .p) (h .field) (h .size) long s there r there2 in
+      let few : getD (before ++ (first ++ m .more)) (i * haveWords + 1) 0 ≡ h .count =
+          word before (m .more) i (h .start) (h .count) (h .n) (h .b) (h .p) (h .field) (h .size) long 1
+      in
+      let longer : length (before ++ first) ≡ suc i * haveWords = rw (length-append before first, long) (omega arith) in
+      let again = records-good count (suc i) (m .after) (before ++ first) (m .more) next longer (m .rest) in
+      let again2 = rw (append-assoc before first (m .more)) at again in
+      rw (← is) (rw (good, few, le-leb _ _ (l .small)) again2)
+
+pub haves-good : (s : List ℕ) → Bytes s → (p : Places) (haves chunks : List ℕ) → messageAt s ≡ read p haves chunks
+    → (passedGood s haves ≡ true) × (passedFew haves ≡ true)
+unfolding passedGood passedFew
+haves-good s all p haves chunks e =
+    let b = message-behind s p haves chunks e in
+    let h = haves-behind s (b .atHaves) (p .haves .start) (p .haves .count) haves (b .atChunks) (b .haveList) in
+    let g = records-good s all (p .haves .count) 0 (p .haves .start) [] haves (b .atChunks) refl (h .items) in
+    let whole : length haves % haveWords ≡ 0 = omega (arith, h .long) in
+    let many : haveCount haves ≡ p .haves .count = omega (arith, h .long) in
+    let few : p .haves .count ≤ sizes .haves = h .few in
+    let least : min (p .haves .count) (sizes .haves) ≡ p .haves .count = omega arith in
+    rw (eq-eqb _ _ whole, many, least, le-leb _ _ few) g
+
+-- ---- chunks
+
+pub chunks-inside : (s : List ℕ) (count at : ℕ) (words : List ℕ) (next : ℕ) → manyAt (chunkItem s) count at ≡ item words next
+    → (i : ℕ) → i < count → getD words (i * chunkWords) 0 + getD words (i * chunkWords + 1) 0 ≤ length s
+chunks-inside s zero at words next e i h = absurd (omega arith)
+chunks-inside s (suc count) at words next e zero h =
+    let m = many-behind (chunkItem s) at words next count e in
+    let c = chunk-behind s at (m .first) (m .after) (m .is) in
+    let q = prefixed-inside s at (length s) (c .start) (m .after) (c .part) in
+    let is : words ≡ c .start ∷ (m .after - c .start) ∷ m .more = sym (m .are) ∙ ap (λ (v : List ℕ). v ++ m .more) (c .are) in
+    rw is (omega arith)
+chunks-inside s (suc count) at words next e (suc i) h =
+    let m = many-behind (chunkItem s) at words next count e in
+    let c = chunk-behind s at (m .first) (m .after) (m .is) in
+    let is : words ≡ c .start ∷ (m .after - c .start) ∷ m .more = sym (m .are) ∙ ap (λ (v : List ℕ). v ++ m .more) (c .are) in
+    let a : suc i * chunkWords ≡ suc (suc (i * chunkWords)) = omega arith in
+    let b : suc i * chunkWords + 1 ≡ suc (suc (i * chunkWords + 1)) = omega arith in
+    rw (b, a, is) (chunks-inside s count (m .after) (m .more) next (m .rest) i (omega arith))
+
+pub chunks-good : (s : List ℕ) (p : Places) (haves chunks : List ℕ) → messageAt s ≡ read p haves chunks
+    → (i : ℕ) → i < p .chunks .count → getD chunks (i * chunkWords) 0 + getD chunks (i * chunkWords + 1) 0 ≤ length s
+chunks-good s p haves chunks e i h =
+    let b = message-behind s p haves chunks e in
+    let c = chunks-behind s (b .atChunks) (p .chunks .start) (p .chunks .count) chunks (b .atSection) (b .chunkList) in
+    chunks-inside s (p .chunks .count) (p .chunks .start) chunks (b .atSection) (c .items) i h
+
+-- ---- flags
+
+added-small : (bs : List ℕ) (f : ℕ) → Bytes bs → f < 0x80 → addFlags f bs < 0x80
+unfolding addFlags
+added-small [] f all h = h
+added-small (b ∷ bs) f all h =
+    split (ltb b 0x80)
+    (λ t. rw t (added-small bs f (bytes-tail b bs all) h))
+    (λ t.
+    let byte = bytes-head b bs all in
+    let more : bitOr f (b - 0x80) < 0x80 = or-lt 7 f (b - 0x80) h (omega (arith, ltb-false b 0x80 t)) in
+    rw t (added-small bs (bitOr f (b - 0x80)) (bytes-tail b bs all) more))
+
+pub flags-small : (s : List ℕ) → Bytes s → (p : Places) (haves chunks : List ℕ) (f : MessageFlags) → messageAt s ≡ read p haves chunks
+    → p .flags ≡ Present f
+    → f .0 < 0x80
+unfolding flagsIn
+flags-small s all p haves chunks f e is =
+    let b = message-behind s p haves chunks e in
+    section-apart s (b .atSection) (p .flags) (p .next) (b .section)
+    (λ past q. absurd (let a : _≡_ {A = Section} Absent (Present f) = cc in let z : _≡_ {A = ℕ} 0 1 = cc in omega arith))
+    (λ start end here part q.
+    let a : _≡_ {A = Section} (Present (flagsOf (flagsIn (slice start end s)))) (Present f) = cc in
+    let w : addFlags 0 (slice start end s) ≡ f .0 = cc in
+    rw (← w) (added-small (slice start end s) 0 (bytes-slice s start end all) (omega arith)))

@@ -1,0 +1,429 @@
+-- A message read: one law for each case of each stage; what stands behind a message that was read, stage by stage; and what the call leaves.
+use Prim.Native.Nat.{ℕ, zero, suc, _+_, _-_, _*_, _≤_, _<_}
+use mathlib.Core.List.{List, []}
+use mathlib.Core.Path.{_≡_, refl, sym, _∙_, ap, subst}
+use native.Mathlib.Omega.{arith}
+use borrow.Author.Tests.{lt-ltb, le-ltb, lt-leb, le-leb, ltb-true, ltb-false, eq-eqb, ne-eqb, eqb-true, eqb-false}
+use lib.Dec.{ltb, eqb}
+use lib.ListN.{length, getD}
+use lib.Seq.{slice, sets}
+use Rattle.bloom.specs.Have.{haveWords}
+use Rattle.message.specs.Flags.{flagsOf, flagsIn}
+use Rattle.message.specs.Message.{typeOf}
+use Rattle.message.specs.declared.flags.MessageFlags.{MessageFlags}
+use Rattle.message.specs.declared.flags.Section.{Section}
+use Rattle.message.specs.declared.flags.Section.the-variants.{Absent, Present}
+use Rattle.message.specs.declared.version.MessageVersion.{MessageVersion}
+use Rattle.message.specs.declared.version.MessageVersion.the-variants.{V1, V2}
+use Rattle.rules.specs.Sizes.{sizes}
+use Rattle.rules.specs.declared.refusal.Refusal.{Refusal}
+use Rattle.rules.specs.declared.refusal.Refusal.the-variants.{Cut, WrongType, PastSize, NoRoom}
+use Rattle.rules.proofs.Cases.{split}
+use Rattle.wire.specs.Item.{prefixedAt, hashListAt}
+use Rattle.wire.proofs.Item.{count-inside}
+use Rattle.wire.specs.declared.parse.HashList.{HashList}
+use Rattle.wire.specs.declared.parse.HashList.the-variants.{Hashes, Refused as NoHashes}
+use Rattle.wire.specs.declared.parse.Prefixed.the-variants.{Part, Refused as NoPart}
+use Rattle.decode.specs.Items.{
+  afterHashes,
+  afterPart,
+  haveItem,
+  chunkItem,
+  manyAt,
+  Item,
+  item,
+  afterItem,
+  ItemList,
+  list,
+  noList,
+  afterList,
+  havesAt,
+  chunksAt,
+  chunkWords,
+  listedOf,
+  wordsOf,
+  AllRead,
+}
+use Rattle.decode.specs.Read.{
+  Reading,
+  read,
+  refused,
+  run,
+  headsAt,
+  openingAt,
+  sectionAt,
+  afterOpening,
+  afterSection,
+  listsAt,
+  needAt,
+  messageAt,
+  decodedOf,
+  roomFor,
+  havesInto,
+  chunksInto,
+  DecodedInto,
+}
+use Rattle.decode.specs.declared.items.Listed.the-variants.{Items, Refused as NotListed}
+use Rattle.decode.specs.declared.opening.Opening.{Opening}
+use Rattle.decode.specs.declared.opening.Opening.the-variants.{Heads, Refused as NotOpened}
+use Rattle.decode.specs.declared.parse.Decoded.{Decoded}
+use Rattle.decode.specs.declared.parse.Decoded.the-variants.{Message as Placed, Refused}
+use Rattle.decode.specs.declared.parse.Flagged.{Flagged}
+use Rattle.decode.specs.declared.parse.Flagged.the-variants.{Section as Sectioned, Refused as NoSection}
+use Rattle.decode.specs.declared.parse.Places.{Places}
+use Rattle.decode.specs.declared.parse.Run.{Run}
+use Rattle.decode.proofs.ItemLaws.{list-behind, many-sized, many-below, have-sized, chunk-sized, have-below, chunk-below}
+
+-- ---- the first stage
+
+module _ (s : List ℕ) (version : MessageVersion) where
+  pub heads-refused : (r : Refusal) → hashListAt s 1 (length s) ≡ NoHashes r → headsAt s version ≡ NotOpened r
+  unfolding headsAt afterHashes
+  heads-refused r e = rw e
+
+  pub heads-read : (start count next : ℕ) → hashListAt s 1 (length s) ≡ Hashes start count next → headsAt s version ≡ Heads version start count next
+  unfolding headsAt afterHashes
+  heads-read start count next e = rw e
+
+module _ (s : List ℕ) where
+  pub opening-long : sizes .message < length s → openingAt s ≡ NotOpened (PastSize 0)
+  unfolding openingAt
+  opening-long h = rw (lt-ltb _ _ h)
+
+  module _ (small : length s ≤ sizes .message) where
+    pub opening-empty : length s ≡ 0 → openingAt s ≡ NotOpened (Cut 0)
+    unfolding openingAt
+    opening-empty e = rw (le-ltb _ _ small, eq-eqb _ _ e)
+
+    module _ (some : length s ≡ 0 → ⊥) where
+      pub opening-first : getD s 0 0 ≡ typeOf V1 → openingAt s ≡ headsAt s V1
+      unfolding openingAt
+      opening-first e = rw (le-ltb _ _ small, ne-eqb _ _ some, eq-eqb _ _ e)
+
+      module _ (other : getD s 0 0 ≡ typeOf V1 → ⊥) where
+        pub opening-second : getD s 0 0 ≡ typeOf V2 → openingAt s ≡ headsAt s V2
+        unfolding openingAt
+        opening-second e = rw (le-ltb _ _ small, ne-eqb _ _ some, ne-eqb _ _ other, eq-eqb _ _ e)
+
+        pub opening-other : (getD s 0 0 ≡ typeOf V2 → ⊥) → openingAt s ≡ NotOpened (WrongType (getD s 0 0))
+        unfolding openingAt
+        opening-other f = rw (le-ltb _ _ small, ne-eqb _ _ some, ne-eqb _ _ other, ne-eqb _ _ f)
+
+-- ---- the flags section
+
+module _ (s : List ℕ) (at : ℕ) where
+  pub section-none : length s ≤ at → sectionAt s at ≡ Sectioned Absent at
+  unfolding sectionAt
+  section-none h = rw (le-leb _ _ h)
+
+  module _ (more : at < length s) where
+    pub section-refused : (r : Refusal) → prefixedAt s at (length s) ≡ NoPart r → sectionAt s at ≡ NoSection r
+    unfolding sectionAt afterPart
+    section-refused r e = rw (lt-leb _ _ more, e)
+
+    pub section-read : (start end : ℕ) (m : MessageFlags) → prefixedAt s at (length s) ≡ Part start end
+        → m ≡ flagsOf (flagsIn (slice start end s))
+        → sectionAt s at ≡ Sectioned (Present m) end
+    unfolding sectionAt afterPart
+    section-read start end m e f = rw (lt-leb _ _ more, e, f)
+
+-- ---- lists without their words
+
+pub listed-refused : (l : ItemList) (r : Refusal) → listedOf l ≡ NotListed r → l ≡ noList r
+unfolding listedOf afterList
+listed-refused (list start count words next) r e = absurd (let z : _≡_ {A = ℕ} 0 1 = cc in omega arith)
+listed-refused (noList q) r e = cc
+
+pub listed-items : (l : ItemList) (start count next : ℕ) → listedOf l ≡ Items start count next
+    → record { words : List ℕ; is : l ≡ list start count words next }
+unfolding listedOf afterList
+listed-items (list start₁ count₁ words next₁) start count next e = record { words = words; is = cc }
+listed-items (noList q) start count next e = absurd (let z : _≡_ {A = ℕ} 0 1 = cc in omega arith)
+
+-- ---- the stages after the first
+
+module _ (s : List ℕ) (version : MessageVersion) (heads need : Run) (at : ℕ) where
+  pub lists-no-haves : (r : Refusal) → listedOf (havesAt s at) ≡ NotListed r → decodedOf (listsAt s version heads need at) ≡ Refused r
+  unfolding listsAt afterList decodedOf
+  lists-no-haves r e = rw (listed-refused (havesAt s at) r e)
+
+  module _ (start count i : ℕ) (haves : listedOf (havesAt s at) ≡ Items start count i) where
+    pub lists-no-chunks : (r : Refusal) → listedOf (chunksAt s i) ≡ NotListed r → decodedOf (listsAt s version heads need at) ≡ Refused r
+    unfolding listsAt afterList decodedOf
+    lists-no-chunks r e =
+        let h = listed-items (havesAt s at) start count i haves in
+        rw (h .is, listed-refused (chunksAt s i) r e)
+
+    module _ (from many j : ℕ) (chunks : listedOf (chunksAt s i) ≡ Items from many j) where
+      pub lists-no-section : (r : Refusal) → sectionAt s j ≡ NoSection r → decodedOf (listsAt s version heads need at) ≡ Refused r
+      unfolding listsAt afterList afterSection decodedOf
+      lists-no-section r e =
+          let h = listed-items (havesAt s at) start count i haves in
+          let c = listed-items (chunksAt s i) from many j chunks in
+          rw (h .is, c .is, e)
+
+      pub lists-read : (flags : Section) (next : ℕ) → sectionAt s j ≡ Sectioned flags next
+          → decodedOf (listsAt s version heads need at)
+          ≡ Placed
+          (record {
+            version = version;
+            heads = heads;
+            need = need;
+            haves = run start count;
+            chunks = run from many;
+            flags = flags;
+            next = next;
+          })
+      unfolding listsAt afterList afterSection decodedOf
+      lists-read flags next e =
+          let h = listed-items (havesAt s at) start count i haves in
+          let c = listed-items (chunksAt s i) from many j chunks in
+          rw (h .is, c .is, e)
+
+module _ (s : List ℕ) (version : MessageVersion) (heads : Run) (at : ℕ) where
+  pub need-refused : (r : Refusal) → hashListAt s at (length s) ≡ NoHashes r → needAt s version heads at ≡ refused r
+  unfolding needAt afterHashes
+  need-refused r e = rw e
+
+  pub need-read : (start count next : ℕ) → hashListAt s at (length s) ≡ Hashes start count next
+      → needAt s version heads at ≡ listsAt s version heads (run start count) next
+  unfolding needAt afterHashes
+  need-read start count next e = rw e
+
+  -- the same in places alone
+  pub need-gone : (r : Refusal) → hashListAt s at (length s) ≡ NoHashes r → decodedOf (needAt s version heads at) ≡ Refused r
+  unfolding decodedOf
+  need-gone r e = rw (need-refused r e)
+
+  pub need-lists : (start count next : ℕ) → hashListAt s at (length s) ≡ Hashes start count next
+      → decodedOf (needAt s version heads at) ≡ decodedOf (listsAt s version heads (run start count) next)
+  need-lists start count next e = ap decodedOf (need-read start count next e)
+
+module _ (s : List ℕ) where
+  pub message-refused : (r : Refusal) → openingAt s ≡ NotOpened r → messageAt s ≡ refused r
+  unfolding messageAt afterOpening
+  message-refused r e = rw e
+
+  pub message-opened : (version : MessageVersion) (start count next : ℕ) → openingAt s ≡ Heads version start count next
+      → messageAt s ≡ needAt s version (run start count) next
+  unfolding messageAt afterOpening
+  message-opened version start count next e = rw e
+
+  pub message-gone : (r : Refusal) → openingAt s ≡ NotOpened r → decodedOf (messageAt s) ≡ Refused r
+  unfolding decodedOf
+  message-gone r e = rw (message-refused r e)
+
+  pub message-need : (version : MessageVersion) (start count next : ℕ) → openingAt s ≡ Heads version start count next
+      → decodedOf (messageAt s) ≡ decodedOf (needAt s version (run start count) next)
+  message-need version start count next e = ap decodedOf (message-opened version start count next e)
+
+-- ---- what stands behind a message that was read
+
+pub not-read : {A : Type 0} (r : Refusal) (p : Places) (haves chunks : List ℕ) → refused r ≡ read p haves chunks → A
+not-read r p haves chunks e = absurd (let z : _≡_ {A = ℕ} 0 1 = cc in omega arith)
+
+-- The stages, and the places between them.
+pub record MessageBehind (s : List ℕ) (p : Places) (haves chunks : List ℕ) : Type 0 where
+  pub atNeed : ℕ
+  pub atHaves : ℕ
+  pub atChunks : ℕ
+  pub atSection : ℕ
+  pub opening : openingAt s ≡ Heads (p .version) (p .heads .start) (p .heads .count) atNeed
+  pub need : hashListAt s atNeed (length s) ≡ Hashes (p .need .start) (p .need .count) atHaves
+  pub haveList : havesAt s atHaves ≡ list (p .haves .start) (p .haves .count) haves atChunks
+  pub chunkList : chunksAt s atChunks ≡ list (p .chunks .start) (p .chunks .count) chunks atSection
+  pub section : sectionAt s atSection ≡ Sectioned (p .flags) (p .next)
+
+module _ (s : List ℕ) (p : Places) (haves chunks : List ℕ) where
+  same-behind : (q : Places) (hw cw : List ℕ) → read q hw cw ≡ read p haves chunks → MessageBehind s q hw cw → MessageBehind s p haves chunks
+  same-behind q hw cw e m =
+      let a : q ≡ p = cc in
+      let b : hw ≡ haves = cc in
+      let c : cw ≡ chunks = cc in
+      subst (λ (x : Places). MessageBehind s x haves chunks) a
+      (subst (λ (w : List ℕ). MessageBehind s q haves w) c (subst (λ (w : List ℕ). MessageBehind s q w cw) b m))
+
+  pub message-behind : messageAt s ≡ read p haves chunks → MessageBehind s p haves chunks
+  unfolding messageAt needAt listsAt afterOpening afterHashes afterList afterSection
+  message-behind e = opened (openingAt s) refl
+    where
+      sectioned : (version : MessageVersion) (heads need hs cs : Run) (i j k l : ℕ) (hw cw : List ℕ)
+          → openingAt s ≡ Heads version (heads .start) (heads .count) i
+          → hashListAt s i (length s) ≡ Hashes (need .start) (need .count) j
+          → havesAt s j ≡ list (hs .start) (hs .count) hw k
+          → chunksAt s k ≡ list (cs .start) (cs .count) cw l
+          → (x : Flagged) → sectionAt s l ≡ x → MessageBehind s p haves chunks
+      sectioned version heads need hs cs i j k l hw cw o n h c (Sectioned flags next) f =
+          let q : Places = record { version = version; heads = heads; need = need; haves = hs; chunks = cs; flags = flags; next = next } in
+          let is : messageAt s ≡ read q hw cw = rw (o, n, h, c, f) in
+          same-behind q hw cw (sym is ∙ e)
+          (record {
+            atNeed = i;
+            atHaves = j;
+            atChunks = k;
+            atSection = l;
+            opening = o;
+            need = n;
+            haveList = h;
+            chunkList = c;
+            section = f;
+          })
+      sectioned version heads need hs cs i j k l hw cw o n h c (NoSection r) f =
+          let is : messageAt s ≡ refused r = rw (o, n, h, c, f) in
+          not-read r p haves chunks (sym is ∙ e)
+
+      chunked : (version : MessageVersion) (heads need hs : Run) (i j k : ℕ) (hw : List ℕ)
+          → openingAt s ≡ Heads version (heads .start) (heads .count) i
+          → hashListAt s i (length s) ≡ Hashes (need .start) (need .count) j
+          → havesAt s j ≡ list (hs .start) (hs .count) hw k
+          → (x : ItemList) → chunksAt s k ≡ x → MessageBehind s p haves chunks
+      chunked version heads need hs i j k hw o n h (list start count cw l) c =
+          sectioned version heads need hs (run start count) i j k l hw cw o n h c (sectionAt s l) refl
+      chunked version heads need hs i j k hw o n h (noList r) c =
+          let is : messageAt s ≡ refused r = rw (o, n, h, c) in
+          not-read r p haves chunks (sym is ∙ e)
+
+      haved : (version : MessageVersion) (heads need : Run) (i j : ℕ)
+          → openingAt s ≡ Heads version (heads .start) (heads .count) i
+          → hashListAt s i (length s) ≡ Hashes (need .start) (need .count) j
+          → (x : ItemList) → havesAt s j ≡ x → MessageBehind s p haves chunks
+      haved version heads need i j o n (list start count hw k) h =
+          chunked version heads need (run start count) i j k hw o n h (chunksAt s k) refl
+      haved version heads need i j o n (noList r) h =
+          let is : messageAt s ≡ refused r = rw (o, n, h) in
+          not-read r p haves chunks (sym is ∙ e)
+
+      needed : (version : MessageVersion) (heads : Run) (i : ℕ) → openingAt s ≡ Heads version (heads .start) (heads .count) i
+          → (x : HashList) → hashListAt s i (length s) ≡ x → MessageBehind s p haves chunks
+      needed version heads i o (Hashes start count j) n = haved version heads (run start count) i j o n (havesAt s j) refl
+      needed version heads i o (NoHashes r) n =
+          let is : messageAt s ≡ refused r = rw (o, n) in
+          not-read r p haves chunks (sym is ∙ e)
+
+      opened : (x : Opening) → openingAt s ≡ x → MessageBehind s p haves chunks
+      opened (Heads version start count i) o = needed version (run start count) i o (hashListAt s i (length s)) refl
+      opened (NotOpened r) o =
+          let is : messageAt s ≡ refused r = rw o in
+          not-read r p haves chunks (sym is ∙ e)
+
+-- ---- how many words there are
+
+module _ (s : List ℕ) (at start count : ℕ) (words : List ℕ) (next : ℕ) where
+  pub record ItemsBehind (limit size : ℕ) (one : ℕ → Item) : Type 0 where
+    pub few : count ≤ limit
+    pub after : at < start
+    pub there : start ≤ length s
+    pub items : manyAt one count start ≡ item words next
+    pub long : length words ≡ size * count
+    pub upTo : next ≤ length s
+
+  pub haves-behind : havesAt s at ≡ list start count words next → ItemsBehind (sizes .haves) haveWords (haveItem s)
+  unfolding havesAt
+  haves-behind e =
+      let b = list-behind (sizes .haves) (haveItem s) s at start count words next e in
+      let c = count-inside (sizes .haves) s at (length s) count start (b .number) in
+      record {
+        few = c .small;
+        after = c .after;
+        there = c .there;
+        items = b .items;
+        long = many-sized (haveItem s) haveWords (have-sized s) count start words next (b .items);
+        upTo = many-below (haveItem s) (length s) (have-below s) count start words next (c .there) (b .items);
+      }
+
+  pub chunks-behind : chunksAt s at ≡ list start count words next → ItemsBehind (sizes .chunks) chunkWords (chunkItem s)
+  unfolding chunksAt
+  chunks-behind e =
+      let b = list-behind (sizes .chunks) (chunkItem s) s at start count words next e in
+      let c = count-inside (sizes .chunks) s at (length s) count start (b .number) in
+      record {
+        few = c .small;
+        after = c .after;
+        there = c .there;
+        items = b .items;
+        long = many-sized (chunkItem s) chunkWords (chunk-sized s) count start words next (b .items);
+        upTo = many-below (chunkItem s) (length s) (chunk-below s) count start words next (c .there) (b .items);
+      }
+
+-- ---- what the call leaves
+
+pub placed : (x : Reading) (p : Places) → decodedOf x ≡ Placed p → record { haves : List ℕ; chunks : List ℕ; is : x ≡ read p haves chunks }
+unfolding decodedOf
+placed (read q haves chunks) p e = record { haves = haves; chunks = chunks; is = cc }
+placed (refused r) p e = absurd (let z : _≡_ {A = ℕ} 0 1 = cc in omega arith)
+
+pub not-placed : (x : Reading) (r : Refusal) → decodedOf x ≡ Refused r → x ≡ refused r
+unfolding decodedOf
+not-placed (read q haves chunks) r e = absurd (let z : _≡_ {A = ℕ} 0 1 = cc in omega arith)
+not-placed (refused q) r e = cc
+
+pub decode-refused : (s haves₀ chunks₀ : List ℕ) (r : Refusal) → decodedOf (messageAt s) ≡ Refused r
+    → DecodedInto s haves₀ haves₀ chunks₀ chunks₀ (Refused r)
+unfolding roomFor decodedOf havesInto chunksInto
+decode-refused s haves₀ chunks₀ r e =
+    let q = not-placed (messageAt s) r e in
+    record { answer = rw q; haves = rw q; chunks = rw q }
+
+module _ (s : List ℕ) (p : Places) (is : decodedOf (messageAt s) ≡ Placed p) where
+  words : record { haves : List ℕ; chunks : List ℕ; is : messageAt s ≡ read p haves chunks }
+  words = placed (messageAt s) p is
+
+  stages : MessageBehind s p (words .haves) (words .chunks)
+  stages = message-behind s p (words .haves) (words .chunks) (words .is)
+
+  have-words : ItemsBehind s (stages .atHaves) (p .haves .start) (p .haves .count) (words .haves) (stages .atChunks) (sizes .haves) haveWords (haveItem s)
+  have-words = haves-behind s (stages .atHaves) (p .haves .start) (p .haves .count) (words .haves) (stages .atChunks) (stages .haveList)
+
+  chunk-words : ItemsBehind s (stages .atChunks) (p .chunks .start) (p .chunks .count) (words .chunks) (stages .atSection) (sizes .chunks) chunkWords (chunkItem s)
+  chunk-words = chunks-behind s (stages .atChunks) (p .chunks .start) (p .chunks .count) (words .chunks) (stages .atSection) (stages .chunkList)
+
+  pub few-haves : p .haves .count ≤ sizes .haves
+  few-haves = have-words .few
+
+  pub few-chunks : p .chunks .count ≤ sizes .chunks
+  few-chunks = chunk-words .few
+
+  pub haves-read : (room : ℕ) → haveWords * p .haves .count ≤ room → AllRead (manyAt (haveItem s) (p .haves .count) (p .haves .start)) room
+  haves-read room h =
+      record { words = words .haves; next = stages .atChunks; is = have-words .items; fits = omega (arith, have-words .long) }
+
+  pub chunks-read : (room : ℕ) → chunkWords * p .chunks .count ≤ room → AllRead (manyAt (chunkItem s) (p .chunks .count) (p .chunks .start)) room
+  chunks-read room h =
+      record { words = words .chunks; next = stages .atSection; is = chunk-words .items; fits = omega (arith, chunk-words .long) }
+
+  module _ (haves₀ chunks₀ : List ℕ) where
+    pub haves-short : length haves₀ < haveWords * p .haves .count
+        → DecodedInto s haves₀ haves₀ chunks₀ chunks₀ (Refused (NoRoom (haveWords * p .haves .count)))
+    unfolding roomFor decodedOf havesInto chunksInto
+    haves-short h =
+        let l = have-words .long in
+        let short : length haves₀ < length (words .haves) = omega arith in
+        let t = lt-ltb _ _ short in
+        record { answer = rw (words .is, t, l); haves = rw (words .is, t); chunks = rw (words .is, t) }
+
+    module _ (room : haveWords * p .haves .count ≤ length haves₀) where
+      pub chunks-short : length chunks₀ < chunkWords * p .chunks .count
+          → DecodedInto s haves₀ haves₀ chunks₀ chunks₀ (Refused (NoRoom (chunkWords * p .chunks .count)))
+      unfolding roomFor decodedOf havesInto chunksInto
+      chunks-short h =
+          let l = chunk-words .long in
+          let fits : length (words .haves) ≤ length haves₀ = omega (arith, have-words .long) in
+          let short : length chunks₀ < length (words .chunks) = omega arith in
+          let f = le-ltb _ _ fits in
+          let t = lt-ltb _ _ short in
+          record { answer = rw (words .is, f, t, l); haves = rw (words .is, f, t); chunks = rw (words .is, f, t) }
+
+      module _ (more : chunkWords * p .chunks .count ≤ length chunks₀) where
+        pub decoded : (haves₁ chunks₁ : List ℕ)
+            → haves₁ ≡ sets haves₀ 0 (wordsOf (manyAt (haveItem s) (p .haves .count) (p .haves .start)))
+            → chunks₁ ≡ sets chunks₀ 0 (wordsOf (manyAt (chunkItem s) (p .chunks .count) (p .chunks .start)))
+            → DecodedInto s haves₀ haves₁ chunks₀ chunks₁ (Placed p)
+        unfolding roomFor decodedOf havesInto chunksInto wordsOf afterItem
+        decoded haves₁ chunks₁ a b =
+            let fits : length (words .haves) ≤ length haves₀ = omega (arith, have-words .long) in
+            let room : length (words .chunks) ≤ length chunks₀ = omega (arith, chunk-words .long) in
+            let f = le-ltb _ _ fits in
+            let g = le-ltb _ _ room in
+            let x : haves₁ ≡ sets haves₀ 0 (words .haves) = rw (have-words .items) at a in
+            let y : chunks₁ ≡ sets chunks₀ 0 (words .chunks) = rw (chunk-words .items) at b in
+            record { answer = rw (words .is, f, g); haves = rw (words .is, f, g) x; chunks = rw (words .is, f, g) y }
