@@ -11,13 +11,17 @@
 //! The library and the model must agree in every word. The library and the crate
 //! must agree in values, places and kinds of refusals, but for the differences
 //! that are intended (`Difference`, and `filters::Difference` for filters), and
-//! there they must differ. `tables` has the calls on tables; the crate's graph
-//! can't be had, and its stand-in takes the crate's place there.
+//! there they must differ. `messages` has whole messages and `selections` the
+//! hashes to send; their models are also held against the crate alone. `tables`
+//! has the calls on tables; the crate's graph can't be had, and its stand-in takes
+//! the crate's place there.
 
 pub mod filters;
 pub mod inputs;
+pub mod messages;
 pub mod model;
 pub mod published;
+pub mod selections;
 pub mod table_inputs;
 pub mod table_model;
 pub mod tables;

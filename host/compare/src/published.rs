@@ -3,7 +3,7 @@
 
 use crate::model::filter::Filter;
 use bisquetower::raw::{Read, Reader};
-use crate_under_test::facade::{self, BloomFilter, ChangeHash, FilterParts, Kind};
+use crate_under_test::facade::{self, BloomFilter, ChangeHash, FilterParts, Kind, Message};
 
 /// What the crate makes of a read.
 pub struct Answer {
@@ -64,6 +64,15 @@ pub fn read_filter(part: &[u8]) -> Result<FilterParts, u64> {
         Ok(filter) => Ok(facade::filter_parts(&filter)),
         Err(kind) => Err(refusal_number(kind)),
     }
+}
+
+/// The message that the crate reads, or the refusal's number that the kind of its
+/// error is, and for 2 the byte.
+pub fn read_message(s: &[u8]) -> Result<Message, (u64, u64)> {
+    facade::read_message(s).map_err(|kind| match kind {
+        Kind::WrongType(byte) => (2, byte.into()),
+        kind => (refusal_number(kind), 0),
+    })
 }
 
 /// The crate's filter with these parts; none if it can't have them.
