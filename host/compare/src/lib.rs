@@ -30,6 +30,7 @@ pub mod vectors;
 use bisquetower::raw::{self, Read, Reader};
 use filters::Build;
 use model::filter::Filter;
+use model::message::Parts;
 
 pub const READERS: [Reader; 4] = [
     Reader::Number,
@@ -173,6 +174,7 @@ pub enum Write<'a> {
     Filter(Filter<'a>),
     /// The field of the filter over hashes.
     Built(Build<'a>),
+    Message(Parts<'a>),
 }
 
 impl Write<'_> {
@@ -183,6 +185,7 @@ impl Write<'_> {
             Write::Hashes(hashes) => format!("the hashes {}", inputs::shown(hashes)),
             Write::Filter(filter) => filters::shown(&filter),
             Write::Built(build) => build.shown(),
+            Write::Message(parts) => messages::shown(&parts),
         }
     }
 
@@ -193,6 +196,7 @@ impl Write<'_> {
             Write::Hashes(hashes) => raw::write_hashes(out, hashes),
             Write::Filter(f) => raw::write_filter(out, f.entries, f.bits, f.probes, f.field),
             Write::Built(b) => raw::build_filter(out, b.bits, b.probes, b.hashes),
+            Write::Message(parts) => messages::write(&parts, out),
         }
     }
 
@@ -203,6 +207,7 @@ impl Write<'_> {
             Write::Hashes(hashes) => model::hash_list_bytes(hashes),
             Write::Filter(filter) => model::filter::bytes(&filter),
             Write::Built(b) => model::filter::built(b.bits, b.probes, b.hashes),
+            Write::Message(parts) => model::message::bytes(&parts),
         }
     }
 
@@ -223,6 +228,7 @@ impl Write<'_> {
                 Some(filter.to_bytes())
             }
             Write::Built(build) => build.published(),
+            Write::Message(parts) => Some(published::message(&parts).encode()),
         }
     }
 }

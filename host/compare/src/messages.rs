@@ -1,6 +1,7 @@
-//! Messages read and written: what a reader says of a message, beside the crate's
-//! message, and what is written of the parts that were read, beside what the crate
-//! writes of its own.
+//! Messages read and written: the library against the model in every word, of the
+//! two lists and around them too; what a reader says of a message beside the
+//! crate's message, and what is written of the parts that were read beside what
+//! the crate writes of its own.
 
 use crate::inputs;
 use crate::model::filter::HAVE_WORDS;
@@ -9,6 +10,8 @@ use crate::model::message::{ANSWER_WORDS, CHUNK_WORDS, NO_FLAGS};
 use crate::model::{self, Refused};
 use crate::published;
 use crate::table_model::HASH;
+use crate::GUARD;
+use bisquetower::raw::{self, Batch};
 use crate_under_test::facade::{self, ChangeHash, Message, MessageVersion};
 
 /// What a reader says of a message: its answer, and the records of its lists.
@@ -257,4 +260,237 @@ pub fn compare_model<S: AsRef<[u8]>>(messages: &[S]) -> Result<Tally, String> {
         }
     }
     Ok(tally)
+}
+
+pub fn shown(parts: &Parts) -> String {
+    let Parts {
+        version,
+        heads,
+        need,
+        s,
+        haves,
+        chunks,
+        lengths,
+        flags,
+    } = parts;
+    let [heads, need, chunks] = [heads, need, chunks].map(|bytes| bytes.len());
+    let some = &lengths[..lengths.len().min(8)];
+    let (bytes, lengths) = (s.len(), lengths.len());
+    format!(
+        "a message of version {version}, {heads} bytes of heads, {need} of need, haves {haves:?} \
+         over {bytes} bytes, {lengths} chunks {some:?} of {chunks} bytes, flags {flags}"
+    )
+}
+
+/// What the library writes.
+pub fn write(p: &Parts, out: &mut [u8]) -> [u64; 4] {
+    raw::write_message(
+        out, p.version, p.heads, p.need, p.s, p.haves, p.chunks, p.lengths, p.flags,
+    )
+}
+
+/// Lent words with some around them; `flip` makes each another, so that over two
+/// flips a stray write of either is seen.
+fn pattern(room: usize, flip: u64) -> Vec<u64> {
+    let word = |k: usize| (k as u64 + 3).wrapping_mul(0x0123_4567_89ab_cdef) ^ flip;
+    (0..room + 2 * GUARD).map(word).collect()
+}
+
+fn lent(memory: &mut [u64]) -> &mut [u64] {
+    let end = memory.len() - GUARD;
+    &mut memory[GUARD..end]
+}
+
+/// A read with its two lists, before and after.
+struct Asked<'a> {
+    s: &'a [u8],
+    expected: [u64; ANSWER_WORDS],
+    expected_lists: [Vec<u64>; 2],
+    answer: [u64; ANSWER_WORDS],
+    lists: [Vec<u64>; 2],
+}
+
+impl<'a> Asked<'a> {
+    fn new(s: &'a [u8], expected: &Expected, rooms: [usize; 2], flip: u64) -> Self {
+        let lists = rooms.map(|room| pattern(room, flip));
+        let mut expected_lists = lists.clone();
+        let [haves, chunks] = &mut expected_lists;
+        let words = model::message::answer(&expected.read, lent(haves), lent(chunks));
+        Asked {
+            s,
+            expected: words,
+            expected_lists,
+            answer: [raw::UNWRITTEN; ANSWER_WORDS],
+            lists,
+        }
+    }
+
+    fn ask<'m>(&'m mut self, batch: &mut Batch<'m>) {
+        let [haves, chunks] = &mut self.lists;
+        batch.read_message(self.s, lent(haves), lent(chunks), &mut self.answer);
+    }
+
+    fn agrees(&self) -> Result<(), String> {
+        let (answer, expected) = (self.answer, self.expected);
+        let rooms = self.lists.each_ref().map(|list| list.len() - 2 * GUARD);
+        let told = || format!("{} into {rooms:?} words", inputs::shown(self.s));
+        if answer != expected {
+            let told = told();
+            return Err(format!(
+                "{told}: the library's answer is {answer:?}, the model's {expected:?}"
+            ));
+        }
+        let names = ["haves", "chunks"];
+        for ((list, expected), name) in self.lists.iter().zip(&self.expected_lists).zip(names) {
+            let mut words = list.iter().zip(expected);
+            if let Some(k) = words.position(|(word, expected)| word != expected) {
+                let (told, place) = (told(), k as i64 - GUARD as i64);
+                let word = list[k];
+                return Err(format!("{told}: word {place} of the {name} is {word}"));
+            }
+        }
+        Ok(())
+    }
+
+    fn reading(&self) -> Reading<'_> {
+        let [haves, chunks] = &self.lists;
+        Reading {
+            s: self.s,
+            words: self.answer,
+            haves: &haves[GUARD..haves.len() - GUARD],
+            chunks: &chunks[GUARD..chunks.len() - GUARD],
+        }
+    }
+}
+
+/// Words that a list of the comparisons has more than are wanted.
+const SPARE: usize = 3;
+
+/// Compares what the library says of these messages, with room to spare, with what
+/// the model and the crate say, and what it writes of those that are read with
+/// what both write. The first that disagrees is the error.
+pub fn compare<S: AsRef<[u8]>>(messages: &[S]) -> Result<Tally, String> {
+    let mut asked: Vec<Asked> = Vec::with_capacity(messages.len());
+    for s in messages.iter().map(AsRef::as_ref) {
+        let expected = Expected::of(s);
+        let rooms = [&expected.haves, &expected.chunks].map(|list| list.len() + SPARE);
+        let flip = [0, u64::MAX][asked.len() % 2];
+        asked.push(Asked::new(s, &expected, rooms, flip));
+    }
+    let mut batch = Batch::new();
+    for one in &mut asked {
+        one.ask(&mut batch);
+    }
+    batch.run();
+
+    let mut tally = Tally::default();
+    let mut again = Vec::new();
+    for one in &asked {
+        one.agrees()?;
+        let reading = one.reading();
+        let beside = reading.beside_crate();
+        let beside = beside.map_err(|why| format!("{}: {why}", inputs::shown(one.s)))?;
+        tally.count(&reading.words, &beside);
+        if let Beside::Read(message) = beside {
+            again.push(Rewritten::new(reading, *message));
+        }
+    }
+    let mut batch = Batch::new();
+    for one in &mut again {
+        one.ask(&mut batch);
+    }
+    batch.run();
+    for one in &again {
+        let told = |why| format!("{} written again: {why}", inputs::shown(one.reading.s));
+        one.agrees().map_err(told)?;
+    }
+    tally.rewritten = again.len() as u64;
+    Ok(tally)
+}
+
+/// A message that was read, to be written again: what the crate writes, and what
+/// the library does, into a buffer that is longer.
+struct Rewritten<'a> {
+    reading: Reading<'a>,
+    chunks: Chunks,
+    published: Vec<u8>,
+    answer: [u64; 4],
+    out: Vec<u8>,
+}
+
+impl<'a> Rewritten<'a> {
+    fn new(reading: Reading<'a>, message: Message) -> Self {
+        let published = message.encode();
+        Rewritten {
+            reading,
+            chunks: Chunks::of(&reading),
+            answer: [raw::UNWRITTEN; 4],
+            out: vec![0x5a; published.len() + SPARE],
+            published,
+        }
+    }
+
+    fn ask<'m>(&'m mut self, batch: &mut Batch<'m>) {
+        let p = self.reading.parts(&self.chunks);
+        batch.write_message(
+            &mut self.out,
+            p.version,
+            p.heads,
+            p.need,
+            p.s,
+            p.haves,
+            p.chunks,
+            p.lengths,
+            p.flags,
+            &mut self.answer,
+        );
+    }
+
+    fn agrees(&self) -> Result<(), String> {
+        let parts = self.reading.parts(&self.chunks);
+        let wanted = model::message::bytes(&parts);
+        let mut expected = vec![0x5a; self.out.len()];
+        let words = model::write(&mut expected, wanted.clone());
+        let answer = self.answer;
+        if answer != words {
+            return Err(format!(
+                "the library's answer is {answer:?}, the model's {words:?}"
+            ));
+        }
+        if self.out != expected {
+            return Err("the bytes aren't the model's".to_string());
+        }
+        match wanted {
+            Ok(bytes) if bytes != self.published => {
+                Err("the model's bytes aren't the crate's".to_string())
+            }
+            _ => Ok(()),
+        }
+    }
+}
+
+/// Compares the library's answers with the model's for lists of these sizes, over
+/// both patterns; returns the answers.
+pub fn compare_lists(s: &[u8], rooms: &[[usize; 2]]) -> Result<Vec<[u64; ANSWER_WORDS]>, String> {
+    let expected = Expected::of(s);
+    let flips = [0, u64::MAX];
+    let each = rooms
+        .iter()
+        .flat_map(|&rooms| flips.map(|flip| (rooms, flip)));
+    let mut asked: Vec<Asked> = each
+        .map(|(rooms, flip)| Asked::new(s, &expected, rooms, flip))
+        .collect();
+    let mut batch = Batch::new();
+    for one in &mut asked {
+        one.ask(&mut batch);
+    }
+    batch.run();
+    for one in &asked {
+        one.agrees()?;
+    }
+    Ok(asked
+        .iter()
+        .step_by(flips.len())
+        .map(|one| one.answer)
+        .collect())
 }

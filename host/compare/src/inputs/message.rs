@@ -1,7 +1,10 @@
 //! Messages that are worth trying: drafts, good or bad, random ones, and a few
 //! good ones of telling shapes to be cut and damaged.
 
+use super::selection::{lend, OwnHave};
 use super::{overlong, Random};
+use crate::model::filter::field_size;
+use crate::model::message::Parts;
 use crate::model::{number_bytes, prefixed_bytes};
 use crate::table_model::{Hash, HASH};
 
@@ -58,6 +61,34 @@ impl Draft {
         }
         bytes.extend(&self.after);
         bytes
+    }
+}
+
+/// A message that is to be written, with what it owns.
+#[derive(Clone, Debug, Default)]
+pub struct OwnParts {
+    pub version: u64,
+    pub heads: Vec<u8>,
+    pub need: Vec<u8>,
+    pub s: Vec<u8>,
+    pub haves: Vec<u64>,
+    pub chunks: Vec<u8>,
+    pub lengths: Vec<u64>,
+    pub flags: u64,
+}
+
+impl OwnParts {
+    pub fn parts(&self) -> Parts<'_> {
+        Parts {
+            version: self.version,
+            heads: &self.heads,
+            need: &self.need,
+            s: &self.s,
+            haves: &self.haves,
+            chunks: &self.chunks,
+            lengths: &self.lengths,
+            flags: self.flags,
+        }
     }
 }
 
@@ -195,6 +226,46 @@ impl Random {
                 true => self.few_bytes(6),
                 false => Vec::new(),
             },
+        }
+    }
+
+    /// A message to be written that keeps every rule.
+    pub fn own_parts(&mut self) -> OwnParts {
+        let haves: Vec<OwnHave> = (0..self.few(4)).map(|_| self.own_have()).collect();
+        let (s, haves) = lend(&haves, self);
+        let lengths: Vec<u64> = (0..self.few(6)).map(|_| self.below(20) as u64).collect();
+        let surplus = self.below(8).saturating_sub(4);
+        let length = lengths.iter().sum::<u64>() as usize + surplus;
+        OwnParts {
+            version: self.below(4) as u64,
+            heads: self.few_hashes(5).concat(),
+            need: self.few_hashes(4).concat(),
+            s,
+            haves,
+            chunks: self.bytes(length),
+            lengths,
+            flags: match self.one_in(3) {
+                true => self.number(),
+                false => self.below(0x80) as u64,
+            },
+        }
+    }
+
+    fn own_have(&mut self) -> OwnHave {
+        let last_sync = self.few_hashes(3);
+        let numbers = match self.below(4) {
+            0 => [0, 10, 7],
+            1 => [0, self.number() >> 32, self.number() >> 32],
+            _ => {
+                let (entries, bits) = self.entries_and_bits();
+                [entries, bits, self.below(65) as u64]
+            }
+        };
+        let size = field_size(numbers[0], numbers[1]) as usize;
+        OwnHave {
+            last_sync,
+            numbers,
+            field: self.bytes(size),
         }
     }
 
