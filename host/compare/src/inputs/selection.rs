@@ -4,7 +4,7 @@
 use super::filter::hash_of;
 use super::Random;
 use crate::model::filter::{built, field_size, Filter, HAVE_WORDS};
-use crate::table_inputs::{table_bytes, waiting_bytes, Likeness, LIKENESSES, SHAPES};
+use crate::table_inputs::{table_bytes, waiting_bytes, LIKENESSES, SHAPES};
 use crate::table_model::{Hash, HASH};
 use std::ops::Range;
 
@@ -173,24 +173,6 @@ impl Random {
             last_sync,
             numbers,
             field: self.field(size),
-        }
-    }
-
-    /// A table of so many rows whose hashes are spread, for sizes at their limits.
-    pub fn plain_case(&mut self, rows: usize, haves: usize) -> Case {
-        let hashes = self.hashes(rows, Likeness::Spread);
-        let shape = self.of(&SHAPES);
-        let table = table_bytes(&self.rows_of(&hashes, shape));
-        let unknown = self.hashes(4, Likeness::Spread);
-        let haves = (0..haves)
-            .map(|_| self.have_of(&hashes, &unknown))
-            .collect();
-        let need = (0..8).map(|_| self.of(&hashes)).collect();
-        Case {
-            table,
-            waiting: Vec::new(),
-            haves,
-            need,
         }
     }
 }
