@@ -11,7 +11,9 @@
 
 mod filter;
 mod measure;
+mod message;
 mod runs;
+mod selection;
 mod tables;
 mod wire;
 
@@ -27,6 +29,8 @@ fn main() -> ExitCode {
         wire::measure_all();
         filter::measure_all();
         tables::measure_all();
+        message::measure_all();
+        selection::measure_all();
         return ExitCode::SUCCESS;
     }
     let processor = std::env::consts::ARCH;

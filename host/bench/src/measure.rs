@@ -10,6 +10,10 @@ pub const BATCHES: usize = 10;
 /// How long a batch takes at least.
 const BATCH: Duration = Duration::from_millis(4);
 
+/// What the name of a line ends in that measures a part of another line's calls; the
+/// table then has the difference of the two as well.
+pub const REST: &str = ": rest";
+
 /// What is measured.
 pub struct Line<'a> {
     pub name: &'a str,
@@ -57,46 +61,79 @@ impl Times {
 /// Measures both sides. A run of a side makes all of the calls and returns a
 /// number made of their answers; the two must be equal, so that neither side can
 /// be fast by doing something else.
-pub fn line(line: Line, mut library: impl FnMut() -> u64, mut published: impl FnMut() -> u64) {
-    assert_eq!(library(), published(), "{}, {}", line.name, line.size);
+pub fn line(what: Line, mut library: impl FnMut() -> u64, mut published: impl FnMut() -> u64) {
+    assert_eq!(library(), published(), "{}, {}", what.name, what.size);
+    let library = |runs| time(&mut library, runs);
+    let published = |runs| time(&mut published, runs);
+    measure(what, library, published);
+}
+
+/// The same for a call of the crate that takes away what it is given: each run gets
+/// one of its own, made before the clock starts, so many at a time.
+pub fn line_of<T>(
+    what: Line,
+    mut library: impl FnMut() -> u64,
+    at_a_time: usize,
+    mut given: impl FnMut() -> T,
+    mut published: impl FnMut(T) -> u64,
+) {
+    let theirs = published(given());
+    assert_eq!(library(), theirs, "{}, {}", what.name, what.size);
+    let library = |runs| time(&mut library, runs);
+    let published = |runs: usize| {
+        let mut time = Duration::ZERO;
+        let mut left = runs;
+        while left > 0 {
+            let some: Vec<T> = (0..left.min(at_a_time)).map(|_| given()).collect();
+            left -= some.len();
+            let start = Instant::now();
+            for one in some {
+                black_box(published(one));
+            }
+            time += start.elapsed();
+        }
+        time
+    };
+    measure(what, library, published);
+}
+
+/// Measures two sides that tell how long so many runs take.
+fn measure(
+    what: Line,
+    mut library: impl FnMut(usize) -> Duration,
+    mut published: impl FnMut(usize) -> Duration,
+) {
     let library_runs = runs_in_a_batch(&mut library);
     let published_runs = runs_in_a_batch(&mut published);
     let (mut ours, mut theirs) = (f64::MAX, f64::MAX);
+    let nanoseconds = |time: Duration, runs: usize| time.as_nanos() as f64 / runs as f64;
     for _ in 0..BATCHES {
-        ours = ours.min(nanoseconds(&mut library, library_runs));
-        theirs = theirs.min(nanoseconds(&mut published, published_runs));
+        ours = ours.min(nanoseconds(library(library_runs), library_runs));
+        theirs = theirs.min(nanoseconds(published(published_runs), published_runs));
     }
     let times = Times {
-        name: line.name.to_string(),
-        size: line.size.to_string(),
-        library: ours / line.calls as f64,
-        published: theirs / line.calls as f64,
-        note: line.note.to_string(),
+        name: what.name.to_string(),
+        size: what.size.to_string(),
+        library: ours / what.calls as f64,
+        published: theirs / what.calls as f64,
+        note: what.note.to_string(),
     };
     times.write();
 }
 
 /// How many runs fill a batch. Finding it out warms the side up.
-fn runs_in_a_batch(side: &mut impl FnMut() -> u64) -> usize {
+fn runs_in_a_batch(side: &mut impl FnMut(usize) -> Duration) -> usize {
     let mut runs = 1;
-    loop {
-        let start = Instant::now();
-        run(side, runs);
-        if start.elapsed() >= BATCH {
-            return runs;
-        }
+    while side(runs) < BATCH {
         runs *= 2;
     }
+    runs
 }
 
-fn nanoseconds(side: &mut impl FnMut() -> u64, runs: usize) -> f64 {
+fn time(side: &mut impl FnMut() -> u64, runs: usize) -> Duration {
     let start = Instant::now();
-    run(side, runs);
-    start.elapsed().as_nanos() as f64 / runs as f64
-}
-
-fn run(side: &mut impl FnMut() -> u64, runs: usize) {
     for _ in 0..runs {
         black_box(side());
     }
+    start.elapsed()
 }

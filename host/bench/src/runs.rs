@@ -4,7 +4,7 @@
 //! of a few nanoseconds takes up to twice as long in some places; so no one run
 //! tells its time.
 
-use crate::measure::{Times, BATCHES};
+use crate::measure::{Times, BATCHES, REST};
 use std::process::Command;
 
 /// The word that asks for one run: its lines, unadorned.
@@ -28,6 +28,7 @@ pub fn print_best() -> Result<(), String> {
         ["name", "size", "library", "crate", "ratio", "growth"],
         "note",
     );
+    best.extend(differences(&best));
     for (k, times) in best.iter().enumerate() {
         let above = k.checked_sub(1).map(|k| &best[k]);
         let smaller = above.filter(|above| above.name == times.name);
@@ -52,9 +53,27 @@ pub fn print_best() -> Result<(), String> {
     Ok(())
 }
 
+/// Of every two lines of which one is the other's rest: the other without it.
+fn differences(lines: &[Times]) -> Vec<Times> {
+    let pairs = lines.iter().filter_map(|whole| {
+        let rest = format!("{}{REST}", whole.name);
+        let is_rest = |line: &&Times| line.name == rest && line.size == whole.size;
+        Some((whole, lines.iter().find(is_rest)?))
+    });
+    pairs
+        .map(|(whole, rest)| Times {
+            name: format!("{}: own", whole.name),
+            size: whole.size.clone(),
+            library: whole.library - rest.library,
+            published: whole.published - rest.published,
+            note: "the difference of two lines above".to_string(),
+        })
+        .collect()
+}
+
 fn print_columns([name, size, library, published, ratio, growth]: [&str; 6], note: &str) {
     let line = format!(
-        "{name:<18} {size:<13} {library:>12} {published:>12} {ratio:>8} {growth:>8}  {note}"
+        "{name:<20} {size:<13} {library:>12} {published:>12} {ratio:>8} {growth:>8}  {note}"
     );
     println!("{}", line.trim_end());
 }

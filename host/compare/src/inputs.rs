@@ -2,6 +2,8 @@
 //! random items, damaged.
 
 pub mod filter;
+pub mod message;
+pub mod selection;
 
 use crate::model::{number_bytes, prefixed_bytes};
 use std::fmt::Write as _;

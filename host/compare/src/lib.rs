@@ -11,14 +11,18 @@
 //! The library and the model must agree in every word. The library and the crate
 //! must agree in values, places and kinds of refusals, but for the differences
 //! that are intended (`Difference`, and `filters::Difference` for filters), and
-//! there they must differ. `tables` has the calls on tables; the crate's graph
-//! can't be had, and its stand-in takes the crate's place there. `states` has
-//! sessions and saved states.
+//! there they must differ. `messages` has whole messages and `selections` the
+//! hashes to send; their models are also held against the crate alone. `tables`
+//! has the calls on tables; the crate's graph can't be had, and its stand-in takes
+//! the crate's place there. `states` has sessions and saved
+//! states.
 
 pub mod filters;
 pub mod inputs;
+pub mod messages;
 pub mod model;
 pub mod published;
+pub mod selections;
 pub mod states;
 pub mod table_inputs;
 pub mod table_model;
@@ -28,6 +32,7 @@ pub mod vectors;
 use bisquetower::raw::{self, Read, Reader};
 use filters::Build;
 use model::filter::Filter;
+use model::message::Parts;
 
 pub const READERS: [Reader; 4] = [
     Reader::Number,
@@ -176,6 +181,7 @@ pub enum Write<'a> {
         shared: &'a [u8],
         count: usize,
     },
+    Message(Parts<'a>),
 }
 
 impl Write<'_> {
@@ -189,6 +195,7 @@ impl Write<'_> {
             Write::State { shared, count } => {
                 format!("a state of {count} in {}", inputs::shown(shared))
             }
+            Write::Message(parts) => messages::shown(&parts),
         }
     }
 
@@ -200,6 +207,7 @@ impl Write<'_> {
             Write::Filter(f) => raw::write_filter(out, f.entries, f.bits, f.probes, f.field),
             Write::Built(b) => raw::build_filter(out, b.bits, b.probes, b.hashes),
             Write::State { shared, count } => raw::write_state(out, shared, count),
+            Write::Message(parts) => messages::write(&parts, out),
         }
     }
 
@@ -211,6 +219,7 @@ impl Write<'_> {
             Write::Filter(filter) => model::filter::bytes(&filter),
             Write::Built(b) => model::filter::built(b.bits, b.probes, b.hashes),
             Write::State { shared, count } => model::state::bytes(shared, count),
+            Write::Message(parts) => model::message::bytes(&parts),
         }
     }
 
@@ -232,6 +241,7 @@ impl Write<'_> {
             }
             Write::Built(build) => build.published(),
             Write::State { shared, count } => Some(published::state_bytes(&shared[..32 * count])),
+            Write::Message(parts) => Some(published::message(&parts).encode()),
         }
     }
 }

@@ -3,6 +3,8 @@
 //! walking byte after byte and hash after hash, with no eye to speed.
 
 pub mod filter;
+pub mod message;
+pub mod selection;
 pub mod state;
 
 use bisquetower::raw::{Read, Reader};

@@ -2,8 +2,10 @@
 //! crate says them.
 
 use crate::model::filter::Filter;
+use crate::model::message::{self, Parts};
 use bisquetower::raw::{Read, Reader};
 use crate_under_test::facade::{self, BloomFilter, ChangeHash, FilterParts, Kind, State};
+use crate_under_test::facade::{ChunkList, Have, Message, MessageVersion};
 
 /// What the crate makes of a read.
 pub struct Answer {
@@ -66,6 +68,47 @@ pub fn read_filter(part: &[u8]) -> Result<FilterParts, u64> {
     }
 }
 
+/// The message that the crate reads, or the refusal's number that the kind of its
+/// error is, and for 2 the byte.
+pub fn read_message(s: &[u8]) -> Result<Message, (u64, u64)> {
+    facade::read_message(s).map_err(|kind| match kind {
+        Kind::WrongType(byte) => (2, byte.into()),
+        kind => (refusal_number(kind), 0),
+    })
+}
+
+/// The crate's message with these parts, which the model writes.
+pub fn message(parts: &Parts) -> Message {
+    let (mut left, mut chunks) = (parts.chunks, Vec::new());
+    for &length in parts.lengths {
+        let (chunk, after) = left.split_at(length as usize);
+        chunks.push(chunk.to_vec());
+        left = after;
+    }
+    let flags = u8::try_from(parts.flags).ok();
+    Message {
+        heads: change_hashes(parts.heads),
+        need: change_hashes(parts.need),
+        have: haves(parts.s, parts.haves),
+        changes: ChunkList::from(chunks),
+        flags: flags.map(facade::flags_of),
+        version: match parts.version {
+            2 => MessageVersion::V2,
+            _ => MessageVersion::V1,
+        },
+    }
+}
+
+/// The crate's haves of good records over lent bytes.
+pub fn haves(s: &[u8], records: &[u64]) -> Vec<Have> {
+    let haves = message::haves(s, records).expect("good haves");
+    let have = |have: message::Have| Have {
+        last_sync: change_hashes(have.last_sync),
+        bloom: filter(&have.filter).expect("the crate has every filter"),
+    };
+    haves.into_iter().map(have).collect()
+}
+
 /// The crate's filter with these parts; none if it can't have them.
 pub fn filter(filter: &Filter) -> Option<BloomFilter> {
     facade::filter_of(&FilterParts {
@@ -104,4 +147,8 @@ pub fn read_state(s: &[u8]) -> Result<State, [u64; 2]> {
 
 pub fn change_hash(hash: &[u8]) -> ChangeHash {
     ChangeHash(hash.try_into().expect("32 bytes"))
+}
+
+pub fn change_hashes(lent: &[u8]) -> Vec<ChangeHash> {
+    lent.chunks_exact(32).map(change_hash).collect()
 }

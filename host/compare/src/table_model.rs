@@ -22,13 +22,13 @@ pub type Hash = [u8; HASH];
 /// A good change table.
 #[derive(Default)]
 pub struct Table {
-    rows: Vec<Row>,
-    row_of: HashMap<Hash, usize>,
+    pub(crate) rows: Vec<Row>,
+    pub(crate) row_of: HashMap<Hash, usize>,
 }
 
-struct Row {
-    hash: Hash,
-    dependencies: Vec<usize>,
+pub(crate) struct Row {
+    pub(crate) hash: Hash,
+    pub(crate) dependencies: Vec<usize>,
 }
 
 /// A good waiting table: each waiting change and the hashes it depends on.
@@ -113,7 +113,7 @@ fn waiting_row(record: &[u8]) -> Option<(Hash, Vec<Hash>)> {
 
 /// A hash list that is lent as bytes: more bytes than its limit is 4, else a
 /// partial hash at its end is 1 at that hash's start.
-fn hash_list(lent: &[u8]) -> Result<Vec<Hash>, Refused> {
+pub(crate) fn hash_list(lent: &[u8]) -> Result<Vec<Hash>, Refused> {
     if lent.len() > HASH * HASHES {
         return Err((4, 0));
     }
@@ -157,6 +157,13 @@ pub fn heads(lent: &[u8], before: usize) -> Result<Vec<Hash>, Refused> {
 pub fn beyond(lent: &[u8], list: &[u8]) -> Result<Vec<Hash>, Refused> {
     let table = table(lent)?;
     let list = hash_list(list)?;
+    let reached = reached(&table, &list);
+    let beyond = (0..table.rows.len()).filter(|row| !reached.contains(row));
+    Ok(beyond.map(|row| table.rows[row].hash).collect())
+}
+
+/// The rows of a list and their ancestors.
+pub(crate) fn reached(table: &Table, list: &[Hash]) -> HashSet<usize> {
     let held = list.iter().filter_map(|hash| table.row_of.get(hash));
     let mut open: Vec<usize> = held.copied().collect();
     let mut reached = HashSet::new();
@@ -165,8 +172,7 @@ pub fn beyond(lent: &[u8], list: &[u8]) -> Result<Vec<Hash>, Refused> {
             open.extend(&table.rows[row].dependencies);
         }
     }
-    let beyond = (0..table.rows.len()).filter(|row| !reached.contains(row));
-    Ok(beyond.map(|row| table.rows[row].hash).collect())
+    reached
 }
 
 /// "Missing from H: a held hash gives nothing, an unknown one gives itself; a

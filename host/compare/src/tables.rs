@@ -180,7 +180,7 @@ pub enum Rooms {
 }
 
 impl Rooms {
-    fn sizes(self, wanted: usize) -> Vec<usize> {
+    pub(crate) fn sizes(self, wanted: usize) -> Vec<usize> {
         match self {
             Rooms::Every => (0..=wanted + 3).collect(),
             Rooms::Around => {

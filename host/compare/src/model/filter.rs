@@ -43,7 +43,7 @@ pub fn read(s: &[u8], at: usize, end: usize) -> [u64; 8] {
 
 /// Entries, bits, probes, place and length of the field: all three numbers are
 /// read before one is looked at.
-fn numbers(s: &[u8], at: usize, end: usize) -> Result<[u64; 5], Refused> {
+pub(super) fn numbers(s: &[u8], at: usize, end: usize) -> Result<[u64; 5], Refused> {
     let item = |at| Read {
         reader: Reader::FilterNumber,
         s,
@@ -177,7 +177,7 @@ pub fn contained(s: &[u8], haves: &[u64], hash: &[u8]) -> [u64; 4] {
 }
 
 /// The filters of a list of haves; those after the sixteenth are never asked.
-fn filters<'a>(s: &'a [u8], haves: &[u64]) -> Result<Vec<Filter<'a>>, Refused> {
+pub(super) fn filters<'a>(s: &'a [u8], haves: &[u64]) -> Result<Vec<Filter<'a>>, Refused> {
     if !haves.len().is_multiple_of(HAVE_WORDS) {
         return Err((10, 0));
     }
@@ -203,7 +203,7 @@ pub fn good_have(s: &[u8], have: &[u64]) -> bool {
         && at_place(s, have[5], have[6].into()).is_some()
 }
 
-fn at_place(s: &[u8], place: u64, length: u128) -> Option<&[u8]> {
+pub(super) fn at_place(s: &[u8], place: u64, length: u128) -> Option<&[u8]> {
     let end = u128::from(place) + length;
     let inside = end <= s.len() as u128;
     inside.then(|| &s[place as usize..end as usize])

@@ -1,0 +1,138 @@
+//! Whole messages, read and written: one that says hello, one as sessions send
+//! them, and one of nearly 4 MiB.
+
+use crate::measure::{line, line_of, Line};
+use bisquetower::raw;
+use compare::inputs::message::Draft;
+use compare::inputs::Random;
+use compare::messages::{Chunks, Reading};
+use compare::model::filter::built;
+use compare::model::number_bytes;
+use compare::table_inputs::Likeness;
+use crate_under_test::facade::Message;
+use std::hint::black_box;
+
+pub fn measure_all() {
+    let messages = messages();
+    for (size, s) in &messages {
+        decode(size, s);
+    }
+    let (size, large) = &messages[messages.len() - 1];
+    decode_beside_a_sum(size, large);
+    for (size, s) in &messages {
+        encode(size, s);
+    }
+}
+
+fn messages() -> [(&'static str, Vec<u8>); 3] {
+    let mut random = Random(1);
+    let small = Draft {
+        heads: random.hashes(1, Likeness::Spread),
+        haves: vec![(Vec::new(), Vec::new())],
+        flags: Some(vec![0x02, 0x84]),
+        ..Draft::new()
+    };
+    let entries = random.hashes(1_024, Likeness::Spread).concat();
+    let numbers = [1_024, 10, 7].map(number_bytes).concat();
+    let field = built(10, 7, &entries).expect("a good filter");
+    let typical = Draft {
+        heads: random.hashes(32, Likeness::Ascending),
+        haves: vec![(
+            random.hashes(1, Likeness::Spread),
+            [numbers, field].concat(),
+        )],
+        chunks: (0..64).map(|_| random.bytes(120)).collect(),
+        ..small.clone()
+    };
+    let large = Draft {
+        chunks: (0..4_096).map(|_| random.bytes(1_020)).collect(),
+        ..small.clone()
+    };
+    [
+        ("small", small.bytes()),
+        ("typical", typical.bytes()),
+        ("4 MiB", large.bytes()),
+    ]
+}
+
+/// Room for as many haves and chunks as a message may have.
+fn room() -> (Vec<u64>, Vec<u64>) {
+    (vec![0; 7 * 16], vec![0; 2 * 4_096])
+}
+
+/// A run's number is how many heads, haves and chunks there are.
+fn decode(size: &str, s: &[u8]) {
+    let (mut haves, mut chunks) = room();
+    let library = || {
+        let words = raw::read_message(black_box(s), &mut haves, &mut chunks);
+        black_box((&haves, &chunks));
+        words[3] + words[7] + words[9]
+    };
+    let published = || {
+        let message = Message::decode(black_box(s)).expect("a good message");
+        let message = black_box(&message);
+        (message.heads.len() + message.have.len() + message.changes.len()) as u64
+    };
+    let what = Line {
+        name: "decode message",
+        size,
+        calls: 1,
+        note: "library: says where the parts stand; crate: copies them into Vecs",
+    };
+    line(what, library, published);
+}
+
+/// A run's number is the message's length.
+fn decode_beside_a_sum(size: &str, s: &[u8]) {
+    let (mut haves, mut chunks) = room();
+    let library = || {
+        let words = raw::read_message(black_box(s), &mut haves, &mut chunks);
+        black_box((&haves, &chunks));
+        words[11]
+    };
+    let sum = || {
+        let bytes = black_box(s);
+        black_box(bytes.iter().map(|&byte| u64::from(byte)).sum::<u64>());
+        bytes.len() as u64
+    };
+    let what = Line {
+        name: "decode, beside a sum",
+        size,
+        calls: 1,
+        note: "crate: no call of it, but the sum of the message's bytes, each read once",
+    };
+    line(what, library, sum);
+}
+
+/// A run's number is the message's length. The crate's call takes the message away,
+/// so it gets copies that are made beforehand.
+fn encode(size: &str, s: &[u8]) {
+    let (mut haves, mut chunks) = room();
+    let words = raw::read_message(s, &mut haves, &mut chunks);
+    let reading = Reading {
+        s,
+        words,
+        haves: &haves,
+        chunks: &chunks,
+    };
+    let chunks = Chunks::of(&reading);
+    let parts = reading.parts(&chunks);
+    let message = Message::decode(s).expect("a good message");
+    let mut out = vec![0; s.len()];
+    assert_eq!(compare::messages::write(&parts, &mut out)[0], 0);
+    assert_eq!(out, message.clone().encode());
+    let library = || {
+        let written = compare::messages::write(black_box(&parts), &mut out)[1];
+        black_box(&out);
+        written
+    };
+    let published = |message: Message| black_box(message.encode()).len() as u64;
+    let at_a_time = if s.len() < 1 << 20 { 32 } else { 2 };
+    let what = Line {
+        name: "encode message",
+        size,
+        calls: 1,
+        note: "library: into a lent buffer; crate: into a Vec that grows, each filter made twice; its message's end counts",
+    };
+    line_of(what, library, at_a_time, || message.clone(), published);
+}

@@ -1,0 +1,138 @@
+//! Hashes to send, for one have and for sixteen. The crate's own function can only be
+//! reached through a first message, and the library tests its table in each call;
+//! both are measured apart, as the rest.
+
+use crate::measure::{line, Line};
+use bisquetower::raw;
+use compare::inputs::selection::{lend, OwnHave};
+use compare::inputs::Random;
+use compare::published;
+use compare::table_inputs::{table_bytes, Likeness, Shape};
+use compare::table_model::{Hash, HASH};
+use compare::tables::document;
+use crate_under_test::facade::{hashes_to_send, Automerge, ChangeHash, Have};
+use std::hint::black_box;
+
+const SIZES: [(&str, usize); 3] = [("64 rows", 64), ("256 rows", 256), ("1,024 rows", 1_024)];
+
+const NAMES: [(usize, &str, &str); 2] = [
+    (1, "send, 1 have", "send, 1 have: rest"),
+    (16, "send, 16 haves", "send, 16 haves: rest"),
+];
+
+pub fn measure_all() {
+    for (haves, name, rest) in NAMES {
+        let choices = SIZES.map(|(size, rows)| (size, Choice::new(rows, haves)));
+        for (size, choice) in &choices {
+            choice.whole(name, size);
+        }
+        for (size, choice) in &choices {
+            choice.rest(rest, size);
+        }
+    }
+}
+
+/// Rows on up to three of the eight before them; peers that have the first three
+/// quarters together, each a part of them in a filter, and the first row as their
+/// last sync. The need is one row of those.
+struct Choice {
+    table: Vec<u8>,
+    s: Vec<u8>,
+    haves: Vec<u64>,
+    need: Hash,
+    document: Automerge,
+    published: Vec<Have>,
+    chosen: Vec<ChangeHash>,
+}
+
+impl Choice {
+    fn new(rows: usize, count: usize) -> Choice {
+        let mut random = Random(2);
+        let hashes = random.hashes(rows, Likeness::Spread);
+        let table = table_bytes(&random.rows_of(&hashes, Shape::Recent));
+        let held = &hashes[..rows * 3 / 4];
+        let part = |k: usize| held.iter().skip(k).step_by(count).copied();
+        let haves: Vec<OwnHave> = (0..count)
+            .map(|k| OwnHave::over(vec![hashes[0]], 10, 7, &part(k).collect::<Vec<Hash>>()))
+            .collect();
+        let (s, haves) = lend(&haves, &mut random);
+        let document = document(&table, &[]);
+        let published = published::haves(&s, &haves);
+        let need = hashes[rows / 2];
+        let chosen = hashes_to_send(&document, &published, &[ChangeHash(need)]);
+        let choice = Choice {
+            table,
+            s,
+            haves,
+            need,
+            document,
+            published,
+            chosen,
+        };
+        choice.compare();
+        choice
+    }
+
+    /// Both sides choose the same, and neither everything nor nothing.
+    fn compare(&self) {
+        let mut out = vec![0; HASH * 2_048];
+        let written = self.library(&mut out) as usize;
+        let chosen: Vec<u8> = self.chosen.iter().flat_map(|hash| hash.0).collect();
+        assert_eq!(out[..written], chosen);
+        let rows = self.document.rows().len();
+        assert!((rows / 8..rows).contains(&self.chosen.len()));
+    }
+
+    fn library(&self, out: &mut [u8]) -> u64 {
+        let (table, s) = (black_box(&self.table), black_box(&self.s));
+        let [first, written, ..] = raw::hashes_to_send(table, s, &self.haves, &self.need, out);
+        assert_eq!(first, 0);
+        written
+    }
+
+    /// A run's number is how many bytes the hashes have.
+    fn whole(&self, name: &str, size: &str) {
+        let mut out = vec![0; HASH * 2_048];
+        let library = || {
+            let written = self.library(&mut out);
+            black_box(&out);
+            written
+        };
+        let need = [ChangeHash(self.need)];
+        let published = || {
+            let chosen = hashes_to_send(&self.document, black_box(&self.published), &need);
+            (HASH * black_box(chosen).len()) as u64
+        };
+        let note = "library: tests table and haves too; crate: a whole first message";
+        measure(name, size, note, library, published);
+    }
+
+    /// What is no choosing: the library's test of the table, and the crate's message
+    /// for a peer who has said nothing but that it needs all that was chosen.
+    fn rest(&self, name: &str, size: &str) {
+        let library = || raw::check_table(black_box(&self.table))[0];
+        let published = || {
+            let sent = hashes_to_send(&self.document, &[], black_box(&self.chosen));
+            u64::from(black_box(sent).is_empty())
+        };
+        let note =
+            "library: its test of the table; crate: the message with the same hashes, all needed";
+        measure(name, size, note, library, published);
+    }
+}
+
+fn measure(
+    name: &str,
+    size: &str,
+    note: &str,
+    library: impl FnMut() -> u64,
+    published: impl FnMut() -> u64,
+) {
+    let what = Line {
+        name,
+        size,
+        calls: 1,
+        note,
+    };
+    line(what, library, published);
+}

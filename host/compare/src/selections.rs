@@ -1,0 +1,258 @@
+//! Hashes to send: the library against the model in every word and byte, and what
+//! is chosen beside what the crate chooses. The crate's `get_hashes_to_send` runs
+//! over the stand-in document, whose graph rests on document 01.
+
+use crate::inputs::selection::{lend, Case, OwnHave};
+use crate::inputs::Random;
+use crate::model::selection::hashes_to_send;
+use crate::model::{self, Refused};
+use crate::published;
+use crate::table_model::{Hash, HASH};
+use crate::tables::{document, Rooms};
+use crate::GUARD;
+use bisquetower::raw::{self, Batch};
+use crate_under_test::facade::{self, ChangeHash, Have};
+
+/// The crate's haves.
+fn published_haves(haves: &[OwnHave]) -> Vec<Have> {
+    let have = |one: &OwnHave| Have {
+        last_sync: one.last_sync.iter().copied().map(ChangeHash).collect(),
+        bloom: published::filter(&one.filter()).expect("the crate has every filter"),
+    };
+    haves.iter().map(have).collect()
+}
+
+/// What the crate chooses.
+pub fn published(case: &Case) -> Vec<Hash> {
+    let document = document(&case.table, &case.waiting);
+    let need: Vec<ChangeHash> = case.need.iter().copied().map(ChangeHash).collect();
+    let haves = published_haves(&case.haves);
+    let chosen = facade::hashes_to_send(&document, &haves, &need);
+    chosen.iter().map(|hash| hash.0).collect()
+}
+
+/// What was chosen, so that no test passes by having tried too little.
+#[derive(Clone, Copy, Debug, Default, PartialEq, Eq)]
+pub struct Tally {
+    pub cases: u64,
+    /// Hashes that were chosen, and rows that were not though there were haves.
+    pub chosen: u64,
+    pub left: u64,
+    /// Lists that begin with a held need outside S.
+    pub needs_first: u64,
+    /// Lists in which a hash stands twice.
+    pub repeats: u64,
+}
+
+impl Tally {
+    pub fn add(&mut self, other: &Tally) {
+        self.cases += other.cases;
+        self.chosen += other.chosen;
+        self.left += other.left;
+        self.needs_first += other.needs_first;
+        self.repeats += other.repeats;
+    }
+
+    fn count(&mut self, case: &Case, chosen: &[Hash]) {
+        let rows = case.table.len() / crate::table_model::ROW;
+        let place = |hash: &Hash| case.table.chunks(64).position(|row| row[..32] == *hash);
+        self.cases += 1;
+        self.chosen += chosen.len() as u64;
+        if !case.haves.is_empty() {
+            self.left += rows.saturating_sub(chosen.len()) as u64;
+            // S ascends by row; so a first hash that doesn't is a need.
+            let two = chosen.first().zip(chosen.get(1));
+            let descends = two.is_some_and(|(a, b)| place(a) >= place(b));
+            self.needs_first += u64::from(descends);
+        }
+        let mut sorted = chosen.to_vec();
+        sorted.sort();
+        sorted.dedup();
+        self.repeats += u64::from(sorted.len() < chosen.len());
+    }
+}
+
+/// Compares what the model chooses with what the crate does, the whole list in
+/// its order.
+pub fn compare_model(cases: &[Case], random: &mut Random) -> Result<Tally, String> {
+    let mut tally = Tally::default();
+    for case in cases {
+        let (s, records) = lend(&case.haves, random);
+        let chosen = hashes_to_send(&case.table, &s, &records, &case.need.concat());
+        let crates = published(case);
+        if chosen.as_ref() != Ok(&crates) {
+            return Err(format!("{case:?}: {chosen:?} isn't the crate's {crates:?}"));
+        }
+        tally.count(case, &crates);
+    }
+    Ok(tally)
+}
+
+/// What the library is lent to choose from.
+#[derive(Clone, Copy)]
+pub struct Selection<'a> {
+    pub table: &'a [u8],
+    pub s: &'a [u8],
+    pub haves: &'a [u64],
+    pub need: &'a [u8],
+}
+
+impl Selection<'_> {
+    fn model(&self) -> Result<Vec<Hash>, Refused> {
+        hashes_to_send(self.table, self.s, self.haves, self.need)
+    }
+
+    fn shown(&self) -> String {
+        let Selection {
+            table,
+            s,
+            haves,
+            need,
+        } = self;
+        let [table, s, need] = [table, s, need].map(|bytes| bytes.len());
+        format!("a table of {table} bytes, haves {haves:?} over {s}, a need of {need}")
+    }
+}
+
+/// A selection with one buffer, before and after.
+struct Asked<'a> {
+    selection: Selection<'a>,
+    room: usize,
+    expected: [u64; 4],
+    expected_memory: Vec<u8>,
+    answer: [u64; 4],
+    memory: Vec<u8>,
+}
+
+impl<'a> Asked<'a> {
+    fn new(
+        selection: Selection<'a>,
+        chosen: &Result<Vec<Hash>, Refused>,
+        room: usize,
+        flip: u8,
+    ) -> Self {
+        let pattern = (0..room + 2 * GUARD).map(|k| (k * 37 + 11) as u8 ^ flip);
+        let memory: Vec<u8> = pattern.collect();
+        let mut expected_memory = memory.clone();
+        let lent = &mut expected_memory[GUARD..GUARD + room];
+        let wanted = chosen.as_ref().map(|hashes| hashes.concat());
+        let expected = model::write(lent, wanted.map_err(|&refused| refused));
+        Asked {
+            selection,
+            room,
+            expected,
+            expected_memory,
+            answer: [raw::UNWRITTEN; 4],
+            memory,
+        }
+    }
+
+    fn ask<'m>(&'m mut self, batch: &mut Batch<'m>) {
+        let lent = &mut self.memory[GUARD..GUARD + self.room];
+        let Selection {
+            table,
+            s,
+            haves,
+            need,
+        } = self.selection;
+        batch.hashes_to_send(table, s, haves, need, lent, &mut self.answer);
+    }
+
+    fn agrees(&self) -> Result<(), String> {
+        let told = || format!("{} into {} bytes", self.selection.shown(), self.room);
+        let (answer, expected) = (self.answer, self.expected);
+        if answer != expected {
+            let told = told();
+            return Err(format!(
+                "{told}: the library's answer is {answer:?}, the model's {expected:?}"
+            ));
+        }
+        let mut bytes = self.memory.iter().zip(&self.expected_memory);
+        match bytes.position(|(byte, expected)| byte != expected) {
+            Some(k) => {
+                let place = k as i64 - GUARD as i64;
+                Err(format!("{}: the byte at {place} is wrong", told()))
+            }
+            None => Ok(()),
+        }
+    }
+
+    fn written(&self) -> &[u8] {
+        let length = if self.answer[0] == 0 {
+            self.answer[1]
+        } else {
+            0
+        };
+        &self.memory[GUARD..GUARD + length as usize]
+    }
+}
+
+/// Compares the library's answers and memory with the model's, for each of the
+/// buffers over two patterns; returns the answers by buffer.
+pub fn compare(selection: Selection, rooms: Rooms) -> Result<Vec<[u64; 4]>, String> {
+    let chosen = selection.model();
+    // A refused call gets some buffers too.
+    let wanted = chosen.as_ref().map_or(2, |hashes| hashes.len()) * HASH;
+    let flips = [0x00, 0xff];
+    let mut asked = Vec::new();
+    for room in rooms.sizes(wanted) {
+        asked.extend(flips.map(|flip| Asked::new(selection, &chosen, room, flip)));
+    }
+    let mut batch = Batch::new();
+    for one in &mut asked {
+        one.ask(&mut batch);
+    }
+    batch.run();
+    for one in &asked {
+        one.agrees()?;
+    }
+    Ok(asked
+        .iter()
+        .step_by(flips.len())
+        .map(|one| one.answer)
+        .collect())
+}
+
+/// Compares what the library chooses with what the model and the crate do, the
+/// whole list in its order, twice in one process. Returns the library's lists too.
+pub fn compare_cases(cases: &[Case], random: &mut Random) -> Result<(Tally, Vec<Vec<u8>>), String> {
+    let lent: Vec<(Vec<u8>, Vec<u64>, Vec<u8>)> = cases
+        .iter()
+        .map(|case| {
+            let (s, records) = lend(&case.haves, random);
+            (s, records, case.need.concat())
+        })
+        .collect();
+    let mut asked = Vec::new();
+    for (case, (s, haves, need)) in cases.iter().zip(&lent) {
+        let selection = Selection {
+            table: &case.table,
+            s,
+            haves,
+            need,
+        };
+        let chosen = selection.model();
+        let room = HASH * chosen.as_ref().map_or(1, |hashes| 1 + hashes.len());
+        asked.extend([0x00, 0xff].map(|flip| Asked::new(selection, &chosen, room, flip)));
+    }
+    let mut batch = Batch::new();
+    for one in &mut asked {
+        one.ask(&mut batch);
+    }
+    batch.run();
+    let mut tally = Tally::default();
+    let mut lists = Vec::new();
+    for (case, two) in cases.iter().zip(asked.chunks(2)) {
+        for one in two {
+            one.agrees()?;
+        }
+        let crates = published(case);
+        let told = two[0].selection.shown();
+        if two[0].answer[0] != 0 || two.iter().any(|one| one.written() != crates.concat()) {
+            return Err(format!("{told}: the list isn't the crate's {crates:?}"));
+        }
+        tally.count(case, &crates);
+        lists.push(two[0].written().to_vec());
+    }
+    Ok((tally, lists))
+}

@@ -1,0 +1,107 @@
+//! Reading: every short string, messages cut and damaged at every byte, and a
+//! million random ones.
+
+use crate::{agree, agree_all};
+use compare::inputs::message::{
+    damaged_once, good_messages, prefixes, string, TELLING, TELLING_OF_FILTERS, UP_TO_FILTER,
+};
+use compare::inputs::{seed, Random};
+use compare::messages::{compare, Tally};
+
+/// Every string of up to so many bytes from this alphabet, after these.
+fn every_string(before: &[u8], alphabet: &[u8], most: usize) -> Tally {
+    let mut tally = Tally::default();
+    for length in 0..=most {
+        let count = alphabet.len().pow(length as u32);
+        let strings = (0..count).map(|number| string(alphabet, length, number));
+        let messages = strings.map(|string| [before, &string].concat());
+        tally.add(&agree_all(messages));
+    }
+    tally
+}
+
+/// Every string of up to two bytes, against crate and model.
+#[test]
+fn every_string_of_two_bytes() {
+    let every_byte: Vec<u8> = (0..=u8::MAX).collect();
+    let tally = every_string(&[], &every_byte, 2);
+    assert_eq!(tally.total(), 1 + 256 + 65_536);
+    // No bytes, and a list that is cut or too long after either first byte.
+    assert_eq!(tally.answers[2], 254 + 254 * 256);
+    assert_eq!(tally.answers[1], 1 + 2 + 2 * 256);
+}
+
+/// Every string of up to seven telling bytes, against crate and model.
+#[test]
+fn every_string_of_seven_telling_bytes() {
+    let tally = every_string(&[], &TELLING, 7);
+    assert_eq!(tally.total(), 960_800);
+    for first_word in 1..=4 {
+        assert!(tally.answers[first_word] > 10_000, "{tally:?}");
+    }
+    // Few of them are messages, and each part is in one.
+    assert_eq!(tally.answers[0], 54);
+    assert_eq!((tally.with_haves, tally.with_chunks), (2, 20));
+}
+
+/// Every string of up to seven telling bytes from a have's filter on, against crate
+/// and model.
+#[test]
+fn every_filter_of_seven_telling_bytes() {
+    let tally = every_string(&UP_TO_FILTER, &TELLING_OF_FILTERS, 7);
+    assert_eq!(tally.total(), 960_800);
+    for first_word in [0, 1, 3, 4, 5] {
+        assert!(tally.answers[first_word] > 100, "{tally:?}");
+    }
+    assert!(tally.cut_numbers > 0, "{tally:?}");
+}
+
+/// Every prefix of good messages, against crate and model.
+#[test]
+fn every_prefix_of_good_messages() {
+    let good = good_messages();
+    let tally = agree(&good);
+    assert_eq!((tally.answers[0], tally.rewritten), (8, 8));
+    let tally = agree_all(prefixes(&good));
+    assert_eq!(
+        tally.total() as usize,
+        good.iter().map(|s| s.len() + 1).sum()
+    );
+    assert!(tally.answers[1] > 500 && tally.answers[0] > 8, "{tally:?}");
+}
+
+/// Good messages with each byte changed to every other, against crate and model.
+#[test]
+fn every_single_byte_of_good_messages() {
+    let good = good_messages();
+    let tally = agree_all(damaged_once(&good));
+    let bytes: usize = good.iter().map(Vec::len).sum();
+    assert_eq!(tally.total() as usize, 255 * bytes);
+    for first_word in 0..=5 {
+        assert!(tally.answers[first_word] > 10, "{tally:?}");
+    }
+}
+
+/// A million random messages, against crate and model.
+#[test]
+fn random_messages() {
+    let seed = seed();
+    let mut random = Random(seed);
+    let mut tally = Tally::default();
+    for batch in 0..100 {
+        let messages: Vec<Vec<u8>> = (0..10_000).map(|_| random.message()).collect();
+        match compare(&messages) {
+            Ok(seen) => tally.add(&seen),
+            Err(disagreement) => panic!("COMPARE_SEED={seed}, batch {batch}: {disagreement}"),
+        }
+    }
+    assert_eq!(tally.total(), 1_000_000);
+    assert!(tally.answers[0] > 300_000, "{tally:?}");
+    for first_word in 1..=5 {
+        assert!(tally.answers[first_word] > 2_000, "{tally:?}");
+    }
+    assert_eq!(tally.rewritten, tally.answers[0]);
+    let parts = [tally.with_haves, tally.with_chunks, tally.with_flags];
+    assert!(parts.iter().all(|&count| count > 100_000), "{tally:?}");
+    assert!(tally.cut_numbers > 50, "{tally:?}");
+}

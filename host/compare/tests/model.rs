@@ -1,0 +1,8 @@
+//! The models of messages and of hashes to send against the crate; the library has
+//! no part in these. They are quick, and tell a slip in a model from one in the
+//! library.
+
+#[path = "model/messages.rs"]
+mod messages;
+#[path = "model/selections.rs"]
+mod selections;

@@ -1,0 +1,137 @@
+//! The model's message against the crate's: the same values or the same kind of
+//! refusal, and the same bytes written of what was read.
+
+use compare::inputs::message::{
+    damaged_once, good_messages, prefixes, string, TELLING, TELLING_OF_FILTERS, UP_TO_FILTER,
+};
+use compare::inputs::{seed, Random};
+use compare::messages::{compare_model, Tally};
+use compare::model::message::read;
+
+fn agree<S: AsRef<[u8]>>(messages: &[S]) -> Tally {
+    compare_model(messages).unwrap_or_else(|disagreement| panic!("{disagreement}"))
+}
+
+/// Every string of so many bytes from this alphabet, after these.
+fn every_string(before: &[u8], alphabet: &[u8], length: usize) -> Tally {
+    let count = alphabet.len().pow(length as u32);
+    let mut tally = Tally::default();
+    for number in 0..count {
+        let message = [before, &string(alphabet, length, number)].concat();
+        tally.add(&agree(&[message]));
+    }
+    assert_eq!(tally.total(), count as u64);
+    tally
+}
+
+#[test]
+fn every_string_of_two_bytes() {
+    let every_byte: Vec<u8> = (0..=u8::MAX).collect();
+    for length in 0..=2 {
+        every_string(&[], &every_byte, length);
+    }
+}
+
+#[test]
+fn every_string_of_seven_telling_bytes() {
+    let mut tally = Tally::default();
+    for length in 0..=7 {
+        tally.add(&every_string(&[], &TELLING, length));
+    }
+    assert_eq!(tally.total(), 960_800);
+    for first_word in 1..=4 {
+        assert!(tally.answers[first_word] > 10_000, "{tally:?}");
+    }
+    // Few of them are messages, and each part is in one.
+    assert_eq!(tally.answers[0], 54);
+    assert_eq!((tally.with_haves, tally.with_chunks), (2, 20));
+}
+
+/// From a filter's length number on.
+#[test]
+fn every_filter_of_six_telling_bytes() {
+    let mut tally = Tally::default();
+    for length in 0..=6 {
+        let alphabet = &TELLING_OF_FILTERS;
+        tally.add(&every_string(&UP_TO_FILTER, alphabet, length));
+    }
+    for first_word in [0, 1, 3, 4, 5] {
+        assert!(tally.answers[first_word] > 10, "{tally:?}");
+    }
+}
+
+#[test]
+fn prefixes_and_single_bytes_of_good_messages() {
+    let good = good_messages();
+    assert_eq!(agree(&good).rewritten, good.len() as u64);
+    let cut: Vec<Vec<u8>> = prefixes(&good).collect();
+    agree(&cut);
+    let mut tally = Tally::default();
+    for message in damaged_once(&good) {
+        tally.add(&agree(&[message]));
+    }
+    for first_word in 0..=5 {
+        assert!(tally.answers[first_word] > 10, "{tally:?}");
+    }
+}
+
+#[test]
+fn random_messages() {
+    let seed = seed();
+    let mut random = Random(seed);
+    let mut tally = Tally::default();
+    for batch in 0..20 {
+        let messages: Vec<Vec<u8>> = (0..10_000).map(|_| random.message()).collect();
+        match compare_model(&messages) {
+            Ok(seen) => tally.add(&seen),
+            Err(disagreement) => panic!("COMPARE_SEED={seed}, batch {batch}: {disagreement}"),
+        }
+    }
+    assert!(tally.answers[0] > 60_000, "{tally:?}");
+    for first_word in 1..=5 {
+        assert!(tally.answers[first_word] > 500, "{tally:?}");
+    }
+    assert!(tally.cut_numbers > 10, "{tally:?}");
+}
+
+/// The smallest inputs at which two readings of 01 part, against the answers that
+/// are settled; the crate isn't asked.
+#[test]
+fn settled_readings() {
+    let mut lists = ([7; 7 * 16], [7; 8]);
+    let mut of = |s: &[u8]| {
+        let words = read(s, &mut lists.0, &mut lists.1);
+        [words[0], words[1]]
+    };
+    assert_eq!(of(&[]), [1, 0]);
+    assert_eq!(of(&[0x41]), [2, 0x41]);
+    assert_eq!(of(&[0x42]), [1, 1]);
+    // A cut hash has its own place, a cut string that of its length number.
+    assert_eq!(of(&[&[0x42, 0x02][..], &[9; 40]].concat()), [1, 34]);
+    assert_eq!(of(&[0x42, 0, 0, 0, 1, 2, 0xaa]), [1, 5]);
+    assert_eq!(of(&[0x42, 0, 0, 0, 0, 5]), [1, 5]);
+    assert_eq!(of(&[0x42, 0, 0, 0, 0, 0x80, 0]), [3, 5]);
+    // A count is limited before its elements are looked at, and cut before that.
+    assert_eq!(of(&[0x42, 0x81, 0x08]), [4, 1]);
+    assert_eq!(of(&[0x42, 0x80, 0x80, 0x80, 0x80, 0x80, 0x80]), [1, 1]);
+    // A filter's string has to be there before its inside is read; a number is cut
+    // at its own start, a field at its first byte; 5 and 4 name the filter.
+    assert_eq!(of(&[0x42, 0, 0, 1, 0, 5, 1, 0]), [1, 5]);
+    assert_eq!(of(&[0x42, 0, 0, 1, 0, 1, 1, 0]), [1, 7]);
+    assert_eq!(of(&[0x42, 0, 0, 1, 0, 4, 1, 0x0a, 7, 0xff, 0]), [1, 9]);
+    assert_eq!(of(&[0x42, 0, 0, 1, 0, 3, 1, 0, 0x41]), [5, 6]);
+    assert_eq!(of(&[0x42, 0, 0, 1, 0, 3, 1, 0x0a, 0x41]), [4, 6]);
+    assert_eq!(
+        of(&[0x42, 0, 0, 1, 0, 5, 0x80, 0x80, 0x80, 0x80, 0x80]),
+        [3, 6]
+    );
+    // Flags are joined, not added.
+    let flags = |section: &[u8]| {
+        let s = [&[0x42, 0, 0, 0, 0][..], section].concat();
+        read(&s, &mut [], &mut [])[10..].to_vec()
+    };
+    assert_eq!(flags(&[]), [256, 5]);
+    assert_eq!(flags(&[0]), [0, 6]);
+    assert_eq!(flags(&[2, 0x82, 0x82]), [2, 8]);
+    assert_eq!(flags(&[3, 0x81, 0x7f, 0xc0, 9, 9]), [0x41, 9]);
+}
