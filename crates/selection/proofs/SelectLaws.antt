@@ -80,7 +80,7 @@ append-once (x ∷ xs) b p q f =
     rw none (append-once xs b (e .1) q (λ h m. f h (member-there h x xs m)))
 
 -- by places: no hash at two of them
-places-once : (l : List ℕ) → ((i j : ℕ) → i < length l → j < length l → getD l i 0 ≡ getD l j 0 → i ≡ j) → eachOnce l ≡ true
+pub places-once : (l : List ℕ) → ((i j : ℕ) → i < length l → j < length l → getD l i 0 ≡ getD l j 0 → i ≡ j) → eachOnce l ≡ true
 unfolding eachOnce
 places-once [] f = refl
 places-once (x ∷ xs) f =
