@@ -1,0 +1,49 @@
+-- A message and its words: what is written is read back; and a call that reads a message has one answer and leaves one content of both lists.
+use Prim.Native.Nat.{ℕ, _≤_, _<_}
+use mathlib.Core.List.{List}
+use mathlib.Core.Path.{_≡_, refl, sym, ap, _∙_}
+use borrow.Author.Tests.{eq-eqb, ne-eqb, lt-ltb, le-ltb}
+use Rattle.decode.specs.Read.{DecodedInto}
+use Rattle.decode.specs.declared.parse.Decoded.{Decoded}
+use Rattle.message.specs.Flags.{flagsOf}
+use Rattle.message.specs.declared.flags.Section.{Section}
+use Rattle.message.specs.declared.flags.Section.the-variants.{Absent, Present}
+use Rattle.message.specs.declared.version.MessageVersion.{MessageVersion}
+use Rattle.message.specs.declared.version.MessageVersion.the-variants.{V1, V2}
+use Rattle.message_calls.specs.MessageWords.{versionWord, versionOf, sectionWord, sectionOf, decodedWords, MessageAnswered}
+
+-- ---- the words that are passed
+
+module _ (n : ℕ) where
+  pub version-two : n ≡ 2 → V2 ≡ versionOf n
+  version-two e = rw (eq-eqb n 2 e)
+
+  pub version-one : (n ≡ 2 → ⊥) → V1 ≡ versionOf n
+  version-one h = rw (ne-eqb n 2 h)
+
+  pub section-there : n < 256 → Present (flagsOf n) ≡ sectionOf n
+  section-there h = rw (lt-ltb n 256 h)
+
+  pub section-none : 256 ≤ n → Absent ≡ sectionOf n
+  section-none h = rw (le-ltb n 256 h)
+
+-- A version's word is that version's, and the words of flags that fit a byte are those flags'.
+pub version-back : (v : MessageVersion) → versionOf (versionWord v) ≡ v
+version-back V1 = refl
+version-back V2 = refl
+
+pub flags-back : (f : ℕ) → f < 256 → sectionOf (sectionWord (Present (flagsOf f))) ≡ Present (flagsOf f)
+flags-back f h = sym (section-there f h)
+
+-- ---- the words that are answered
+
+pub message-answered : (s haves₀ haves₁ chunks₀ chunks₁ words : List ℕ) (r : Decoded) → DecodedInto s haves₀ haves₁ chunks₀ chunks₁ r
+    → words ≡ decodedWords r
+    → MessageAnswered s haves₀ haves₁ chunks₀ chunks₁ words
+message-answered s haves₀ haves₁ chunks₀ chunks₁ words r d e =
+    record { answer = e ∙ ap decodedWords (d .answer); haves = d .haves; chunks = d .chunks }
+
+pub message-answered-once : {s haves chunks h₁ h₂ k₁ k₂ w₁ w₂ : List ℕ} → MessageAnswered s haves h₁ chunks k₁ w₁
+    → MessageAnswered s haves h₂ chunks k₂ w₂
+    → (w₁ ≡ w₂) × (h₁ ≡ h₂) × (k₁ ≡ k₂)
+message-answered-once x y = (x .answer ∙ sym (y .answer), x .haves ∙ sym (y .haves), x .chunks ∙ sym (y .chunks))

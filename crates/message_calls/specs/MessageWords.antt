@@ -1,0 +1,58 @@
+-- A message as words, as exported calls pass it: its version, the places and counts of its parts, its flags.
+use Prim.Native.Nat.{ℕ}
+use mathlib.Core.Bool.{cond}
+use mathlib.Core.List.{List, [], _∷_}
+use mathlib.Core.Path.{_≡_}
+use lib.Dec.{ltb, eqb}
+use lib.ListN.{length}
+use Rattle.decode.specs.Read.{Reading, messageAt, roomFor, decodedOf, havesInto, chunksInto}
+use Rattle.decode.specs.declared.parse.Decoded.{Decoded}
+use Rattle.decode.specs.declared.parse.Decoded.the-variants.{Message, Refused}
+use Rattle.message.specs.Flags.{flagsOf}
+use Rattle.message.specs.declared.flags.Section.{Section}
+use Rattle.message.specs.declared.flags.Section.the-variants.{Absent, Present}
+use Rattle.message.specs.declared.version.MessageVersion.{MessageVersion}
+use Rattle.message.specs.declared.version.MessageVersion.the-variants.{V1, V2}
+use Rattle.rules.specs.Refusal.{numberOf, valueOf}
+
+-- 1 or 2; any other number than 2 is version 1.
+abbrev pub versionWord : MessageVersion → ℕ
+versionWord V1 = 1
+versionWord V2 = 2
+
+abbrev pub versionOf : ℕ → MessageVersion
+versionOf n = cond (eqb n 2) V2 V1
+
+-- The flags' number, or 256 without a section; any greater number says the same.
+abbrev pub sectionWord : Section → ℕ
+sectionWord Absent = 256
+sectionWord (Present f) = f .0
+
+abbrev pub sectionOf : ℕ → Section
+sectionOf n = cond (ltb n 256) (Present (flagsOf n)) Absent
+
+abbrev pub decodedWords : Decoded → List ℕ
+decodedWords (Message p) =
+    0
+    ∷ versionWord (p .version)
+    ∷ p .heads .start
+    ∷ p .heads .count
+    ∷ p .need .start
+    ∷ p .need .count
+    ∷ p .haves .start
+    ∷ p .haves .count
+    ∷ p .chunks .start
+    ∷ p .chunks .count
+    ∷ sectionWord (p .flags)
+    ∷ p .next
+    ∷ []
+decodedWords (Refused r) = numberOf r ∷ valueOf r ∷ 0 ∷ 0 ∷ 0 ∷ 0 ∷ 0 ∷ 0 ∷ 0 ∷ 0 ∷ 0 ∷ 0 ∷ []
+
+-- Reading a message: its words, and both lent lists at exit.
+abbrev pub readWith : List ℕ → List ℕ → List ℕ → Reading
+readWith s haves chunks = roomFor (messageAt s) (length haves) (length chunks)
+
+pub record MessageAnswered (s haves₀ haves₁ chunks₀ chunks₁ words : List ℕ) : Type 0 where
+  pub answer : words ≡ decodedWords (decodedOf (readWith s haves₀ chunks₀))
+  pub haves : haves₁ ≡ havesInto (readWith s haves₀ chunks₀) haves₀
+  pub chunks : chunks₁ ≡ chunksInto (readWith s haves₀ chunks₀) chunks₀

@@ -1,0 +1,73 @@
+// A message as words.
+use decode::parse::Decoded;
+use message::flags::MessageFlags;
+use message::flags::Section;
+use message::version::MessageVersion;
+ghost use mathlib.Core.Path.{_≡_};
+ghost use Rattle.message_calls.specs.MessageWords.{versionWord, versionOf, sectionWord, sectionOf, decodedWords};
+
+pub fn version_word(version: MessageVersion) -> u64
+    ensures { λ r. ⌜ r ≡ versionWord version ⌝ }
+{
+    match version {
+        MessageVersion::V1 => 1,
+        MessageVersion::V2 => 2,
+    }
+}
+
+pub fn version_of(n: u64) -> MessageVersion
+    ensures { λ r. ⌜ r ≡ versionOf n ⌝ }
+{
+    if n == 2 {
+        return MessageVersion::V2;
+    }
+    MessageVersion::V1
+}
+
+pub fn section_word(section: Section) -> u64
+    ensures { λ r. ⌜ r ≡ sectionWord section ⌝ }
+{
+    match section {
+        Section::Absent => 256,
+        Section::Present(flags) => flags.0 as u64,
+    }
+}
+
+pub fn section_of(n: u64) -> Section
+    ensures { λ r. ⌜ r ≡ sectionOf n ⌝ }
+{
+    if n < 256 {
+        return Section::Present(MessageFlags(n as u8));
+    }
+    Section::Absent
+}
+
+pub fn decoded_words(d: Decoded) -> [u64; 12]
+    ensures { λ w. ⌜ w ≡ decodedWords d ⌝ }
+{
+    match d {
+        Decoded::Message(p) => {
+            let version = p.version;
+            let heads = p.heads;
+            let need = p.need;
+            let haves = p.haves;
+            let chunks = p.chunks;
+            let flags = p.flags;
+            [
+                0,
+                version_word(version),
+                heads.start as u64,
+                heads.count as u64,
+                need.start as u64,
+                need.count as u64,
+                haves.start as u64,
+                haves.count as u64,
+                chunks.start as u64,
+                chunks.count as u64,
+                section_word(flags),
+                p.next as u64,
+            ]
+        }
+        Decoded::Refused(r) => [r.number(), r.value(), 0, 0, 0, 0, 0, 0, 0, 0, 0, 0],
+    }
+}
