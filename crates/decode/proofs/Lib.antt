@@ -3,3 +3,4 @@ pub mod ItemLaws
 pub mod Messages
 pub mod ReadLaws
 pub mod Vectors
+pub mod RoundTrip

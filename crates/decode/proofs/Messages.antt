@@ -194,13 +194,13 @@ message-words s p haves chunks e =
 
 -- the words of record i, behind those of the records before it
 module _ (before more : List ℕ) (i x y n b p f z : ℕ) (long : length before ≡ i * haveWords) where
-  abbrev records : List ℕ
+  abbrev pub records : List ℕ
   records = before ++ (x ∷ y ∷ n ∷ b ∷ p ∷ f ∷ z ∷ more)
 
-  first-word : getD records (i * haveWords) 0 ≡ x
+  pub first-word : getD records (i * haveWords) 0 ≡ x
   first-word = rw (← long) (getD-append-seam before x (y ∷ n ∷ b ∷ p ∷ f ∷ z ∷ more) 0)
 
-  word : (j : ℕ) → getD records (i * haveWords + j) 0 ≡ getD (x ∷ y ∷ n ∷ b ∷ p ∷ f ∷ z ∷ more) j 0
+  pub word : (j : ℕ) → getD records (i * haveWords + j) 0 ≡ getD (x ∷ y ∷ n ∷ b ∷ p ∷ f ∷ z ∷ more) j 0
   word j = rw (← long) (getD-append-add before (x ∷ y ∷ n ∷ b ∷ p ∷ f ∷ z ∷ more) j 0)
 
   one-good : (s : List ℕ) → x + sizes .hash * y ≤ length s → filterRules n b p z ≡ true → f + z ≤ length s → haveGood s records i ≡ true
@@ -228,7 +228,7 @@ module _ (s : List ℕ) (all : Bytes s) where
       let is : before ++ (first ++ m .more) ≡ before ++ words = ap (λ (v : List ℕ). before ++ v) (ap (λ (v : List ℕ). v ++ m .more) (sym w) ∙ m .are) in
       let good = one-good before (m .more) i (h .start) (h .count) (h .n) (h .b) (h .p) (h .field) (h .size) long s there r there2 in
       let few : getD (before ++ (first ++ m .more)) (i * haveWords + 1) 0 ≡ h .count =
-          word before (m .more) i (h .start) (h .count) (h .n) (h .b) (h .p) (h .field) (h .size) long 1
+      word before (m .more) i (h .start) (h .count) (h .n) (h .b) (h .p) (h .field) (h .size) long 1
       in
       let longer : length (before ++ first) ≡ suc i * haveWords = rw (length-append before first, long) (omega arith) in
       let again = records-good count (suc i) (m .after) (before ++ first) (m .more) next longer (m .rest) in

@@ -427,3 +427,8 @@ module _ (s : List ℕ) (p : Places) (is : decodedOf (messageAt s) ≡ Placed p)
             let x : haves₁ ≡ sets haves₀ 0 (words .haves) = rw (have-words .items) at a in
             let y : chunks₁ ≡ sets chunks₀ 0 (words .chunks) = rw (chunk-words .items) at b in
             record { answer = rw (words .is, f, g); haves = rw (words .is, f, g) x; chunks = rw (words .is, f, g) y }
+
+-- The stages make the message.
+pub message-whole : (s : List ℕ) (p : Places) (haves chunks : List ℕ) → MessageBehind s p haves chunks → messageAt s ≡ read p haves chunks
+unfolding messageAt needAt listsAt afterOpening afterHashes afterList afterSection
+message-whole s p haves chunks b = rw (b .opening, b .need, b .haveList, b .chunkList, b .section)

@@ -1,0 +1,457 @@
+-- Reading what was written gives the message back. 01, Wire: "Reading what was written gives the message back if its filters have n at least 1 or
+-- are the default and its flags are below 80." Items one after the other are read one after the other whatever an item is; a have and a chunk give
+-- their one-item laws, and the laws of hash lists, prefixed strings and filters do the rest.
+use Prim.Native.Nat.{ℕ, zero, suc, _+_, _-_, _*_, _/_, _%_, _≤_, _<_}
+use mathlib.Core.Bool.{true}
+use mathlib.Core.List.{List, [], _∷_, _++_, append-assoc, append-nil}
+use mathlib.Core.Path.{_≡_, refl, sym, _∙_, ap}
+use native.Mathlib.Nat.{add-zero}
+use native.Mathlib.Omega.{arith}
+use borrow.Author.Tests.{lt-ltb, le-ltb, eq-eqb}
+use lib.Bits.{bitOr, or-zero-l}
+use lib.Dec.{ltb}
+use lib.ListN.{length, getD, length-append}
+use lib.Seq.{slice, length-slice, take-length}
+use Rattle.bloom.specs.Filter.{Filter, filterOf4, filterRules, filterBytes, defaultBits, defaultProbes}
+use Rattle.bloom.specs.Have.{Have, haveWords, haveCount, filterWith, haveIn, havesFrom, havesOf}
+use Rattle.bloom.specs.declared.have.FilterNumbers.{FilterNumbers}
+use Rattle.bloom.specs.declared.parse.Parsed.the-variants.{Filter as Read}
+use Rattle.bloom.specs.Read.{filterAt}
+use Rattle.bloom.proofs.Filters.{no-bytes, filter-written, default-written}
+use Rattle.message.specs.Flags.{flagsOf, addFlags, flagsIn, sectionBytes}
+use Rattle.message.specs.Message.{Message, typeOf, joined, counted, haveBytes, messageBytes}
+use Rattle.message.specs.declared.flags.MessageFlags.{MessageFlags}
+use Rattle.message.specs.declared.flags.Section.{Section}
+use Rattle.message.specs.declared.flags.Section.the-variants.{Absent, Present}
+use Rattle.message.specs.declared.version.MessageVersion.{MessageVersion}
+use Rattle.message.specs.declared.version.MessageVersion.the-variants.{V1, V2}
+use Rattle.rules.specs.Hash.{AreHashes, hashesAt}
+use Rattle.rules.specs.Sizes.{sizes}
+use Rattle.rules.proofs.Hash.{slice-parts}
+use Rattle.wire.specs.Item.{countAt, prefixedAt, hashListAt, prefixedBytes, hashListBytes}
+use Rattle.wire.specs.Number.{shortest, numberAt, most64}
+use Rattle.wire.specs.declared.leb128.Number.the-variants.{Value}
+use Rattle.wire.specs.declared.parse.HashList.the-variants.{Hashes}
+use Rattle.wire.specs.declared.parse.Prefixed.the-variants.{Part}
+use Rattle.wire.proofs.Item.{count-checks, prefixed-inside, prefixed-written, hash-list-inside, hash-list-written}
+use Rattle.wire.proofs.Meaning.{number-inside, number-written}
+use Rattle.wire.proofs.Number.{slice-past, shortest-one}
+use Rattle.decode.specs.Items.{Item, item, afterItem, haveItem, chunkItem, chunkWords, manyAt, list, listFrom, listAt, havesAt, chunksAt, chunksOf}
+use Rattle.decode.specs.Read.{read, run, headsAt, openingAt, sectionAt, messageAt, messageOf}
+use Rattle.decode.specs.declared.opening.Opening.the-variants.{Heads}
+use Rattle.decode.specs.declared.parse.Flagged.the-variants.{Section as Sectioned}
+use Rattle.decode.specs.declared.parse.Places.{Places}
+use Rattle.decode.proofs.ItemLaws.{have-read, have-item, chunk-item, many-read, many-sized, have-sized, chunk-sized, have-below, chunk-below, list-read}
+use Rattle.decode.proofs.Messages.{first-word, word}
+use Rattle.decode.proofs.ReadLaws.{MessageBehind, message-whole, heads-read, opening-first, opening-second, section-none, section-read}
+
+-- ---- what can be written
+
+-- Each element has a property.
+unfoldable pub Each : {A : Type 0} → (A → Type 0) → List A → Type 0
+Each P [] = Unit {0}
+Each P (x ∷ xs) = P x × Each P xs
+
+-- A filter that keeps the filter rules and has entries, or the default filter.
+pub data SoundFilter (f : Filter) : Type 0 where
+  entries : filterRules (f .entries) (f .bits) (f .probes) (length (f .field)) ≡ true → 0 < f .entries → SoundFilter f
+  default : f ≡ filterOf4 0 defaultBits defaultProbes [] → SoundFilter f
+
+pub record SoundHave (h : Have) : Type 0 where
+  pub syncs : AreHashes (h .lastSync)
+  pub fewSyncs : length (h .lastSync) ≤ sizes .hashes
+  pub filter : SoundFilter (h .filter)
+
+-- Flags below 80, if there are any.
+abbrev pub SoundFlags : Section → Type 0
+SoundFlags Absent = Unit {0}
+SoundFlags (Present f) = f .0 < 0x80
+
+-- A message within its sizes, of such parts.
+pub record Sound (m : Message) : Type 0 where
+  pub small : length (messageBytes m) ≤ sizes .message
+  pub heads : AreHashes (m .heads)
+  pub fewHeads : length (m .heads) ≤ sizes .hashes
+  pub need : AreHashes (m .need)
+  pub fewNeed : length (m .need) ≤ sizes .hashes
+  pub haves : Each SoundHave (m .haves)
+  pub fewHaves : length (m .haves) ≤ sizes .haves
+  pub fewChunks : length (m .chunks) ≤ sizes .chunks
+  pub flags : SoundFlags (m .flags)
+
+-- The bytes are read, and what they say is the message.
+pub record ReadBack (s : List ℕ) (m : Message) : Type 0 where
+  pub places : Places
+  pub haves : List ℕ
+  pub chunks : List ℕ
+  pub is : messageAt s ≡ read places haves chunks
+  pub says : messageOf s places haves chunks ≡ m
+
+-- ---- items one after the other
+
+-- what stands behind bytes that were read
+onward : (s a b : List ℕ) (at : ℕ) → at + length a ≤ length s → slice at (length s) s ≡ a ++ b → slice (at + length a) (length s) s ≡ b
+onward s a b at h same = slice-parts (length a) at (length s) s a b h refl same .1
+
+-- bytes at a place of a slice are no longer than it
+no-longer : (s a b : List ℕ) (at : ℕ) → slice at (length s) s ≡ a ++ b → length a ≤ length s
+no-longer s a b at same =
+    let l : length s - at ≡ length a + length b = sym (length-slice at (length s) s (omega arith)) ∙ ap length same ∙ length-append a b in
+    omega arith
+
+prefixed-longer : (t : List ℕ) → length t ≤ length (prefixedBytes t)
+unfolding prefixedBytes
+prefixed-longer t = omega (arith, length-append (shortest (length t)) t)
+
+-- words that say one value each, one value after the other
+unfoldable SayAll : {A : Type 0} → (List ℕ → A → Type 0) → List ℕ → List A → Type 0
+SayAll Says words [] = words ≡ []
+SayAll Says words (x ∷ xs) = (w : List ℕ) × (ws : List ℕ) × (w ++ ws ≡ words) × Says w x × SayAll Says ws xs
+
+record OneWritten {A : Type 0} (bytes : A → List ℕ) (one : ℕ → Item) (Says : List ℕ → A → Type 0) (at : ℕ) (x : A) : Type 0 where
+  words : List ℕ
+  is : one at ≡ item words (at + length (bytes x))
+  says : Says words x
+
+record ManyWritten {A : Type 0} (bytes : A → List ℕ) (one : ℕ → Item) (Says : List ℕ → A → Type 0) (at : ℕ) (xs : List A) : Type 0 where
+  words : List ℕ
+  is : manyAt one (length xs) at ≡ item words (at + length (joined bytes xs))
+  says : SayAll Says words xs
+
+module _ {A : Type 0} (bytes : A → List ℕ) (s : List ℕ) (one : ℕ → Item) (Good : A → Type 0) (Says : List ℕ → A → Type 0)
+    (below : (at : ℕ) (words : List ℕ) (next : ℕ) → one at ≡ item words next → next ≤ length s)
+    (single : (x : A) → Good x → (at : ℕ) (rest : List ℕ) → slice at (length s) s ≡ bytes x ++ rest → OneWritten bytes one Says at x) where
+  many-written : (xs : List A) → Each Good xs → (at : ℕ) (rest : List ℕ) → slice at (length s) s ≡ joined bytes xs ++ rest
+      → ManyWritten bytes one Says at xs
+  unfolding joined Each SayAll manyAt
+  many-written [] good at rest same =
+      let e : at + 0 ≡ at = omega arith in
+      record { words = []; is = rw e; says = refl }
+  many-written (x ∷ xs) good at rest same =
+      let first : slice at (length s) s ≡ bytes x ++ (joined bytes xs ++ rest) = same ∙ append-assoc (bytes x) (joined bytes xs) rest in
+      let o = single x (good .0) at (joined bytes xs ++ rest) first in
+      let inside = below at (o .words) (at + length (bytes x)) (o .is) in
+      let m = many-written xs (good .1) (at + length (bytes x)) rest (onward s (bytes x) (joined bytes xs ++ rest) at inside first) in
+      let end : at + length (bytes x) + length (joined bytes xs) ≡ at + length (bytes x ++ joined bytes xs) =
+      omega (arith, length-append (bytes x) (joined bytes xs))
+      in
+      let is = many-read one (length xs) at (o .words) (at + length (bytes x)) (o .is) (m .words) (at + length (bytes x) + length (joined bytes xs)) (m .is) in
+      record { words = o .words ++ m .words; is = rw end at is; says = (o .words, m .words, refl, o .says, m .says) }
+
+-- ---- a count and its items
+
+record ListWritten {A : Type 0} (limit : ℕ) (bytes : A → List ℕ) (s : List ℕ) (one : ℕ → Item) (Says : List ℕ → A → Type 0) (at : ℕ) (xs : List A) : Type 0 where
+  start : ℕ
+  words : List ℕ
+  is : listAt limit one s at ≡ list start (length xs) words (at + length (counted bytes xs))
+  says : SayAll Says words xs
+  items : manyAt one (length xs) start ≡ item words (at + length (counted bytes xs))
+  there : at + length (counted bytes xs) ≤ length s
+
+module _ {A : Type 0} (limit : ℕ) (bytes : A → List ℕ) (s : List ℕ) (one : ℕ → Item) (Good : A → Type 0) (Says : List ℕ → A → Type 0)
+    (below : (at : ℕ) (words : List ℕ) (next : ℕ) → one at ≡ item words next → next ≤ length s)
+    (single : (x : A) → Good x → (at : ℕ) (rest : List ℕ) → slice at (length s) s ≡ bytes x ++ rest → OneWritten bytes one Says at x)
+    (most : limit ≤ most64) where
+  list-written : (xs : List A) → Each Good xs → length xs ≤ limit → (at : ℕ) (rest : List ℕ) → slice at (length s) s ≡ counted bytes xs ++ rest
+      → ListWritten limit bytes s one Says at xs
+  unfolding counted listFrom afterItem
+  list-written xs good few at rest same =
+      let n : ℕ = length xs in
+      let start : ℕ = at + length (shortest n) in
+      let first : slice at (length s) s ≡ shortest n ++ (joined bytes xs ++ rest) = same ∙ append-assoc (shortest n) (joined bytes xs) rest in
+      let number = number-written most64 s at (length s) n (joined bytes xs ++ rest) (omega arith) first in
+      let inside = number-inside most64 s at (length s) n start number in
+      let count = count-checks limit s at (length s) .put n start number few in
+      let body = onward s (shortest n) (joined bytes xs ++ rest) at (inside .there) first in
+      let m = many-written bytes s one Good Says below single xs good start rest body in
+      let end : start + length (joined bytes xs) ≡ at + length (shortest n ++ joined bytes xs) =
+      omega (arith, length-append (shortest n) (joined bytes xs))
+      in
+      let items = rw end at (m .is) in
+      let l : length s - start ≡ length (joined bytes xs) + length rest =
+      sym (length-slice start (length s) s (omega arith)) ∙ ap length body ∙ length-append (joined bytes xs) rest
+      in
+      record {
+        start = start;
+        words = m .words;
+        is = list-read limit one s at n start count ∙ ap (listFrom start n) items;
+        says = m .says;
+        items = items;
+        there = omega (arith, inside .there);
+      }
+
+-- ---- a chunk
+
+-- what a chunk's words say
+unfoldable ChunkSays : List ℕ → List ℕ → List ℕ → Type 0
+ChunkSays s words t = (start : ℕ) × (size : ℕ) × (words ≡ start ∷ size ∷ []) × (slice start (start + size) s ≡ t)
+
+abbrev AnyChunk : List ℕ → Type 0
+AnyChunk t = Unit {0}
+
+chunk-written : (s : List ℕ) → length s ≤ sizes .message → (t : List ℕ) → AnyChunk t → (at : ℕ) (rest : List ℕ)
+    → slice at (length s) s ≡ prefixedBytes t ++ rest
+    → OneWritten prefixedBytes (chunkItem s) (ChunkSays s) at t
+unfolding ChunkSays
+chunk-written s small t any at rest same =
+    let long : length (prefixedBytes t) ≤ length s = no-longer s (prefixedBytes t) rest at same in
+    let fits : length t ≤ most64 = omega (arith, prefixed-longer t) in
+    let w = prefixed-written s t rest at (length s) fits same in
+    let start : ℕ = at + length (shortest (length t)) in
+    let end : ℕ = at + length (prefixedBytes t) in
+    let inside = prefixed-inside s at (length s) start end (w .0) in
+    let e : start + (end - start) ≡ end = omega (arith, inside .upward) in
+    record {
+      words = start ∷ (end - start) ∷ [];
+      is = chunk-item s at start end (w .0);
+      says = (start, end - start, refl, rw e (w .1));
+    }
+
+chunks-said : (s : List ℕ) (ts : List (List ℕ)) (words : List ℕ) → SayAll (ChunkSays s) words ts → chunksOf s words ≡ ts
+unfolding SayAll ChunkSays chunksOf
+chunks-said s [] words e = rw e
+chunks-said s (t ∷ ts) words e =
+    let c = e .3 in
+    let is : words ≡ c .0 ∷ c .1 ∷ e .1 = sym (e .2) ∙ ap (λ (w : List ℕ). w ++ e .1) (c .2) in
+    rw (is, c .3, chunks-said s ts (e .1) (e .4))
+
+any-chunks : (ts : List (List ℕ)) → Each AnyChunk ts
+unfolding Each
+any-chunks [] = tt
+any-chunks (t ∷ ts) = (tt, any-chunks ts)
+
+-- ---- a have
+
+abbrev have-of : List ℕ → Filter → Have
+have-of syncs filter = record { lastSync = syncs; filter = filter }
+
+-- what a have's words say
+record HaveSays (s : List ℕ) (words : List ℕ) (h : Have) : Type 0 where
+  start : ℕ
+  count : ℕ
+  n : ℕ
+  b : ℕ
+  p : ℕ
+  field : ℕ
+  size : ℕ
+  are : words ≡ start ∷ count ∷ n ∷ b ∷ p ∷ field ∷ size ∷ []
+  syncs : hashesAt s start count ≡ h .lastSync
+  filter : filterOf4 n b p (slice field (field + size) s) ≡ h .filter
+
+-- a filter in its part
+record FilterWritten (s : List ℕ) (from end : ℕ) (f : Filter) : Type 0 where
+  n : ℕ
+  b : ℕ
+  p : ℕ
+  field : ℕ
+  size : ℕ
+  next : ℕ
+  is : filterAt s from end ≡ Read n b p field size next
+  says : filterOf4 n b p (slice field (field + size) s) ≡ f
+
+filter-back : (s : List ℕ) (from end : ℕ) (f : Filter) → SoundFilter f → slice from end s ≡ filterBytes f → FilterWritten s from end f
+filter-back s from end f (entries rules some) same =
+    let w = filter-written s [] from end f rules some (same ∙ sym (append-nil (filterBytes f))) in
+    record {
+      n = f .entries;
+      b = f .bits;
+      p = f .probes;
+      field = from + length (shortest (f .entries)) + length (shortest (f .bits)) + length (shortest (f .probes));
+      size = length (f .field);
+      next = from + length (shortest (f .entries)) + length (shortest (f .bits)) + length (shortest (f .probes)) + length (f .field);
+      is = w .0;
+      says = ap (filterOf4 (f .entries) (f .bits) (f .probes)) (w .1);
+    }
+filter-back s from end f (default e) same =
+    let none : filterBytes f ≡ [] = ap filterBytes e ∙ no-bytes 0 defaultBits defaultProbes [] refl in
+    record {
+      n = 0;
+      b = defaultBits;
+      p = defaultProbes;
+      field = from;
+      size = 0;
+      next = from;
+      is = default-written s from end (same ∙ none);
+      says = ap (filterOf4 0 defaultBits defaultProbes) (slice-past s from (from + 0) (omega arith)) ∙ sym e;
+    }
+
+have-written : (s : List ℕ) → length s ≤ sizes .message → (h : Have) → SoundHave h → (at : ℕ) (rest : List ℕ)
+    → slice at (length s) s ≡ haveBytes h ++ rest
+    → OneWritten haveBytes (haveItem s) (HaveSays s) at h
+unfolding haveBytes
+have-written s small h good at rest same =
+    let hl : List ℕ = hashListBytes (h .lastSync) in
+    let fb : List ℕ = filterBytes (h .filter) in
+    let first : slice at (length s) s ≡ hl ++ (prefixedBytes fb ++ rest) = same ∙ append-assoc hl (prefixedBytes fb) rest in
+    let l = hash-list-written s (h .lastSync) (prefixedBytes fb ++ rest) at (length s) (good .syncs) (good .fewSyncs) first in
+    let i : ℕ = at + length hl in
+    let inside = hash-list-inside s at (length s) (at + length (shortest (length (h .lastSync)))) (length (h .lastSync)) i (l .0) in
+    let second = onward s hl (prefixedBytes fb ++ rest) at (inside .there) first in
+    let long : length (prefixedBytes fb) ≤ length s = no-longer s (prefixedBytes fb) rest i second in
+    let q = prefixed-written s fb rest i (length s) (omega (arith, prefixed-longer fb)) second in
+    let from : ℕ = i + length (shortest (length fb)) in
+    let end : ℕ = i + length (prefixedBytes fb) in
+    let f = filter-back s from end (h .filter) (good .filter) (q .1) in
+    let e : end ≡ at + length (hl ++ prefixedBytes fb) = omega (arith, length-append hl (prefixedBytes fb)) in
+    let start : ℕ = at + length (shortest (length (h .lastSync))) in
+    let count : ℕ = length (h .lastSync) in
+    let is =
+    have-item s at start count (f .n) (f .b) (f .p) (f .field) (f .size) end
+    (have-read s at start count i (l .0) from end (q .0) (f .n) (f .b) (f .p) (f .field) (f .size) (f .next) (f .is))
+    in
+    record {
+      words = start ∷ count ∷ f .n ∷ f .b ∷ f .p ∷ f .field ∷ f .size ∷ [];
+      is = is ∙ ap (item (start ∷ count ∷ f .n ∷ f .b ∷ f .p ∷ f .field ∷ f .size ∷ [])) e;
+      says =
+          record {
+            start = start;
+            count = count;
+            n = f .n;
+            b = f .b;
+            p = f .p;
+            field = f .field;
+            size = f .size;
+            are = refl;
+            syncs = l .1;
+            filter = f .says;
+          };
+    }
+
+haves-said : (s : List ℕ) (hs : List Have) (i : ℕ) (before words : List ℕ) → length before ≡ i * haveWords → SayAll (HaveSays s) words hs
+    → havesFrom s (before ++ words) i (length hs) ≡ hs
+unfolding SayAll havesFrom haveIn filterWith
+haves-said s [] i before words long e = refl
+haves-said s (h ∷ hs) i before words long e =
+    let c = e .3 in
+    let more : List ℕ = e .1 in
+    let first : List ℕ = c .start ∷ c .count ∷ c .n ∷ c .b ∷ c .p ∷ c .field ∷ c .size ∷ [] in
+    let is : words ≡ first ++ more = sym (e .2) ∙ ap (λ (w : List ℕ). w ++ more) (c .are) in
+    let longer : length (before ++ first) ≡ suc i * haveWords = rw (length-append before first, long) (omega arith) in
+    let again : havesFrom s (before ++ (first ++ more)) (suc i) (length hs) ≡ hs =
+    rw (append-assoc before first more) at (haves-said s hs (suc i) (before ++ first) more longer (e .4))
+    in
+    let at = word before more i (c .start) (c .count) (c .n) (c .b) (c .p) (c .field) (c .size) long in
+    let zero = first-word before more i (c .start) (c .count) (c .n) (c .b) (c .p) (c .field) (c .size) long in
+    rw (is, zero, at 1, at 2, at 3, at 4, at 5, at 6, c .syncs, again) (ap (λ (f : Filter). have-of (h .lastSync) f ∷ hs) (c .filter))
+
+-- ---- the flags section
+
+record SectionWritten (s : List ℕ) (at : ℕ) (flags : Section) : Type 0 where
+  next : ℕ
+  is : sectionAt s at ≡ Sectioned flags next
+
+section-written : (s : List ℕ) (at : ℕ) (flags : Section) → SoundFlags flags → slice at (length s) s ≡ sectionBytes flags → SectionWritten s at flags
+unfolding sectionBytes flagsIn addFlags prefixedBytes
+section-written s at Absent good same =
+    let l : length s - at ≡ 0 = sym (length-slice at (length s) s (omega arith)) ∙ ap length same in
+    record { next = at; is = section-none s at (omega arith) }
+section-written s at (Present f) good same =
+    let t : List ℕ = 0x02 ∷ (0x80 + f .0 % 0x80) ∷ [] in
+    let form : slice at (length s) s ≡ prefixedBytes t ++ [] = rw (shortest-one 2 (omega arith)) same in
+    let w = prefixed-written s t [] at (length s) (omega arith) form in
+    let start : ℕ = at + length (shortest (length t)) in
+    let end : ℕ = at + length (prefixedBytes t) in
+    let inside = prefixed-inside s at (length s) start end (w .0) in
+    let high : 0x80 ≤ 0x80 + f .0 % 0x80 = omega arith in
+    let low : 0x80 + f .0 % 0x80 - 0x80 ≡ f .0 = omega arith in
+    let said : flagsIn t ≡ f .0 = rw (le-ltb (0x80 + f .0 % 0x80) 0x80 high, or-zero-l (0x80 + f .0 % 0x80 - 0x80)) low in
+    let whole : f ≡ flagsOf (flagsIn (slice start end s)) = ap flagsOf (sym (ap flagsIn (w .1) ∙ said)) in
+    record { next = end; is = section-read s at (omega (arith, inside)) start end f (w .0) whole }
+
+-- ---- the whole message
+
+tail-of : (x : ℕ) (t : List ℕ) → slice 1 (length (x ∷ t)) (x ∷ t) ≡ t
+tail-of x t = take-length t
+
+opened-as : (s : List ℕ) → length s ≤ sizes .message → (length s ≡ 0 → ⊥) → (v : MessageVersion) → getD s 0 0 ≡ typeOf v → openingAt s ≡ headsAt s v
+opened-as s small some V1 e = opening-first s small some e
+opened-as s small some V2 e = opening-second s small some (λ q. omega (arith, e, q)) e
+
+haves-back : (s : List ℕ) (hs : List Have) (words : List ℕ) → length words ≡ haveWords * length hs → SayAll (HaveSays s) words hs → havesOf s words ≡ hs
+unfolding havesOf
+haves-back s hs words long e =
+    let many : haveCount words ≡ length hs = omega (arith, long) in
+    rw many (haves-said s hs 0 [] words refl e)
+
+abbrev message-of : MessageVersion → List ℕ → List ℕ → List Have → List (List ℕ) → Section → Message
+message-of version heads need haves chunks flags =
+    record { version = version; heads = heads; need = need; haves = haves; chunks = chunks; flags = flags }
+
+same-message : (v : MessageVersion) (f : Section) (a₁ a₂ b₁ b₂ : List ℕ) (c₁ c₂ : List Have) (d₁ d₂ : List (List ℕ))
+    → a₁ ≡ a₂
+    → b₁ ≡ b₂
+    → c₁ ≡ c₂
+    → d₁ ≡ d₂
+    → message-of v a₁ b₁ c₁ d₁ f ≡ message-of v a₂ b₂ c₂ d₂ f
+same-message v f a₁ a₂ b₁ b₂ c₁ c₂ d₁ d₂ p q r t = rw (p, q, r, t)
+
+pub message-there-and-back : (s : List ℕ) (m : Message) → s ≡ messageBytes m → Sound m → ReadBack s m
+unfolding messageBytes messageOf havesAt chunksAt
+message-there-and-back s m e sound =
+    let b5 : List ℕ = sectionBytes (m .flags) in
+    let b4 : List ℕ = counted prefixedBytes (m .chunks) ++ b5 in
+    let b3 : List ℕ = counted haveBytes (m .haves) ++ b4 in
+    let b2 : List ℕ = hashListBytes (m .need) ++ b3 in
+    let b1 : List ℕ = hashListBytes (m .heads) ++ b2 in
+    let is : s ≡ typeOf (m .version) ∷ b1 = e in
+    let small : length s ≤ sizes .message = rw is (sound .small) in
+    let some : length s ≡ 0 → ⊥ = rw is (λ q. omega (arith, q)) in
+    let type : getD s 0 0 ≡ typeOf (m .version) = rw is in
+    let s1 : slice 1 (length s) s ≡ b1 = rw is (tail-of (typeOf (m .version)) b1) in
+    let h = hash-list-written s (m .heads) b2 1 (length s) (sound .heads) (sound .fewHeads) s1 in
+    let hstart : ℕ = 1 + length (shortest (length (m .heads))) in
+    let i : ℕ = 1 + length (hashListBytes (m .heads)) in
+    let ih = hash-list-inside s 1 (length s) hstart (length (m .heads)) i (h .0) in
+    let s2 = onward s (hashListBytes (m .heads)) b2 1 (ih .there) s1 in
+    let n = hash-list-written s (m .need) b3 i (length s) (sound .need) (sound .fewNeed) s2 in
+    let nstart : ℕ = i + length (shortest (length (m .need))) in
+    let j : ℕ = i + length (hashListBytes (m .need)) in
+    let inn = hash-list-inside s i (length s) nstart (length (m .need)) j (n .0) in
+    let s3 = onward s (hashListBytes (m .need)) b3 i (inn .there) s2 in
+    let hv =
+    list-written (sizes .haves) haveBytes s (haveItem s) SoundHave (HaveSays s) (have-below s) (have-written s small) (omega arith)
+    (m .haves) (sound .haves) (sound .fewHaves) j b4 s3
+    in
+    let k : ℕ = j + length (counted haveBytes (m .haves)) in
+    let s4 = onward s (counted haveBytes (m .haves)) b4 j (hv .there) s3 in
+    let ch =
+    list-written (sizes .chunks) prefixedBytes s (chunkItem s) AnyChunk (ChunkSays s) (chunk-below s) (chunk-written s small) (omega arith)
+    (m .chunks) (any-chunks (m .chunks)) (sound .fewChunks) k b5 s4
+    in
+    let l : ℕ = k + length (counted prefixedBytes (m .chunks)) in
+    let s5 = onward s (counted prefixedBytes (m .chunks)) b5 k (ch .there) s4 in
+    let sec = section-written s l (m .flags) (sound .flags) s5 in
+    let p : Places =
+    record {
+      version = m .version;
+      heads = run hstart (length (m .heads));
+      need = run nstart (length (m .need));
+      haves = run (hv .start) (length (m .haves));
+      chunks = run (ch .start) (length (m .chunks));
+      flags = m .flags;
+      next = sec .next;
+    }
+    in
+    let behind : MessageBehind s p (hv .words) (ch .words) =
+    record {
+      atNeed = i;
+      atHaves = j;
+      atChunks = k;
+      atSection = l;
+      opening = opened-as s small some (m .version) type ∙ heads-read s (m .version) hstart (length (m .heads)) i (h .0);
+      need = n .0;
+      haveList = hv .is;
+      chunkList = ch .is;
+      section = sec .is;
+    }
+    in
+    let long = many-sized (haveItem s) haveWords (have-sized s) (length (m .haves)) (hv .start) (hv .words) k (hv .items) in
+    record {
+      places = p;
+      haves = hv .words;
+      chunks = ch .words;
+      is = message-whole s p (hv .words) (ch .words) behind;
+      says =
+          same-message (m .version) (m .flags) _ _ _ _ _ _ _ _ (h .1) (n .1) (haves-back s (m .haves) (hv .words) long (hv .says))
+          (chunks-said s (m .chunks) (ch .words) (ch .says));
+    }
