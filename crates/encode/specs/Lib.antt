@@ -1,1 +1,3 @@
+pub mod Size
+pub mod Sound
 pub mod Write

@@ -1,7 +1,11 @@
 // A message written.
+use crate::put::put_message;
+use crate::size::Size;
+use crate::size::message_size;
 use message::flags::Section;
 use message::version::MessageVersion;
 use rules::output::Write;
+use rules::refusal::Refusal;
 ghost use Rattle.encode.specs.Write.{Parts, messageOutput};
 ghost use Rattle.rules.specs.Output.{Written};
 
@@ -19,5 +23,15 @@ pub fn encode(
 ) -> Write
     ensures { λ r. ⌜ Written (messageOutput (record { version = version; heads = now (heads .entry); need = now (need .entry); bytes = now (s .entry); haves = now (haves .entry); chunks = now (chunks .entry); lengths = now (lengths .entry); flags = flags })) (now (out .entry)) (now (out .exit)) r ⌝ }
 {
-    Write::Wrote(0)
+    let sized = message_size(heads, need, s, haves, chunks, lengths, flags);
+    match sized {
+        Size::Bytes(size) => {
+            if out.len() < size {
+                return Write::Refused(Refusal::NoRoom(size));
+            }
+            put_message(out, version, heads, need, s, haves, chunks, lengths, flags);
+            Write::Wrote(size)
+        }
+        Size::Refused(r) => Write::Refused(r),
+    }
 }

@@ -1,0 +1,5 @@
+-- Laws that the crates above cite.
+pub mod PutLaws
+pub mod SizeLaws
+pub mod SoundLaws
+pub mod WriteLaws

@@ -1,0 +1,93 @@
+-- `encode::put::put_have` meets its contract: the record is good, so its hashes and its field stand in the lent bytes, and the two parts put one
+-- after the other are the have put at once. Assumes nothing.
+use native.Mathlib.Omega.{arith}
+use denote.Ref.{now}
+use Rattle.encode.proofs.SizeLaws.{HaveFits, have-fits, have-room}
+use Rattle.encode.proofs.PutLaws.{put-have-parts}
+use borrow.Author.Needs.{needs}
+use Rattle.encode.proofs.put.put_have.Statement.{statement}
+use Rattle.encode.proofs.put.put_have.Tie as tie
+
+mul-word : tie.Need-mul-word
+mul-word c = search needs
+
+mul-place : tie.Need-mul-place
+mul-place c = search needs
+
+shared-slice-read-place : tie.Need-shared-slice-read-place
+shared-slice-read-place c = search needs
+
+add-count : tie.Need-add-count
+add-count c = search needs
+
+mul-count : tie.Need-mul-count
+mul-count c = search needs
+
+shared-slice-read-count : tie.Need-shared-slice-read-count
+shared-slice-read-count c = search needs
+
+filter-in-requires : tie.Need-filter-in-requires
+filter-in-requires c κs = search needs
+
+-- where the parts of the record stand
+fits : (c : tie.After-filter-in)
+    → let a = c .before .before .before .before .before .before .args in
+    HaveFits (now (a .s)) (now (a .haves)) (a .i) (c .filter-in .result)
+fits c = let s = c .before .before .before .before .before .before in have-fits _ _ _ _ (c .filter-in .ensures) (s .pre .0 .0) (s .pre .0 .1)
+
+add-end : tie.Need-add-end
+add-end c = omega (arith, fits (c .before) .field)
+
+put-hashes-requires : tie.Need-put-hashes-requires
+put-hashes-requires c κs =
+    let f = c .before .before in
+    let s = f .before .before .before .before .before .before in
+    (fits f .sync, omega (arith, have-room _ _ _ _ (f .filter-in .ensures) _ _ (s .pre .1)))
+
+sub-put-prefixed-filter : tie.Need-sub-put-prefixed-filter
+sub-put-prefixed-filter c = search needs
+
+part-put-prefixed-filter-start : tie.Need-part-put-prefixed-filter-start
+part-put-prefixed-filter-start c = search needs
+
+part-put-prefixed-filter-end : tie.Need-part-put-prefixed-filter-end
+part-put-prefixed-filter-end c =
+    let f = c .before .before .before .before .before .before in
+    omega (arith, fits f .field)
+
+put-prefixed-filter-requires : tie.Need-put-prefixed-filter-requires
+put-prefixed-filter-requires c κs =
+    let h = c .before .before .before .before in
+    let f = h .before .before .before in
+    let s = f .before .before .before .before .before .before in
+    omega (arith, have-room _ _ _ _ (f .filter-in .ensures) _ _ (s .pre .1), h .put-hashes .ensures .place, h .put-hashes .kept .0)
+
+same-length : tie.Need-same-length
+same-length c = search needs
+
+returns : tie.Need-returns
+returns c =
+    let p = c .before .before in
+    let h = p .before .before .before .before .before in
+    let f = h .before .before .before in
+    put-have-parts _ _ _ _ (f .filter-in .ensures) _ _ _ _ _ _ (h .put-hashes .ensures) (p .put-prefixed-filter .ensures)
+
+pub put-have-spec : {M : Type 1} → statement M
+put-have-spec =
+    tie.close
+    (tie.spec
+    mul-word
+    mul-place
+    shared-slice-read-place
+    add-count
+    mul-count
+    shared-slice-read-count
+    filter-in-requires
+    add-end
+    put-hashes-requires
+    sub-put-prefixed-filter
+    part-put-prefixed-filter-start
+    part-put-prefixed-filter-end
+    put-prefixed-filter-requires
+    same-length
+    returns)
