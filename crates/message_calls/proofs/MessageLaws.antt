@@ -1,34 +1,44 @@
 -- A message and its words: what is written is read back; and a call that reads a message has one answer and leaves one content of both lists.
 use Prim.Native.Nat.{ℕ, _≤_, _<_}
 use mathlib.Core.List.{List}
-use mathlib.Core.Path.{_≡_, refl, sym, ap, _∙_}
+use mathlib.Core.Path.{_≡_, refl, sym, ap, ap₂, subst, _∙_}
 use borrow.Author.Tests.{eq-eqb, ne-eqb, lt-ltb, le-ltb}
 use Rattle.decode.specs.Read.{DecodedInto}
 use Rattle.decode.specs.declared.parse.Decoded.{Decoded}
+use Rattle.encode.specs.Write.{Parts, messageOutput}
 use Rattle.message.specs.Flags.{flagsOf}
 use Rattle.message.specs.declared.flags.Section.{Section}
 use Rattle.message.specs.declared.flags.Section.the-variants.{Absent, Present}
 use Rattle.message.specs.declared.version.MessageVersion.{MessageVersion}
 use Rattle.message.specs.declared.version.MessageVersion.the-variants.{V1, V2}
+use Rattle.rules.specs.Output.{Output, Written}
+use Rattle.rules.specs.declared.output.Write.{Write}
+use Rattle.words.proofs.Answers.{answered}
+use Rattle.words.specs.Answer.{writeWords, Answered}
 use Rattle.message_calls.specs.MessageWords.{versionWord, versionOf, sectionWord, sectionOf, decodedWords, MessageAnswered}
 
 -- ---- the words that are passed
 
 module _ (n : ℕ) where
   pub version-two : n ≡ 2 → V2 ≡ versionOf n
+  unfolding versionOf
   version-two e = rw (eq-eqb n 2 e)
 
   pub version-one : (n ≡ 2 → ⊥) → V1 ≡ versionOf n
+  unfolding versionOf
   version-one h = rw (ne-eqb n 2 h)
 
   pub section-there : n < 256 → Present (flagsOf n) ≡ sectionOf n
+  unfolding sectionOf
   section-there h = rw (lt-ltb n 256 h)
 
   pub section-none : 256 ≤ n → Absent ≡ sectionOf n
+  unfolding sectionOf
   section-none h = rw (le-ltb n 256 h)
 
 -- A version's word is that version's, and the words of flags that fit a byte are those flags'.
 pub version-back : (v : MessageVersion) → versionOf (versionWord v) ≡ v
+unfolding versionOf
 version-back V1 = refl
 version-back V2 = refl
 
@@ -47,3 +57,29 @@ pub message-answered-once : {s haves chunks h₁ h₂ k₁ k₂ w₁ w₂ : List
     → MessageAnswered s haves h₂ chunks k₂ w₂
     → (w₁ ≡ w₂) × (h₁ ≡ h₂) × (k₁ ≡ k₂)
 message-answered-once x y = (x .answer ∙ sym (y .answer), x .haves ∙ sym (y .haves), x .chunks ∙ sym (y .chunks))
+
+-- ---- a message that is written
+
+-- the parts that a call is passed
+abbrev parts : List ℕ → List ℕ → List ℕ → List ℕ → List ℕ → List ℕ → MessageVersion → Section → Parts
+parts heads need bytes haves chunks lengths v f =
+    record {
+      version = v;
+      heads = heads;
+      need = need;
+      bytes = bytes;
+      haves = haves;
+      chunks = chunks;
+      lengths = lengths;
+      flags = f;
+    }
+
+pub message-written : (version flags : ℕ) (v : MessageVersion) (f : Section) (heads need bytes haves chunks lengths before after words : List ℕ) (r : Write)
+    → v ≡ versionOf version
+    → f ≡ sectionOf flags
+    → Written (messageOutput (parts heads need bytes haves chunks lengths v f)) before after r
+    → words ≡ writeWords r
+    → Answered (messageOutput (parts heads need bytes haves chunks lengths (versionOf version) (sectionOf flags))) before after words
+message-written version flags v f heads need bytes haves chunks lengths before after words r e g w h =
+    let same = ap₂ (λ (x : MessageVersion) (y : Section). messageOutput (parts heads need bytes haves chunks lengths x y)) e g in
+    answered _ _ _ _ _ (subst (λ (o : Output). Written o before after r) same w) h

@@ -20,7 +20,7 @@ abbrev pub versionWord : MessageVersion → ℕ
 versionWord V1 = 1
 versionWord V2 = 2
 
-abbrev pub versionOf : ℕ → MessageVersion
+unfoldable pub versionOf : ℕ → MessageVersion
 versionOf n = cond (eqb n 2) V2 V1
 
 -- The flags' number, or 256 without a section; any greater number says the same.
@@ -28,7 +28,7 @@ abbrev pub sectionWord : Section → ℕ
 sectionWord Absent = 256
 sectionWord (Present f) = f .0
 
-abbrev pub sectionOf : ℕ → Section
+unfoldable pub sectionOf : ℕ → Section
 sectionOf n = cond (ltb n 256) (Present (flagsOf n)) Absent
 
 abbrev pub decodedWords : Decoded → List ℕ

@@ -1,6 +1,11 @@
 // Calls of the crates `decode` and `encode`.
 use crate::message_words::decoded_words;
-ghost use Rattle.message_calls.specs.MessageWords.{MessageAnswered};
+use crate::message_words::section_of;
+use crate::message_words::version_of;
+use words::answer::write_words;
+ghost use Rattle.encode.specs.Write.{Parts, messageOutput};
+ghost use Rattle.words.specs.Answer.{Answered};
+ghost use Rattle.message_calls.specs.MessageWords.{versionOf, sectionOf, MessageAnswered};
 
 // Reads a message: 0, version, place and count of the heads, the need, the haves and the chunks, flags, next place; the words of haves and chunks
 // go into their lists.
@@ -14,4 +19,35 @@ pub extern "C" fn bt_read_message(
     ensures { λ _. ⌜ MessageAnswered (now (s .entry)) (now (haves .entry)) (now (haves .exit)) (now (chunks .entry)) (now (chunks .exit)) (now (answer .exit)) ⌝ }
 {
     *answer = decoded_words(decode::decode::decode(s, haves, chunks));
+}
+
+// Writes a message from its parts: 0, bytes written.
+#[no_mangle]
+pub extern "C" fn bt_write_message(
+    out: &mut [u8],
+    version: u64,
+    heads: &[u8],
+    need: &[u8],
+    s: &[u8],
+    haves: &[u64],
+    chunks: &[u8],
+    lengths: &[u64],
+    flags: u64,
+    answer: &mut [u64; 4],
+)
+    ensures { λ _. ⌜ Answered (messageOutput (record { version = versionOf version; heads = now (heads .entry); need = now (need .entry); bytes = now (s .entry); haves = now (haves .entry); chunks = now (chunks .entry); lengths = now (lengths .entry); flags = sectionOf flags })) (now (out .entry)) (now (out .exit)) (now (answer .exit)) ⌝ }
+{
+    let v = version_of(version);
+    let f = section_of(flags);
+    *answer = write_words(encode::encode::encode(
+        out,
+        v,
+        heads,
+        need,
+        s,
+        haves,
+        chunks,
+        lengths,
+        f,
+    ));
 }

@@ -1,13 +1,13 @@
 // One record: what the proved library answers to its input, held to the stored answer.
 use crate::words::u16_at;
 use crate::words::words_at;
-use wire_calls::answer::hash_list_words;
-use wire_calls::answer::number_words;
-use wire_calls::answer::prefixed_words;
 use wire::leb128::leb128_u32;
 use wire::leb128::leb128_u64;
 use wire::parse::length_prefixed_bytes;
 use wire::parse::length_prefixed_hashes;
+use wire_calls::answer::hash_list_words;
+use wire_calls::answer::number_words;
+use wire_calls::answer::prefixed_words;
 ghost use mathlib.Core.Path.{_≡_};
 ghost use Prim.Native.Nat.{_≤_};
 ghost use lib.ListN.{length};

@@ -15,7 +15,5 @@ pub extern "C" fn bt_hashes_to_send(
 )
     ensures { λ _. ⌜ Answered (toSendOutput (now (table .entry)) (now (s .entry)) (now (haves .entry)) (now (need .entry))) (now (out .entry)) (now (out .exit)) (now (answer .exit)) ⌝ }
 {
-    *answer = write_words(selection::to_send::get_hashes_to_send(
-        table, s, haves, need, out,
-    ));
+    *answer = write_words(selection::to_send::get_hashes_to_send(table, s, haves, need, out));
 }

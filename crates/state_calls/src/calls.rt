@@ -1,11 +1,11 @@
 // Calls of the crate `state`.
 use crate::answer::good_words;
 use crate::answer::loaded_words;
-use words::answer::write_words;
 use crate::session_words::loaded_session;
 use crate::session_words::session_of;
 use crate::session_words::session_words;
 use state::session::Session;
+use words::answer::write_words;
 ghost use mathlib.Core.Path.{_≡_};
 ghost use Rattle.state.specs.Good.{sessionGood};
 ghost use Rattle.state.specs.Saved.{stateOutput};
