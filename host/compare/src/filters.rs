@@ -1,7 +1,8 @@
 //! Filters: the library's answers beside the model's and the crate's.
 
 use crate::inputs;
-use crate::model::filter::{self, Filter, DEFAULT_BITS, DEFAULT_PROBES, HAVE_WORDS};
+use crate::model::filter::{self, Filter, DEFAULT_BITS, DEFAULT_PROBES};
+use crate::model::have::{contained, HAVE_WORDS};
 use crate::published;
 use bisquetower::raw::{self, Batch, Read, Reader};
 use crate_under_test::facade::{self, BloomFilter};
@@ -257,7 +258,7 @@ impl Haves {
                 let haves = &self.haves;
                 format!("{hash} in {haves:?} over {s}: the library's answer is {answer:?}")
             };
-            let expected = filter::contained(&self.s, &self.haves, hash);
+            let expected = contained(&self.s, &self.haves, hash);
             if answer != expected {
                 return Err(format!("{}, the model's {expected:?}", told()));
             }
@@ -286,7 +287,7 @@ pub fn have_of(filter: &Filter) -> [u64; HAVE_WORDS] {
 /// that may be refused; returns it.
 pub fn compare_question(s: &[u8], haves: &[u64], hash: &[u8]) -> Result<[u64; 4], String> {
     let answer = raw::filters_contain(s, haves, hash);
-    let expected = filter::contained(s, haves, hash);
+    let expected = contained(s, haves, hash);
     if answer == expected {
         return Ok(answer);
     }

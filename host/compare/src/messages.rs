@@ -4,7 +4,7 @@
 //! the crate writes of its own.
 
 use crate::inputs;
-use crate::model::filter::HAVE_WORDS;
+use crate::model::have::HAVE_WORDS;
 use crate::model::message::{Message as Places, Parts};
 use crate::model::message::{ANSWER_WORDS, CHUNK_WORDS, NO_FLAGS};
 use crate::model::{self, Refused};
@@ -229,6 +229,15 @@ impl Expected {
         }
     }
 
+    /// Words enough, and of a message that is refused some, which must not be
+    /// touched.
+    fn rooms(&self) -> [usize; 2] {
+        match self.read {
+            Ok(_) => [&self.haves, &self.chunks].map(|list| list.len() + SPARE),
+            Err(_) => [2 * HAVE_WORDS, 3 * CHUNK_WORDS],
+        }
+    }
+
     fn reading<'a>(&'a self, s: &'a [u8]) -> Reading<'a> {
         let (mut haves, mut chunks) = (self.haves.clone(), self.chunks.clone());
         Reading {
@@ -373,7 +382,7 @@ pub fn compare<S: AsRef<[u8]>>(messages: &[S]) -> Result<Tally, String> {
     let mut asked: Vec<Asked> = Vec::with_capacity(messages.len());
     for s in messages.iter().map(AsRef::as_ref) {
         let expected = Expected::of(s);
-        let rooms = [&expected.haves, &expected.chunks].map(|list| list.len() + SPARE);
+        let rooms = expected.rooms();
         let flip = [0, u64::MAX][asked.len() % 2];
         asked.push(Asked::new(s, &expected, rooms, flip));
     }

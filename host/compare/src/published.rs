@@ -2,7 +2,8 @@
 //! crate says them.
 
 use crate::model::filter::Filter;
-use crate::model::message::{self, Parts};
+use crate::model::have;
+use crate::model::message::Parts;
 use bisquetower::raw::{Read, Reader};
 use crate_under_test::facade::{self, BloomFilter, ChangeHash, FilterParts, Kind, State};
 use crate_under_test::facade::{ChunkList, Have, Message, MessageVersion};
@@ -101,8 +102,8 @@ pub fn message(parts: &Parts) -> Message {
 
 /// The crate's haves of good records over lent bytes.
 pub fn haves(s: &[u8], records: &[u64]) -> Vec<Have> {
-    let haves = message::haves(s, records).expect("good haves");
-    let have = |have: message::Have| Have {
+    let haves = have::haves(s, records).expect("good haves");
+    let have = |have: have::Have| Have {
         last_sync: change_hashes(have.last_sync),
         bloom: filter(&have.filter).expect("the crate has every filter"),
     };

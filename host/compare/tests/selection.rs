@@ -147,6 +147,30 @@ fn large_graphs() {
     assert!(tally.chosen > 10_000 && tally.left > 10_000, "{tally:?}");
 }
 
+/// Rows that depend on nothing, and filters over every second one of them with so
+/// few bits that many of the others are a false yes, against crate and model.
+#[test]
+fn false_yeses() {
+    let mut random = Random(26);
+    let (mut yeses, mut chosen) = (0, 0);
+    for _ in 0..20 {
+        let limit = random.of(&[16, 256, 1 << 20]);
+        let hashes = random.crowded_hashes(200, limit);
+        let added: Vec<Hash> = hashes.iter().copied().step_by(2).collect();
+        let case = Case {
+            table: table_bytes(&random.rows_of(&hashes, Shape::Wide)),
+            waiting: Vec::new(),
+            haves: vec![OwnHave::over(Vec::new(), 3, 2, &added)],
+            need: Vec::new(),
+        };
+        let (tally, _) = compare_cases(&[case], &mut random).unwrap();
+        // What was added is contained.
+        yeses += 100 - tally.chosen;
+        chosen += tally.chosen;
+    }
+    assert!(yeses > 400 && chosen > 400, "{yeses}, {chosen}");
+}
+
 /// Every shape of table at its limit with a need of 1,024 hashes, each of them
 /// held and none of it in S: 2,048 hashes are never passed, and the most that can
 /// be sent is as many needs as a list has, and the rows.

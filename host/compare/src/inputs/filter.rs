@@ -1,7 +1,8 @@
 //! Random filters, damaged, and hashes that probe at the edges of a field.
 
 use super::{number_forms, Random};
-use crate::model::filter::{field_size, Filter, HAVE_WORDS};
+use crate::model::filter::{field_size, Filter};
+use crate::model::have::HAVE_WORDS;
 use crate::model::number_bytes;
 
 /// The longest field of most random filters, and of a few.

@@ -3,7 +3,8 @@
 
 use super::filter::hash_of;
 use super::Random;
-use crate::model::filter::{built, field_size, Filter, HAVE_WORDS};
+use crate::model::filter::{built, field_size, Filter};
+use crate::model::have::HAVE_WORDS;
 use crate::table_inputs::{table_bytes, waiting_bytes, LIKENESSES, SHAPES};
 use crate::table_model::{Hash, HASH};
 use std::ops::Range;

@@ -2,21 +2,16 @@
 //! and 10): a field is kept as its bits, one by one, and every product is taken
 //! in 128 bits.
 
-use super::{number, number_bytes, part, words, Refused, HASH, HASHES, MOST_OF_A_FILTER};
+use super::{number, number_bytes, part, Refused, HASH, HASHES, MOST_OF_A_FILTER};
 use bisquetower::raw::{Read, Reader};
 
-/// "haves 16. Filter bit field 8,192 bytes; probes 64".
-pub const HAVES: usize = 16;
+/// "Filter bit field 8,192 bytes; probes 64".
 const FIELD: u128 = 8_192;
 const PROBES: u64 = 64;
 
 /// "no bytes means entries 0, bits 10, probes 7".
 pub const DEFAULT_BITS: u64 = 10;
 pub const DEFAULT_PROBES: u64 = 7;
-
-/// Words of a have's record: place and count of its last-sync hashes, entries,
-/// bits, probes, place and length of the field.
-pub const HAVE_WORDS: usize = 7;
 
 /// A filter as numbers, and its field.
 #[derive(Clone, Copy, Debug, PartialEq, Eq)]
@@ -155,56 +150,4 @@ pub fn contains(filter: &Filter, hash: &[u8]) -> bool {
         && probes_of(hash, 8 * field.len(), probes)
             .into_iter()
             .all(set)
-}
-
-/// What a call has to answer that is asked for a hash in the filters of haves:
-/// 10 for the haves, of which 16 are looked at; 4 for more of them, or for more
-/// than 1,024 last-sync hashes of one; 4 or 1 for a hash of another length; else
-/// 1 for yes and 0 for no.
-pub fn contained(s: &[u8], haves: &[u64], hash: &[u8]) -> [u64; 4] {
-    let answer = filters(s, haves).and_then(|filters| {
-        let long = haves.chunks(HAVE_WORDS).any(|have| have[1] > HASHES);
-        if filters.len() > HAVES || long || hash.len() > HASH {
-            Err((4, 0))
-        } else if hash.len() < HASH {
-            Err((1, 0))
-        } else {
-            let yes = filters.iter().any(|filter| contains(filter, hash));
-            Ok([u64::from(yes), 0, 0])
-        }
-    });
-    words(answer)
-}
-
-/// The filters of a list of haves; those after the sixteenth are never asked.
-pub(super) fn filters<'a>(s: &'a [u8], haves: &[u64]) -> Result<Vec<Filter<'a>>, Refused> {
-    if !haves.len().is_multiple_of(HAVE_WORDS) {
-        return Err((10, 0));
-    }
-    let records = haves.chunks(HAVE_WORDS);
-    let good = records.clone().take(HAVES).all(|have| good_have(s, have));
-    if !good {
-        return Err((10, 0));
-    }
-    let filter = |have: &[u64]| Filter {
-        entries: have[2],
-        bits: have[3],
-        probes: have[4],
-        field: at_place(s, have[5], have[6].into()).unwrap_or_default(),
-    };
-    Ok(records.map(filter).collect())
-}
-
-/// Whether a have's last-sync hashes and its filter's field stand inside the
-/// bytes, and the filter keeps the rules.
-pub fn good_have(s: &[u8], have: &[u64]) -> bool {
-    at_place(s, have[0], HASH as u128 * u128::from(have[1])).is_some()
-        && keeps_rules(have[2], have[3], have[4], have[6].into())
-        && at_place(s, have[5], have[6].into()).is_some()
-}
-
-pub(super) fn at_place(s: &[u8], place: u64, length: u128) -> Option<&[u8]> {
-    let end = u128::from(place) + length;
-    let inside = end <= s.len() as u128;
-    inside.then(|| &s[place as usize..end as usize])
 }

@@ -2,9 +2,10 @@
 //! 7 and 10): what a reader answers and leaves in its two lists, and the bytes of
 //! a message that is passed as parts.
 
-use super::filter::{self, Filter, HAVES, HAVE_WORDS};
+use super::filter;
+use super::have::{haves, limited, HAVES, HAVE_WORDS};
 use super::{hash_list_bytes, hashes, number, number_bytes, prefixed, prefixed_bytes};
-use super::{Refused, HASH, HASHES, MOST};
+use super::{Refused, HASH, MOST};
 use bisquetower::raw::{Read, Reader};
 
 /// "Message at most 4,194,304 bytes", "chunks 4,096".
@@ -237,42 +238,4 @@ fn pieces<'a>(bytes: &'a [u8], lengths: &[u64]) -> Result<Vec<&'a [u8]>, Refused
         left = after;
     }
     Ok(chunks)
-}
-
-/// A have that is passed as a record over lent bytes.
-#[derive(Clone, Copy, Debug, PartialEq, Eq)]
-pub struct Have<'a> {
-    pub last_sync: &'a [u8],
-    pub filter: Filter<'a>,
-}
-
-/// The haves of a list of records; 10 if it isn't whole records, or if of the
-/// first sixteen one has last-sync hashes or a field outside the bytes or breaks
-/// the filter rules. Those after the sixteenth aren't looked at: they are too
-/// many in any case.
-pub fn haves<'a>(s: &'a [u8], records: &[u64]) -> Result<Vec<Have<'a>>, Refused> {
-    let filters = filter::filters(s, records)?;
-    let all = records.chunks(HAVE_WORDS).zip(filters).enumerate();
-    let have = |(k, (record, filter)): (usize, (&[u64], Filter<'a>))| {
-        let length = HASH as u128 * u128::from(record[1]);
-        match filter::at_place(s, record[0], length) {
-            Some(last_sync) => Ok(Have { last_sync, filter }),
-            None if k < HAVES => Err((10, 0)),
-            None => Ok(Have {
-                last_sync: &[],
-                filter,
-            }),
-        }
-    };
-    all.map(have).collect()
-}
-
-/// 4 for more than sixteen haves, and for one with more last-sync hashes than a
-/// list may have.
-pub fn limited(haves: &[Have]) -> Result<(), Refused> {
-    let long = |have: &Have| have.last_sync.len() > HASH * HASHES as usize;
-    match haves.len() > HAVES || haves.iter().any(long) {
-        true => Err((4, 0)),
-        false => Ok(()),
-    }
 }

@@ -2,7 +2,7 @@
 //! grow until nothing is new.
 
 use super::filter::contains;
-use super::message::{haves, limited, Have};
+use super::have::{haves, limited, Have};
 use super::Refused;
 use crate::table_model::{hash_list, reached, table, Hash, Table, HASH};
 use std::collections::{BTreeSet, HashSet};

@@ -2,7 +2,7 @@
 //! Session; refusals 1 to 4, 7 and 10). A session is its counts and flags, as
 //! docs/ABI.md puts them into words.
 
-use super::filter::{good_have, HAVES, HAVE_WORDS};
+use super::have::{haves, limited, HAVES, HAVE_WORDS};
 use super::{hashes, number_bytes, Refused, HASH, HASHES};
 use bisquetower::raw::{Read, Reader};
 
@@ -166,13 +166,10 @@ fn haves_good(count: u64, lists: &Lists) -> bool {
     if count > HAVES as u64 {
         return false;
     }
-    let records = lists.haves.chunks_exact(HAVE_WORDS).take(count as usize);
-    let inside = |have: &[u64]| {
-        let end = u128::from(have[0]) + HASH as u128 * u128::from(have[1]);
-        have[1] <= HASHES && end <= lists.bytes.len() as u128
+    let Some(records) = lists.haves.get(..HAVE_WORDS * count as usize) else {
+        return false;
     };
-    records.len() == count as usize
-        && records
-            .into_iter()
-            .all(|have| inside(have) && good_have(lists.bytes, have))
+    haves(lists.bytes, records)
+        .and_then(|haves| limited(&haves))
+        .is_ok()
 }

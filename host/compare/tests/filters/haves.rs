@@ -3,7 +3,8 @@
 use crate::{random_filter, with_field};
 use compare::filters::compare_question;
 use compare::inputs::{seed, Random};
-use compare::model::filter::{Filter, HAVE_WORDS};
+use compare::model::filter::Filter;
+use compare::model::have::HAVE_WORDS;
 
 /// A hash that is nowhere near an edge.
 const HASH: [u8; 32] = *b"32 bytes that are hash to no one";
@@ -31,6 +32,7 @@ fn refused_haves() {
         (0, 36, true),
         (0, 37, false),
         (1, 0, true),
+        (0, 101, false),
         (1, 3, true),
         (1, 4, false),
         (1, 1_025, false),

@@ -1,12 +1,13 @@
 //! Reading: every short string, messages cut and damaged at every byte, and a
 //! million random ones.
 
-use crate::{agree, agree_all};
+use crate::{agree, agree_all, ask};
 use compare::inputs::message::{
     damaged_once, good_messages, prefixes, string, TELLING, TELLING_OF_FILTERS, UP_TO_FILTER,
 };
 use compare::inputs::{seed, Random};
 use compare::messages::{compare, Tally};
+use compare::published;
 
 /// Every string of up to so many bytes from this alphabet, after these.
 fn every_string(before: &[u8], alphabet: &[u8], most: usize) -> Tally {
@@ -104,4 +105,28 @@ fn random_messages() {
     let parts = [tally.with_haves, tally.with_chunks, tally.with_flags];
     assert!(parts.iter().all(|&count| count > 100_000), "{tally:?}");
     assert!(tally.cut_numbers > 50, "{tally:?}");
+}
+
+/// The intended differences at their smallest, crate beside library.
+#[test]
+fn differences_are_those_that_are_intended() {
+    let filter = |string: &[u8]| {
+        let length = string.len() as u8;
+        [&UP_TO_FILTER[..], &[length], string, &[0]].concat()
+    };
+    let haves = [&[0x42, 0, 0, 17][..], &[0; 34], &[0]].concat();
+    // The library's refusal, and the crate's, 0 for none.
+    let cases = [
+        (filter(&[0x80; 5]), 3, 1),
+        (filter(&[1, 0x80, 0x80, 0x80, 0x80, 0x80]), 3, 1),
+        (filter(&[1, 0, 7]), 5, 0),
+        (filter(&[1, 10, 65, 0, 0]), 4, 0),
+        (filter(&[1, 10, 65, 0]), 4, 1),
+        (haves, 4, 0),
+    ];
+    for (s, here, there) in cases {
+        assert_eq!(ask(&s).0[0], here);
+        let crates = published::read_message(&s);
+        assert_eq!(crates.map_or_else(|(number, _)| number, |_| 0), there);
+    }
 }
