@@ -65,14 +65,7 @@ fn put_have(out: &mut [u8], at: usize, s: &[u8], haves: &[u64], i: usize) -> usi
     let start = f.place;
     let end = start + f.size;
     let at_filter = put_hashes(out, at, s, place, count);
-    put_prefixed_filter(
-        out,
-        at_filter,
-        f.entries,
-        f.bits,
-        f.probes,
-        &s[start..end],
-    )
+    put_prefixed_filter(out, at_filter, f.entries, f.bits, f.probes, &s[start..end])
 }
 
 // All haves after their count.

@@ -114,7 +114,9 @@ fn lists_size(heads: &[u8], need: &[u8], s: &[u8], haves: &[u64]) -> Size
         Passed::Hashes(heads_count) => {
             let second = passed_hashes(need);
             match second {
-                Passed::Hashes(need_count) => Size::Bytes(hashes_size(heads_count) + hashes_size(need_count)),
+                Passed::Hashes(need_count) => Size::Bytes(
+                    hashes_size(heads_count) + hashes_size(need_count),
+                ),
                 Passed::Refused(r) => Size::Refused(r),
             }
         }
