@@ -1,24 +1,22 @@
 -- Bytes put part after part: what is put so far and what is still to be put are together what is to be put. And the parts of a message as the
 -- functions put them.
-use Prim.Native.Nat.{ℕ, _+_, _-_, _*_, _/_, _%_, _≤_, _<_, suc}
+use Prim.Native.Nat.{ℕ, _+_, _-_, _*_, _%_, _≤_, _<_, suc}
 use mathlib.Core.List.{List, [], _∷_, _++_}
-use mathlib.Core.Path.{_≡_, refl, sym, _∙_, ap}
-use native.Mathlib.Nat.{add-sub-cancel-left}
+use mathlib.Core.Path.{_≡_, refl, _∙_, ap}
 use native.Mathlib.Numerals.{add-one}
 use native.Mathlib.Omega.{arith}
 use lib.ListN.{length, getD, set, take, drop, length-append}
-use lib.Seq.{slice, sets, length-sets, length-slice, drop-cons, drop-length}
+use lib.Seq.{slice, sets, length-sets, drop-cons, drop-length}
 use Rattle.bloom.specs.Filter.{filterBytes, filterOf4}
 use Rattle.bloom.specs.Have.{haveCount, haveIn, havesFrom, havesOf, syncPlace, syncCount, numbersIn}
 use Rattle.bloom.specs.declared.have.FilterNumbers.{FilterNumbers}
-use Rattle.message.specs.Flags.{sectionBytes, flagsOf}
+use Rattle.message.specs.Flags.{sectionBytes}
 use Rattle.message.specs.Message.{Message, typeOf, joined, counted, haveBytes, messageBytes}
 use Rattle.message.specs.declared.flags.MessageFlags.{MessageFlags}
 use Rattle.message.specs.declared.flags.Section.{Section}
 use Rattle.message.specs.declared.flags.Section.the-variants.{Absent, Present}
 use Rattle.rules.specs.Hash.{Bytes, hashesAt}
 use Rattle.rules.specs.Sizes.{sizes}
-use Rattle.rules.proofs.Hash.{take-drop}
 use Rattle.wire.specs.Item.{prefixedBytes, hashListBytes}
 use Rattle.wire.specs.Number.{shortest, Put}
 use Rattle.wire.proofs.Number.{put-then}

@@ -1,5 +1,5 @@
 -- How long the parts of a message are, and that no sum of their lengths is large.
-use Prim.Native.Nat.{ℕ, zero, suc, _+_, _-_, _*_, _/_, _≤_, _<_, _^_}
+use Prim.Native.Nat.{ℕ, zero, suc, _+_, _-_, _*_, _≤_, _<_, _^_}
 use mathlib.Core.Bool.{true}
 use mathlib.Core.List.{List, [], _∷_, _++_}
 use mathlib.Core.Path.{_≡_, refl, sym, _∙_, ap}
@@ -10,7 +10,7 @@ use borrow.Author.Tests.{lt-ltb, le-ltb, ltb-false, leb-true, eqb-true, eqb-fals
 use lib.Dec.{ltb, leb, eqb}
 use lib.ListN.{length, getD, take, drop, length-append}
 use lib.Seq.{slice, length-slice, drop-cons, drop-length}
-use Rattle.rules.specs.Hash.{Bytes, hashesAt, hashesBytes}
+use Rattle.rules.specs.Hash.{Bytes, hashesAt}
 use Rattle.rules.specs.Sizes.{sizes}
 use Rattle.rules.proofs.Cases.{split, both}
 use Rattle.rules.proofs.Hash.{take-drop, hashes-at-bytes, length-hashes-at, length-hashes-bytes}
@@ -325,3 +325,11 @@ pieces-are s (n ∷ ns) at cs h e =
       are = sym (f .same) ∙ ap (λ (ds : List (List ℕ)). slice at (at + n) s ∷ ds) (rest .are);
       there = omega (arith, rest .there);
     })
+
+-- the way back: chunks that stand in the bytes are cut
+pub pieces-there : (s ns : List ℕ) (at : ℕ) → at + total ns ≤ length s → piecesFrom s at ns ≡ pieces (chunksFrom s at ns)
+unfolding piecesFrom chunksFrom total afterPieces
+pieces-there s [] at h = refl
+pieces-there s (n ∷ ns) at h =
+    let left : n ≤ length s - at = omega arith in
+    rw (le-ltb _ _ left, pieces-there s ns (at + n) (omega arith))

@@ -1,24 +1,20 @@
 -- A message that was written is sound: its lists, haves, filters, chunks and size are those that a message may have.
 use Prim.Native.Nat.{ℕ, zero, suc, _+_, _/_, _≤_, _<_}
-use mathlib.Core.Bool.{true}
 use mathlib.Core.List.{List}
 use mathlib.Core.Path.{_≡_, refl}
 use native.Mathlib.Omega.{arith}
 use lib.ListN.{length}
 use Rattle.rules.specs.Hash.{Bytes, hashesAt}
 use Rattle.rules.specs.Output.{bytes}
-use Rattle.rules.specs.Passed.{passedHashes}
 use Rattle.rules.specs.Sizes.{sizes}
-use Rattle.rules.specs.declared.passed.Passed.the-variants.{Hashes}
 use Rattle.rules.proofs.Hash.{length-hashes-at, hashes-are-hashes}
 use Rattle.rules.proofs.PassedLaws.{passed-is}
-use Rattle.bloom.specs.Filter.{filterRules}
 use Rattle.bloom.specs.Have.{haveCount, haveIn, havesFrom, havesOf, syncPlace, syncCount, numbersIn, filterWith}
-use Rattle.encode.specs.Size.{GoodHaves, chunksFrom, messageOf}
+use Rattle.encode.specs.Size.{GoodHaves, messageOf}
 use Rattle.encode.specs.Sound.{SoundHashes, SoundHave, SoundHaves, SoundMessage}
 use Rattle.encode.specs.Write.{Parts, messageOutput}
 use Rattle.encode.proofs.SizeLaws.{part-long, have-fits, haves-long, haves-few, chunks-long}
-use Rattle.encode.proofs.WriteLaws.{WrittenMessage, message-written}
+use Rattle.encode.proofs.WriteLaws.{message-written}
 
 sound-hashes : (s : List ℕ) (place count : ℕ) → Bytes s → count ≤ sizes .hashes → SoundHashes (hashesAt s place count)
 sound-hashes s place count all few =

@@ -1,6 +1,6 @@
 -- A message written: one law for each way through the tests, in their order; and what stands behind a message that is written.
 use Prim.Native.Nat.{ℕ, _+_, _-_, _*_, _/_, _≤_, _<_}
-use mathlib.Core.Bool.{Bool, true, false, cond, _&&_}
+use mathlib.Core.Bool.{true, false, cond, _&&_}
 use mathlib.Core.List.{List, [], _∷_, _++_, append-assoc}
 use mathlib.Core.Path.{_≡_, refl, sym, _∙_, ap}
 use native.Mathlib.Omega.{arith}
@@ -21,20 +21,18 @@ use Rattle.rules.specs.declared.refusal.Refusal.{Refusal}
 use Rattle.rules.specs.declared.refusal.Refusal.the-variants.{Cut, PastSize, NoRoom, BadSession}
 use Rattle.rules.specs.declared.output.Write.the-variants.{Wrote, Refused as NotWritten}
 use Rattle.rules.proofs.Outputs.{written-bytes, no-room, refused}
-use Rattle.rules.proofs.Cases.{split, both}
+use Rattle.rules.proofs.Cases.{split}
 use Rattle.rules.proofs.PassedLaws.{passed-is}
 use Rattle.wire.specs.Item.{prefixedBytes, hashListBytes}
 use Rattle.wire.specs.Number.{shortest}
 use Rattle.bloom.specs.Have.{havesOf, passedGood, passedFew}
 use Rattle.message.specs.Flags.{sectionBytes}
-use Rattle.message.specs.Message.{Message, typeOf, joined, counted, haveBytes, messageBytes}
+use Rattle.message.specs.Message.{typeOf, counted, haveBytes, messageBytes}
 use Rattle.encode.specs.Size.{sizeOf, SizedAs, GoodHaves, chunksFrom, total, numbersTotal, chunksCut, listsOutput, chunksOutput, messageOf, Accepted}
 use Rattle.encode.specs.Write.{Parts, Pieces, pieces, short, piecesFrom, afterPieces, withinSize, messageOutput}
-use Rattle.encode.specs.declared.size.Chunks.{Chunks}
 use Rattle.encode.specs.declared.size.Chunks.the-variants.{Whole, Short}
-use Rattle.encode.specs.declared.size.Size.{Size}
 use Rattle.encode.specs.declared.size.Size.the-variants.{Bytes, Refused}
-use Rattle.encode.proofs.SizeLaws.{hash-list-long, ten, counted-is, chunks-long, chunks-bytes, pieces-are, haves-small}
+use Rattle.encode.proofs.SizeLaws.{hash-list-long, ten, counted-is, chunks-long, chunks-bytes, pieces-are, pieces-there, haves-small}
 
 -- ---- an output and its size
 
@@ -264,6 +262,10 @@ module _ (l : List ℕ) where
   within : length l ≤ sizes .message → withinSize l ≡ bytes l
   unfolding withinSize
   within h = rw (le-ltb _ _ h)
+
+  within-same : (m : List ℕ) → l ≡ m → length m ≤ sizes .message → withinSize l ≡ bytes m
+  unfolding withinSize
+  within-same m e h = rw (e, le-ltb _ _ h)
 
   within-is : (m : List ℕ) → withinSize l ≡ bytes m → (l ≡ m) × (length m ≤ sizes .message)
   within-is m e =
@@ -515,6 +517,25 @@ message-written p l e =
       is = sym (w .0) ∙ same;
       small = w .1;
     }
+
+-- The way back: parts that pass every test and whose message is within its size are written.
+pub accepted-written : (p : Parts) → Accepted p → length (messageBytes (messageOf p)) ≤ sizes .message → messageOutput p ≡ bytes (messageBytes (messageOf p))
+unfolding messageBytes
+accepted-written p a small =
+    let heads : List ℕ = hashListBytes (messageOf p .heads) in
+    let need : List ℕ = hashListBytes (messageOf p .need) in
+    let haves : List ℕ = counted haveBytes (messageOf p .haves) in
+    let chunks : List ℕ = counted prefixedBytes (messageOf p .chunks) in
+    let flags : List ℕ = sectionBytes (p .flags) in
+    let t : ℕ = typeOf (p .version) in
+    let first = lists-bytes (p .heads) (p .need) (p .bytes) (p .haves) (a .haves .good) _ (a .heads) _ (a .need) in
+    let flat = around-flat t heads need haves chunks flags in
+    let sum = around-long t (heads ++ need) haves chunks flags in
+    let same : length (around t (heads ++ need) haves chunks flags) ≡ length (messageBytes (messageOf p)) = ap length flat in
+    let most : total (p .lengths) ≤ sizes .message = omega (arith, chunks-length (p .haves) (p .chunks) (p .lengths) (a .whole)) in
+    let cut = pieces-there (p .chunks) (p .lengths) 0 (omega (arith, a .whole)) in
+    let last = chunks-put (p .haves) (p .chunks) (p .lengths) (a .haves .few) (a .few) _ cut most in
+    message-within p _ first _ last ∙ within-same _ _ flat small
 
 -- what the code knows once it has the size
 pub record Ready (p : Parts) (size : ℕ) : Type 0 where

@@ -18,7 +18,7 @@ use Rattle.rules.specs.declared.passed.Passed.the-variants.{Hashes}
 use Rattle.rules.specs.declared.refusal.Refusal.the-variants.{Cut as CutOff, PastSize, BadSession}
 use Rattle.wire.specs.Item.{prefixedBytes, hashListBytes}
 use Rattle.wire.specs.Number.{shortest}
-use Rattle.encode.specs.Write.{Parts, Pieces, piecesFrom, afterPieces}
+use Rattle.encode.specs.Write.{Parts, piecesFrom, afterPieces}
 use Rattle.encode.specs.declared.size.Chunks.{Chunks}
 use Rattle.encode.specs.declared.size.Chunks.the-variants.{Whole, Short}
 use Rattle.encode.specs.declared.size.Size.{Size}

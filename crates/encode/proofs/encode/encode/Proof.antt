@@ -1,8 +1,8 @@
 -- `encode::encode::encode` meets its contract: every test but that of the room is made with the size, then the room decides, and then all is put.
 -- Assumes nothing.
-use mathlib.Core.Path.{_≡_, sym, _∙_}
+use mathlib.Core.Path.{sym, _∙_}
 use native.Mathlib.Omega.{arith}
-use Rattle.encode.proofs.WriteLaws.{Ready, ready, written-short, written-all, written-refused}
+use Rattle.encode.proofs.WriteLaws.{ready, written-short, written-all, written-refused}
 use borrow.Author.Needs.{needs}
 use Rattle.encode.proofs.encode.encode.Statement.{statement}
 use Rattle.encode.proofs.encode.encode.Tie as tie

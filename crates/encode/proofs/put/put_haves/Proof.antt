@@ -1,11 +1,9 @@
 -- `encode::put::put_haves` meets its contract: what is put and the haves from record i on are together all of them. Assumes nothing.
 use Prim.Native.Nat.{_+_, _-_, _/_, _≤_}
-use mathlib.Core.Path.{_≡_, refl, _∙_}
+use mathlib.Core.Path.{refl, _∙_}
 use native.Mathlib.Omega.{arith}
 use denote.Ref.{now}
 use lib.ListN.{length}
-use Rattle.bloom.specs.Have.{havesOf}
-use Rattle.message.specs.Message.{counted, haveBytes}
 use Rattle.encode.proofs.PutLaws.{Putting, putting-starts, next-on, counted-long, counted-put, havesLeft, haves-left, haves-room, haves-none, haves-counted}
 use borrow.Author.Needs.{needs}
 use Rattle.encode.proofs.put.put_haves.Statement.{statement}

@@ -1,5 +1,5 @@
 -- `encode::size::message_size` meets its contract: the tests in their order, and then the sum of all parts. Assumes nothing.
-use mathlib.Core.Path.{_≡_, sym, _∙_}
+use mathlib.Core.Path.{sym, _∙_}
 use native.Mathlib.Omega.{arith}
 use Rattle.encode.proofs.WriteLaws.{sized-lists, sized-chunks, sized-past, sized-all, first-small, last-small, middle-small, section-small, sized-haves}
 use borrow.Author.Needs.{needs}

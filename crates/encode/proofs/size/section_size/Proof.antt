@@ -1,5 +1,4 @@
 -- `encode::size::section_size` meets its contract: two bytes and the flags, or nothing. Assumes nothing.
-use mathlib.Core.Path.{refl}
 use Rattle.message.specs.Flags.{sectionBytes}
 use borrow.Author.Needs.{needs}
 use Rattle.encode.proofs.size.section_size.Statement.{statement}
