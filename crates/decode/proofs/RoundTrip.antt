@@ -180,6 +180,7 @@ module _ {A : Type 0} (limit : ℕ) (bytes : A → List ℕ) (s : List ℕ) (one
 unfoldable ChunkSays : List ℕ → List ℕ → List ℕ → Type 0
 ChunkSays s words t = (start : ℕ) × (size : ℕ) × (words ≡ start ∷ size ∷ []) × (slice start (start + size) s ≡ t)
 
+-- any bytes are a chunk
 abbrev AnyChunk : List ℕ → Type 0
 AnyChunk t = Unit {0}
 
