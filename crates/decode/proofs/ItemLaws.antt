@@ -23,32 +23,7 @@ use Rattle.wire.specs.declared.parse.HashList.{HashList}
 use Rattle.wire.specs.declared.parse.HashList.the-variants.{Hashes, Refused as NoHashes}
 use Rattle.wire.specs.declared.parse.Prefixed.{Prefixed}
 use Rattle.wire.specs.declared.parse.Prefixed.the-variants.{Part, Refused as NoPart}
-use Rattle.decode.specs.Items.{
-  afterHashes,
-  afterPart,
-  afterFilter,
-  haveAt,
-  Item,
-  item,
-  stopped,
-  afterItem,
-  haveWordsOf,
-  haveItem,
-  chunkWords,
-  chunkItem,
-  manyAt,
-  ItemList,
-  list,
-  noList,
-  afterList,
-  listFrom,
-  listAt,
-  havesAt,
-  chunksAt,
-  listedOf,
-  wordsOf,
-  AllRead,
-}
+use Rattle.decode.specs.Items.{afterHashes, afterPart, afterFilter, haveAt, Item, item, stopped, afterItem, haveWordsOf, haveItem, chunkWords, chunkItem, manyAt, list, noList, afterList, listFrom, listAt, havesAt, chunksAt, listedOf, wordsOf, AllRead}
 use Rattle.decode.specs.declared.items.HaveRead.the-variants.{Have, Refused as NoHave}
 use Rattle.decode.specs.declared.items.Listed.{Listed}
 use Rattle.decode.specs.declared.items.Listed.the-variants.{Items, Refused as NotListed}

@@ -2,5 +2,5 @@
 pub mod ItemLaws
 pub mod Messages
 pub mod ReadLaws
-pub mod Vectors
 pub mod RoundTrip
+pub mod Vectors

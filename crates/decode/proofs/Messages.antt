@@ -1,10 +1,9 @@
 -- Laws of messages that were read: one result a call, the order of the first refusals, how many words there are and where the parts stand, haves
 -- that pass every test of passed haves, and small flags.
-use Prim.Native.Nat.{ℕ, zero, suc, _+_, _-_, _*_, _/_, _%_, _^_, _≤_, _<_, min}
-use mathlib.Core.Bool.{Bool, true, false, _&&_}
+use Prim.Native.Nat.{ℕ, zero, suc, _+_, _-_, _*_, _%_, _≤_, _<_, min}
+use mathlib.Core.Bool.{true}
 use mathlib.Core.List.{List, [], _∷_, _++_, append-assoc}
 use mathlib.Core.Path.{_≡_, refl, sym, _∙_, ap}
-use native.Mathlib.Nat.{mul-comm}
 use native.Mathlib.Omega.{arith}
 use borrow.Author.Tests.{le-leb, ltb-true, ltb-false, eq-eqb, eqb-true, eqb-false, leb-true, leb-false}
 use lib.Bits.{bitOr, or-lt}
@@ -35,12 +34,11 @@ use Rattle.wire.specs.declared.parse.Prefixed.the-variants.{Part, Refused as No
 use Rattle.wire.proofs.Item.{prefixed-inside, hash-list-inside}
 use Rattle.decode.specs.Items.{haveItem, chunkItem, item, manyAt, chunkWords}
 use Rattle.decode.specs.Read.{read, refused, headsAt, openingAt, sectionAt, messageAt, DecodedInto}
-use Rattle.decode.specs.declared.opening.Opening.{Opening}
 use Rattle.decode.specs.declared.opening.Opening.the-variants.{Heads, Refused as NotOpened}
 use Rattle.decode.specs.declared.parse.Decoded.{Decoded}
 use Rattle.decode.specs.declared.parse.Flagged.the-variants.{Section as Sectioned, Refused as NoSection}
 use Rattle.decode.specs.declared.parse.Places.{Places}
-use Rattle.decode.proofs.ItemLaws.{none-behind, many-behind, have-behind, chunk-behind}
+use Rattle.decode.proofs.ItemLaws.{many-behind, have-behind, chunk-behind}
 use Rattle.decode.proofs.ReadLaws.{
   heads-refused,
   heads-read,

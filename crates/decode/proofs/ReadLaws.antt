@@ -1,10 +1,9 @@
 -- A message read: one law for each case of each stage; what stands behind a message that was read, stage by stage; and what the call leaves.
-use Prim.Native.Nat.{ℕ, zero, suc, _+_, _-_, _*_, _≤_, _<_}
-use mathlib.Core.List.{List, []}
+use Prim.Native.Nat.{ℕ, _-_, _*_, _≤_, _<_}
+use mathlib.Core.List.{List}
 use mathlib.Core.Path.{_≡_, refl, sym, _∙_, ap, subst}
 use native.Mathlib.Omega.{arith}
-use borrow.Author.Tests.{lt-ltb, le-ltb, lt-leb, le-leb, ltb-true, ltb-false, eq-eqb, ne-eqb, eqb-true, eqb-false}
-use lib.Dec.{ltb, eqb}
+use borrow.Author.Tests.{lt-ltb, le-ltb, lt-leb, le-leb, eq-eqb, ne-eqb}
 use lib.ListN.{length, getD}
 use lib.Seq.{slice, sets}
 use Rattle.bloom.specs.Have.{haveWords}
@@ -18,7 +17,6 @@ use Rattle.message.specs.declared.version.MessageVersion.the-variants.{V1, V2}
 use Rattle.rules.specs.Sizes.{sizes}
 use Rattle.rules.specs.declared.refusal.Refusal.{Refusal}
 use Rattle.rules.specs.declared.refusal.Refusal.the-variants.{Cut, WrongType, PastSize, NoRoom}
-use Rattle.rules.proofs.Cases.{split}
 use Rattle.wire.specs.Item.{prefixedAt, hashListAt}
 use Rattle.wire.proofs.Item.{count-inside}
 use Rattle.wire.specs.declared.parse.HashList.{HashList}
@@ -357,6 +355,10 @@ unfolding decodedOf
 not-placed (read q haves chunks) r e = absurd (let z : _≡_ {A = ℕ} 0 1 = cc in omega arith)
 not-placed (refused q) r e = cc
 
+-- 7 with the words wanted
+abbrev short-of : ℕ → Decoded
+short-of n = Refused (NoRoom n)
+
 pub decode-refused : (s haves₀ chunks₀ : List ℕ) (r : Refusal) → decodedOf (messageAt s) ≡ Refused r
     → DecodedInto s haves₀ haves₀ chunks₀ chunks₀ (Refused r)
 unfolding roomFor decodedOf havesInto chunksInto
@@ -399,7 +401,7 @@ module _ (s : List ℕ) (p : Places) (is : decodedOf (messageAt s) ≡ Placed p)
         let l = have-words .long in
         let short : length haves₀ < length (words .haves) = omega arith in
         let t = lt-ltb _ _ short in
-        record { answer = rw (words .is, t, l); haves = rw (words .is, t); chunks = rw (words .is, t) }
+        record { answer = rw (words .is, t) (ap short-of (sym l)); haves = rw (words .is, t); chunks = rw (words .is, t) }
 
     module _ (room : haveWords * p .haves .count ≤ length haves₀) where
       pub chunks-short : length chunks₀ < chunkWords * p .chunks .count
@@ -411,7 +413,7 @@ module _ (s : List ℕ) (p : Places) (is : decodedOf (messageAt s) ≡ Placed p)
           let short : length chunks₀ < length (words .chunks) = omega arith in
           let f = le-ltb _ _ fits in
           let t = lt-ltb _ _ short in
-          record { answer = rw (words .is, f, t, l); haves = rw (words .is, f, t); chunks = rw (words .is, f, t) }
+          record { answer = rw (words .is, f, t) (ap short-of (sym l)); haves = rw (words .is, f, t); chunks = rw (words .is, f, t) }
 
       module _ (more : chunkWords * p .chunks .count ≤ length chunks₀) where
         pub decoded : (haves₁ chunks₁ : List ℕ)

@@ -1,26 +1,22 @@
 -- Reading what was written gives the message back. 01, Wire: "Reading what was written gives the message back if its filters have n at least 1 or
 -- are the default and its flags are below 80." Items one after the other are read one after the other whatever an item is; a have and a chunk give
 -- their one-item laws, and the laws of hash lists, prefixed strings and filters do the rest.
-use Prim.Native.Nat.{ℕ, zero, suc, _+_, _-_, _*_, _/_, _%_, _≤_, _<_}
+use Prim.Native.Nat.{ℕ, zero, suc, _+_, _-_, _*_, _%_, _≤_, _<_}
 use mathlib.Core.Bool.{true}
 use mathlib.Core.List.{List, [], _∷_, _++_, append-assoc, append-nil}
 use mathlib.Core.Path.{_≡_, refl, sym, _∙_, ap}
-use native.Mathlib.Nat.{add-zero}
 use native.Mathlib.Omega.{arith}
-use borrow.Author.Tests.{lt-ltb, le-ltb, eq-eqb}
-use lib.Bits.{bitOr, or-zero-l}
-use lib.Dec.{ltb}
+use borrow.Author.Tests.{le-ltb}
+use lib.Bits.{or-zero-l}
 use lib.ListN.{length, getD, length-append}
 use lib.Seq.{slice, length-slice, take-length}
 use Rattle.bloom.specs.Filter.{Filter, filterOf4, filterRules, filterBytes, defaultBits, defaultProbes}
 use Rattle.bloom.specs.Have.{Have, haveWords, haveCount, filterWith, haveIn, havesFrom, havesOf}
-use Rattle.bloom.specs.declared.have.FilterNumbers.{FilterNumbers}
 use Rattle.bloom.specs.declared.parse.Parsed.the-variants.{Filter as Read}
 use Rattle.bloom.specs.Read.{filterAt}
 use Rattle.bloom.proofs.Filters.{no-bytes, filter-written, default-written}
 use Rattle.message.specs.Flags.{flagsOf, addFlags, flagsIn, sectionBytes}
 use Rattle.message.specs.Message.{Message, typeOf, joined, counted, haveBytes, messageBytes}
-use Rattle.message.specs.declared.flags.MessageFlags.{MessageFlags}
 use Rattle.message.specs.declared.flags.Section.{Section}
 use Rattle.message.specs.declared.flags.Section.the-variants.{Absent, Present}
 use Rattle.message.specs.declared.version.MessageVersion.{MessageVersion}
@@ -28,20 +24,18 @@ use Rattle.message.specs.declared.version.MessageVersion.the-variants.{V1, V2}
 use Rattle.rules.specs.Hash.{AreHashes, hashesAt}
 use Rattle.rules.specs.Sizes.{sizes}
 use Rattle.rules.proofs.Hash.{slice-parts}
-use Rattle.wire.specs.Item.{countAt, prefixedAt, hashListAt, prefixedBytes, hashListBytes}
-use Rattle.wire.specs.Number.{shortest, numberAt, most64}
-use Rattle.wire.specs.declared.leb128.Number.the-variants.{Value}
+use Rattle.wire.specs.Item.{prefixedAt, hashListAt, prefixedBytes, hashListBytes}
+use Rattle.wire.specs.Number.{shortest, most64}
 use Rattle.wire.specs.declared.parse.HashList.the-variants.{Hashes}
 use Rattle.wire.specs.declared.parse.Prefixed.the-variants.{Part}
 use Rattle.wire.proofs.Item.{count-checks, prefixed-inside, prefixed-written, hash-list-inside, hash-list-written}
 use Rattle.wire.proofs.Meaning.{number-inside, number-written}
 use Rattle.wire.proofs.Number.{slice-past, shortest-one}
-use Rattle.decode.specs.Items.{Item, item, afterItem, haveItem, chunkItem, chunkWords, manyAt, list, listFrom, listAt, havesAt, chunksAt, chunksOf}
+use Rattle.decode.specs.Items.{Item, item, afterItem, haveItem, chunkItem, manyAt, list, listFrom, listAt, havesAt, chunksAt, chunksOf}
 use Rattle.decode.specs.Read.{read, run, headsAt, openingAt, sectionAt, messageAt, messageOf}
-use Rattle.decode.specs.declared.opening.Opening.the-variants.{Heads}
 use Rattle.decode.specs.declared.parse.Flagged.the-variants.{Section as Sectioned}
 use Rattle.decode.specs.declared.parse.Places.{Places}
-use Rattle.decode.proofs.ItemLaws.{have-read, have-item, chunk-item, many-read, many-sized, have-sized, chunk-sized, have-below, chunk-below, list-read}
+use Rattle.decode.proofs.ItemLaws.{have-read, have-item, chunk-item, many-read, many-sized, have-sized, have-below, chunk-below, list-read}
 use Rattle.decode.proofs.Messages.{first-word, word}
 use Rattle.decode.proofs.ReadLaws.{MessageBehind, message-whole, heads-read, opening-first, opening-second, section-none, section-read}
 
@@ -186,6 +180,7 @@ module _ {A : Type 0} (limit : ℕ) (bytes : A → List ℕ) (s : List ℕ) (one
 unfoldable ChunkSays : List ℕ → List ℕ → List ℕ → Type 0
 ChunkSays s words t = (start : ℕ) × (size : ℕ) × (words ≡ start ∷ size ∷ []) × (slice start (start + size) s ≡ t)
 
+-- any bytes are a chunk
 abbrev AnyChunk : List ℕ → Type 0
 AnyChunk t = Unit {0}
 
@@ -275,33 +270,21 @@ filter-back s from end f (default e) same =
       says = ap (filterOf4 0 defaultBits defaultProbes) (slice-past s from (from + 0) (omega arith)) ∙ sym e;
     }
 
-have-written : (s : List ℕ) → length s ≤ sizes .message → (h : Have) → SoundHave h → (at : ℕ) (rest : List ℕ)
-    → slice at (length s) s ≡ haveBytes h ++ rest
+-- a hash list, a prefixed string and the filter in it are a have
+have-joined : (s : List ℕ) (h : Have) (at start count i from end : ℕ)
+    → hashListAt s at (length s) ≡ Hashes start count i
+    → hashesAt s start count ≡ h .lastSync
+    → prefixedAt s i (length s) ≡ Part from end
+    → end ≡ at + length (haveBytes h)
+    → FilterWritten s from end (h .filter)
     → OneWritten haveBytes (haveItem s) (HaveSays s) at h
-unfolding haveBytes
-have-written s small h good at rest same =
-    let hl : List ℕ = hashListBytes (h .lastSync) in
-    let fb : List ℕ = filterBytes (h .filter) in
-    let first : slice at (length s) s ≡ hl ++ (prefixedBytes fb ++ rest) = same ∙ append-assoc hl (prefixedBytes fb) rest in
-    let l = hash-list-written s (h .lastSync) (prefixedBytes fb ++ rest) at (length s) (good .syncs) (good .fewSyncs) first in
-    let i : ℕ = at + length hl in
-    let inside = hash-list-inside s at (length s) (at + length (shortest (length (h .lastSync)))) (length (h .lastSync)) i (l .0) in
-    let second = onward s hl (prefixedBytes fb ++ rest) at (inside .there) first in
-    let long : length (prefixedBytes fb) ≤ length s = no-longer s (prefixedBytes fb) rest i second in
-    let q = prefixed-written s fb rest i (length s) (omega (arith, prefixed-longer fb)) second in
-    let from : ℕ = i + length (shortest (length fb)) in
-    let end : ℕ = i + length (prefixedBytes fb) in
-    let f = filter-back s from end (h .filter) (good .filter) (q .1) in
-    let e : end ≡ at + length (hl ++ prefixedBytes fb) = omega (arith, length-append hl (prefixedBytes fb)) in
-    let start : ℕ = at + length (shortest (length (h .lastSync))) in
-    let count : ℕ = length (h .lastSync) in
-    let is =
-    have-item s at start count (f .n) (f .b) (f .p) (f .field) (f .size) end
-    (have-read s at start count i (l .0) from end (q .0) (f .n) (f .b) (f .p) (f .field) (f .size) (f .next) (f .is))
-    in
+have-joined s h at start count i from end syncs are part e f =
+    let words : List ℕ = start ∷ count ∷ f .n ∷ f .b ∷ f .p ∷ f .field ∷ f .size ∷ [] in
+    let read = have-read s at start count i syncs from end part (f .n) (f .b) (f .p) (f .field) (f .size) (f .next) (f .is) in
+    let is : haveItem s at ≡ item words end = have-item s at start count (f .n) (f .b) (f .p) (f .field) (f .size) end read in
     record {
-      words = start ∷ count ∷ f .n ∷ f .b ∷ f .p ∷ f .field ∷ f .size ∷ [];
-      is = is ∙ ap (item (start ∷ count ∷ f .n ∷ f .b ∷ f .p ∷ f .field ∷ f .size ∷ [])) e;
+      words = words;
+      is = rw e at is;
       says =
           record {
             start = start;
@@ -312,10 +295,30 @@ have-written s small h good at rest same =
             field = f .field;
             size = f .size;
             are = refl;
-            syncs = l .1;
+            syncs = are;
             filter = f .says;
           };
     }
+
+have-written : (s : List ℕ) → length s ≤ sizes .message → (h : Have) → SoundHave h → (at : ℕ) (rest : List ℕ)
+    → slice at (length s) s ≡ haveBytes h ++ rest
+    → OneWritten haveBytes (haveItem s) (HaveSays s) at h
+unfolding haveBytes
+have-written s small h good at rest same =
+    let hl : List ℕ = hashListBytes (h .lastSync) in
+    let fb : List ℕ = filterBytes (h .filter) in
+    let first : slice at (length s) s ≡ hl ++ (prefixedBytes fb ++ rest) = same ∙ append-assoc hl (prefixedBytes fb) rest in
+    let l = hash-list-written s (h .lastSync) (prefixedBytes fb ++ rest) at (length s) (good .syncs) (good .fewSyncs) first in
+    let start : ℕ = at + length (shortest (length (h .lastSync))) in
+    let i : ℕ = at + length hl in
+    let inside = hash-list-inside s at (length s) start (length (h .lastSync)) i (l .0) in
+    let second = onward s hl (prefixedBytes fb ++ rest) at (inside .there) first in
+    let long : length (prefixedBytes fb) ≤ length s = no-longer s (prefixedBytes fb) rest i second in
+    let q = prefixed-written s fb rest i (length s) (omega (arith, prefixed-longer fb)) second in
+    let from : ℕ = i + length (shortest (length fb)) in
+    let end : ℕ = i + length (prefixedBytes fb) in
+    have-joined s h at start (length (h .lastSync)) i from end (l .0) (l .1) (q .0) (omega (arith, length-append hl (prefixedBytes fb)))
+    (filter-back s from end (h .filter) (good .filter) (q .1))
 
 haves-said : (s : List ℕ) (hs : List Have) (i : ℕ) (before words : List ℕ) → length before ≡ i * haveWords → SayAll (HaveSays s) words hs
     → havesFrom s (before ++ words) i (length hs) ≡ hs
@@ -452,6 +455,17 @@ message-there-and-back s m e sound =
       chunks = ch .words;
       is = message-whole s p (hv .words) (ch .words) behind;
       says =
-          same-message (m .version) (m .flags) _ _ _ _ _ _ _ _ (h .1) (n .1) (haves-back s (m .haves) (hv .words) long (hv .says))
+          same-message (m .version) (m .flags)
+          (hashesAt s hstart (length (m .heads)))
+          (m .heads)
+          (hashesAt s nstart (length (m .need)))
+          (m .need)
+          (havesOf s (hv .words))
+          (m .haves)
+          (chunksOf s (ch .words))
+          (m .chunks)
+          (h .1)
+          (n .1)
+          (haves-back s (m .haves) (hv .words) long (hv .says))
           (chunks-said s (m .chunks) (ch .words) (ch .says));
     }

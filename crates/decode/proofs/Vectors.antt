@@ -1,21 +1,27 @@
 -- P1 to P3 of 01, "Bytes and rows to hold it to", by computation: an empty message with no flags section, with an empty one, and with flags 4. Each
--- is stated as its places and as the message that they say.
+-- is stated as its places and as the message that they say. Then short messages that are refused, one for each way to be cut.
 use Prim.Native.Nat.{ℕ}
 use mathlib.Core.List.{List, [], _∷_}
 use mathlib.Core.Path.{_≡_, refl}
+use Rattle.bloom.specs.Filter.{fieldSize}
 use Rattle.bloom.specs.Have.{havesFrom, havesOf}
+use Rattle.bloom.specs.Read.{fieldAt, numbersAt, filterAt}
 use Rattle.message.specs.Flags.{flagsOf, addFlags, flagsIn}
 use Rattle.message.specs.Message.{Message}
 use Rattle.message.specs.declared.flags.Section.{Section}
 use Rattle.message.specs.declared.flags.Section.the-variants.{Absent, Present}
 use Rattle.message.specs.declared.version.MessageVersion.the-variants.{V1}
 use Rattle.rules.specs.Hash.{hashesAt}
+use Rattle.rules.specs.declared.refusal.Refusal.the-variants.{Cut, WrongType, BadNumber, PastSize}
 use Rattle.wire.specs.Item.{leftAt, afterNumber, countAt, prefixedAt, hashListAt}
 use Rattle.wire.specs.Number.{goOn, find, answerAt, numberAt}
 use Rattle.decode.specs.Items.{
   afterHashes,
   afterPart,
+  afterFilter,
+  haveAt,
   afterItem,
+  haveWordsOf,
   haveItem,
   chunkItem,
   manyAt,
@@ -26,20 +32,7 @@ use Rattle.decode.specs.Items.{
   chunksAt,
   chunksOf,
 }
-use Rattle.decode.specs.Read.{
-  Reading,
-  read,
-  run,
-  headsAt,
-  openingAt,
-  sectionAt,
-  afterOpening,
-  afterSection,
-  listsAt,
-  needAt,
-  messageAt,
-  messageOf,
-}
+use Rattle.decode.specs.Read.{read, refused, run, headsAt, openingAt, sectionAt, afterOpening, afterSection, listsAt, needAt, messageAt, messageOf}
 use Rattle.decode.specs.declared.parse.Places.{Places}
 
 -- the places of a message of nothing but flags, up to `next`
@@ -102,3 +95,60 @@ unfolding
     havesFrom
     havesOf
 message-vectors = (refl, refl, refl, refl, refl, refl)
+
+-- In order: no bytes; another first byte; the heads' count missing; a count past its limit whose hashes are missing too; a cut chunk; a cut filter
+-- string; a filter's b missing at its string's end; a cut field; a cut flags section; a length that isn't shortest.
+pub refusal-vectors : (messageAt [] ≡ refused (Cut 0))
+    × (messageAt (0x41 ∷ []) ≡ refused (WrongType 0x41))
+    × (messageAt (0x42 ∷ []) ≡ refused (Cut 1))
+    × (messageAt (0x42 ∷ 0x81 ∷ 0x08 ∷ []) ≡ refused (PastSize 1))
+    × (messageAt (0x42 ∷ 0x00 ∷ 0x00 ∷ 0x00 ∷ 0x01 ∷ 0x02 ∷ 0xaa ∷ []) ≡ refused (Cut 5))
+    × (messageAt (0x42 ∷ 0x00 ∷ 0x00 ∷ 0x01 ∷ 0x00 ∷ 0x05 ∷ 0x01 ∷ 0x00 ∷ []) ≡ refused (Cut 5))
+    × (messageAt (0x42 ∷ 0x00 ∷ 0x00 ∷ 0x01 ∷ 0x00 ∷ 0x01 ∷ 0x01 ∷ 0x00 ∷ []) ≡ refused (Cut 7))
+    × (messageAt (0x42 ∷ 0x00 ∷ 0x00 ∷ 0x01 ∷ 0x00 ∷ 0x04 ∷ 0x01 ∷ 0x0a ∷ 0x07 ∷ 0xff ∷ 0x00 ∷ []) ≡ refused (Cut 9))
+    × (messageAt (0x42 ∷ 0x00 ∷ 0x00 ∷ 0x00 ∷ 0x00 ∷ 0x05 ∷ []) ≡ refused (Cut 5))
+    × (messageAt (0x42 ∷ 0x00 ∷ 0x00 ∷ 0x00 ∷ 0x00 ∷ 0x80 ∷ 0x00 ∷ []) ≡ refused (BadNumber 5))
+unfolding
+    leftAt
+    afterNumber
+    goOn
+    find
+    answerAt
+    numberAt
+    countAt
+    prefixedAt
+    hashListAt
+    afterHashes
+    afterPart
+    afterItem
+    haveItem
+    chunkItem
+    manyAt
+    afterList
+    listFrom
+    listAt
+    havesAt
+    chunksAt
+    chunksOf
+    headsAt
+    openingAt
+    sectionAt
+    afterOpening
+    afterSection
+    listsAt
+    needAt
+    messageAt
+    messageOf
+    addFlags
+    flagsIn
+    hashesAt
+    havesFrom
+    havesOf
+    afterFilter
+    haveAt
+    haveWordsOf
+    fieldSize
+    fieldAt
+    numbersAt
+    filterAt
+refusal-vectors = (refl, refl, refl, refl, refl, refl, refl, refl, refl, refl)

@@ -1,6 +1,6 @@
 -- `decode::decode::decode` meets its contract: the message was read whole before anything is written, so the words are as many as its counts say,
 -- and putting them can't be refused. Assumes nothing.
-use mathlib.Core.Path.{_≡_, sym, _∙_}
+use mathlib.Core.Path.{sym, _∙_}
 use native.Mathlib.Omega.{arith}
 use borrow.Author.Needs.{needs}
 use Rattle.decode.proofs.ReadLaws.{decode-refused, few-haves, few-chunks, haves-short, chunks-short, haves-read, chunks-read, decoded}

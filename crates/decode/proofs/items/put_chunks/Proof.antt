@@ -1,12 +1,13 @@
 -- `decode::items::put_chunks` meets its contract: the words that were put and those of the items still to come make the list that all the words make.
 -- The items were read before, so none of them is refused. Assumes nothing.
-use Prim.Native.Nat.{ℕ, _+_, _-_, _*_, _≤_}
+use Prim.Native.Nat.{ℕ, suc, _+_, _-_, _*_, _≤_}
+use mathlib.Core.List.{List, [], _∷_}
 use mathlib.Core.Path.{_≡_, refl, sym, _∙_}
-use native.Mathlib.Numerals.{add-one}
 use native.Mathlib.Omega.{arith}
 use borrow.Author.Needs.{needs}
 use denote.Enum.Declared.{tagOf, declared}
-use lib.ListN.{length, length-set}
+use lib.ListN.{length, set, length-set}
+use lib.Seq.{sets}
 use Rattle.rules.specs.declared.refusal.Refusal.{Refusal}
 use Rattle.wire.specs.declared.parse.Prefixed.{Prefixed}
 use Rattle.wire.specs.declared.parse.Prefixed.the-variants.{Part, Refused as NoPart}
@@ -27,6 +28,10 @@ abbrev μ-loop : tie.MeasureT-loop
 told-refused : (x : Prefixed) → tagOf (declared enum) x ≡ 1 → (r : Refusal) × (x ≡ NoPart r)
 told-refused (Part start end) e = absurd (omega arith)
 told-refused (NoPart r) e = (r, refl)
+
+-- two words one after the other
+two-put : (out : List ℕ) (i a b : ℕ) → set (set out i a) (i + 1) b ≡ sets out i (a ∷ b ∷ [])
+two-put out i a b = let e : i + 1 ≡ suc i = omega arith in rw e
 
 -- there is room for the item's words
 here : (c : tie.After-known-told Inv-loop μ-loop) → let l = c .before .before .before .before .before in 2 * l .loop .k + 2 ≤ length (l .loop .out)
@@ -95,11 +100,13 @@ loop-again c =
     let i = c .before in
     let t = i .before .before in
     let l = t .before in
+    let place = i .chunk .given .0 .0 in
+    let end = i .chunk .given .0 .1 .0 in
     putting-on _ _ _ _ _ _ _ _ (l .before .loop .inv) (l .loop-test .taken) _ _
     (chunk-item _ _ _ _ (sym (t .length-prefixed-bytes .ensures) ∙ i .chunk .given .1))
     refl
     _
-    (simp add-one)
+    (two-put (l .before .loop .out) (2 * l .before .loop .k) place (end - place))
 
 same-length-2 : tie.Need-same-length-2 Inv-loop μ-loop
 same-length-2 c = search needs

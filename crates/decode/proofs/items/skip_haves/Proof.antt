@@ -1,7 +1,7 @@
 -- `decode::items::skip_haves` meets its contract: the items still to come, from the place reached, say what all of them say. Assumes nothing.
 use Prim.Native.Nat.{_-_, _≤_}
 use borrow.Author.Needs.{needs}
-use mathlib.Core.Path.{_≡_, refl, sym, _∙_}
+use mathlib.Core.Path.{_≡_, sym, _∙_}
 use native.Mathlib.Omega.{arith}
 use Rattle.decode.specs.Items.{haveItem, manyAt, listFrom, listedOf}
 use Rattle.decode.proofs.ItemLaws.{have-stopped, have-item, passing, passing-starts, passing-ends, passing-stops, passing-on}
