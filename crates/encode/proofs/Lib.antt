@@ -1,5 +1,6 @@
 -- Laws that the crates above cite.
 pub mod PutLaws
+pub mod RoundTrip
 pub mod SizeLaws
 pub mod SoundLaws
 pub mod WriteLaws
