@@ -33,15 +33,14 @@ sound-filter f r (none e) = default e
 sound-haves : (hs : List Have) → SoundHaves hs → Each SaidHave hs → Each decode.SoundHave hs
 unfolding SoundHaves Each
 sound-haves [] s e = e
-sound-haves (h ∷ hs) s e =
-    (
-      record {
-        syncs = s .0 .lastSync .are;
-        fewSyncs = s .0 .lastSync .few;
-        filter = sound-filter (h .filter) (s .0 .filter) (e .0);
-      },
-      sound-haves hs (s .1) (e .1)
-    )
+sound-haves (h ∷ hs) s e = (
+  record {
+    syncs = s .0 .lastSync .are;
+    fewSyncs = s .0 .lastSync .few;
+    filter = sound-filter (h .filter) (s .0 .filter) (e .0);
+  },
+  sound-haves hs (s .1) (e .1),
+)
 
 pub written-and-read : (p : Parts) (l : List ℕ)
     → Bytes (p .heads) → Bytes (p .need) → Bytes (p .bytes)
