@@ -14,7 +14,9 @@ fn main() {
     numbers("Filter numbers, up to 4294967295", raw::read_filter_number);
     prefixed_strings();
     hash_lists();
+    messages();
     writers();
+    hashes_to_send();
 }
 
 fn numbers(title: &str, read: Reader) {
@@ -104,6 +106,66 @@ fn writers() {
     written("a hash and a half", 60, |out| {
         raw::write_hashes(out, &[1; 48])
     });
+}
+
+fn messages() {
+    heading("Messages");
+    message("nothing said", b"\x42\0\0\0\0");
+    message("an empty section", b"\x42\0\0\0\0\0");
+    message("flags", b"\x42\0\0\0\0\x02\x02\x84");
+    message("version 2, one chunk", b"\x43\0\0\0\x01\x04sync");
+    message("a have", b"\x42\0\0\x01\0\x05\x01\x0a\x07\x0b\x0f\0");
+    message("the filter is cut", b"\x42\0\0\x01\0\x05\x01\x0a\x07");
+    message("another first byte", b"\x41");
+}
+
+fn message(name: &str, bytes: &[u8]) {
+    let (mut haves, mut chunks) = ([0; 7 * 16], [0; 2 * 16]);
+    let words = raw::read_message(bytes, &mut haves, &mut chunks);
+    let tell = |[version, _, heads, _, need, _, haves, _, chunks, flags, _]: [u64; 11]| {
+        let flags = match flags {
+            256 => "no flags".to_string(),
+            flags => format!("flags {flags}"),
+        };
+        format!("version {version}: {heads} heads, {need} needed, {haves} haves, {chunks} chunks, {flags}")
+    };
+    let answer = match words {
+        [0, told @ ..] => Ok(tell(told)),
+        [number, value, ..] => Err(refusal::Refusal { number, value }),
+    };
+    print_line(name, &shown(bytes), answer);
+}
+
+/// Rows a; b on a; c on a; d on b and c. The peer's filter has all but b.
+fn hashes_to_send() {
+    heading("Hashes to send: b on a, c on a, d on b and c; the peer's filter has a, c and d");
+    let hash = |name: u8| [name; 32];
+    let rows: [(u8, &[u16]); 4] = [(b'a', &[]), (b'b', &[0]), (b'c', &[0]), (b'd', &[1, 2])];
+    let mut table = Vec::new();
+    for (name, dependencies) in rows {
+        let mut numbers = [0; 16];
+        numbers[0] = dependencies.len() as u16;
+        numbers[1..=dependencies.len()].copy_from_slice(dependencies);
+        table.extend(hash(name));
+        table.extend(numbers.iter().flat_map(|number| number.to_le_bytes()));
+    }
+    let mut field = [0; 64];
+    let built = raw::build_filter(&mut field, 10, 7, &b"acd".map(hash).concat());
+    let have = [0, 0, 3, 10, 7, 0, built[1]];
+    for need in ["", "c", "d", "cc"] {
+        let hashes: Vec<u8> = need.bytes().flat_map(hash).collect();
+        let mut out = [0; 32 * 8];
+        let answer = refusal::answer(raw::hashes_to_send(
+            &table, &field, &have, &hashes, &mut out,
+        ));
+        let told = answer.map(|[length, ..]| {
+            let names = out[..length as usize]
+                .chunks(32)
+                .map(|hash| hash[0] as char);
+            names.map(String::from).collect::<Vec<_>>().join(", ")
+        });
+        print_line(&format!("need [{need}]"), "", told);
+    }
 }
 
 fn heading(title: &str) {
