@@ -12,10 +12,10 @@ use Rattle.rules.specs.Order.{member}
 use Rattle.rules.specs.Sizes.{sizes}
 use Rattle.rules.proofs.Cases.{split}
 use Rattle.tables.specs.Bytes.{rowsAt}
-use Rattle.tables.specs.Marks.{Marks}
 use Rattle.tables.specs.Table.{Row, GoodTable, place, held, rowsFrom, rowsWhere}
-use Rattle.tables.proofs.BelowLaws.{rows-where}
 use Rattle.tables.proofs.TableLaws.{row-of-held, length-rows-at}
+use Rattle.graph.specs.Marks.{Marks}
+use Rattle.graph.proofs.BelowLaws.{rows-where}
 use Rattle.selection.specs.Members.{heldUnmarked, answered, answeredRow}
 use Rattle.selection.specs.ToSend.{inTheS, theS, keep, toSend}
 

@@ -21,10 +21,10 @@ use Rattle.rules.proofs.Cases.{both}
 use Rattle.rules.proofs.OrderLaws.{member-append}
 use Rattle.rules.proofs.ReachLaws.{true-false, same-truth, either, or-left, or-right, and-true, below-suc, some-below, some-witness, reach-equation, reach-same}
 use Rattle.tables.specs.Bytes.{twoAt, twosAt, rowSize, countAt, usedAt, rowsAt}
-use Rattle.tables.specs.Marks.{GoodRows, Marks}
 use Rattle.tables.specs.Table.{Row, hashOf, depsOf, belowRow}
-use Rattle.tables.proofs.MarkLaws.{or-assoc, or-false}
 use Rattle.tables.proofs.TableLaws.{length-rows-at, deps-of-row, hash-of-row}
+use Rattle.graph.specs.Marks.{GoodRows, Marks}
+use Rattle.graph.proofs.MarkLaws.{or-assoc, or-false}
 use Rattle.selection.specs.Members.{someOf}
 use Rattle.selection.specs.ToSend.{lastSyncs, filters, candidate, missed, inTheS}
 

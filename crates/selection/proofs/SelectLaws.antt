@@ -16,9 +16,9 @@ use Rattle.rules.proofs.Cases.{split, both}
 use Rattle.rules.proofs.OrderLaws.{member-append, member-here, member-there, member-index, index-member}
 use Rattle.rules.proofs.ReachLaws.{and-false, true-false, same-truth, either, or-left, or-right, and-true, reach-base, reach-closed, reach-least}
 use Rattle.tables.specs.Table.{Row, GoodTable, rows, hashOf, depsOf, place, held, deps, rowsFrom, rowsWhere, below, belowRow}
-use Rattle.tables.proofs.BelowLaws.{member-map, rows-where, below-row, below-deps, dependency, deps-held, only-rows, deps-of-hash}
-use Rattle.tables.proofs.BeyondLaws.{rows-most}
 use Rattle.tables.proofs.TableLaws.{length-rows, place-of-row, held-row, row-of-held, hash-of-held}
+use Rattle.graph.proofs.BelowLaws.{member-map, rows-where, below-row, below-deps, dependency, deps-held, only-rows, deps-of-hash}
+use Rattle.graph.proofs.BeyondLaws.{rows-most}
 use Rattle.selection.specs.Members.{someOf}
 use Rattle.selection.specs.ToSend.{lastSyncs, filters, candidate, missed, inTheS, theS, keep, toSend}
 use Rattle.selection.proofs.AnswerLaws.{no-rows, rows-same}

@@ -1,9 +1,9 @@
 // The members of S, as marks of rows: candidates that every filter misses, and candidates that depend on a member.
 use bloom::contains::contains_hash;
 use bloom::have::HAVE_WORDS;
+use graph::marks::mark_below;
+use graph::marks::mark_list;
 use rules::sizes::ROWS;
-use tables::marks::mark_below;
-use tables::marks::mark_list;
 use tables::row::ROW_SIZE;
 use tables::row::dep;
 use tables::row::dep_count;
@@ -16,8 +16,8 @@ ghost use Rattle.bloom.specs.Have.{havesOf, filtersOf, GoodFilters};
 ghost use Rattle.rules.specs.Hash.{hashAt};
 ghost use Rattle.rules.specs.Order.{member};
 ghost use Rattle.tables.specs.Bytes.{rowSize, usedAt, rowsAt};
-ghost use Rattle.tables.specs.Marks.{GoodRows, Marks};
 ghost use Rattle.tables.specs.Table.{hashOf, belowRow};
+ghost use Rattle.graph.specs.Marks.{GoodRows, Marks};
 ghost use Rattle.selection.specs.Members.{someOf, SyncsInside};
 ghost use Rattle.selection.specs.ToSend.{lastSyncs, inTheS};
 

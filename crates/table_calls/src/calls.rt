@@ -1,11 +1,13 @@
-// Calls of the crate `tables`.
+// Calls of the crates `tables`, `graph` and `missing`.
 use crate::answer::checked_words;
 use words::answer::write_words;
 ghost use mathlib.Core.Path.{_≡_};
 ghost use Rattle.words.specs.Answer.{Answered};
 ghost use Rattle.table_calls.specs.Answer.{checkedWords};
 ghost use Rattle.tables.specs.Bytes.{tableChecked};
-ghost use Rattle.tables.specs.Calls.{tablesChecked, headsOutput, beyondOutput, missingOutput};
+ghost use Rattle.tables.specs.Calls.{tablesChecked};
+ghost use Rattle.graph.specs.Calls.{headsOutput, beyondOutput};
+ghost use Rattle.missing.specs.Calls.{missingOutput};
 
 // Checks a change table: 0, rows.
 #[no_mangle]
@@ -28,7 +30,7 @@ pub extern "C" fn bt_check_waiting(table: &[u8], waiting: &[u8], answer: &mut [u
 pub extern "C" fn bt_heads(table: &[u8], before: usize, out: &mut [u8], answer: &mut [u64; 4])
     ensures { λ _. ⌜ Answered (headsOutput (now (table .entry)) before) (now (out .entry)) (now (out .exit)) (now (answer .exit)) ⌝ }
 {
-    *answer = write_words(tables::heads::heads(table, before, out));
+    *answer = write_words(graph::heads::heads(table, before, out));
 }
 
 // Writes the rows beyond a list of hashes, in table order: 0, bytes written.
@@ -36,7 +38,7 @@ pub extern "C" fn bt_heads(table: &[u8], before: usize, out: &mut [u8], answer: 
 pub extern "C" fn bt_beyond(table: &[u8], hashes: &[u8], out: &mut [u8], answer: &mut [u64; 4])
     ensures { λ _. ⌜ Answered (beyondOutput (now (table .entry)) (now (hashes .entry))) (now (out .entry)) (now (out .exit)) (now (answer .exit)) ⌝ }
 {
-    *answer = write_words(tables::beyond::beyond(table, hashes, out));
+    *answer = write_words(graph::beyond::beyond(table, hashes, out));
 }
 
 // Writes what is missing from a list of hashes, each once, ascending: 0, bytes written.
@@ -50,5 +52,5 @@ pub extern "C" fn bt_missing(
 )
     ensures { λ _. ⌜ Answered (missingOutput (now (table .entry)) (now (waiting .entry)) (now (hashes .entry))) (now (out .entry)) (now (out .exit)) (now (answer .exit)) ⌝ }
 {
-    *answer = write_words(tables::missing::missing(table, waiting, hashes, out));
+    *answer = write_words(missing::missing::missing(table, waiting, hashes, out));
 }

@@ -1,3 +1,3 @@
-// Exported calls of the crate `tables`.
+// Exported calls of the crates `tables`, `graph` and `missing`.
 pub mod answer;
 pub mod calls;

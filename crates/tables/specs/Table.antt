@@ -1,4 +1,4 @@
--- Change tables as values. 01, Change table: heads, ancestors, rows beyond. Above this crate nothing speaks of row bytes.
+-- Change tables as values. 01, Change table: heads, ancestors, rows beyond. What the layers above mean is said of these, not of row bytes.
 use Prim.Native.Nat.{ℕ, zero, suc, _<_}
 use mathlib.Core.Bool.{Bool, true, false, cond, not}
 use mathlib.Core.List.{List, [], _∷_, map}

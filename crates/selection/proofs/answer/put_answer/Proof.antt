@@ -4,7 +4,7 @@ use native.Mathlib.Omega.{arith}
 use borrow.Author.Needs.{needs}
 use lib.ListN.{length-take}
 use Rattle.rules.proofs.Outputs.{written-bytes, no-room}
-use Rattle.tables.proofs.BeyondLaws.{few-unmarked}
+use Rattle.graph.proofs.BeyondLaws.{few-unmarked}
 use Rattle.selection.proofs.PutLaws.{room-kept, kept-count, kept-inside, answer-size, answer-put}
 use Rattle.selection.proofs.answer.put_answer.Statement.{statement}
 use Rattle.selection.proofs.answer.put_answer.Tie as tie

@@ -7,7 +7,7 @@ use native.Mathlib.Omega.{arith}
 use borrow.Author.Needs.{needs}
 use lib.ListN.{getD}
 use Rattle.tables.specs.Bytes.{usedAt}
-use Rattle.tables.proofs.MarkLaws.{number-member}
+use Rattle.graph.proofs.MarkLaws.{number-member}
 use Rattle.selection.specs.Members.{someOf}
 use Rattle.selection.proofs.MemberLaws.{numbersFrom, numbers-start, numbers-found, numbers-on, numbers-done}
 use Rattle.selection.proofs.members.some_marked.Statement.{statement}

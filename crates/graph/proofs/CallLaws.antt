@@ -1,0 +1,76 @@
+-- What the public calls write, one law for each way through the tests; and what a table that has been accepted gives the functions below them.
+use Prim.Native.Nat.{ℕ, _≤_, _<_}
+use mathlib.Core.List.{List}
+use mathlib.Core.Path.{_≡_, sym, _∙_}
+use native.Mathlib.Omega.{arith}
+use borrow.Author.Tests.{lt-ltb, le-ltb}
+use lib.ListN.{length}
+use Rattle.rules.specs.Hash.{hashesAt, hashesBytes}
+use Rattle.rules.specs.Output.{Output}
+use Rattle.rules.specs.Passed.{passedHashes}
+use Rattle.rules.specs.declared.passed.Passed.the-variants.{Hashes}
+use Rattle.rules.specs.declared.passed.Passed.the-variants as passed
+use Rattle.rules.specs.declared.refusal.Refusal.{Refusal}
+use Rattle.rules.specs.declared.refusal.Refusal.the-variants.{BadRowsBefore}
+use Rattle.rules.proofs.PassedLaws.{after-refused, after-hashes}
+use Rattle.tables.specs.Bytes.{rowsAt, tableChecked}
+use Rattle.tables.specs.Calls.{afterCheck}
+use Rattle.tables.specs.Table.{GoodTable, heads, beyond}
+use Rattle.tables.specs.declared.check.Checked.the-variants.{Good, Refused}
+use Rattle.tables.proofs.TableLaws.{table-good, row-has, length-rows-at, deps-of-row, hash-of-row, take-rows-at}
+use Rattle.graph.specs.Calls.{beyondOutput, headsOutput}
+use Rattle.graph.specs.Marks.{GoodRows}
+use Rattle.graph.proofs.MarkLaws.{good-part}
+
+-- the first rows of an accepted table are good
+pub accepted-rows : (s : List ℕ) (n : ℕ) → tableChecked s ≡ Good n → GoodRows s n
+accepted-rows s n e =
+    let d = table-good s n e in
+    let t = rowsAt s 0 n in
+    let good : GoodTable t = rw (d .is) at (d .good) in
+    let long : length t ≡ n = length-rows-at s 0 n in
+    record {
+      few = d .few;
+      inside = omega (arith, d .whole);
+      counts = λ i h. row-has s i (d .each i h) .count;
+      down = λ i k h m. good .down i k (omega arith) (rw (deps-of-row s n i h) m);
+      once =
+          λ i j h k q.
+          good .once i j (omega arith) (omega arith) (hash-of-row s n i h ∙ q ∙ sym (hash-of-row s n j k));
+    }
+
+pub accepted-part : (s : List ℕ) (n k : ℕ) → tableChecked s ≡ Good n → k ≤ n → GoodRows s k
+accepted-part s n k e h = good-part s n k (accepted-rows s n e) h
+
+-- ---- the rows beyond a list
+
+module _ (s l : List ℕ) where
+  pub beyond-refused : (r : Refusal) → tableChecked s ≡ Refused r → beyondOutput s l ≡ Output.refuse r
+  unfolding beyondOutput afterCheck
+  beyond-refused r e = rw e
+
+  module _ (n : ℕ) (good : tableChecked s ≡ Good n) where
+    pub beyond-no-list : (r : Refusal) → passedHashes l ≡ passed.Refused r → beyondOutput s l ≡ Output.refuse r
+    unfolding beyondOutput afterCheck
+    beyond-no-list r e = rw good (after-refused _ _ _ r e)
+
+    pub beyond-written : (count : ℕ) → passedHashes l ≡ Hashes count
+        → beyondOutput s l ≡ Output.bytes (hashesBytes (beyond (rowsAt s 0 n) (hashesAt l 0 count)))
+    unfolding beyondOutput afterCheck
+    beyond-written count e = rw (good, table-good s n good .is) (after-hashes _ _ _ count e)
+
+-- ---- heads
+
+module _ (s : List ℕ) (before : ℕ) where
+  pub heads-refused : (r : Refusal) → tableChecked s ≡ Refused r → headsOutput s before ≡ Output.refuse r
+  unfolding headsOutput afterCheck
+  heads-refused r e = rw e
+
+  module _ (n : ℕ) (good : tableChecked s ≡ Good n) where
+    pub heads-many : n < before → headsOutput s before ≡ Output.refuse BadRowsBefore
+    unfolding headsOutput afterCheck
+    heads-many h = rw (good, lt-ltb _ _ h)
+
+    pub heads-written : before ≤ n → headsOutput s before ≡ Output.bytes (hashesBytes (heads (rowsAt s 0 before)))
+    unfolding headsOutput afterCheck
+    heads-written h = rw (good, le-ltb _ _ h, table-good s n good .is, take-rows-at s 0 before n h)

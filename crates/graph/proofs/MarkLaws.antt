@@ -1,0 +1,319 @@
+-- Marks as the code makes them: one set by one, along a list, along the rows downward. Each pass is written as the loop runs, and one law says
+-- which marks it leaves: those there were, and those that the pass means. In a downward pass a row's mark is final when the pass comes to it,
+-- since only rows after it can name it; so what the pass leaves satisfies the equation of what is reached, and that is the only such set.
+use Prim.Native.Nat.{ℕ, zero, suc, _+_, _-_, _*_, _≤_, _<_}
+use mathlib.Core.Bool.{Bool, true, false, _||_, _&&_}
+use mathlib.Core.List.{List, [], _∷_}
+use mathlib.Core.Path.{_≡_, refl, sym, ap, _∙_}
+use native.Mathlib.Nat.{not-suc-le-zero}
+use native.Mathlib.Omega.{arith}
+use borrow.Author.Tests.{eqb-true, eqb-false, eq-eqb, ne-eqb, ltb-true, ltb-false, lt-ltb, le-ltb}
+use lib.Dec.{ltb, eqb}
+use lib.ListN.{length, getD, set, replicate, length-set, length-replicate, getD-replicate}
+use lib.Seq.{getD-set-same, getD-set-other}
+use Rattle.rules.specs.Hash.{hashAt, hashesAt}
+use Rattle.rules.specs.Order.{member}
+use Rattle.rules.specs.Reach.{someBelow, reach}
+use Rattle.rules.specs.Sizes.{sizes}
+use Rattle.tables.specs.Bytes.{twoAt, twosAt, rowSize, countAt, usedAt, rowsAt}
+use Rattle.tables.specs.Table.{Row, rows, hashOf, depsOf, placeIn, needed}
+use Rattle.tables.proofs.TableLaws.{at-place, place-first, length-rows, length-rows-at, deps-of-row, hash-of-row}
+use Rattle.rules.proofs.Cases.{split, both}
+use Rattle.rules.proofs.ReachLaws.{same-truth, or-left, or-right, some-witness, reach-unique}
+use Rattle.graph.specs.Marks.{GoodRows, Marks, markAll, markRow, markHash}
+
+-- ---- Booleans
+
+pub or-assoc : (x y z : Bool) → ((x || y) || z) ≡ (x || (y || z))
+or-assoc true y z = refl
+or-assoc false y z = refl
+
+pub or-false : (x : Bool) → (x || false) ≡ x
+or-false true = refl
+or-false false = refl
+
+or-again : (x y : Bool) → (x || (x && y)) ≡ x
+or-again true y = refl
+or-again false y = refl
+
+-- ---- one mark, and the marks of a list
+
+module _ (m : List Bool) (k : ℕ) where
+  pub mark-at : (i : ℕ) → i < length m → getD (set m k true) i false ≡ (getD m i false || eqb i k)
+  mark-at i h =
+      split (eqb i k)
+      (λ e.
+      let q : i ≡ k = eqb-true i k e in
+      let l : k < length m = omega arith in
+      rw (e, q, getD-set-same m k true false l) (sym (or-right (getD m k false) true refl)))
+      (λ e. rw (getD-set-other m k i true false (eqb-false i k e), e) (sym (or-false (getD m i false))))
+
+pub length-mark-all : (m : List Bool) (ks : List ℕ) → length (markAll m ks) ≡ length m
+unfolding markAll
+length-mark-all m [] = refl
+length-mark-all m (k ∷ ks) = length-mark-all (set m k true) ks ∙ length-set m k true
+
+pub mark-all : (m : List Bool) (ks : List ℕ) (i : ℕ) → i < length m → getD (markAll m ks) i false ≡ (getD m i false || member i ks)
+unfolding markAll member
+mark-all m [] i h = sym (or-false (getD m i false))
+mark-all m (k ∷ ks) i h =
+    let l : i < length (set m k true) = rw length-set h in
+    rw (mark-all (set m k true) ks i l, mark-at m k i h) (or-assoc (getD m i false) (eqb i k) (member i ks))
+
+-- ---- passes over the rows before n, whose numbers are given
+
+module _ (deps : ℕ → List ℕ) where
+  pub length-mark-row : (i : ℕ) (m : List Bool) → length (markRow deps i m) ≡ length m
+  unfolding markRow
+  length-mark-row i m = split (getD m i false) (λ e. rw e (length-mark-all m (deps i))) (λ e. rw e)
+
+  mark-row : (j : ℕ) (m : List Bool) (i : ℕ) → i < length m → getD (markRow deps j m) i false ≡ (getD m i false || (getD m j false && member i (deps j)))
+  unfolding markRow
+  mark-row j m i h = split (getD m j false) (λ e. rw e (mark-all m (deps j) i h)) (λ e. rw e (sym (or-false (getD m i false))))
+
+  -- from the last row to the first
+  pub markDown : ℕ → List Bool → List Bool
+  markDown zero m = m
+  markDown (suc i) m = markDown i (markRow deps i m)
+
+  pub markNeeded : ℕ → List Bool → List Bool
+  markNeeded zero m = m
+  markNeeded (suc i) m = markNeeded i (markAll m (deps i))
+
+  pub mark-needed : (n : ℕ) (m : List Bool) (i : ℕ) → i < length m
+      → getD (markNeeded n m) i false ≡ (getD m i false || someBelow n (λ k. member i (deps k)))
+  unfolding markNeeded someBelow
+  mark-needed zero m i h = sym (or-false (getD m i false))
+  mark-needed (suc n) m i h =
+      let l : i < length (markAll m (deps n)) = rw length-mark-all h in
+      mark-needed n (markAll m (deps n)) i l
+      ∙ rw (mark-all m (deps n) i h) (or-assoc (getD m i false) (member i (deps n)) _)
+
+  module _ (all : ℕ) (down : (k i : ℕ) → k < all → member i (deps k) ≡ true → i < k) where
+    none-later : (x : ℕ → Bool) (n : ℕ) → n ≤ all → someBelow n (λ k. x k && member n (deps k)) ≡ false
+    none-later x n f =
+        split (someBelow n (λ k. x k && member n (deps k)))
+        (λ e.
+        let w = some-witness n (λ k. x k && member n (deps k)) e in
+        absurd (omega (arith, down (w .k) n (omega (arith, w .less)) (both (x (w .k)) (member n (deps (w .k))) (w .is) .1))))
+        (λ e. e)
+
+    mark-down : (n : ℕ) (m : List Bool) → n ≤ all → n ≤ length m → (i : ℕ) → i < length m
+        → getD (markDown n m) i false ≡ (getD m i false || someBelow n (λ k. getD (markDown n m) k false && member i (deps k)))
+    unfolding markDown someBelow
+    mark-down zero m a f i h = sym (or-false (getD m i false))
+    mark-down (suc n) m a f i h =
+        let next = markRow deps n m in
+        let l : length next ≡ length m = length-mark-row n m in
+        let rest = mark-down n next (omega arith) (omega arith) in
+        let same : getD (markDown n next) n false ≡ getD m n false =
+        rest n (omega arith)
+        ∙ ap (λ (b : Bool). getD next n false || b) (none-later (λ k. getD (markDown n next) k false) n (omega arith))
+        ∙ or-false (getD next n false)
+        ∙ mark-row n m n (omega arith)
+        ∙ or-again (getD m n false) (member n (deps n)) in
+        rest i (omega arith) ∙ rw (same, mark-row n m i h) (or-assoc (getD m i false) _ _)
+
+    -- the marks that were, and what is reached from them
+    pub marks-reach : (m : List Bool) → all ≤ length m → (i : ℕ) → i < all
+        → getD (markDown all m) i false ≡ reach all (λ k. getD m k false) (λ k j. member j (deps k)) i
+    marks-reach m f i h =
+        reach-unique all (λ k. getD m k false) (λ k j. member j (deps k)) down (λ k. getD (markDown all m) k false)
+        (λ j l. mark-down all m (omega arith) f j (omega arith))
+        i h
+
+-- ---- a row's numbers in bytes, marked one after the other
+
+member-twos : (s : List ℕ) (at count j : ℕ) → j < count → member (twoAt s (at + 2 * j)) (twosAt s at count) ≡ true
+unfolding member twosAt
+member-twos s at zero j h = absurd (not-suc-le-zero h)
+member-twos s at (suc count) zero h =
+    let e : at + 2 * 0 ≡ at = omega arith in
+    rw e (or-left (eqb (twoAt s at) (twoAt s at)) _ (eq-eqb (twoAt s at) (twoAt s at) refl))
+member-twos s at (suc count) (suc j) h =
+    let e : at + 2 * suc j ≡ at + 2 + 2 * j = omega arith in
+    rw e (or-right (eqb (twoAt s (at + 2 + 2 * j)) (twoAt s at)) _ (member-twos s (at + 2) count j (omega arith)))
+
+module _ (s : List ℕ) (i count : ℕ) where
+  abbrev numbers : ℕ
+  numbers = i * rowSize + sizes .hash + 2
+
+  pub number-member : (j k : ℕ) → count ≡ countAt s i → j < count → k ≡ twoAt s (numbers + 2 * j) → member k (usedAt s i) ≡ true
+  unfolding usedAt
+  number-member j k c h e = rw (e, ← c) (member-twos s numbers count j h)
+
+  pub numbers-start : (m : List Bool) → count ≡ countAt s i → markAll m (twosAt s (numbers + 2 * 0) (count - 0)) ≡ markAll m (usedAt s i)
+  unfolding usedAt
+  numbers-start m c =
+      let a : numbers + 2 * 0 ≡ numbers = omega arith in
+      let b : count - 0 ≡ count = omega arith in
+      rw (a, b, c)
+
+  pub numbers-on : (m : List Bool) (j k : ℕ) → j < count → k ≡ twoAt s (numbers + 2 * j)
+      → markAll m (twosAt s (numbers + 2 * j) (count - j)) ≡ markAll (set m k true) (twosAt s (numbers + 2 * (j + 1)) (count - (j + 1)))
+  unfolding markAll twosAt
+  numbers-on m j k h e =
+      let c : count - j ≡ suc (count - (j + 1)) = omega arith in
+      let a : numbers + 2 * (j + 1) ≡ numbers + 2 * j + 2 = omega arith in
+      rw (c, a, e)
+
+  pub numbers-done : (m : List Bool) (j : ℕ) → count ≤ j → markAll m (twosAt s (numbers + 2 * j) (count - j)) ≡ m
+  unfolding markAll twosAt
+  numbers-done m j h =
+      let c : count - j ≡ 0 = omega arith in
+      rw c
+
+-- ---- the passes in terms of the rows of a table
+
+pub good-part : (s : List ℕ) (n k : ℕ) → GoodRows s n → k ≤ n → GoodRows s k
+good-part s n k g h =
+    record {
+      few = omega (arith, g .few);
+      inside = omega (arith, g .inside);
+      counts = λ i l. g .counts i (omega arith);
+      down = λ i j l e. g .down i j (omega arith) e;
+      once = λ i j l m e. g .once i j (omega arith) (omega arith) e;
+    }
+
+module _ (s : List ℕ) (n : ℕ) where
+  abbrev t : List Row
+  t = rowsAt s 0 n
+
+  pub down-on : (i : ℕ) (m r : List Bool) → 0 < i → i ≤ n → r ≡ markRow (usedAt s) (i - 1) m → markDown (depsOf t) i m ≡ markDown (depsOf t) (i - 1) r
+  unfolding markDown markRow
+  down-on i m r h l e =
+      let last : i ≡ suc (i - 1) = omega arith in
+      ap (λ (k : ℕ). markDown (depsOf t) k m) last ∙ down-row (i - 1) (omega arith) ∙ ap (markDown (depsOf t) (i - 1)) (sym e)
+    where
+      down-row : (k : ℕ) → k < n → markDown (depsOf t) (suc k) m ≡ markDown (depsOf t) k (markRow (usedAt s) k m)
+      down-row k f = ap (markDown (depsOf t) k) (rw (deps-of-row s n k f))
+
+  pub down-done : (i : ℕ) (m : List Bool) → i ≤ 0 → markDown (depsOf t) i m ≡ m
+  unfolding markDown
+  down-done i m h =
+      let e : i ≡ 0 = omega arith in
+      rw e
+
+  pub needed-on : (i : ℕ) (m r : List Bool) → 0 < i → i ≤ n → r ≡ markAll m (usedAt s (i - 1)) → markNeeded (depsOf t) i m ≡ markNeeded (depsOf t) (i - 1) r
+  unfolding markNeeded
+  needed-on i m r h l e =
+      let last : i ≡ suc (i - 1) = omega arith in
+      ap (λ (k : ℕ). markNeeded (depsOf t) k m) last ∙ needed-row (i - 1) (omega arith) ∙ ap (markNeeded (depsOf t) (i - 1)) (sym e)
+    where
+      needed-row : (k : ℕ) → k < n → markNeeded (depsOf t) (suc k) m ≡ markNeeded (depsOf t) k (markAll m (usedAt s k))
+      needed-row k f = ap (markNeeded (depsOf t) k) (rw (deps-of-row s n k f))
+
+  pub needed-done : (i : ℕ) (m : List Bool) → i ≤ 0 → markNeeded (depsOf t) i m ≡ m
+  unfolding markNeeded
+  needed-done i m h =
+      let e : i ≡ 0 = omega arith in
+      rw e
+
+  module _ (g : GoodRows s n) where
+    down-rows : (k i : ℕ) → k < n → member i (depsOf t k) ≡ true → i < k
+    down-rows k i h e = g .down k i h (rw (deps-of-row s n k h) at e)
+
+    pub below-marked : (m r : List Bool) → n ≤ length m → r ≡ markDown (depsOf t) n m
+        → Marks n r (reach n (λ k. getD m k false) (λ k j. member j (depsOf t k)))
+    below-marked m r f e = record { each = λ i h. rw e (marks-reach (depsOf t) n down-rows m f i h) }
+
+    pub needed-marked : (r : List Bool) → r ≡ markNeeded (depsOf t) n (replicate (sizes .rows) false) → Marks n r (needed t)
+    unfolding needed
+    needed-marked r e =
+        record {
+          each =
+              λ i h.
+              let most : i < sizes .rows = omega (arith, g .few) in
+              let inside : i < length (replicate (sizes .rows) false) = rw length-replicate most in
+              rw (e, length-rows-at s 0 n)
+              (mark-needed (depsOf t) n (replicate (sizes .rows) false) i inside ∙ rw (getD-replicate (sizes .rows) i false false most));
+        }
+
+-- ---- marks of a list's hashes
+
+pub markList : List ℕ → List Bool → List ℕ → List Bool
+markList hs m [] = m
+markList hs m (h ∷ l) = markList hs (markHash hs m h) l
+
+module _ (hs : List ℕ) where
+  length-mark-hash : (m : List Bool) (h : ℕ) → length (markHash hs m h) ≡ length m
+  unfolding markHash
+  length-mark-hash m h = split (ltb (placeIn hs h) (length hs)) (λ e. rw e (length-set m (placeIn hs h) true)) (λ e. rw e)
+
+  module _ (once : (i j : ℕ) → i < length hs → j < length hs → getD hs i 0 ≡ getD hs j 0 → i ≡ j) where
+    mark-hash : (m : List Bool) (h i : ℕ) → length hs ≤ length m → i < length hs → getD (markHash hs m h) i false ≡ (getD m i false || eqb (getD hs i 0) h)
+    unfolding markHash
+    mark-hash m h i f l =
+        split (ltb (placeIn hs h) (length hs))
+        (λ e.
+        let inside : placeIn hs h < length hs = ltb-true _ _ e in
+        let at : getD hs (placeIn hs h) 0 ≡ h = at-place hs h inside in
+        let same : eqb i (placeIn hs h) ≡ eqb (getD hs i 0) h =
+        same-truth (eqb i (placeIn hs h)) (eqb (getD hs i 0) h)
+        (λ q. eq-eqb (getD hs i 0) h (ap (λ (k : ℕ). getD hs k 0) (eqb-true i (placeIn hs h) q) ∙ at))
+        (λ q. eq-eqb i (placeIn hs h) (once i (placeIn hs h) l inside (eqb-true (getD hs i 0) h q ∙ sym at))) in
+        rw e (mark-at m (placeIn hs h) i (omega arith) ∙ rw same))
+        (λ e.
+        let none : eqb (getD hs i 0) h ≡ false =
+        ne-eqb (getD hs i 0) h (λ q. let p = place-first hs h i l q in omega (arith, ltb-false (placeIn hs h) (length hs) e)) in
+        rw (e, none) (sym (or-false (getD m i false))))
+
+    mark-list : (m : List Bool) (l : List ℕ) (i : ℕ) → length hs ≤ length m → i < length hs
+        → getD (markList hs m l) i false ≡ (getD m i false || member (getD hs i 0) l)
+    unfolding markList member
+    mark-list m [] i f h = sym (or-false (getD m i false))
+    mark-list m (x ∷ l) i f h =
+        let k : length hs ≤ length (markHash hs m x) = rw (length-mark-hash m x) f in
+        rw (mark-list (markHash hs m x) l i k h, mark-hash m x i f h) (or-assoc (getD m i false) (eqb (getD hs i 0) x) (member (getD hs i 0) l))
+
+module _ (s : List ℕ) (n : ℕ) where
+  abbrev hs : List ℕ
+  hs = rows (rowsAt s 0 n)
+
+  long : length hs ≡ n
+  long = length-rows (rowsAt s 0 n) ∙ length-rows-at s 0 n
+
+  pub hash-known : (m : List Bool) (h row : ℕ) → row ≡ placeIn hs h → row < n → set m row true ≡ markHash hs m h
+  unfolding markHash
+  hash-known m h row e l = rw (← e, long, lt-ltb row n l)
+
+  pub hash-unknown : (m : List Bool) (h row : ℕ) → row ≡ placeIn hs h → n ≤ row → m ≡ markHash hs m h
+  unfolding markHash
+  hash-unknown m h row e l = rw (← e, long, le-ltb row n l)
+
+  module _ (l : List ℕ) (place count : ℕ) where
+    pub list-start : (m : List Bool) → markList hs m (hashesAt l (place + sizes .hash * 0) (count - 0)) ≡ markList hs m (hashesAt l place count)
+    list-start m =
+        let a : place + sizes .hash * 0 ≡ place = omega arith in
+        let b : count - 0 ≡ count = omega arith in
+        rw (a, b)
+
+    pub list-on : (m r : List Bool) (k : ℕ) → k < count → r ≡ markHash hs m (hashAt l (place + sizes .hash * k))
+        → markList hs m (hashesAt l (place + sizes .hash * k) (count - k)) ≡ markList hs r (hashesAt l (place + sizes .hash * (k + 1)) (count - (k + 1)))
+    unfolding markList hashesAt
+    list-on m r k h e =
+        let c : count - k ≡ suc (count - (k + 1)) = omega arith in
+        let a : place + sizes .hash * (k + 1) ≡ place + sizes .hash * k + sizes .hash = omega arith in
+        rw (c, a, e)
+
+    pub list-done : (m : List Bool) (k : ℕ) → count ≤ k → markList hs m (hashesAt l (place + sizes .hash * k) (count - k)) ≡ m
+    unfolding markList hashesAt
+    list-done m k h =
+        let c : count - k ≡ 0 = omega arith in
+        rw c
+
+    pub list-marked : GoodRows s n → (m r : List Bool) → n ≤ length m → r ≡ markList hs m (hashesAt l place count)
+        → Marks n r (λ i. getD m i false || member (hashOf (rowsAt s 0 n) i) (hashesAt l place count))
+    unfolding hashOf
+    list-marked g m r f e =
+        record {
+          each =
+              λ i h.
+              rw e (mark-list hs once m (hashesAt l place count) i (rw long f) (rw long h));
+        }
+      where
+        at : (i : ℕ) → i < length hs → getD hs i 0 ≡ hashAt s (i * rowSize)
+        at i h = hash-of-row s n i (rw long at h)
+
+        once : (i j : ℕ) → i < length hs → j < length hs → getD hs i 0 ≡ getD hs j 0 → i ≡ j
+        once i j h k e = g .once i j (rw long at h) (rw long at k) (sym (at i h) ∙ e ∙ at j k)

@@ -1,0 +1,65 @@
+-- `graph::heads::put_heads` meets its contract: the list has room for the hash of every row, and its first hashes are the heads. Assumes nothing.
+use Prim.Native.Nat.{ℕ, _*_, _≤_}
+use mathlib.Core.List.{List}
+use mathlib.Core.Path.{_≡_, _∙_}
+use native.Mathlib.Omega.{arith}
+use lib.ListN.{length, replicate, length-replicate}
+use Rattle.rules.specs.Hash.{hashesAt, hashesBytes}
+use Rattle.rules.specs.Output.{Output, Written}
+use Rattle.rules.specs.declared.output.Write.{Write}
+use Rattle.graph.specs.Marks.{Collected}
+use Rattle.rules.specs.Sizes.{sizes}
+use Rattle.graph.proofs.CollectLaws.{heads-most}
+use borrow.Author.Needs.{needs}
+use Rattle.graph.proofs.heads.put_heads.Statement.{statement}
+use Rattle.graph.proofs.heads.put_heads.Tie as tie
+
+room : (n : ℕ) → n ≤ sizes .rows → sizes .hash * n ≤ length {A = ℕ} (replicate (sizes .hash * sizes .rows) 0)
+room n h = rw length-replicate (omega arith)
+
+fits : (n count : ℕ) (hs list : List ℕ) → n ≤ sizes .rows → length hs ≤ n → Collected hs list count
+    → length list ≡ length {A = ℕ} (replicate (sizes .hash * sizes .rows) 0)
+    → sizes .hash * count ≤ length list
+fits n count hs list h k so e =
+    let long : length list ≡ sizes .hash * sizes .rows = e ∙ length-replicate {A = ℕ} (sizes .hash * sizes .rows) 0 in
+    omega (arith, so .many)
+
+put : (hs list before after : List ℕ) (count : ℕ) (w : Write) → Collected hs list count
+    → Written (Output.bytes (hashesBytes (hashesAt list 0 count))) before after w
+    → Written (Output.bytes (hashesBytes hs)) before after w
+put hs list before after count w so r = rw (so .list) at r
+
+slice-aggregate-collect-heads : tie.Need-slice-aggregate-collect-heads
+slice-aggregate-collect-heads c = search needs
+
+collect-heads-requires : tie.Need-collect-heads-requires
+collect-heads-requires c κs =
+    let start = c .before .before .before in
+    (start .pre, room _ (start .pre .few))
+
+slice-aggregate-put-list : tie.Need-slice-aggregate-put-list
+slice-aggregate-put-list c = search needs
+
+put-list-requires : tie.Need-put-list-requires
+put-list-requires c κs =
+    let h = c .before .before .before in
+    fits _ _ _ _ (h .before .before .before .before .pre .few) (heads-most _ _) (h .collect-heads .ensures) (h .collect-heads .kept .1 .1 .0)
+
+same-length : tie.Need-same-length
+same-length c = search needs
+
+returns : tie.Need-returns
+returns c =
+    let p = c .before .before in
+    put _ _ _ _ _ _ (p .before .before .before .before .collect-heads .ensures) (p .put-list .ensures)
+
+pub put-heads-spec : {M : Type 1} → statement M
+put-heads-spec =
+    tie.close
+    (tie.spec
+    slice-aggregate-collect-heads
+    collect-heads-requires
+    slice-aggregate-put-list
+    put-list-requires
+    same-length
+    returns)

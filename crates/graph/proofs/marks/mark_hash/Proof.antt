@@ -1,0 +1,21 @@
+-- `graph::marks::mark_hash` meets its contract: the row that is found is the hash's place, and there is one if it is below the number of rows.
+-- Assumes nothing.
+use Rattle.graph.proofs.MarkLaws.{hash-known, hash-unknown}
+use borrow.Author.Needs.{needs}
+use Rattle.graph.proofs.marks.mark_hash.Statement.{statement}
+use Rattle.graph.proofs.marks.mark_hash.Tie as tie
+
+find-row-requires : tie.Need-find-row-requires
+find-row-requires c κs = search needs
+
+array-write-next : tie.Need-array-write-next
+array-write-next c = search needs
+
+returns : tie.Need-returns
+returns c = hash-known _ _ _ _ _ (c .before .find-row .ensures) (c .if1 .taken)
+
+returns-2 : tie.Need-returns-2
+returns-2 c = hash-unknown _ _ _ _ _ (c .before .find-row .ensures) (c .if1 .left)
+
+pub mark-hash-spec : {M : Type 1} → statement M
+mark-hash-spec = tie.close (tie.spec find-row-requires array-write-next returns returns-2)

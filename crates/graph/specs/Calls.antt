@@ -1,0 +1,29 @@
+-- What the public calls write, refusals in 01's order: 4 and 6 for the change table, 11, 4 (then 1) for a passed list; 7 comes last
+-- (`Written`).
+use Prim.Native.Nat.{ℕ}
+use mathlib.Core.Bool.{cond}
+use mathlib.Core.List.{List}
+use lib.Dec.{ltb}
+use lib.ListN.{take}
+use Rattle.rules.specs.Hash.{hashesAt, hashesBytes}
+use Rattle.rules.specs.Output.{Output}
+use Rattle.rules.specs.Passed.{passedHashes, afterPassed}
+use Rattle.rules.specs.declared.refusal.Refusal.the-variants.{BadRowsBefore}
+use Rattle.tables.specs.Bytes.{tableOf, tableChecked}
+use Rattle.tables.specs.Calls.{afterCheck}
+use Rattle.tables.specs.Table.{heads, beyond}
+
+-- The heads of the first rows of a table: 11 where there aren't so many.
+unfoldable pub headsOutput : List ℕ → ℕ → Output
+headsOutput s before =
+    afterCheck (tableChecked s)
+    (λ n. cond (ltb n before) (Output.refuse BadRowsBefore) (Output.bytes (hashesBytes (heads (take before (tableOf s))))))
+
+-- The rows beyond a list.
+unfoldable pub beyondOutput : List ℕ → List ℕ → Output
+beyondOutput s l =
+    afterCheck (tableChecked s)
+    (λ n.
+    afterPassed (passedHashes l)
+    Output.refuse
+    (λ count. Output.bytes (hashesBytes (beyond (tableOf s) (hashesAt l 0 count)))))

@@ -1,0 +1,5 @@
+-- Laws that the crates above cite.
+pub mod AskBytes
+pub mod AskLaws
+pub mod MissingCalls
+pub mod MissingLaws

@@ -1,0 +1,106 @@
+-- What the call for missing hashes writes: one law for each way out, with the code's tests as hypotheses.
+use Prim.Native.Nat.{ℕ, suc, _+_, _*_, _-_, _/_, _≤_, _<_}
+use mathlib.Core.List.{List}
+use mathlib.Core.Path.{_≡_, sym, ap, _∙_}
+use native.Mathlib.Nat.{zero-add, sub-zero}
+use native.Mathlib.Omega.{arith}
+use borrow.Author.Tests.{lt-ltb, le-ltb}
+use lib.ListN.{length, take, drop, replicate, length-replicate}
+use lib.Seq.{sets}
+use Rattle.rules.specs.Hash.{Bytes, hashesAt, hashesBytes}
+use Rattle.rules.specs.Output.{Output, Written}
+use Rattle.rules.specs.Passed.{passedHashes}
+use Rattle.rules.specs.Sizes.{sizes}
+use Rattle.rules.specs.declared.output.Write.{Write}
+use Rattle.rules.specs.declared.output.Write.the-variants.{Wrote, Refused}
+use Rattle.rules.specs.declared.passed.Passed.the-variants.{Hashes}
+use Rattle.rules.specs.declared.passed.Passed.the-variants as passed
+use Rattle.rules.specs.declared.refusal.Refusal.{Refusal}
+use Rattle.rules.specs.declared.refusal.Refusal.the-variants.{PastSize, NoRoom}
+use Rattle.rules.proofs.Hash.{length-hashes-at, length-hashes-bytes, hashes-at-bytes}
+use Rattle.rules.proofs.Outputs.{written-bytes, no-room, refused}
+use Rattle.rules.proofs.PassedLaws.{after-refused, after-hashes}
+use Rattle.tables.specs.Bytes.{rowsAt, waitingOf, tableChecked, waitingChecked}
+use Rattle.tables.specs.Calls.{afterCheck}
+use Rattle.tables.specs.Table.{Row}
+use Rattle.tables.specs.Waiting.{Waiting}
+use Rattle.tables.specs.declared.check.Checked.the-variants.{Good}
+use Rattle.tables.specs.declared.check.Checked.the-variants as checked
+use Rattle.tables.proofs.TableLaws.{table-good}
+use Rattle.missing.specs.Ask.{Found}
+use Rattle.missing.specs.Calls.{missingOf, missingFrom, missingBeside, missingOutput}
+use Rattle.missing.specs.Missing.{missing}
+
+-- ---- the bytes of a list
+
+module _ (s : List ℕ) (count : ℕ) where
+  length-bytes : sizes .hash * count ≡ length (hashesBytes (hashesAt s 0 count))
+  length-bytes = sym (length-hashes-bytes (hashesAt s 0 count) ∙ ap (λ (n : ℕ). sizes .hash * n) (length-hashes-at s 0 count))
+
+  pub put-short : (out : List ℕ) → length out < sizes .hash * count
+      → Written (Output.bytes (hashesBytes (hashesAt s 0 count))) out out (Refused (NoRoom (sizes .hash * count)))
+  put-short out h = no-room _ out _ length-bytes h
+
+  pub put-whole : (out out′ : List ℕ) → Bytes s → sizes .hash * count ≤ length s → sizes .hash * count ≤ length out
+      → out′ ≡ sets out 0 (take (sizes .hash * count - 0) (drop 0 s))
+      → Written (Output.bytes (hashesBytes (hashesAt s 0 count))) out out′ (Wrote (sizes .hash * count))
+  put-whole out out′ b h k e =
+      let same : take (sizes .hash * count - 0) (drop 0 s) ≡ hashesBytes (hashesAt s 0 count) =
+      rw (sub-zero (sizes .hash * count)) (sym (hashes-at-bytes s 0 count b (rw zero-add h) ∙ rw (zero-add (sizes .hash * count))))
+      in
+      written-bytes _ out out′ _ length-bytes k (rw same at e)
+
+-- ---- a list that was found
+
+-- The scratch list has room for one hash more than a list may have.
+pub one-more : length (replicate {A = ℕ} (sizes .hash * (sizes .hashes + 1)) 0) / sizes .hash ≡ suc (sizes .hashes)
+one-more = ap (λ (n : ℕ). n / sizes .hash) (length-replicate {A = ℕ} (sizes .hash * (sizes .hashes + 1)) 0)
+
+module _ (t : List Row) (w : List Waiting) (l out : List ℕ) where
+  pub no-list : (r : Refusal) → passedHashes l ≡ passed.Refused r → Written (missingFrom t w l) out out (Refused r)
+  unfolding missingFrom
+  no-list r e = rw (after-refused Output.refuse (λ n. missingOf t w (hashesAt l 0 n)) _ r e) (refused r out)
+
+  module _ {n : ℕ} (e : passedHashes l ≡ Hashes n) where
+    from-list : missingFrom t w l ≡ missingOf t w (hashesAt l 0 n)
+    unfolding missingFrom
+    from-list = after-hashes _ _ _ n e
+
+    module _ {most : ℕ} {after : List ℕ} {count : ℕ} (room : most ≡ suc (sizes .hashes))
+        (f : Found (missing t w (hashesAt l 0 n)) most after count) where
+      pub too-many : sizes .hashes < count → Written (missingFrom t w l) out out (Refused (PastSize 0))
+      unfolding missingOf
+      too-many h =
+          let many : sizes .hashes < length (missing t w (hashesAt l 0 n)) = omega (arith, f .full (omega (arith, f .within))) in
+          rw (from-list, lt-ltb _ _ many) (refused _ _)
+
+      pub few-enough : {out′ : List ℕ} {r : Write} → count ≤ sizes .hashes
+          → Written (Output.bytes (hashesBytes (hashesAt after 0 count))) out out′ r
+          → Written (missingFrom t w l) out out′ r
+      unfolding missingOf
+      few-enough h v =
+          let q : hashesAt after 0 count ≡ missing t w (hashesAt l 0 n) = f .all (omega arith) in
+          let few : length (missing t w (hashesAt l 0 n)) ≤ sizes .hashes = omega (arith, ap length q, length-hashes-at after 0 count) in
+          rw (from-list, le-ltb _ _ few) (rw q at v)
+
+-- ---- after the checks
+
+module _ (t : List Row) (w l out : List ℕ) where
+  pub beside-refused : (r : Refusal) → waitingChecked t w ≡ checked.Refused r → Written (missingBeside t w l) out out (Refused r)
+  unfolding missingBeside afterCheck
+  beside-refused r e = rw e (refused r out)
+
+  pub beside-good : (m : ℕ) {out′ : List ℕ} {r : Write} → waitingChecked t w ≡ Good m → Written (missingFrom t (waitingOf w) l) out out′ r
+      → Written (missingBeside t w l) out out′ r
+  unfolding missingBeside afterCheck
+  beside-good m e v = rw e v
+
+module _ (s w l out : List ℕ) where
+  pub call-refused : (r : Refusal) → tableChecked s ≡ checked.Refused r → Written (missingOutput s w l) out out (Refused r)
+  unfolding missingOutput afterCheck
+  call-refused r e = rw e (refused r out)
+
+  pub call-good : (n : ℕ) {out′ : List ℕ} {r : Write} → tableChecked s ≡ Good n → Written (missingBeside (rowsAt s 0 n) w l) out out′ r
+      → Written (missingOutput s w l) out out′ r
+  unfolding missingOutput afterCheck
+  call-good n e v = rw (e, table-good s n e .is) v

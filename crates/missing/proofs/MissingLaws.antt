@@ -1,0 +1,225 @@
+-- What is missing, as a relation and as a list: both have the same members. A hash that is asked for on the way is one of the list's or of the
+-- asks of an asked row, and an asked row's asks lead back to the list. The list ascends, so its members tell it; asking finds just them.
+use Prim.Native.Nat.{ℕ, zero, suc, _+_, _≤_, _<_}
+use mathlib.Core.Bool.{Bool, true, false, not, _&&_}
+use mathlib.Core.List.{List, [], _∷_, _++_}
+use mathlib.Core.Path.{_≡_, refl, sym, _∙_}
+use native.Mathlib.Nat.{not-suc-le-zero, add-zero, zero-add}
+use native.Mathlib.Omega.{arith}
+use borrow.Author.Tests.{eqb-true, not-true}
+use lib.Dec.{eqb}
+use lib.ListN.{length, getD}
+use Rattle.rules.specs.Order.{member, ascends}
+use Rattle.rules.proofs.Cases.{split, both}
+use Rattle.rules.proofs.OrderLaws.{ascend-ascends, ascend-members, member-append, member-here, member-none, ascending-unique, ascending-shorter}
+use Rattle.rules.proofs.ReachLaws.{true-false, same-truth, either, or-left, or-right, and-true, reach-base, reach-closed, reach-least}
+use Rattle.tables.specs.Table.{Row, held, placeIn}
+use Rattle.tables.specs.Waiting.{Waiting, noWaiting, waiting, asks, asksOf}
+use Rattle.tables.proofs.TableLaws.{place-of-member, at-place, member-at, place-once}
+use Rattle.tables.proofs.WaitingLaws.{length-waiting}
+use Rattle.missing.specs.Missing.{unknown, Missing, itself, through, askedRow, asksFrom, keep, missing}
+use Rattle.missing.specs.Ask.{list, Asks}
+use Rattle.missing.proofs.AskLaws.{asked, more-missing, missing-found, asked-settled, newly-settled, found-missing, still-ascending}
+
+-- No hash waits twice.
+abbrev pub Once : List Waiting → Type 0
+Once w = (i j : ℕ) → i < length w → j < length w → getD (waiting w) i 0 ≡ getD (waiting w) j 0 → i ≡ j
+
+-- ---- members of what is kept, and of what rows ask for
+
+keep-members : (p : ℕ → Bool) (x : ℕ) (l : List ℕ) → member x (keep p l) ≡ (p x && member x l)
+unfolding keep member
+keep-members p x [] = and-none (p x)
+  where
+    and-none : (b : Bool) → false ≡ (b && false)
+    and-none true = refl
+    and-none false = refl
+keep-members p x (h ∷ hs) =
+    split (p h)
+    (λ e. rw (e, keep-members p x hs) (split (eqb x h) (λ q. let i : x ≡ h = eqb-true x h q in rw (q, i, e)) (λ q. rw q)))
+    (λ e. rw (e, keep-members p x hs) (split (eqb x h) (λ q. let i : x ≡ h = eqb-true x h q in rw (q, i, e)) (λ q. rw q)))
+
+asks-in : (p : ℕ → Bool) (g : ℕ) (w : List Waiting) (i k : ℕ) → k < length w → p (i + k) ≡ true → member g (asksOf w k) ≡ true
+    → member g (asksFrom i w p) ≡ true
+unfolding asksFrom asksOf
+asks-in p g [] i k h a e = absurd (not-suc-le-zero h)
+asks-in p g (r ∷ rs) i zero h a e =
+    let b : p i ≡ true = rw add-zero at a in
+    rw (b, member-append g (r .asks) (asksFrom (suc i) rs p)) (or-left _ _ e)
+asks-in p g (r ∷ rs) i (suc k) h a e =
+    let n : i + suc k ≡ suc i + k = omega arith in
+    let more = asks-in p g rs (suc i) k (omega arith) (rw n at a) e in
+    split (p i)
+    (λ q. rw (q, member-append g (r .asks) (asksFrom (suc i) rs p)) (or-right (member g (r .asks)) _ more))
+    (λ q. rw q more)
+
+asks-out : {C : Type 0} (p : ℕ → Bool) (g : ℕ) (w : List Waiting) (i : ℕ) → member g (asksFrom i w p) ≡ true
+    → ((k : ℕ) → k < length w → p (i + k) ≡ true → member g (asksOf w k) ≡ true → C)
+    → C
+unfolding asksFrom asksOf
+asks-out p g [] i e f = absurd (member-none g e)
+asks-out p g (r ∷ rs) i e f =
+    let next : (k : ℕ) → k < length rs → p (suc i + k) ≡ true → member g (getD rs k noWaiting .asks) ≡ true → _ =
+    λ k h a b. f (suc k) (omega arith) (let n : i + suc k ≡ suc i + k = omega arith in rw n a) b
+    in
+    split (p i)
+    (λ q.
+    either (member g (r .asks)) (member g (asksFrom (suc i) rs p)) (sym (member-append g (r .asks) (asksFrom (suc i) rs p)) ∙ (rw q at e))
+    (λ a. f 0 (omega arith) (rw add-zero q) a)
+    (λ a. asks-out p g rs (suc i) a next))
+    (λ q. asks-out p g rs (suc i) (rw q at e) next)
+
+-- the same, rows counted from 0
+some-asks : (p : ℕ → Bool) (g : ℕ) (w : List Waiting) (k : ℕ) → k < length w → p k ≡ true → member g (asksOf w k) ≡ true
+    → member g (asksFrom 0 w p) ≡ true
+some-asks p g w k h a e = asks-in p g w 0 k h (rw zero-add a) e
+
+asks-some : {C : Type 0} (p : ℕ → Bool) (g : ℕ) (w : List Waiting) → member g (asksFrom 0 w p) ≡ true
+    → ((k : ℕ) → k < length w → p k ≡ true → member g (asksOf w k) ≡ true → C)
+    → C
+asks-some p g w e f = asks-out p g w 0 e (λ k h a b. f k h (rw zero-add at a) b)
+
+module _ (t : List Row) (w : List Waiting) where
+  pub unknown-not-held : (h : ℕ) → unknown t w h ≡ true → held t h ≡ false
+  unfolding unknown
+  unknown-not-held h e = not-true _ (both (not (held t h)) (not (member h (waiting w))) e .0)
+
+  pub unknown-not-waiting : (h : ℕ) → unknown t w h ≡ true → member h (waiting w) ≡ false
+  unfolding unknown
+  unknown-not-waiting h e = not-true _ (both (not (held t h)) (not (member h (waiting w))) e .1)
+
+  module _ (l : List ℕ) where
+    -- the list, and what the asked rows ask for
+    asked-for : List ℕ
+    asked-for = l ++ asksFrom 0 w (askedRow t w l)
+
+    from : ℕ → Bool
+    from k = member (getD (waiting w) k 0) l && not (held t (getD (waiting w) k 0))
+
+    to : ℕ → ℕ → Bool
+    to k j = member (getD (waiting w) j 0) (asksOf w k) && not (held t (getD (waiting w) j 0))
+
+    -- a waiting hash that is asked for has an asked row
+    row-asked : (u : ℕ) → member u asked-for ≡ true → held t u ≡ false → member u (waiting w) ≡ true
+        → askedRow t w l (placeIn (waiting w) u) ≡ true
+    unfolding askedRow asked-for
+    row-asked u e a b =
+        let in-waiting = place-of-member (waiting w) u b in
+        let inside : placeIn (waiting w) u < length w = rw length-waiting at in-waiting in
+        let at : getD (waiting w) (placeIn (waiting w) u) 0 ≡ u = at-place (waiting w) u in-waiting in
+        either (member u l) (member u (asksFrom 0 w (askedRow t w l))) (sym (member-append u l (asksFrom 0 w (askedRow t w l))) ∙ e)
+        (λ p. reach-base (length w) _ _ (placeIn (waiting w) u) inside (rw (at, p, a)))
+        (λ p. asks-some (askedRow t w l) u w p
+        (λ k h q r. reach-closed (length w) _ _ k (placeIn (waiting w) u) h inside q (rw (at, r, a))))
+
+    -- what is missing from hashes that are asked for is kept
+    missing-kept : {hs : List ℕ} {x : ℕ} → Missing t w hs x → ((g : ℕ) → member g hs ≡ true → member g asked-for ≡ true)
+        → member x (keep (unknown t w) asked-for) ≡ true
+    unfolding asks asked-for
+    missing-kept (itself {l = hs} {h = x} a b) f = rw (keep-members (unknown t w) x asked-for) (and-true _ _ b (f x a))
+    missing-kept (through {l = hs} {h = x} u a b c d) f =
+        missing-kept d
+        (λ g e.
+        let inside : placeIn (waiting w) u < length w = rw length-waiting at (place-of-member (waiting w) u c) in
+        rw (member-append g l (asksFrom 0 w (askedRow t w l)))
+        (or-right (member g l) _ (some-asks (askedRow t w l) g w (placeIn (waiting w) u) inside (row-asked u (f u a) b c) e)))
+
+    -- An unknown hash that is missing from H is one of the list.
+    pub missing-member : {x : ℕ} → Missing t w l x → member x (missing t w l) ≡ true
+    unfolding missing asked-for
+    missing-member {x} d =
+        ascend-members x (keep (unknown t w) asked-for)
+        ∙ missing-kept d (λ g e. member-append g l (asksFrom 0 w (askedRow t w l)) ∙ or-left _ _ e)
+
+    kept-of-missing : (x : ℕ) → member x (missing t w l) ≡ true → (unknown t w x && member x asked-for) ≡ true
+    unfolding missing asked-for
+    kept-of-missing x e = sym (keep-members (unknown t w) x asked-for) ∙ sym (ascend-members x (keep (unknown t w) asked-for)) ∙ e
+
+    -- What is missing is neither held nor waiting.
+    pub missing-unknown : (x : ℕ) → member x (missing t w l) ≡ true → unknown t w x ≡ true
+    missing-unknown x e = both (unknown t w x) (member x asked-for) (kept-of-missing x e) .0
+
+    -- Each once, ascending.
+    pub missing-ascends : ascends (missing t w l) ≡ true
+    unfolding missing
+    missing-ascends = ascend-ascends _
+
+    -- And back, where no hash waits twice.
+    module _ (once : Once w) where
+      climb : (i : ℕ) → i < length w → (hs : List ℕ) → member (getD (waiting w) i 0) hs ≡ true → not (held t (getD (waiting w) i 0)) ≡ true
+          → (x : ℕ) → Missing t w (asksOf w i) x → Missing t w hs x
+      unfolding asks
+      climb i b hs m n x d =
+          let in-waiting : i < length (waiting w) = rw length-waiting b in
+          let own : placeIn (waiting w) (getD (waiting w) i 0) ≡ i =
+          place-once (waiting w) (λ j k p q e. once j k (rw length-waiting at p) (rw length-waiting at q) e) i in-waiting
+          in
+          through {h = x} (getD (waiting w) i 0) m (not-true _ n) (member-at (waiting w) i in-waiting) (rw own d)
+
+      row-missing : (k : ℕ) → k < length w → askedRow t w l k ≡ true → (x : ℕ) → Missing t w (asksOf w k) x → Missing t w l x
+      unfolding askedRow
+      row-missing k h e =
+          reach-least (length w) _ _
+          (λ i. (x : ℕ) → Missing t w (asksOf w i) x → Missing t w l x)
+          (λ i b q. let a = both (member (getD (waiting w) i 0) l) (not (held t (getD (waiting w) i 0))) q in climb i b l (a .0) (a .1))
+          (λ i j b c f q x d.
+          let a = both (member (getD (waiting w) j 0) (asksOf w i)) (not (held t (getD (waiting w) j 0))) q in
+          f x (climb j c (asksOf w i) (a .0) (a .1) x d))
+          k h e
+
+      pub member-missing : (x : ℕ) → member x (missing t w l) ≡ true → Missing t w l x
+      unfolding asked-for
+      member-missing x e =
+          let a = both (unknown t w x) (member x asked-for) (kept-of-missing x e) in
+          either (member x l) (member x (asksFrom 0 w (askedRow t w l))) (sym (member-append x l (asksFrom 0 w (askedRow t w l))) ∙ a .1)
+          (λ p. itself p (a .0))
+          (λ p. asks-some (askedRow t w l) x w p (λ k h q r. row-missing k h q x (itself r (a .0))))
+
+  -- Nothing is missing from nothing.
+  none-asked : (k : ℕ) → k < length w → askedRow t w [] k ≡ true → ⊥
+  unfolding askedRow member
+  none-asked k h e =
+      reach-least (length w) _ _ (λ i. ⊥)
+      (λ i b q. true-false false q refl)
+      (λ i j b c f q. f)
+      k h e
+
+  nothing-missing : (x : ℕ) → member x (missing t w []) ≡ true → ⊥
+  unfolding asked-for
+  nothing-missing x e =
+      let a = both (unknown t w x) (member x (asked-for [])) (kept-of-missing [] x e) in
+      asks-some (askedRow t w []) x w (a .1) (λ k h q r. none-asked k h q)
+
+  pub missing-of-nothing : missing t w [] ≡ []
+  missing-of-nothing = no-members (missing t w []) nothing-missing
+    where
+      no-members : (l : List ℕ) → ((x : ℕ) → member x l ≡ true → ⊥) → l ≡ []
+      no-members [] f = refl
+      no-members (x ∷ xs) f = absurd (f x (member-here x xs))
+
+  module _ (once : Once w) where
+    -- What is missing from a list is missing from one that has its members.
+    pub missing-grows : (l l′ : List ℕ) → ((g : ℕ) → member g l ≡ true → member g l′ ≡ true)
+        → (x : ℕ) → member x (missing t w l) ≡ true → member x (missing t w l′) ≡ true
+    missing-grows l l′ f x e = missing-member l′ (more-missing f (member-missing l once x e))
+
+    -- Asking from nothing finds what is missing, all of it unless the list is full.
+    module _ {most : ℕ} {hs : List ℕ} {m m′ : List Bool} {l : List ℕ} (d : Asks t w most (list hs) m [] m′ l)
+        (blank : (k : ℕ) → getD m k false ≡ false) where
+      found-is-missing : (x : ℕ) → member x l ≡ true → member x (missing t w hs) ≡ true
+      unfolding asked
+      found-is-missing x e = missing-member hs (found-missing (Missing t w hs) d (λ y z. absurd (member-none y z)) (λ y z. z) x e)
+
+      found-ascends : ascends l ≡ true
+      unfolding ascends
+      found-ascends = still-ascending d refl
+
+      pub found-all : length l < most → l ≡ missing t w hs
+      unfolding asked
+      found-all s =
+          ascending-unique l (missing t w hs) found-ascends (missing-ascends hs)
+          (λ x. same-truth _ _ (found-is-missing x)
+          (λ e. missing-found t w m′ l (λ k g a b. newly-settled d s k (blank k) a g b) (member-missing hs once x e) (asked-settled d s)))
+
+      pub found-many : length l ≤ length (missing t w hs)
+      found-many = ascending-shorter l (missing t w hs) found-ascends (missing-ascends hs) found-is-missing

@@ -1,0 +1,47 @@
+-- `missing::missing::missing_beside` meets its contract: the waiting table's refusal, or what follows a good one. Assumes nothing.
+use mathlib.Core.Path.{sym, _∙_}
+use Rattle.missing.proofs.MissingCalls.{beside-refused, beside-good}
+use borrow.Author.Needs.{needs}
+use Rattle.missing.proofs.missing.missing_beside.Statement.{statement}
+use Rattle.missing.proofs.missing.missing_beside.Tie as tie
+
+check-waiting-requires : tie.Need-check-waiting-requires
+check-waiting-requires c κs = search needs
+
+enum-known-refusal : tie.Need-enum-known-refusal
+enum-known-refusal c = search needs
+
+enum-known-m : tie.Need-enum-known-m
+enum-known-m c = search needs
+
+missing-from-requires : tie.Need-missing-from-requires
+missing-from-requires c κs =
+    let m = c .before .before in
+    let a = m .before .before .before .before .before .before .before in
+    (a .pre, sym (m .before .before .check-waiting .ensures) ∙ m .m .given .1)
+
+returns : tie.Need-returns
+returns c =
+    let m = c .before in
+    beside-refused _ _ _ _ _ (sym (m .before .before .check-waiting .ensures) ∙ m .refusal .given .1)
+
+same-length : tie.Need-same-length
+same-length c = search needs
+
+returns-2 : tie.Need-returns-2
+returns-2 c =
+    let d = c .before .before in
+    let m = d .before .before .before in
+    beside-good _ _ _ _ _ (sym (m .before .before .check-waiting .ensures) ∙ m .m .given .1) (d .missing-from .ensures)
+
+pub missing-beside-spec : {M : Type 1} → statement M
+missing-beside-spec =
+    tie.close
+    (tie.spec
+    check-waiting-requires
+    enum-known-refusal
+    enum-known-m
+    missing-from-requires
+    returns
+    same-length
+    returns-2)

@@ -1,0 +1,58 @@
+-- Asking for what is missing, one step after the other, as 01 says it (Waiting table): "a held hash gives nothing, an unknown one gives itself;
+-- a waiting change asks its dependency list, and the list asks each change in turn. .. a cycle gives nothing new." So that it gives nothing
+-- new, a row that has been asked is marked. What internal functions ensure; the public call ensures `missing`.
+use Prim.Native.Nat.{ℕ, suc, _*_, _≤_, _<_, _/_}
+use mathlib.Core.Bool.{Bool, true, false}
+use mathlib.Core.List.{List, [], _∷_}
+use mathlib.Core.Path.{_≡_}
+use lib.ListN.{length, getD, set}
+use Rattle.rules.specs.Hash.{hashesAt}
+use Rattle.rules.specs.Order.{member, insertUpTo}
+use Rattle.rules.specs.Sizes.{sizes}
+use Rattle.tables.specs.Bytes.{rowSize, waitingSize, rowsAt, waitingsAt, asksCount}
+use Rattle.tables.specs.Table.{Row, held, placeIn}
+use Rattle.tables.specs.Waiting.{Waiting, waiting, asks}
+
+-- One change is asked, or a list of them.
+pub data Request : Type 0 where
+  change : ℕ → Request
+  list : List ℕ → Request
+
+-- From the marked rows and the hashes found so far to those afterwards; the list of hashes holds no more than `most`.
+pub data Asks (t : List Row) (w : List Waiting) (most : ℕ) : Request → List Bool → List ℕ → List Bool → List ℕ → Type 0 where
+  known : {h : ℕ} {m : List Bool} {l : List ℕ} → held t h ≡ true → Asks t w most (change h) m l m l
+  marked : {h : ℕ} {m : List Bool} {l : List ℕ} → held t h ≡ false → member h (waiting w) ≡ true
+      → getD m (placeIn (waiting w) h) false ≡ true
+      → Asks t w most (change h) m l m l
+  waits : {h : ℕ} {m : List Bool} {l : List ℕ} {m′ : List Bool} {l′ : List ℕ} → held t h ≡ false → member h (waiting w) ≡ true
+      → placeIn (waiting w) h < length m
+      → getD m (placeIn (waiting w) h) false ≡ false
+      → Asks t w most (list (asks w h)) (set m (placeIn (waiting w) h) true) l m′ l′
+      → Asks t w most (change h) m l m′ l′
+  strange : {h : ℕ} {m : List Bool} {l : List ℕ} → held t h ≡ false → member h (waiting w) ≡ false
+      → Asks t w most (change h) m l m (insertUpTo most h l)
+  none : {m : List Bool} {l : List ℕ} → Asks t w most (list []) m l m l
+  more : {h : ℕ} {hs : List ℕ} {m : List Bool} {l : List ℕ} {m′ : List Bool} {l′ : List ℕ} {m″ : List Bool} {l″ : List ℕ}
+      → Asks t w most (change h) m l m′ l′
+      → Asks t w most (list hs) m′ l′ m″ l″
+      → Asks t w most (list (h ∷ hs)) m l m″ l″
+
+-- What the functions need: the rows are there, no waiting row asks for more than a change may, each has a mark, and the found hashes stand in
+-- their buffer.
+pub record Askable (table : List ℕ) (n : ℕ) (waitings : List ℕ) (m : ℕ) (marks : List Bool) (found : List ℕ) (count : ℕ) : Type 0 where
+  pub rows : n * rowSize ≤ length table
+  pub waitingRows : m * waitingSize ≤ length waitings
+  pub few : (i : ℕ) → i < m → asksCount waitings i ≤ sizes .dependencies
+  pub marked : m ≤ length marks
+  pub room : sizes .hash * count ≤ length found
+
+-- What they do, over the bytes: the found hashes are the first ones of their buffer.
+pub record Asked (table : List ℕ) (n : ℕ) (waitings : List ℕ) (m : ℕ) (q : Request) (marks : List Bool) (found : List ℕ) (count : ℕ)
+    (marks′ : List Bool) (found′ : List ℕ) (count′ : ℕ) : Type 0 where
+  pub way : Asks (rowsAt table 0 n) (waitingsAt waitings 0 m) (length found / sizes .hash) q marks (hashesAt found 0 count) marks′ (hashesAt found′ 0 count′)
+
+-- A list asked for in a buffer that holds no more than `most` hashes: all of it, or as many of them as fit.
+pub record Found (l : List ℕ) (most : ℕ) (after : List ℕ) (count : ℕ) : Type 0 where
+  pub within : count ≤ most
+  pub all : count < most → hashesAt after 0 count ≡ l
+  pub full : count ≡ most → most ≤ length l

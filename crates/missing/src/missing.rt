@@ -1,0 +1,167 @@
+// What is missing from a list of hashes: "a waiting change asks its dependency list, and the list asks each change in turn."
+use graph::list::put_list;
+use rules::hashes::insert_hash;
+use rules::output::Write;
+use rules::passed::Passed;
+use rules::passed::passed_hashes;
+use rules::refusal::Refusal;
+use rules::sizes::HASH_SIZE;
+use rules::sizes::HASHES;
+use rules::sizes::WAITING_ROWS;
+use tables::check::Checked;
+use tables::check::check_table;
+use tables::find::find_row;
+use tables::find::find_waiting;
+use tables::row::WAITING_SIZE;
+use tables::waiting::asks_count;
+use tables::waiting::check_waiting;
+ghost use mathlib.Core.Path.{_≡_};
+ghost use Prim.Native.Nat.{_+_, _*_, _/_, _≤_};
+ghost use lib.ListN.{length};
+ghost use Rattle.rules.specs.Hash.{hashAt, hashesAt, hashesBytes};
+ghost use Rattle.rules.specs.Output.{Output, Written};
+ghost use Rattle.rules.specs.Sizes.{sizes};
+ghost use Rattle.tables.specs.Bytes.{rowSize, rowsAt, waitingOf, waitingChecked};
+ghost use Rattle.tables.specs.declared.check.Checked.the-variants.{Good};
+ghost use Rattle.missing.specs.Ask.{Request, Askable, Asked, Found};
+ghost use Rattle.missing.specs.Calls.{missingFrom, missingBeside, missingOutput};
+ghost use Rattle.missing.specs.Missing.{missing};
+
+// Room for one hash more than a list may have, so that too many show.
+const LIST_SIZE: usize = HASH_SIZE * (HASHES + 1);
+
+// Asks one change: a held one gives nothing, an unknown one itself; a waiting one that hasn't been asked is marked and asks its list. Returns how
+// many hashes are found then. The marks make the calls end: each list is asked with one row less unmarked.
+fn ask_change(
+    table: &[u8],
+    n: usize,
+    waiting: &[u8],
+    m: usize,
+    marks: &mut [bool],
+    list: &mut [u8],
+    count: usize,
+    s: &[u8],
+    at: usize,
+) -> usize
+    requires { ⌜ Askable (now table) n (now waiting) m (now marks) (now list) count × (at + sizes .hash ≤ length (now s)) ⌝ }
+    ensures { λ r. ⌜ Asked (now (table .entry)) n (now (waiting .entry)) m (Request.change (hashAt (now (s .entry)) at)) (now (marks .entry)) (now (list .entry)) count (now (marks .exit)) (now (list .exit)) r ⌝ }
+{
+    if find_row(table, n, s, at) < n {
+        return count;
+    }
+    let row = find_waiting(waiting, m, s, at);
+    if m <= row {
+        return insert_hash(list, count, s, at);
+    }
+    if marks[row] {
+        return count;
+    }
+    marks[row] = true;
+    let place = row * WAITING_SIZE + 2 * HASH_SIZE;
+    let entries = asks_count(waiting, row);
+    ask_list(
+        table,
+        n,
+        waiting,
+        m,
+        marks,
+        list,
+        count,
+        waiting,
+        place,
+        entries,
+    )
+}
+
+// Asks each change of a list in turn.
+fn ask_list(
+    table: &[u8],
+    n: usize,
+    waiting: &[u8],
+    m: usize,
+    marks: &mut [bool],
+    list: &mut [u8],
+    count: usize,
+    s: &[u8],
+    place: usize,
+    entries: usize,
+) -> usize
+    requires { ⌜ Askable (now table) n (now waiting) m (now marks) (now list) count × (place + sizes .hash * entries ≤ length (now s)) ⌝ }
+    ensures { λ r. ⌜ Asked (now (table .entry)) n (now (waiting .entry)) m (Request.list (hashesAt (now (s .entry)) place entries)) (now (marks .entry)) (now (list .entry)) count (now (marks .exit)) (now (list .exit)) r ⌝ }
+{
+    let mut found = count;
+    let mut i = 0;
+    while i < entries {
+        found = ask_change(
+            table,
+            n,
+            waiting,
+            m,
+            marks,
+            list,
+            found,
+            s,
+            place + HASH_SIZE * i,
+        );
+        i += 1;
+    }
+    found
+}
+
+// What is missing from some hashes, for callers that have checked both tables: puts it into the list and returns how much it is, or fills the
+// list.
+pub fn find_missing(
+    table: &[u8],
+    n: usize,
+    waiting: &[u8],
+    m: usize,
+    s: &[u8],
+    place: usize,
+    entries: usize,
+    list: &mut [u8],
+) -> usize
+    requires { ⌜ (n * rowSize ≤ length (now table)) × ((waitingChecked (rowsAt (now table) 0 n) (now waiting) ≡ Good m) × (place + sizes .hash * entries ≤ length (now s))) ⌝ }
+    ensures { λ r. ⌜ Found (missing (rowsAt (now (table .entry)) 0 n) (waitingOf (now (waiting .entry))) (hashesAt (now (s .entry)) place entries)) (length (now (list .entry)) / sizes .hash) (now (list .exit)) r ⌝ }
+{
+    let mut marks = [false; WAITING_ROWS];
+    ask_list(table, n, waiting, m, &mut marks, list, 0, s, place, entries)
+}
+
+// What is missing from a list, for tables that are good: the list's own refusals, then 4 for too many hashes, then 7.
+fn missing_from(table: &[u8], n: usize, waiting: &[u8], m: usize, l: &[u8], out: &mut [u8]) -> Write
+    requires { ⌜ (n * rowSize ≤ length (now table)) × (waitingChecked (rowsAt (now table) 0 n) (now waiting) ≡ Good m) ⌝ }
+    ensures { λ r. ⌜ Written (missingFrom (rowsAt (now (table .entry)) 0 n) (waitingOf (now (waiting .entry))) (now (l .entry))) (now (out .entry)) (now (out .exit)) r ⌝ }
+{
+    match passed_hashes(l) {
+        Passed::Refused(refusal) => Write::Refused(refusal),
+        Passed::Hashes(entries) => {
+            let mut list = [0u8; LIST_SIZE];
+            let count = find_missing(table, n, waiting, m, l, 0, entries, &mut list);
+            if HASHES < count {
+                return Write::Refused(Refusal::PastSize(0));
+            }
+            put_list(&list, count, out)
+        }
+    }
+}
+
+// The same after the waiting table's check.
+fn missing_beside(table: &[u8], n: usize, waiting: &[u8], l: &[u8], out: &mut [u8]) -> Write
+    requires { ⌜ n * rowSize ≤ length (now table) ⌝ }
+    ensures { λ r. ⌜ Written (missingBeside (rowsAt (now (table .entry)) 0 n) (now (waiting .entry)) (now (l .entry))) (now (out .entry)) (now (out .exit)) r ⌝ }
+{
+    match check_waiting(table, n, waiting) {
+        Checked::Refused(refusal) => Write::Refused(refusal),
+        Checked::Good(m) => missing_from(table, n, waiting, m, l, out),
+    }
+}
+
+// What is missing from a list of hashes, each once, ascending.
+pub fn missing(table: &[u8], waiting: &[u8], l: &[u8], out: &mut [u8]) -> Write
+    ensures { λ r. ⌜ Written (missingOutput (now (table .entry)) (now (waiting .entry)) (now (l .entry))) (now (out .entry)) (now (out .exit)) r ⌝ }
+{
+    match check_table(table) {
+        Checked::Refused(refusal) => Write::Refused(refusal),
+        Checked::Good(n) => missing_beside(table, n, waiting, l, out),
+    }
+}
