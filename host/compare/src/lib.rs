@@ -14,14 +14,15 @@
 //! there they must differ. `messages` has whole messages and `selections` the
 //! hashes to send; their models are also held against the crate alone. `tables`
 //! has the calls on tables; the crate's graph can't be had, and its stand-in takes
-//! the crate's place there. `states` has sessions and saved
-//! states.
+//! the crate's place there. `states` has sessions and saved states. `vectors` and
+//! `samples` are what is stored of the crate's answers.
 
 pub mod filters;
 pub mod inputs;
 pub mod messages;
 pub mod model;
 pub mod published;
+pub mod samples;
 pub mod selections;
 pub mod states;
 pub mod table_inputs;

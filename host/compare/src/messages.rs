@@ -249,6 +249,11 @@ impl Expected {
     }
 }
 
+/// How the model's reading of a message stands beside the crate's.
+pub fn beside_model(s: &[u8]) -> Result<Beside, String> {
+    Expected::of(s).reading(s).beside_crate()
+}
+
 /// Compares what the model says of these messages with what the crate says, and
 /// what the model writes of those that are read with what the crate writes.
 pub fn compare_model<S: AsRef<[u8]>>(messages: &[S]) -> Result<Tally, String> {
