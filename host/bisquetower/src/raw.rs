@@ -3,7 +3,7 @@
 //! `refusal::answer` tells the answered from the refused.
 //!
 //! build.rs writes the functions from the source that declares them, the proved
-//! crate `sync`: a parameter named `answer` is returned, every other is lent as
+//! crates NAME_calls: a parameter named `answer` is returned, every other is lent as
 //! it is there. `Batch` has the same calls, for many of them at a time.
 //!
 //! libsync.a is for x86-64. There the functions are called as they are (the
