@@ -1,6 +1,6 @@
 // The members of S, as marks of rows: candidates that every filter misses, and candidates that depend on a member.
-use bloom::contains::contains_hash;
 use bloom::have::HAVE_WORDS;
+use probe::contains::contains_hash;
 use rules::sizes::ROWS;
 use tables::marks::mark_below;
 use tables::marks::mark_list;
