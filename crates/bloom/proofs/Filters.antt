@@ -21,7 +21,7 @@ use Rattle.wire.specs.declared.leb128.Number.{Number}
 use Rattle.wire.specs.declared.leb128.Number.the-variants.{Value, Refused as NoValue}
 use Rattle.wire.proofs.Item.{left-is}
 use Rattle.wire.proofs.Meaning.{Inside, number-inside, number-most, number-written}
-use Rattle.wire.proofs.Number.{put-then}
+use Rattle.wire.proofs.Number.{put-joined}
 use Rattle.bloom.specs.Filter.{Filter, filterOf4, fieldSize, filterRules, filterBytes, defaultBits, defaultProbes}
 use Rattle.bloom.specs.Read.{fieldAt, numbersAt, filterAt}
 use Rattle.bloom.specs.declared.parse.Parsed.the-variants.{Filter as Read, Refused}
@@ -349,15 +349,6 @@ unfolding leftAt
 default-written s at end e = filter-default s at end (ap length e)
 
 -- ---- putting the parts
-
-put-joined : (o₁ o₂ o₃ : List ℕ) (at i j : ℕ) (a b : List ℕ) → Put o₁ o₂ at a i → Put o₂ o₃ i b j → Put o₁ o₃ at (a ++ b) j
-put-joined o₁ o₂ o₃ at i j a b x y =
-    let e = x .place in
-    let f = y .place in
-    record {
-      place = simp length-append (omega arith);
-      content = y .content ∙ put-then o₁ o₂ b at i a x;
-    }
 
 pub put-nothing : (out : List ℕ) (at n b p : ℕ) (field : List ℕ) → n ≡ 0 → Put out out at (filterBytes (filterOf4 n b p field)) at
 put-nothing out at n b p field h = rw (no-bytes n b p field h) (record { place = omega arith; content = refl })

@@ -1,18 +1,15 @@
 -- A have as numbers: seven words a record in a lent list, with places into one lent buffer. 01, "The haves of a message are handed on as one
 -- lent list of records (place, counts), first as numbers in arrays".
 use Prim.Native.Nat.{ℕ, zero, suc, _+_, _*_, _/_, _%_, _<_, min}
-use mathlib.Core.Bool.{Bool, true, cond, _&&_}
+use mathlib.Core.Bool.{Bool, true, _&&_}
 use mathlib.Core.List.{List, [], _∷_}
 use mathlib.Core.Path.{_≡_}
-use lib.Dec.{ltb, leb, eqb}
+use lib.Dec.{leb, eqb}
 use lib.ListN.{length, getD}
 use lib.Seq.{slice}
-use Rattle.rules.specs.Hash.{hashAt, hashesAt}
+use Rattle.rules.specs.Hash.{hashesAt}
 use Rattle.rules.specs.Sizes.{sizes}
-use Rattle.rules.specs.declared.refusal.Refusal.the-variants.{Cut, PastSize, BadSession}
-use Rattle.bloom.specs.Filter.{Filter, filterRules, anyContains}
-use Rattle.bloom.specs.declared.contains.Contained.{Contained}
-use Rattle.bloom.specs.declared.contains.Contained.the-variants.{Yes, No, Refused}
+use Rattle.bloom.specs.Filter.{Filter, filterRules}
 use Rattle.bloom.specs.declared.have.FilterNumbers.{FilterNumbers}
 
 -- Words of a record, in order: place and count of the last-sync hashes, entries, bits, probes, place and length of the field.
@@ -104,17 +101,3 @@ passedFew haves = leb (haveCount haves) (sizes .haves) && syncsFew haves 0 (have
 -- Every record's filter is good.
 pub record GoodFilters (s haves : List ℕ) : Type 0 where
   pub each : (i : ℕ) → i < haveCount haves → filterGood s (numbersIn haves i) ≡ true
-
--- Whether some filter of the haves contains a hash that is lent as bytes: 10 and 4 for the haves, then 4 or 1 for a hash of
--- another length.
-unfoldable pub containedIn : List ℕ → List ℕ → List ℕ → Contained
-containedIn s haves hash =
-    cond (passedGood s haves)
-    (cond (passedFew haves)
-    (cond (ltb (sizes .hash) (length hash))
-    (Refused (PastSize 0))
-    (cond (ltb (length hash) (sizes .hash))
-    (Refused (Cut 0))
-    (cond (anyContains (filtersOf s haves) (hashAt hash 0)) Yes No)))
-    (Refused (PastSize 0)))
-    (Refused BadSession)

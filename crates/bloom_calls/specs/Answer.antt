@@ -4,8 +4,8 @@ use mathlib.Core.List.{List, [], _∷_}
 use Rattle.rules.specs.Refusal.{numberOf, valueOf}
 use Rattle.bloom.specs.declared.parse.Parsed.{Parsed}
 use Rattle.bloom.specs.declared.parse.Parsed.the-variants.{Filter, Refused as NoFilter}
-use Rattle.bloom.specs.declared.contains.Contained.{Contained}
-use Rattle.bloom.specs.declared.contains.Contained.the-variants.{Yes, No, Refused as NotTested}
+use Rattle.probe.specs.declared.contains.Contained.{Contained}
+use Rattle.probe.specs.declared.contains.Contained.the-variants.{Yes, No, Refused as NotTested}
 use Rattle.words.specs.Answer.{refusalWords}
 
 abbrev pub filterWords : Parsed → List ℕ

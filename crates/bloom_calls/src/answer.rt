@@ -1,6 +1,6 @@
 // An answer as words.
-use bloom::contains::Contained;
 use bloom::parse::Parsed;
+use probe::contains::Contained;
 use words::answer::refusal_words;
 ghost use mathlib.Core.Path.{_≡_};
 ghost use Rattle.bloom_calls.specs.Answer.{filterWords, containedWords};

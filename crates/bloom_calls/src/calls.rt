@@ -1,11 +1,11 @@
-// Calls of the crate `bloom`.
+// Calls of the crates `bloom` and `probe`.
 use crate::answer::contained_words;
 use crate::answer::filter_words;
 use words::answer::write_words;
 ghost use mathlib.Core.Path.{_≡_};
 ghost use Rattle.bloom.specs.Filter.{buildOutput, filterOutput, filterOf4};
-ghost use Rattle.bloom.specs.Have.{containedIn};
 ghost use Rattle.bloom.specs.Read.{filterAt};
+ghost use Rattle.probe.specs.Contains.{containedIn};
 ghost use Rattle.words.specs.Answer.{Answered};
 ghost use Rattle.bloom_calls.specs.Answer.{filterWords, containedWords};
 
@@ -43,7 +43,7 @@ pub extern "C" fn bt_build_filter(
 )
     ensures { λ _. ⌜ Answered (buildOutput bits probes (now (hashes .entry))) (now (field .entry)) (now (field .exit)) (now (answer .exit)) ⌝ }
 {
-    *answer = write_words(bloom::build::from_hashes(field, bits, probes, hashes));
+    *answer = write_words(probe::build::from_hashes(field, bits, probes, hashes));
 }
 
 // Whether some filter of the haves contains a hash: 0, then 1 or 0.
@@ -51,5 +51,5 @@ pub extern "C" fn bt_build_filter(
 pub extern "C" fn bt_filters_contain(s: &[u8], haves: &[u64], hash: &[u8], answer: &mut [u64; 4])
     ensures { λ _. ⌜ now (answer .exit) ≡ containedWords (containedIn (now (s .entry)) (now (haves .entry)) (now (hash .entry))) ⌝ }
 {
-    *answer = contained_words(bloom::contains::filters_contain(s, haves, hash));
+    *answer = contained_words(probe::contains::filters_contain(s, haves, hash));
 }

@@ -1,3 +1,3 @@
-// Exported calls of the crate `bloom`.
+// Exported calls of the crates `bloom` and `probe`.
 pub mod answer;
 pub mod calls;

@@ -19,20 +19,11 @@ use Rattle.rules.specs.Hash.{Bytes, hashesAt}
 use Rattle.rules.specs.Sizes.{sizes}
 use Rattle.wire.specs.Item.{prefixedBytes, hashListBytes}
 use Rattle.wire.specs.Number.{shortest, Put}
-use Rattle.wire.proofs.Number.{put-then}
+use Rattle.wire.proofs.Number.{put-then, put-joined}
 use Rattle.encode.specs.Size.{chunksFrom, total}
 use Rattle.encode.proofs.SizeLaws.{part-is, part-long, hash-list-is, have-is, haves-next, haves-end, haves-long, chunks-long, counted-is}
 
 -- ---- one part after the other
-
-pub put-joined : (o₁ o₂ o₃ : List ℕ) (at i j : ℕ) (a b : List ℕ) → Put o₁ o₂ at a i → Put o₂ o₃ i b j → Put o₁ o₃ at (a ++ b) j
-put-joined o₁ o₂ o₃ at i j a b x y =
-    let e = x .place in
-    let f = y .place in
-    record {
-      place = simp length-append (omega arith);
-      content = y .content ∙ put-then o₁ o₂ b at i a x;
-    }
 
 pub put-bytes : (before after : List ℕ) (at : ℕ) (bytes : List ℕ) → after ≡ sets before at bytes → Put before after at bytes (at + length bytes)
 put-bytes before after at bytes e = record { place = refl; content = e }

@@ -6,7 +6,7 @@ use mathlib.Core.List.{List, [], _∷_}
 use mathlib.Core.Path.{_≡_, refl}
 use Rattle.bloom.specs.Filter.{filterOf4, wordAt, probesFrom, probesOf, bitAt, clearAt, noneClear, contains, anyContains}
 use Rattle.bloom.specs.Have.{Have}
-use Rattle.bloom.proofs.Vectors.{wordsHash}
+use Rattle.probe.proofs.Vectors.{wordsHash}
 use Rattle.rules.specs.Hash.{bigEndian, bigEndianBytes, hashBytes}
 use Rattle.rules.specs.Order.{member}
 use Rattle.rules.specs.Reach.{someBelow, reachIn, reach}

@@ -1,8 +1,8 @@
 // The members of S, as marks of rows: candidates that every filter misses, and candidates that depend on a member.
-use bloom::contains::contains_hash;
 use bloom::have::HAVE_WORDS;
 use graph::marks::mark_below;
 use graph::marks::mark_list;
+use probe::contains::contains_hash;
 use rules::sizes::ROWS;
 use tables::row::ROW_SIZE;
 use tables::row::dep;

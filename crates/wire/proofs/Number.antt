@@ -8,7 +8,7 @@ use native.Mathlib.Numerals.{add-one}
 use native.Mathlib.Omega.{arith}
 use borrow.Author.Tests.{lt-ltb, le-ltb, ltb-true, ltb-false}
 use lib.Dec.{ltb, lit<}
-use lib.ListN.{length, getD, set, take, drop, length-take, drop-of-length-le}
+use lib.ListN.{length, getD, set, take, drop, length-take, drop-of-length-le, length-append}
 use lib.Seq.{slice, sets, slice-cons, take-all}
 use lib.Pow.{pow-add, pow-mono, pow-pos}
 use Rattle.rules.proofs.Cases.{split}
@@ -233,3 +233,12 @@ length-one n h = rw (shortest-one n h)
 -- what is put after bytes that were put
 pub put-then : (before mid b : List ℕ) (at next : ℕ) (a : List ℕ) → Put before mid at a next → sets mid next b ≡ sets before at (a ++ b)
 put-then before mid b at next a p = rw (p .content, p .place) (sets-append a b before at)
+
+pub put-joined : (o₁ o₂ o₃ : List ℕ) (at i j : ℕ) (a b : List ℕ) → Put o₁ o₂ at a i → Put o₂ o₃ i b j → Put o₁ o₃ at (a ++ b) j
+put-joined o₁ o₂ o₃ at i j a b x y =
+    let e = x .place in
+    let f = y .place in
+    record {
+      place = simp length-append (omega arith);
+      content = y .content ∙ put-then o₁ o₂ b at i a x;
+    }

@@ -1,0 +1,6 @@
+-- Laws that the crates above cite.
+pub mod BuildLaws
+pub mod FieldLaws
+pub mod ProbeLaws
+pub mod Search
+pub mod Vectors

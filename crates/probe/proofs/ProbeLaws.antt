@@ -1,0 +1,52 @@
+-- Where a hash probes. The words of a hash are words of the bytes where it stands, and each probe is a remainder, so it stands inside the
+-- field.
+use Prim.Native.Nat.{ℕ, zero, suc, _+_, _%_, _≤_, _<_, max}
+use mathlib.Core.List.{List}
+use mathlib.Core.Path.{_≡_}
+use native.Mathlib.Nat.{add-assoc, add-zero, mod-lt}
+use native.Mathlib.Omega.{arith}
+use lib.ListN.{getD, length}
+use lib.Seq.{slice, getD-drop, getD-take}
+use Rattle.rules.proofs.Hash.{hash-bytes}
+use Rattle.rules.specs.Hash.{Bytes, hashAt, hashBytes}
+use Rattle.rules.specs.Sizes.{sizes}
+use Rattle.bloom.specs.Filter.{wordAt, probesFrom, probesOf}
+
+getD-slice : (s : List ℕ) (a e i : ℕ) → a + i < e → getD (slice a e s) i 0 ≡ getD s (a + i) 0
+getD-slice s a e i h = rw (getD-drop, getD-take)
+
+word-slice : (s : List ℕ) (a e i : ℕ) → a + i + 4 ≤ e → wordAt (slice a e s) i ≡ wordAt s (a + i)
+unfolding wordAt
+word-slice s a e i h =
+    rw (
+      getD-slice s a e i (omega arith),
+      getD-slice s a e (i + 1) (omega arith),
+      getD-slice s a e (i + 2) (omega arith),
+      getD-slice s a e (i + 3) (omega arith),
+      add-assoc a i 1,
+      add-assoc a i 2,
+      add-assoc a i 3,
+    )
+
+pub hash-word : (s : List ℕ) (at i : ℕ) → Bytes s → at + sizes .hash ≤ length s → i + 4 ≤ sizes .hash
+    → wordAt (hashBytes (hashAt s at)) i ≡ wordAt s (at + i)
+hash-word s at i b h k = rw (hash-bytes s at b h) (word-slice s at (at + sizes .hash) i (omega arith))
+
+pub probes-at : (m p : ℕ) (s : List ℕ) (at : ℕ) → Bytes s → at + sizes .hash ≤ length s
+    → probesOf m p (hashAt s at) ≡ probesFrom (max 1 p) m (wordAt s at % m) (wordAt s (at + 4) % m) (wordAt s (at + 8) % m)
+unfolding probesOf
+probes-at m p s at b h =
+    rw (hash-word s at 0 b h (omega arith), hash-word s at 4 b h (omega arith), hash-word s at 8 b h (omega arith), add-zero at)
+
+-- Past the last probe the list reads 0, which is below m too.
+pub steps-below : (k m x y z i : ℕ) → 0 < m → x < m → getD (probesFrom k m x y z) i 0 < m
+unfolding probesFrom
+steps-below zero m x y z i h a = h
+steps-below (suc k) m x y z zero h a = a
+steps-below (suc k) m x y z (suc i) h a = steps-below k m ((x + y) % m) ((y + z) % m) z i h (mod-lt (x + y) h)
+
+pub probes-below : (m p h i : ℕ) → 0 < m → getD (probesOf m p h) i 0 < m
+unfolding probesOf
+probes-below m p h i pos =
+    let w : ℕ = wordAt (hashBytes h) 0 in
+    steps-below (max 1 p) m (w % m) (wordAt (hashBytes h) 4 % m) (wordAt (hashBytes h) 8 % m) i pos (mod-lt w pos)

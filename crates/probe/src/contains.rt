@@ -1,0 +1,97 @@
+// Whether filters contain a hash (`contains_hash`, `get_bit`).
+use crate::probes::count;
+use crate::probes::step;
+use crate::probes::word;
+use bloom::have::HAVE_WORDS;
+use bloom::have::filter_in;
+use bloom::have::passed_few;
+use bloom::have::passed_good;
+use rules::refusal::Refusal;
+use rules::sizes::HASH_SIZE;
+ghost use mathlib.Core.Path.{_≡_};
+ghost use Prim.Native.Nat.{_+_, _≤_, _<_};
+ghost use lib.ListN.{length};
+ghost use Rattle.bloom.specs.Filter.{clearAt, anyContains};
+ghost use Rattle.bloom.specs.Have.{filtersOf, GoodFilters};
+ghost use Rattle.probe.specs.Contains.{containedIn};
+ghost use Rattle.rules.specs.Hash.{hashAt};
+ghost use Rattle.rules.specs.Sizes.{sizes};
+
+// Whether the bit of a probe is clear; a probe outside the field has none.
+pub fn clear_bit(field: &[u8], probe: usize) -> bool
+    ensures { λ r. ⌜ r ≡ clearAt (now (field .entry)) probe ⌝ }
+{
+    let at = probe / 8;
+    if at < field.len() {
+        return (field[at] >> (probe % 8)) % 2 == 0;
+    }
+    false
+}
+
+// Whether some have's filter contains the hash at a place. One clear bit ends that filter, and the search goes on with the next; a run of
+// probes without one leaves it as contained.
+pub fn contains_hash(s: &[u8], haves: &[u64], hashes: &[u8], at: usize) -> bool
+    requires { ⌜ GoodFilters (now s) (now haves) × (at + sizes .hash ≤ length (now hashes)) ⌝ }
+    ensures { λ r. ⌜ r ≡ anyContains (filtersOf (now (s .entry)) (now (haves .entry))) (hashAt (now (hashes .entry)) at) ⌝ }
+{
+    let first = word(hashes, at);
+    let second = word(hashes, at + 4);
+    let third = word(hashes, at + 8);
+    let total = haves.len() / HAVE_WORDS;
+    let mut i = 0;
+    'next_filter: while i < total {
+        let f = filter_in(haves, i);
+        i += 1;
+        if f.entries == 0 {
+            continue 'next_filter;
+        }
+        let place = f.place;
+        let size = f.size;
+        let field = &s[place..place + size];
+        let m = 8 * size as u32;
+        let mut x = first % m;
+        let mut y = second % m;
+        let z = third % m;
+        let rounds = count(f.probes);
+        let mut k: u64 = 0;
+        while k < rounds {
+            if clear_bit(field, x as usize) {
+                continue 'next_filter;
+            }
+            x = step(x, y, m);
+            y = step(y, z, m);
+            k += 1;
+        }
+        return true;
+    }
+    false
+}
+
+// Whether some filter contains a hash.
+pub enum Contained {
+    Yes,
+    No,
+    Refused(Refusal),
+}
+
+// Whether some filter of the haves contains the hash that is lent.
+pub fn filters_contain(s: &[u8], haves: &[u64], hash: &[u8]) -> Contained
+    ensures { λ r. ⌜ r ≡ containedIn (now (s .entry)) (now (haves .entry)) (now (hash .entry)) ⌝ }
+{
+    if !passed_good(s, haves) {
+        return Contained::Refused(Refusal::BadSession);
+    }
+    if !passed_few(haves) {
+        return Contained::Refused(Refusal::PastSize(0));
+    }
+    if HASH_SIZE < hash.len() {
+        return Contained::Refused(Refusal::PastSize(0));
+    }
+    if hash.len() < HASH_SIZE {
+        return Contained::Refused(Refusal::Cut(0));
+    }
+    if contains_hash(s, haves, hash, 0) {
+        return Contained::Yes;
+    }
+    Contained::No
+}

@@ -1,0 +1,36 @@
+// Where a hash probes a field.
+ghost use mathlib.Core.Path.{_≡_};
+ghost use Prim.Native.Nat.{_+_, _%_, _≤_, _<_, max};
+ghost use lib.ListN.{length, getD};
+ghost use Rattle.bloom.specs.Filter.{wordAt};
+
+// The byte at a place, widened.
+fn byte(s: &[u8], at: usize) -> u32
+    requires { ⌜ at < length (now s) ⌝ }
+    ensures { λ r. ⌜ (r ≡ getD (now (s .entry)) at 0) × (r < 256) ⌝ }
+{
+    s[at] as u32
+}
+
+// The little-endian word at a place.
+pub fn word(s: &[u8], at: usize) -> u32
+    requires { ⌜ at + 4 ≤ length (now s) ⌝ }
+    ensures { λ r. ⌜ r ≡ wordAt (now (s .entry)) at ⌝ }
+{
+    byte(s, at) + 256 * (byte(s, at + 1) + 256 * (byte(s, at + 2) + 256 * byte(s, at + 3)))
+}
+
+// One step of a probe: both numbers are below m, so the sum is less than twice m.
+pub fn step(a: u32, b: u32, m: u32) -> u32
+    requires { ⌜ (a < m) × (b < m) × (m ≤ 65536) ⌝ }
+    ensures { λ r. ⌜ r ≡ (a + b) % m ⌝ }
+{
+    (a + b) % m
+}
+
+// How many probes a hash has.
+pub fn count(probes: u64) -> u64
+    ensures { λ r. ⌜ r ≡ max 1 probes ⌝ }
+{
+    if probes == 0 { 1 } else { probes }
+}
