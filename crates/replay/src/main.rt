@@ -8,9 +8,9 @@
 //     input    as many bytes
 //
 // Each input is read from its place 0 up to its end, and its answer's words are compared with the stored ones.
+mod little_endian;
 mod record;
 mod walk;
-mod words;
 
 use walk::Counts;
 ghost use mathlib.Core.Path.{_≡_};

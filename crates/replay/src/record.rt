@@ -1,6 +1,6 @@
 // One record: what the proved library answers to its input, held to the stored answer.
-use crate::words::u16_at;
-use crate::words::words_at;
+use crate::little_endian::u16_at;
+use crate::little_endian::words_at;
 use wire::leb128::leb128_u32;
 use wire::leb128::leb128_u64;
 use wire::parse::length_prefixed_bytes;

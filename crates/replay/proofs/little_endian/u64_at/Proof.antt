@@ -1,9 +1,9 @@
--- `replay::words::u64_at` meets its contract: two numbers of 32 bits. Assumes nothing.
+-- `replay::little_endian::u64_at` meets its contract: two numbers of 32 bits. Assumes nothing.
 use native.Mathlib.Omega.{arith}
 use borrow.Author.Needs.{needs}
 use Rattle.replay.specs.Words.{u64At}
-use Rattle.replay.proofs.words.u64_at.Statement.{statement}
-use Rattle.replay.proofs.words.u64_at.Tie as tie
+use Rattle.replay.proofs.little_endian.u64_at.Statement.{statement}
+use Rattle.replay.proofs.little_endian.u64_at.Tie as tie
 
 u32-at-requires : tie.Need-u32-at-requires
 u32-at-requires c κs = search needs

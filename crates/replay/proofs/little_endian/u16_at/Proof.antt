@@ -1,10 +1,10 @@
--- `replay::words::u16_at` meets its contract: two bytes, each below 256. Assumes nothing.
+-- `replay::little_endian::u16_at` meets its contract: two bytes, each below 256. Assumes nothing.
 use Prim.Native.Nat.{_+_}
 use native.Mathlib.Omega.{arith}
 use borrow.Author.Needs.{needs}
 use Rattle.replay.specs.Words.{u16At}
-use Rattle.replay.proofs.words.u16_at.Statement.{statement}
-use Rattle.replay.proofs.words.u16_at.Tie as tie
+use Rattle.replay.proofs.little_endian.u16_at.Statement.{statement}
+use Rattle.replay.proofs.little_endian.u16_at.Tie as tie
 
 shared-slice-read-result : tie.Need-shared-slice-read-result
 shared-slice-read-result c = search needs

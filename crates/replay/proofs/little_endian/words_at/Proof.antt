@@ -1,8 +1,8 @@
--- `replay::words::words_at` meets its contract: the four words that the calls ensure. Assumes nothing.
+-- `replay::little_endian::words_at` meets its contract: the four words that the calls ensure. Assumes nothing.
 use borrow.Author.Needs.{needs}
 use Rattle.replay.specs.Words.{wordsAt}
-use Rattle.replay.proofs.words.words_at.Statement.{statement}
-use Rattle.replay.proofs.words.words_at.Tie as tie
+use Rattle.replay.proofs.little_endian.words_at.Statement.{statement}
+use Rattle.replay.proofs.little_endian.words_at.Tie as tie
 
 u64-at-requires : tie.Need-u64-at-requires
 u64-at-requires c κs = search needs

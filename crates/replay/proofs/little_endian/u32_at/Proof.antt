@@ -1,9 +1,9 @@
--- `replay::words::u32_at` meets its contract: two numbers of 16 bits. Assumes nothing.
+-- `replay::little_endian::u32_at` meets its contract: two numbers of 16 bits. Assumes nothing.
 use native.Mathlib.Omega.{arith}
 use borrow.Author.Needs.{needs}
 use Rattle.replay.specs.Words.{u32At}
-use Rattle.replay.proofs.words.u32_at.Statement.{statement}
-use Rattle.replay.proofs.words.u32_at.Tie as tie
+use Rattle.replay.proofs.little_endian.u32_at.Statement.{statement}
+use Rattle.replay.proofs.little_endian.u32_at.Tie as tie
 
 u16-at-requires : tie.Need-u16-at-requires
 u16-at-requires c κs = search needs
