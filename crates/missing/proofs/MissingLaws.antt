@@ -9,15 +9,15 @@ use native.Mathlib.Omega.{arith}
 use borrow.Author.Tests.{eqb-true, not-true}
 use lib.Dec.{eqb}
 use lib.ListN.{length, getD}
-use Rattle.rules.specs.Order.{member, ascends}
+use Rattle.rules.specs.Order.{member, ascends, keep}
 use Rattle.rules.proofs.Cases.{split, both}
-use Rattle.rules.proofs.OrderLaws.{ascend-ascends, ascend-members, member-append, member-here, member-none, ascending-unique, ascending-shorter}
+use Rattle.rules.proofs.OrderLaws.{ascend-ascends, ascend-members, member-append, member-here, member-none, ascending-unique, ascending-shorter, keep-member}
 use Rattle.rules.proofs.ReachLaws.{true-false, same-truth, either, or-left, or-right, and-true, reach-base, reach-closed, reach-least}
 use Rattle.tables.specs.Table.{Row, held, placeIn}
 use Rattle.tables.specs.Waiting.{Waiting, noWaiting, waiting, asks, asksOf}
 use Rattle.tables.proofs.TableLaws.{place-of-member, at-place, member-at, place-once}
 use Rattle.tables.proofs.WaitingLaws.{length-waiting}
-use Rattle.missing.specs.Missing.{unknown, Missing, itself, through, askedRow, asksFrom, keep, missing}
+use Rattle.missing.specs.Missing.{unknown, Missing, itself, through, askedRow, asksFrom, missing}
 use Rattle.missing.specs.Ask.{list, Asks}
 use Rattle.missing.proofs.AskLaws.{asked, more-missing, missing-found, asked-settled, newly-settled, found-missing, still-ascending}
 
@@ -25,19 +25,7 @@ use Rattle.missing.proofs.AskLaws.{asked, more-missing, missing-found, 
 abbrev pub Once : List Waiting → Type 0
 Once w = (i j : ℕ) → i < length w → j < length w → getD (waiting w) i 0 ≡ getD (waiting w) j 0 → i ≡ j
 
--- ---- members of what is kept, and of what rows ask for
-
-keep-members : (p : ℕ → Bool) (x : ℕ) (l : List ℕ) → member x (keep p l) ≡ (p x && member x l)
-unfolding keep member
-keep-members p x [] = and-none (p x)
-  where
-    and-none : (b : Bool) → false ≡ (b && false)
-    and-none true = refl
-    and-none false = refl
-keep-members p x (h ∷ hs) =
-    split (p h)
-    (λ e. rw (e, keep-members p x hs) (split (eqb x h) (λ q. let i : x ≡ h = eqb-true x h q in rw (q, i, e)) (λ q. rw q)))
-    (λ e. rw (e, keep-members p x hs) (split (eqb x h) (λ q. let i : x ≡ h = eqb-true x h q in rw (q, i, e)) (λ q. rw q)))
+-- ---- members of what rows ask for
 
 asks-in : (p : ℕ → Bool) (g : ℕ) (w : List Waiting) (i k : ℕ) → k < length w → p (i + k) ≡ true → member g (asksOf w k) ≡ true
     → member g (asksFrom i w p) ≡ true
@@ -116,7 +104,7 @@ module _ (t : List Row) (w : List Waiting) where
     missing-kept : {hs : List ℕ} {x : ℕ} → Missing t w hs x → ((g : ℕ) → member g hs ≡ true → member g asked-for ≡ true)
         → member x (keep (unknown t w) asked-for) ≡ true
     unfolding asks asked-for
-    missing-kept (itself {l = hs} {h = x} a b) f = rw (keep-members (unknown t w) x asked-for) (and-true _ _ b (f x a))
+    missing-kept (itself {l = hs} {h = x} a b) f = rw (keep-member (unknown t w) asked-for x) (and-true _ _ b (f x a))
     missing-kept (through {l = hs} {h = x} u a b c d) f =
         missing-kept d
         (λ g e.
@@ -133,7 +121,7 @@ module _ (t : List Row) (w : List Waiting) where
 
     kept-of-missing : (x : ℕ) → member x (missing t w l) ≡ true → (unknown t w x && member x asked-for) ≡ true
     unfolding missing asked-for
-    kept-of-missing x e = sym (keep-members (unknown t w) x asked-for) ∙ sym (ascend-members x (keep (unknown t w) asked-for)) ∙ e
+    kept-of-missing x e = sym (keep-member (unknown t w) asked-for x) ∙ sym (ascend-members x (keep (unknown t w) asked-for)) ∙ e
 
     -- What is missing is neither held nor waiting.
     pub missing-unknown : (x : ℕ) → member x (missing t w l) ≡ true → unknown t w x ≡ true

@@ -5,7 +5,7 @@ use mathlib.Core.Bool.{Bool, true, false, cond, not, _&&_}
 use mathlib.Core.List.{List, [], _∷_, _++_}
 use mathlib.Core.Path.{_≡_}
 use lib.ListN.{length, getD}
-use Rattle.rules.specs.Order.{member, ascend}
+use Rattle.rules.specs.Order.{member, ascend, keep}
 use Rattle.rules.specs.Reach.{reach}
 use Rattle.tables.specs.Table.{Row, held}
 use Rattle.tables.specs.Waiting.{Waiting, waiting, asksOf, asks}
@@ -33,11 +33,6 @@ askedRow t w l i =
 unfoldable pub asksFrom : ℕ → List Waiting → (ℕ → Bool) → List ℕ
 asksFrom i [] p = []
 asksFrom i (r ∷ rs) p = cond (p i) (r .asks ++ asksFrom (suc i) rs p) (asksFrom (suc i) rs p)
-
--- The members of a list that are some of p.
-unfoldable pub keep : (ℕ → Bool) → List ℕ → List ℕ
-keep p [] = []
-keep p (h ∷ hs) = cond (p h) (h ∷ keep p hs) (keep p hs)
 
 -- The same as a list: each hash once, ascending.
 unfoldable pub missing : List Row → List Waiting → List ℕ → List ℕ

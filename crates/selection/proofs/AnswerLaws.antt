@@ -8,7 +8,7 @@ use native.Mathlib.Nat.{add-zero, not-suc-le-zero}
 use native.Mathlib.Omega.{arith}
 use lib.ListN.{length, getD, replicate, getD-replicate}
 use Rattle.bloom.specs.Have.{Have, haveWords, haveCount, haveIn, havesFrom, havesOf}
-use Rattle.rules.specs.Order.{member}
+use Rattle.rules.specs.Order.{member, keep}
 use Rattle.rules.specs.Sizes.{sizes}
 use Rattle.rules.proofs.Cases.{split}
 use Rattle.tables.specs.Bytes.{rowsAt}
@@ -17,7 +17,7 @@ use Rattle.tables.proofs.TableLaws.{row-of-held, length-rows-at}
 use Rattle.graph.specs.Marks.{Marks}
 use Rattle.graph.proofs.BelowLaws.{rows-where}
 use Rattle.selection.specs.Members.{heldUnmarked, answered, answeredRow}
-use Rattle.selection.specs.ToSend.{inTheS, theS, keep, toSend}
+use Rattle.selection.specs.ToSend.{inTheS, theS, toSend}
 
 -- ---- the rows that are marked
 

@@ -17,7 +17,7 @@ use Rattle.tables.specs.Bytes.{rowSize, rowAt, rowsAt}
 use Rattle.tables.specs.Table.{Row, rows, place, placeIn, held, rowsFrom, rowsWhere}
 use Rattle.tables.proofs.TableLaws.{length-rows, length-rows-at, member-of-place, stranger-of-place, place-at-most}
 use Rattle.selection.specs.Members.{heldUnmarked, answered, Kept}
-use Rattle.selection.specs.ToSend.{keep}
+use Rattle.rules.specs.Order.{keep}
 
 -- ---- what is left of a list
 

@@ -10,17 +10,17 @@ use lib.Dec.{eqb}
 use lib.ListN.{length, getD, length-append}
 use Rattle.bloom.specs.Filter.{anyContains}
 use Rattle.bloom.specs.Have.{Have}
-use Rattle.rules.specs.Order.{member}
+use Rattle.rules.specs.Order.{member, keep}
 use Rattle.rules.specs.Sizes.{sizes}
 use Rattle.rules.proofs.Cases.{split, both}
-use Rattle.rules.proofs.OrderLaws.{member-append, member-here, member-there, member-index, index-member}
+use Rattle.rules.proofs.OrderLaws.{member-append, member-here, member-there, member-index, index-member, keep-member}
 use Rattle.rules.proofs.ReachLaws.{and-false, true-false, same-truth, either, or-left, or-right, and-true, reach-base, reach-closed, reach-least}
 use Rattle.tables.specs.Table.{Row, GoodTable, rows, hashOf, depsOf, place, held, deps, rowsFrom, rowsWhere, below, belowRow}
 use Rattle.tables.proofs.TableLaws.{length-rows, place-of-row, held-row, row-of-held, hash-of-held}
 use Rattle.graph.proofs.BelowLaws.{member-map, rows-where, below-row, below-deps, dependency, deps-held, only-rows, deps-of-hash}
 use Rattle.graph.proofs.BeyondLaws.{rows-most}
 use Rattle.selection.specs.Members.{someOf}
-use Rattle.selection.specs.ToSend.{lastSyncs, filters, candidate, missed, inTheS, theS, keep, toSend}
+use Rattle.selection.specs.ToSend.{lastSyncs, filters, candidate, missed, inTheS, theS, toSend}
 use Rattle.selection.proofs.AnswerLaws.{no-rows, rows-same}
 use Rattle.selection.proofs.MemberLaws.{s-equation, some-of}
 use Rattle.selection.proofs.PutLaws.{keep-most}
@@ -38,18 +38,6 @@ unfolding toSend
 send-order t h hs need = refl
 
 -- ---- hashes that are kept
-
-pub keep-member : (p : ℕ → Bool) (l : List ℕ) (h : ℕ) → member h (keep p l) ≡ (p h && member h l)
-unfolding keep member
-keep-member p [] h = split (p h) (λ e. rw e) (λ e. rw e)
-keep-member p (x ∷ xs) h =
-    split (eqb h x)
-    (λ q.
-    let same : h ≡ x = eqb-true h x q in
-    split (p h)
-    (λ e. let f : p x ≡ true = rw same at e in rw (f, e, q))
-    (λ e. let f : p x ≡ false = rw same at e in rw (f, e) (keep-member p xs h ∙ rw e)))
-    (λ q. split (p x) (λ e. rw (e, q) (keep-member p xs h)) (λ e. rw (e, q) (keep-member p xs h)))
 
 nothing : (l : List ℕ) → ((h : ℕ) → member h l ≡ true → ⊥) → l ≡ []
 unfolding member

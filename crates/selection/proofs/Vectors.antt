@@ -8,10 +8,10 @@ use Rattle.bloom.specs.Filter.{filterOf4, wordAt, probesFrom, probesOf, bitAt, 
 use Rattle.bloom.specs.Have.{Have}
 use Rattle.probe.proofs.Vectors.{wordsHash}
 use Rattle.rules.specs.Hash.{bigEndian, bigEndianBytes, hashBytes}
-use Rattle.rules.specs.Order.{member}
+use Rattle.rules.specs.Order.{member, keep}
 use Rattle.rules.specs.Reach.{someBelow, reachIn, reach}
 use Rattle.tables.specs.Table.{Row, rows, hashOf, depsOf, held, rowsFrom, rowsWhere, belowRow}
-use Rattle.selection.specs.ToSend.{lastSyncs, filters, candidate, missed, inTheS, theS, keep, toSend}
+use Rattle.selection.specs.ToSend.{lastSyncs, filters, candidate, missed, inTheS, theS, toSend}
 
 abbrev a : ℕ
 a = wordsHash 1 0 0

@@ -10,7 +10,8 @@ use Rattle.bloom.specs.Have.{Have, haveCount, syncPlace, syncCount}
 use Rattle.rules.specs.Hash.{hashesBytes}
 use Rattle.rules.specs.Sizes.{sizes}
 use Rattle.tables.specs.Table.{Row, held, place, rowsWhere}
-use Rattle.selection.specs.ToSend.{inTheS, keep}
+use Rattle.selection.specs.ToSend.{inTheS}
+use Rattle.rules.specs.Order.{keep}
 
 -- Whether some number of a list is one of p.
 unfoldable pub someOf : (ℕ → Bool) → List ℕ → Bool

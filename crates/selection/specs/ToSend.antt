@@ -8,7 +8,7 @@ use lib.ListN.{length}
 use Rattle.bloom.specs.Filter.{Filter, anyContains}
 use Rattle.bloom.specs.Have.{Have, havesOf, passedGood, passedFew}
 use Rattle.rules.specs.Hash.{hashesAt, hashesBytes}
-use Rattle.rules.specs.Order.{member}
+use Rattle.rules.specs.Order.{member, keep}
 use Rattle.rules.specs.Output.{Output}
 use Rattle.rules.specs.Passed.{passedHashes, afterPassed}
 use Rattle.rules.specs.Reach.{reach}
@@ -40,11 +40,6 @@ inTheS t haves i = reach (length t) (missed t haves) (λ k j. candidate t haves 
 -- S in table order.
 unfoldable pub theS : List Row → List Have → List ℕ
 theS t haves = rowsWhere t (inTheS t haves)
-
--- The hashes of a list that are some of p, in its order, repeats kept.
-unfoldable pub keep : (ℕ → Bool) → List ℕ → List ℕ
-keep p [] = []
-keep p (h ∷ hs) = cond (p h) (h ∷ keep p hs) (keep p hs)
 
 -- The answer.
 unfoldable pub toSend : List Row → List Have → List ℕ → List ℕ

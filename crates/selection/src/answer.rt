@@ -19,7 +19,7 @@ ghost use Rattle.tables.specs.Bytes.{rowSize, rowsAt};
 ghost use Rattle.tables.specs.Table.{rowsWhere};
 ghost use Rattle.graph.specs.Marks.{GoodRows};
 ghost use Rattle.selection.specs.Members.{heldUnmarked, Kept, answered};
-ghost use Rattle.selection.specs.ToSend.{keep};
+ghost use Rattle.rules.specs.Order.{keep};
 
 // Room for every hash of a need list.
 pub const NEED_SIZE: usize = HASH_SIZE * HASHES;

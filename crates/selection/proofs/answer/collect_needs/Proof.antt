@@ -11,7 +11,7 @@ use Rattle.rules.specs.Hash.{hashesAt, hashesBytes}
 use Rattle.rules.specs.Sizes.{sizes}
 use Rattle.tables.specs.Bytes.{rowsAt}
 use Rattle.selection.specs.Members.{heldUnmarked}
-use Rattle.selection.specs.ToSend.{keep}
+use Rattle.rules.specs.Order.{keep}
 use Rattle.selection.proofs.PutLaws.{keepFrom, keep-all, keep-taken, keep-passed, keep-none, count-one, count-same, count-none, put-one, put-same, put-none}
 use Rattle.selection.proofs.answer.collect_needs.Statement.{statement}
 use Rattle.selection.proofs.answer.collect_needs.Tie as tie
