@@ -1,8 +1,8 @@
 // A filter written.
 use crate::rule::filter_rules;
 use rules::output::Write;
+use rules::put::copy_into;
 use rules::refusal::Refusal;
-use wire::encode::copy_into;
 use wire::leb128::put_unsigned;
 use wire::leb128::unsigned_size;
 ghost use mathlib.Core.Path.{_≡_};

@@ -1,8 +1,8 @@
 // Heads: rows that no row depends on, ascending bytes.
-use crate::list::put_list;
 use crate::marks::mark_needed;
 use rules::hashes::insert_hash;
 use rules::output::Write;
+use rules::put::put_list;
 use rules::refusal::Refusal;
 use rules::sizes::HASH_SIZE;
 use rules::sizes::ROWS;

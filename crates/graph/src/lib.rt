@@ -3,5 +3,4 @@
 // What is computed over the rows is kept as a mark for each row. The calls check the table; what they call wants one that has been checked.
 pub mod beyond;
 pub mod heads;
-pub mod list;
 pub mod marks;

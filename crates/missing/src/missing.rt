@@ -1,9 +1,9 @@
 // What is missing from a list of hashes: "a waiting change asks its dependency list, and the list asks each change in turn."
-use graph::list::put_list;
 use rules::hashes::insert_hash;
 use rules::output::Write;
 use rules::passed::Passed;
 use rules::passed::passed_hashes;
+use rules::put::put_list;
 use rules::refusal::Refusal;
 use rules::sizes::HASH_SIZE;
 use rules::sizes::HASHES;

@@ -5,5 +5,6 @@
 pub mod hashes;
 pub mod output;
 pub mod passed;
+pub mod put;
 pub mod refusal;
 pub mod sizes;

@@ -1,12 +1,12 @@
 // The hashes that marks answer a need list with: its hashes whose rows aren't marked, then the marked rows in table order.
 use rules::hashes::put_hash;
 use rules::output::Write;
+use rules::put::copy_into;
 use rules::refusal::Refusal;
 use rules::sizes::HASH_SIZE;
 use rules::sizes::HASHES;
 use tables::find::find_row;
 use tables::row::ROW_SIZE;
-use wire::encode::copy_into;
 ghost use mathlib.Core.Bool.{false};
 ghost use mathlib.Core.Path.{_≡_};
 ghost use Prim.Native.Nat.{_+_, _*_, _≤_};

@@ -1,10 +1,10 @@
 // Saved states, read and written: a type byte and the shared heads, which is all that is kept between connections.
 use crate::session::Session;
 use rules::output::Write;
+use rules::put::copy_into;
 use rules::refusal::Refusal;
 use rules::sizes::HASH_SIZE;
 use rules::sizes::HASHES;
-use wire::encode::copy_into;
 use wire::leb128::put_unsigned;
 use wire::leb128::unsigned_size;
 use wire::parse::HashList;

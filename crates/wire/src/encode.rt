@@ -4,27 +4,12 @@ use crate::leb128::unsigned_size;
 use rules::output::Write;
 use rules::passed::Passed;
 use rules::passed::passed_hashes;
+use rules::put::copy_into;
 use rules::refusal::Refusal;
-ghost use mathlib.Core.Path.{_≡_};
-ghost use Prim.Native.Nat.{_+_, _≤_};
 ghost use mathlib.Core.List.{_++_};
-ghost use lib.ListN.{length};
-ghost use lib.Seq.{sets};
 ghost use Rattle.rules.specs.Output.{Written, Output};
 ghost use Rattle.wire.specs.Item.{prefixedBytes, hashListOutput};
 ghost use Rattle.wire.specs.Number.{shortest};
-
-// Copies bytes to a place of the buffer.
-pub fn copy_into(out: &mut [u8], at: usize, bytes: &[u8])
-    requires { ⌜ at + length (now bytes) ≤ length (now out) ⌝ }
-    ensures { λ _. ⌜ now (out .exit) ≡ sets (now (out .entry)) at (now (bytes .entry)) ⌝ }
-{
-    let mut i = 0;
-    while i < bytes.len() {
-        out[at + i] = bytes[i];
-        i += 1;
-    }
-}
 
 // Writes a count, and the bytes that it counts in some unit.
 fn encode(out: &mut [u8], count: u64, bytes: &[u8]) -> Write

@@ -1,17 +1,17 @@
--- `graph::list::put_list` meets its contract: the bytes of the first hashes are the list's first bytes. Assumes nothing.
+-- `rules::put::put_list` meets its contract: the bytes of the first hashes are the list's first bytes. Assumes nothing.
 use Prim.Native.Nat.{ℕ, _+_, _*_, _≤_}
 use mathlib.Core.List.{List}
 use mathlib.Core.Path.{_≡_, sym, ap, _∙_}
 use native.Mathlib.Omega.{arith}
 use lib.ListN.{length, take, length-take}
 use lib.Seq.{sets}
 use Rattle.rules.specs.Hash.{Bytes, hashesAt, hashesBytes}
 use Rattle.rules.specs.Sizes.{sizes}
 use Rattle.rules.proofs.Hash.{hashes-at-bytes, length-hashes-at, length-hashes-bytes}
 use Rattle.rules.proofs.Outputs.{written-bytes, no-room}
 use borrow.Author.Needs.{needs}
-use Rattle.graph.proofs.list.put_list.Statement.{statement}
-use Rattle.graph.proofs.list.put_list.Tie as tie
+use Rattle.rules.proofs.put.put_list.Statement.{statement}
+use Rattle.rules.proofs.put.put_list.Tie as tie
 
 list-size : (s : List ℕ) (count : ℕ) → sizes .hash * count ≡ length (hashesBytes (hashesAt s 0 count))
 list-size s count = sym (length-hashes-bytes (hashesAt s 0 count) ∙ ap (λ (k : ℕ). sizes .hash * k) (length-hashes-at s 0 count))

@@ -1,4 +1,4 @@
--- `wire::encode::copy_into` meets its contract: putting the bytes from `i` on at `at + i` gives the buffer that putting all of them at `at`
+-- `rules::put::copy_into` meets its contract: putting the bytes from `i` on at `at + i` gives the buffer that putting all of them at `at`
 -- gives. Assumes nothing.
 use Prim.Native.Nat.{ℕ, _+_, _-_, _≤_, _<_}
 use borrow.Author.Needs.{needs}
@@ -9,8 +9,8 @@ use native.Mathlib.Numerals.{add-one}
 use native.Mathlib.Omega.{arith}
 use lib.ListN.{length, getD, set, drop, length-set}
 use lib.Seq.{sets, drop-cons, drop-length}
-use Rattle.wire.proofs.encode.copy_into.Statement.{statement}
-use Rattle.wire.proofs.encode.copy_into.Tie as tie
+use Rattle.rules.proofs.put.copy_into.Statement.{statement}
+use Rattle.rules.proofs.put.copy_into.Tie as tie
 
 abbrev Inv-loop : tie.InvT-loop
 Inv-loop out₀ at bytes i₀ out i =
