@@ -11,9 +11,9 @@ use lib.Dec.{eqb}
 use lib.ListN.{length, getD, List·getD-eq-default}
 use Rattle.rules.specs.Order.{member}
 use Rattle.rules.specs.Reach.{someBelow}
-use Rattle.rules.proofs.Cases.{split, both}
+use Rattle.rules.proofs.Cases.{split, both, true-false, same-truth, either, or-left, or-right, and-true}
 use Rattle.rules.proofs.OrderLaws.{member-none}
-use Rattle.rules.proofs.ReachLaws.{true-false, same-truth, either, or-left, or-right, and-true, reach-equation, reach-base, reach-closed, reach-least}
+use Rattle.rules.proofs.ReachLaws.{reach-equation, reach-base, reach-closed, reach-least}
 use Rattle.tables.specs.Table.{Row, noRow, rows, hashOf, depsOf, GoodTable, placeIn, place, held, deps, rowsFrom, rowsWhere, belowRow, below, beyond}
 use Rattle.tables.proofs.TableLaws.{length-rows, place-of-row, held-row, row-of-held, hash-of-held, place-of-stranger}
 

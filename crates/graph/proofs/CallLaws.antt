@@ -1,4 +1,4 @@
--- What the public calls write, one law for each way through the tests; and what a table that has been accepted gives the functions below them.
+-- What the public calls write, one law for each way through the tests.
 use Prim.Native.Nat.{ℕ, _≤_, _<_}
 use mathlib.Core.List.{List}
 use mathlib.Core.Path.{_≡_, sym, _∙_}
@@ -15,32 +15,10 @@ use Rattle.rules.specs.declared.refusal.Refusal.the-variants.{BadRowsBefore}
 use Rattle.rules.proofs.PassedLaws.{after-refused, after-hashes}
 use Rattle.tables.specs.Bytes.{rowsAt, tableChecked}
 use Rattle.tables.specs.Calls.{afterCheck}
-use Rattle.tables.specs.Table.{GoodTable, heads, beyond}
+use Rattle.tables.specs.Table.{heads, beyond}
 use Rattle.tables.specs.declared.check.Checked.the-variants.{Good, Refused}
-use Rattle.tables.proofs.TableLaws.{table-good, row-has, length-rows-at, deps-of-row, hash-of-row, take-rows-at}
+use Rattle.tables.proofs.TableLaws.{table-good, take-rows-at}
 use Rattle.graph.specs.Calls.{beyondOutput, headsOutput}
-use Rattle.graph.specs.Marks.{GoodRows}
-use Rattle.graph.proofs.MarkLaws.{good-part}
-
--- the first rows of an accepted table are good
-pub accepted-rows : (s : List ℕ) (n : ℕ) → tableChecked s ≡ Good n → GoodRows s n
-accepted-rows s n e =
-    let d = table-good s n e in
-    let t = rowsAt s 0 n in
-    let good : GoodTable t = rw (d .is) at (d .good) in
-    let long : length t ≡ n = length-rows-at s 0 n in
-    record {
-      few = d .few;
-      inside = omega (arith, d .whole);
-      counts = λ i h. row-has s i (d .each i h) .count;
-      down = λ i k h m. good .down i k (omega arith) (rw (deps-of-row s n i h) m);
-      once =
-          λ i j h k q.
-          good .once i j (omega arith) (omega arith) (hash-of-row s n i h ∙ q ∙ sym (hash-of-row s n j k));
-    }
-
-pub accepted-part : (s : List ℕ) (n k : ℕ) → tableChecked s ≡ Good n → k ≤ n → GoodRows s k
-accepted-part s n k e h = good-part s n k (accepted-rows s n e) h
 
 -- ---- the rows beyond a list
 

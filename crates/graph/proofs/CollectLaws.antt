@@ -5,43 +5,31 @@ use mathlib.Core.List.{List, [], _∷_}
 use mathlib.Core.Path.{_≡_, ap}
 use native.Mathlib.Omega.{arith}
 use borrow.Author.Tests.{lt-ltb}
-use lib.Dec.{ltb, eqb}
 use lib.ListN.{length, getD}
+use Rattle.rules.specs.Output.{Gathered}
 use Rattle.rules.specs.Hash.{hashAt, hashesAt}
-use Rattle.rules.specs.Order.{insertOnce, ascend, insertUpTo, Inserted}
+use Rattle.rules.specs.Order.{ascend, insertUpTo, Inserted}
 use Rattle.rules.specs.Sizes.{sizes}
-use Rattle.rules.proofs.Cases.{split}
+use Rattle.rules.proofs.OrderLaws.{ascend-most}
 use Rattle.tables.specs.Bytes.{rowSize, rowsAt}
 use Rattle.tables.specs.Table.{rowsWhere, rowsFrom, needed, heads}
 use Rattle.tables.proofs.TableLaws.{length-rows-at}
-use Rattle.graph.specs.Marks.{Marks, Collected}
+use Rattle.graph.specs.Marks.{Marks}
 use Rattle.graph.proofs.BeyondLaws.{remaining, remaining-all, remaining-none, remaining-taken, remaining-passed, remaining-most, rows-most, same-rows}
-
-insert-most : (h : ℕ) (l : List ℕ) → length (insertOnce h l) ≤ suc (length l)
-unfolding insertOnce
-insert-most h [] = omega arith
-insert-most h (x ∷ xs) =
-    let rest = insert-most h xs in
-    split (ltb h x) (λ e. rw e (omega arith)) (λ e. split (eqb h x) (λ d. rw (e, d) (omega arith)) (λ d. rw (e, d) (omega arith)))
-
-pub ascend-most : (l : List ℕ) → length (ascend l) ≤ length l
-unfolding ascend
-ascend-most [] = omega arith
-ascend-most (h ∷ hs) = omega (arith, insert-most h (ascend hs), ascend-most hs)
 
 module _ (s : List ℕ) (n : ℕ) (m : List Bool) where
   behind-most : (i : ℕ) → length (ascend (remaining s n m i)) ≤ n - i
   behind-most i = omega (arith, ascend-most (remaining s n m i), remaining-most s n m i)
 
-  pub collect-starts : (list : List ℕ) → Collected (ascend (remaining s n m n)) list 0
+  pub collect-starts : (list : List ℕ) → Gathered (ascend (remaining s n m n)) list 0
   unfolding hashesAt ascend
   collect-starts list = record { many = rw (remaining-none s n m n (omega arith)); list = rw (remaining-none s n m n (omega arith)) }
 
-  module _ (list : List ℕ) (count i : ℕ) (so : Collected (ascend (remaining s n m i)) list count) where
+  module _ (list : List ℕ) (count i : ℕ) (so : Gathered (ascend (remaining s n m i)) list count) where
     pub collect-most : i ≤ n → count + i ≤ n
     collect-most h = omega (arith, so .many, behind-most i)
 
-    pub collect-passed : 0 < i → i ≤ n → getD m (i - 1) false ≡ true → Collected (ascend (remaining s n m (i - 1))) list count
+    pub collect-passed : 0 < i → i ≤ n → getD m (i - 1) false ≡ true → Gathered (ascend (remaining s n m (i - 1))) list count
     collect-passed h l e =
         let next : i - 1 + 1 ≡ i = omega arith in
         let same : remaining s n m (i - 1) ≡ remaining s n m i = rw next at (remaining-passed s n m (i - 1) (omega arith) e) in
@@ -49,7 +37,7 @@ module _ (s : List ℕ) (n : ℕ) (m : List Bool) where
 
     pub collect-taken : (after : List ℕ) (r : ℕ) → 0 < i → i ≤ n → getD m (i - 1) false ≡ false → sizes .hash * n ≤ length list
         → Inserted list after count (hashAt s ((i - 1) * rowSize)) r
-        → Collected (ascend (remaining s n m (i - 1))) after r
+        → Gathered (ascend (remaining s n m (i - 1))) after r
     unfolding ascend insertUpTo
     collect-taken after r h l e room put =
         let hash : ℕ = hashAt s ((i - 1) * rowSize) in
@@ -61,7 +49,7 @@ module _ (s : List ℕ) (n : ℕ) (m : List Bool) where
           list = rw same (rw (so .list, lt-ltb _ _ less) at (put .list));
         }
 
-    pub collect-ends : i ≤ 0 → Collected (ascend (rowsWhere (rowsAt s 0 n) (λ k. not (getD m k false)))) list count
+    pub collect-ends : i ≤ 0 → Gathered (ascend (rowsWhere (rowsAt s 0 n) (λ k. not (getD m k false)))) list count
     collect-ends h =
         let e : i ≡ 0 = omega arith in
         let all : remaining s n m i ≡ rowsWhere (rowsAt s 0 n) (λ k. not (getD m k false)) = rw e (remaining-all s n m) in
@@ -69,8 +57,8 @@ module _ (s : List ℕ) (n : ℕ) (m : List Bool) where
 
 -- the rows that no row needs are the heads
 pub collect-heads : (s : List ℕ) (n : ℕ) (m : List Bool) (list : List ℕ) (count : ℕ) → Marks n m (needed (rowsAt s 0 n))
-    → Collected (ascend (rowsWhere (rowsAt s 0 n) (λ k. not (getD m k false)))) list count
-    → Collected (heads (rowsAt s 0 n)) list count
+    → Gathered (ascend (rowsWhere (rowsAt s 0 n) (λ k. not (getD m k false)))) list count
+    → Gathered (heads (rowsAt s 0 n)) list count
 unfolding heads rowsWhere
 collect-heads s n m list count marks so =
     let same = same-rows s (λ k. not (getD m k false)) (λ k. not (needed (rowsAt s 0 n) k)) 0 n (λ k h. ap not (marks .each k (omega arith))) in

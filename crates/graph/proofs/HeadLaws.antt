@@ -7,9 +7,9 @@ use native.Mathlib.Omega.{arith}
 use borrow.Author.Tests.{not-true}
 use lib.ListN.{length}
 use Rattle.rules.specs.Order.{member, ascends, ascend}
-use Rattle.rules.proofs.Cases.{split, both}
+use Rattle.rules.proofs.Cases.{split, both, true-false}
 use Rattle.rules.proofs.OrderLaws.{ascend-ascends, ascend-members}
-use Rattle.rules.proofs.ReachLaws.{true-false, some-below, some-witness}
+use Rattle.rules.proofs.ReachLaws.{some-below, some-witness}
 use Rattle.tables.specs.Table.{Row, hashOf, depsOf, GoodTable, place, held, deps, rowsWhere, needed, heads, below}
 use Rattle.tables.proofs.TableLaws.{place-of-row, held-row, row-of-held, hash-of-held}
 use Rattle.graph.proofs.BelowLaws.{dependency, deps-of-hash, rows-where, below-known, below-deps}

@@ -3,7 +3,6 @@ pub mod BelowLaws
 pub mod BeyondLaws
 pub mod CallLaws
 pub mod CollectLaws
-pub mod ExtendLaws
 pub mod HeadLaws
 pub mod MarkLaws
 pub mod Vectors

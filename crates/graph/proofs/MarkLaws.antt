@@ -12,15 +12,17 @@ use lib.Dec.{ltb, eqb}
 use lib.ListN.{length, getD, set, replicate, length-set, length-replicate, getD-replicate}
 use lib.Seq.{getD-set-same, getD-set-other}
 use Rattle.rules.specs.Hash.{hashAt, hashesAt}
-use Rattle.rules.specs.Order.{member}
+use Rattle.rules.specs.Order.{member, Once}
 use Rattle.rules.specs.Reach.{someBelow, reach}
 use Rattle.rules.specs.Sizes.{sizes}
-use Rattle.tables.specs.Bytes.{twoAt, twosAt, rowSize, countAt, usedAt, rowsAt}
+use Rattle.tables.specs.Bytes.{twoAt, twosAt, rowSize, countAt, usedAt, rowsAt, GoodRows}
 use Rattle.tables.specs.Table.{Row, rows, hashOf, depsOf, placeIn, needed}
+use Rattle.rules.proofs.KeepLaws.{once-index}
+use Rattle.tables.proofs.GoodLaws.{good-down}
 use Rattle.tables.proofs.TableLaws.{at-place, place-first, length-rows, length-rows-at, deps-of-row, hash-of-row}
-use Rattle.rules.proofs.Cases.{split, both}
-use Rattle.rules.proofs.ReachLaws.{same-truth, or-left, or-right, some-witness, reach-unique}
-use Rattle.graph.specs.Marks.{GoodRows, Marks, markAll, markRow, markHash}
+use Rattle.rules.proofs.Cases.{split, both, same-truth, or-left, or-right}
+use Rattle.rules.proofs.ReachLaws.{some-witness, reach-unique}
+use Rattle.graph.specs.Marks.{Marks, markAll, markRow, markHash}
 
 -- ---- Booleans
 
@@ -165,16 +167,6 @@ module _ (s : List ℕ) (i count : ℕ) where
 
 -- ---- the passes in terms of the rows of a table
 
-pub good-part : (s : List ℕ) (n k : ℕ) → GoodRows s n → k ≤ n → GoodRows s k
-good-part s n k g h =
-    record {
-      few = omega (arith, g .few);
-      inside = omega (arith, g .inside);
-      counts = λ i l. g .counts i (omega arith);
-      down = λ i j l e. g .down i j (omega arith) e;
-      once = λ i j l m e. g .once i j (omega arith) (omega arith) e;
-    }
-
 module _ (s : List ℕ) (n : ℕ) where
   abbrev t : List Row
   t = rowsAt s 0 n
@@ -211,7 +203,7 @@ module _ (s : List ℕ) (n : ℕ) where
 
   module _ (g : GoodRows s n) where
     down-rows : (k i : ℕ) → k < n → member i (depsOf t k) ≡ true → i < k
-    down-rows k i h e = g .down k i h (rw (deps-of-row s n k h) at e)
+    down-rows k i h e = good-down s n g k i h (rw (deps-of-row s n k h) at e)
 
     pub below-marked : (m r : List Bool) → n ≤ length m → r ≡ markDown (depsOf t) n m
         → Marks n r (reach n (λ k. getD m k false) (λ k j. member j (depsOf t k)))
@@ -240,7 +232,7 @@ module _ (hs : List ℕ) where
   unfolding markHash
   length-mark-hash m h = split (ltb (placeIn hs h) (length hs)) (λ e. rw e (length-set m (placeIn hs h) true)) (λ e. rw e)
 
-  module _ (once : (i j : ℕ) → i < length hs → j < length hs → getD hs i 0 ≡ getD hs j 0 → i ≡ j) where
+  module _ (once : Once hs) where
     mark-hash : (m : List Bool) (h i : ℕ) → length hs ≤ length m → i < length hs → getD (markHash hs m h) i false ≡ (getD m i false || eqb (getD hs i 0) h)
     unfolding markHash
     mark-hash m h i f l =
@@ -251,7 +243,7 @@ module _ (hs : List ℕ) where
         let same : eqb i (placeIn hs h) ≡ eqb (getD hs i 0) h =
         same-truth (eqb i (placeIn hs h)) (eqb (getD hs i 0) h)
         (λ q. eq-eqb (getD hs i 0) h (ap (λ (k : ℕ). getD hs k 0) (eqb-true i (placeIn hs h) q) ∙ at))
-        (λ q. eq-eqb i (placeIn hs h) (once i (placeIn hs h) l inside (eqb-true (getD hs i 0) h q ∙ sym at))) in
+        (λ q. eq-eqb i (placeIn hs h) (once-index hs once i (placeIn hs h) l inside (eqb-true (getD hs i 0) h q ∙ sym at))) in
         rw e (mark-at m (placeIn hs h) i (omega arith) ∙ rw same))
         (λ e.
         let none : eqb (getD hs i 0) h ≡ false =
@@ -309,11 +301,5 @@ module _ (s : List ℕ) (n : ℕ) where
         record {
           each =
               λ i h.
-              rw e (mark-list hs once m (hashesAt l place count) i (rw long f) (rw long h));
+              rw e (mark-list hs (g .good .once) m (hashesAt l place count) i (rw long f) (rw long h));
         }
-      where
-        at : (i : ℕ) → i < length hs → getD hs i 0 ≡ hashAt s (i * rowSize)
-        at i h = hash-of-row s n i (rw long at h)
-
-        once : (i j : ℕ) → i < length hs → j < length hs → getD hs i 0 ≡ getD hs j 0 → i ≡ j
-        once i j h k e = g .once i j (rw long at h) (rw long at k) (sym (at i h) ∙ e ∙ at j k)

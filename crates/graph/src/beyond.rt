@@ -19,10 +19,10 @@ ghost use lib.Seq.{sets};
 ghost use Rattle.rules.specs.Hash.{hashesAt, hashesBytes};
 ghost use Rattle.rules.specs.Output.{Written, Output};
 ghost use Rattle.rules.specs.Sizes.{sizes};
-ghost use Rattle.tables.specs.Bytes.{rowSize, rowsAt};
+ghost use Rattle.tables.specs.Bytes.{rowSize, rowsAt, GoodRows};
 ghost use Rattle.tables.specs.Table.{rowsWhere, belowRow, beyond};
 ghost use Rattle.graph.specs.Calls.{beyondOutput};
-ghost use Rattle.graph.specs.Marks.{GoodRows, Marks};
+ghost use Rattle.graph.specs.Marks.{Marks};
 
 // How many of the first n rows aren't marked.
 pub fn count_unmarked(table: &[u8], n: usize, marks: [bool; ROWS]) -> usize

@@ -15,12 +15,11 @@ ghost use Prim.Native.Nat.{_+_, _*_, _≤_};
 ghost use lib.ListN.{length, getD};
 ghost use Rattle.rules.specs.Hash.{hashesAt, hashesBytes};
 ghost use Rattle.rules.specs.Order.{ascend};
-ghost use Rattle.rules.specs.Output.{Written, Output};
+ghost use Rattle.rules.specs.Output.{Written, Output, Gathered};
 ghost use Rattle.rules.specs.Sizes.{sizes};
-ghost use Rattle.tables.specs.Bytes.{rowSize, rowsAt};
+ghost use Rattle.tables.specs.Bytes.{rowSize, rowsAt, GoodRows};
 ghost use Rattle.tables.specs.Table.{rowsWhere, heads};
 ghost use Rattle.graph.specs.Calls.{headsOutput};
-ghost use Rattle.graph.specs.Marks.{GoodRows, Collected};
 
 // Room for the hash of every row.
 pub const LIST_SIZE: usize = HASH_SIZE * ROWS;
@@ -29,7 +28,7 @@ pub const LIST_SIZE: usize = HASH_SIZE * ROWS;
 // as `ascend` has them.
 pub fn collect_unmarked(table: &[u8], n: usize, marks: [bool; ROWS], list: &mut [u8]) -> usize
     requires { ⌜ (n ≤ sizes .rows) × (n * rowSize ≤ length (now table)) × (sizes .hash * n ≤ length (now list)) ⌝ }
-    ensures { λ r. ⌜ Collected (ascend (rowsWhere (rowsAt (now (table .entry)) 0 n) (λ i. not (getD marks i false)))) (now (list .exit)) r ⌝ }
+    ensures { λ r. ⌜ Gathered (ascend (rowsWhere (rowsAt (now (table .entry)) 0 n) (λ i. not (getD marks i false)))) (now (list .exit)) r ⌝ }
 {
     let mut count = 0;
     let mut i = n;
@@ -46,7 +45,7 @@ pub fn collect_unmarked(table: &[u8], n: usize, marks: [bool; ROWS], list: &mut 
 // The heads of the first n rows of a table that has been checked, put at the start of a list that has room for them all.
 pub fn collect_heads(table: &[u8], n: usize, list: &mut [u8]) -> usize
     requires { ⌜ GoodRows (now table) n × (sizes .hash * n ≤ length (now list)) ⌝ }
-    ensures { λ r. ⌜ Collected (heads (rowsAt (now (table .entry)) 0 n)) (now (list .exit)) r ⌝ }
+    ensures { λ r. ⌜ Gathered (heads (rowsAt (now (table .entry)) 0 n)) (now (list .exit)) r ⌝ }
 {
     let needed = mark_needed(table, n);
     collect_unmarked(table, n, needed, list)

@@ -12,9 +12,9 @@ ghost use Rattle.rules.specs.Hash.{hashAt, hashesAt};
 ghost use Rattle.rules.specs.Order.{member};
 ghost use Rattle.rules.specs.Reach.{reach};
 ghost use Rattle.rules.specs.Sizes.{sizes};
-ghost use Rattle.tables.specs.Bytes.{usedAt, rowsAt};
+ghost use Rattle.tables.specs.Bytes.{usedAt, rowsAt, GoodRows};
 ghost use Rattle.tables.specs.Table.{rows, hashOf, depsOf, needed};
-ghost use Rattle.graph.specs.Marks.{GoodRows, Marks, markAll, markRow, markHash};
+ghost use Rattle.graph.specs.Marks.{Marks, markAll, markRow, markHash};
 
 // Marks the rows that row i depends on.
 pub fn mark_deps(table: &[u8], i: usize, marks: [bool; ROWS]) -> [bool; ROWS]

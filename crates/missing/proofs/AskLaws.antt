@@ -10,9 +10,8 @@ use borrow.Author.Tests.{ltb-false, eqb-true, eq-eqb}
 use lib.Dec.{ltb, eqb}
 use lib.ListN.{length, getD, set, length-set}
 use lib.Seq.{getD-set-same}
-use Rattle.rules.proofs.Cases.{split}
+use Rattle.rules.proofs.Cases.{split, either, or-right}
 use Rattle.rules.proofs.OrderLaws.{insert-member, up-to-fits, up-to-ascends, member-here, member-there}
-use Rattle.rules.proofs.ReachLaws.{either, or-right}
 use Rattle.rules.specs.Order.{member, ascends, insertOnce, insertUpTo}
 use Rattle.tables.specs.Table.{Row, held, placeIn}
 use Rattle.tables.specs.Waiting.{Waiting, waiting, asks, asksOf}

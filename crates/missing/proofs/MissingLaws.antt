@@ -9,10 +9,11 @@ use native.Mathlib.Omega.{arith}
 use borrow.Author.Tests.{eqb-true, not-true}
 use lib.Dec.{eqb}
 use lib.ListN.{length, getD}
-use Rattle.rules.specs.Order.{member, ascends, keep}
-use Rattle.rules.proofs.Cases.{split, both}
-use Rattle.rules.proofs.OrderLaws.{ascend-ascends, ascend-members, member-append, member-here, member-none, ascending-unique, ascending-shorter, keep-member}
-use Rattle.rules.proofs.ReachLaws.{true-false, same-truth, either, or-left, or-right, and-true, reach-base, reach-closed, reach-least}
+use Rattle.rules.specs.Order.{member, ascends, keep, Once}
+use Rattle.rules.proofs.KeepLaws.{keep-member, no-members}
+use Rattle.rules.proofs.Cases.{split, both, true-false, same-truth, either, or-left, or-right, and-true}
+use Rattle.rules.proofs.OrderLaws.{ascend-ascends, ascend-members, member-append, member-here, member-none, ascending-unique, ascending-shorter}
+use Rattle.rules.proofs.ReachLaws.{reach-base, reach-closed, reach-least}
 use Rattle.tables.specs.Table.{Row, held, placeIn}
 use Rattle.tables.specs.Waiting.{Waiting, noWaiting, waiting, asks, asksOf}
 use Rattle.tables.proofs.TableLaws.{place-of-member, at-place, member-at, place-once}
@@ -20,10 +21,6 @@ use Rattle.tables.proofs.WaitingLaws.{length-waiting}
 use Rattle.missing.specs.Missing.{unknown, Missing, itself, through, askedRow, asksFrom, missing}
 use Rattle.missing.specs.Ask.{list, Asks}
 use Rattle.missing.proofs.AskLaws.{asked, more-missing, missing-found, asked-settled, newly-settled, found-missing, still-ascending}
-
--- No hash waits twice.
-abbrev pub Once : List Waiting → Type 0
-Once w = (i j : ℕ) → i < length w → j < length w → getD (waiting w) i 0 ≡ getD (waiting w) j 0 → i ≡ j
 
 -- ---- members of what rows ask for
 
@@ -133,14 +130,14 @@ module _ (t : List Row) (w : List Waiting) where
     missing-ascends = ascend-ascends _
 
     -- And back, where no hash waits twice.
-    module _ (once : Once w) where
+    module _ (once : Once (waiting w)) where
       climb : (i : ℕ) → i < length w → (hs : List ℕ) → member (getD (waiting w) i 0) hs ≡ true → not (held t (getD (waiting w) i 0)) ≡ true
           → (x : ℕ) → Missing t w (asksOf w i) x → Missing t w hs x
       unfolding asks
       climb i b hs m n x d =
           let in-waiting : i < length (waiting w) = rw length-waiting b in
           let own : placeIn (waiting w) (getD (waiting w) i 0) ≡ i =
-          place-once (waiting w) (λ j k p q e. once j k (rw length-waiting at p) (rw length-waiting at q) e) i in-waiting
+          place-once (waiting w) once i in-waiting
           in
           through {h = x} (getD (waiting w) i 0) m (not-true _ n) (member-at (waiting w) i in-waiting) (rw own d)
 
@@ -180,12 +177,8 @@ module _ (t : List Row) (w : List Waiting) where
 
   pub missing-of-nothing : missing t w [] ≡ []
   missing-of-nothing = no-members (missing t w []) nothing-missing
-    where
-      no-members : (l : List ℕ) → ((x : ℕ) → member x l ≡ true → ⊥) → l ≡ []
-      no-members [] f = refl
-      no-members (x ∷ xs) f = absurd (f x (member-here x xs))
 
-  module _ (once : Once w) where
+  module _ (once : Once (waiting w)) where
     -- What is missing from a list is missing from one that has its members.
     pub missing-grows : (l l′ : List ℕ) → ((g : ℕ) → member g l ≡ true → member g l′ ≡ true)
         → (x : ℕ) → member x (missing t w l) ≡ true → member x (missing t w l′) ≡ true

@@ -3,6 +3,7 @@ pub mod Cases
 pub mod Compare
 pub mod Hash
 pub mod Insert
+pub mod KeepLaws
 pub mod OrderLaws
 pub mod Outputs
 pub mod PassedLaws

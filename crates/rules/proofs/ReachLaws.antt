@@ -10,36 +10,7 @@ use native.Mathlib.Omega.{arith}
 use borrow.Author.Tests.{ltb-true, ltb-false}
 use lib.Dec.{ltb}
 use Rattle.rules.specs.Reach.{someBelow, reachIn, reach}
-use Rattle.rules.proofs.Cases.{split, both}
-
--- ---- tests
-
-pub true-false : (x : Bool) → x ≡ true → x ≡ false → ⊥
-true-false x p q = let z : _≡_ {A = ℕ} 0 1 = cc in omega arith
-
--- Two tests are the same if each passes where the other does.
-pub same-truth : (x y : Bool) → (x ≡ true → y ≡ true) → (y ≡ true → x ≡ true) → x ≡ y
-same-truth true y f g = sym (f refl)
-same-truth false true f g = g refl
-same-truth false false f g = refl
-
-pub either : {C : Type 0} (x y : Bool) → (x || y) ≡ true → (x ≡ true → C) → (y ≡ true → C) → C
-either true y e f g = f refl
-either false y e f g = g e
-
-pub or-left : (x y : Bool) → x ≡ true → (x || y) ≡ true
-or-left x y e = rw e
-
-pub or-right : (x y : Bool) → y ≡ true → (x || y) ≡ true
-or-right true y e = refl
-or-right false y e = e
-
-pub and-true : (x y : Bool) → x ≡ true → y ≡ true → (x && y) ≡ true
-and-true x y p q = rw (p, q)
-
-pub and-false : (x : Bool) → (x && false) ≡ false
-and-false true = refl
-and-false false = refl
+use Rattle.rules.proofs.Cases.{split, both, true-false, same-truth, either, or-left, or-right, and-true, and-false}
 
 -- What holds below n and of n holds below the next number.
 pub below-suc : (P : ℕ → Type 0) (n : ℕ) → ((k : ℕ) → k < n → P k) → P n → (k : ℕ) → k < suc n → P k

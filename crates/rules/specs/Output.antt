@@ -7,6 +7,7 @@ use mathlib.Core.Path.{_≡_}
 use lib.Dec.{ltb}
 use lib.ListN.{length}
 use lib.Seq.{sets}
+use Rattle.rules.specs.Hash.{hashesAt}
 use Rattle.rules.specs.declared.output.Write.{Write}
 use Rattle.rules.specs.declared.output.Write.the-variants.{Wrote, Refused}
 use Rattle.rules.specs.declared.refusal.Refusal.{Refusal}
@@ -31,3 +32,8 @@ contentOf (refuse r) before = before
 pub record Written (o : Output) (before after : List ℕ) (r : Write) : Type 0 where
   pub answer : r ≡ answerOf o (length before)
   pub content : after ≡ contentOf o before
+
+-- A list of hashes gathered at a buffer's start: the first hashes of the buffer are these, and as many. Bytes behind them are of no account.
+pub record Gathered (hs after : List ℕ) (count : ℕ) : Type 0 where
+  pub many : count ≡ length hs
+  pub list : hashesAt after 0 count ≡ hs

@@ -11,6 +11,7 @@ use Rattle.bloom.specs.Have.{Have, haveWords, haveCount, haveIn, havesFrom, hav
 use Rattle.rules.specs.Order.{member, keep}
 use Rattle.rules.specs.Sizes.{sizes}
 use Rattle.rules.proofs.Cases.{split}
+use Rattle.rules.proofs.KeepLaws.{keep-same}
 use Rattle.tables.specs.Bytes.{rowsAt}
 use Rattle.tables.specs.Table.{Row, GoodTable, place, held, rowsFrom, rowsWhere}
 use Rattle.tables.proofs.TableLaws.{row-of-held, length-rows-at}
@@ -40,11 +41,6 @@ some-marked t s haves n r h m = record { each = λ i l. m .each i l ∙ sym (som
 
 -- ---- lists of hashes and rows that are chosen alike
 
-pub keep-same : (p q : ℕ → Bool) (l : List ℕ) → ((h : ℕ) → p h ≡ q h) → keep p l ≡ keep q l
-unfolding keep
-keep-same p q [] f = refl
-keep-same p q (x ∷ xs) f = rw (f x, keep-same p q xs f)
-
 pub rows-same : (t : List Row) (p q : ℕ → Bool) (i : ℕ) → ((k : ℕ) → k < length t → p (i + k) ≡ q (i + k)) → rowsFrom i t p ≡ rowsFrom i t q
 unfolding rowsFrom
 rows-same [] p q i f = refl
@@ -71,7 +67,7 @@ module _ (t : List Row) (good : GoodTable t) (marks : List Bool) where
   answer-none f need =
       let none : rowsFrom 0 t (λ i. getD marks i false) ≡ [] = rows-same t (λ i. getD marks i false) (λ i. false) 0 (λ k h. f (0 + k) (omega arith)) ∙ no-rows t 0 in
       let kept : keep (heldUnmarked t marks) need ≡ keep (held t) need =
-      keep-same (heldUnmarked t marks) (held t) need (λ h. split (held t h) (λ e. rw (e, f (place t h) (row-of-held t h e))) (λ e. rw e)) in
+      keep-same (heldUnmarked t marks) (held t) need (λ h m. split (held t h) (λ e. rw (e, f (place t h) (row-of-held t h e))) (λ e. rw e)) in
       rw (none, append-nil) kept
 
   answer-some : (haves : List Have) → ((i : ℕ) → i < length t → getD marks i false ≡ inTheS t haves i) → (need : List ℕ)
@@ -81,7 +77,7 @@ module _ (t : List Row) (good : GoodTable t) (marks : List Bool) where
       let chosen : rowsFrom 0 t (λ i. getD marks i false) ≡ rowsFrom 0 t (inTheS t haves) = rows-same t (λ i. getD marks i false) (inTheS t haves) 0 (λ k h. f (0 + k) (omega arith)) in
       let kept : keep (heldUnmarked t marks) need ≡ keep (λ x. held t x && not (member x (rowsFrom 0 t (inTheS t haves)))) need =
       keep-same (heldUnmarked t marks) (λ x. held t x && not (member x (rowsFrom 0 t (inTheS t haves)))) need
-      (λ h. split (held t h) (λ e. rw (e, f (place t h) (row-of-held t h e), rows-where t good (inTheS t haves) h, e)) (λ e. rw e)) in
+      (λ h m. split (held t h) (λ e. rw (e, f (place t h) (row-of-held t h e), rows-where t good (inTheS t haves) h, e)) (λ e. rw e)) in
       rw (chosen, kept)
 
   pub answer-is : (haves : List Have) → ((i : ℕ) → i < length t → getD marks i false ≡ answeredRow t haves i) → (need : List ℕ)

@@ -17,13 +17,14 @@ use Rattle.rules.specs.Hash.{hashAt, hashesAt}
 use Rattle.rules.specs.Order.{member}
 use Rattle.rules.specs.Reach.{someBelow, reach}
 use Rattle.rules.specs.Sizes.{sizes}
-use Rattle.rules.proofs.Cases.{both}
+use Rattle.rules.proofs.Cases.{both, true-false, same-truth, either, or-left, or-right, and-true}
 use Rattle.rules.proofs.OrderLaws.{member-append}
-use Rattle.rules.proofs.ReachLaws.{true-false, same-truth, either, or-left, or-right, and-true, below-suc, some-below, some-witness, reach-equation, reach-same}
-use Rattle.tables.specs.Bytes.{twoAt, twosAt, rowSize, countAt, usedAt, rowsAt}
+use Rattle.rules.proofs.ReachLaws.{below-suc, some-below, some-witness, reach-equation, reach-same}
+use Rattle.tables.specs.Bytes.{twoAt, twosAt, rowSize, countAt, usedAt, rowsAt, GoodRows}
 use Rattle.tables.specs.Table.{Row, hashOf, depsOf, belowRow}
+use Rattle.tables.proofs.GoodLaws.{good-down}
 use Rattle.tables.proofs.TableLaws.{length-rows-at, deps-of-row, hash-of-row}
-use Rattle.graph.specs.Marks.{GoodRows, Marks}
+use Rattle.graph.specs.Marks.{Marks}
 use Rattle.graph.proofs.MarkLaws.{or-assoc, or-false}
 use Rattle.selection.specs.Members.{someOf}
 use Rattle.selection.specs.ToSend.{lastSyncs, filters, candidate, missed, inTheS}
@@ -186,7 +187,7 @@ module _ (table s haves : List ℕ) (n : ℕ) (g : GoodRows table n) where
   down-rows : (i k : ℕ) → i < length t → member k (depsOf t i) ≡ true → k < i
   down-rows i k h m =
       let l : i < n = rw (length-rows-at table 0 n) at h in
-      g .down i k l (rw (deps-of-row table n i l) at m)
+      good-down table n g i k l (rw (deps-of-row table n i l) at m)
 
   pub joined : (i : ℕ) → i < n → (synced next : List Bool) (here : Bool) → Marks n synced (belowRow t (lastSyncs hv))
       → ((k : ℕ) → k < i → getD next k false ≡ inTheS t hv k)

@@ -12,7 +12,8 @@ use Rattle.rules.specs.Hash.{Bytes, hashAt, hashesAt, hashBytes, hashesBytes}
 use Rattle.rules.specs.Sizes.{sizes}
 use Rattle.rules.proofs.Cases.{split}
 use Rattle.rules.proofs.Hash.{hash-bytes, length-hash-bytes, length-hashes-bytes, length-hashes-at}
-use Rattle.rules.proofs.Outputs.{sets-append}
+use Rattle.rules.proofs.Outputs.{sets-append, take-sets}
+use Rattle.rules.proofs.KeepLaws.{keep-most}
 use Rattle.tables.specs.Bytes.{rowSize, rowAt, rowsAt}
 use Rattle.tables.specs.Table.{Row, rows, place, placeIn, held, rowsFrom, rowsWhere}
 use Rattle.tables.proofs.TableLaws.{length-rows, length-rows-at, member-of-place, stranger-of-place, place-at-most}
@@ -153,20 +154,10 @@ module _ (s : List ℕ) (n : ℕ) (marks : List Bool) (h row : ℕ) (found : row
 
 -- ---- both parts, one behind the other
 
-pub keep-most : (p : ℕ → Bool) (l : List ℕ) → length (keep p l) ≤ length l
-unfolding keep
-keep-most p [] = omega arith
-keep-most p (x ∷ xs) =
-    let rest = keep-most p xs in
-    split (p x) (λ e. rw e (omega arith)) (λ e. rw e (omega arith))
-
 append-bytes : (a b : List ℕ) → hashesBytes (a ++ b) ≡ hashesBytes a ++ hashesBytes b
 unfolding hashesBytes
 append-bytes [] b = refl
 append-bytes (x ∷ a) b = ap (λ (l : List ℕ). hashBytes x ++ l) (append-bytes a b) ∙ sym (append-assoc (hashBytes x) (hashesBytes a) (hashesBytes b))
-
-take-sets : (b l : List ℕ) → length b ≤ length l → take (length b) (sets l 0 b) ≡ b
-take-sets b l h = rw (sets-eq b l 0 (omega arith)) (take-at b _ (length b) refl)
 
 -- room for every hash of a need list
 abbrev room : List ℕ

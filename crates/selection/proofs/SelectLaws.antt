@@ -10,11 +10,12 @@ use lib.Dec.{eqb}
 use lib.ListN.{length, getD, length-append}
 use Rattle.bloom.specs.Filter.{anyContains}
 use Rattle.bloom.specs.Have.{Have}
-use Rattle.rules.specs.Order.{member, keep}
+use Rattle.rules.specs.Order.{member, keep, Once}
 use Rattle.rules.specs.Sizes.{sizes}
-use Rattle.rules.proofs.Cases.{split, both}
-use Rattle.rules.proofs.OrderLaws.{member-append, member-here, member-there, member-index, index-member, keep-member}
-use Rattle.rules.proofs.ReachLaws.{and-false, true-false, same-truth, either, or-left, or-right, and-true, reach-base, reach-closed, reach-least}
+use Rattle.rules.proofs.KeepLaws.{keep-member, keep-most, no-members, once-none, once-first, once-tail, once-cons, once-keep, once-append}
+use Rattle.rules.proofs.Cases.{split, both, and-false, true-false, same-truth, either, or-left, or-right, and-true}
+use Rattle.rules.proofs.OrderLaws.{member-append, member-here, member-there, member-index, index-member}
+use Rattle.rules.proofs.ReachLaws.{reach-base, reach-closed, reach-least}
 use Rattle.tables.specs.Table.{Row, GoodTable, rows, hashOf, depsOf, place, held, deps, rowsFrom, rowsWhere, below, belowRow}
 use Rattle.tables.proofs.TableLaws.{length-rows, place-of-row, held-row, row-of-held, hash-of-held}
 use Rattle.graph.proofs.BelowLaws.{member-map, rows-where, below-row, below-deps, dependency, deps-held, only-rows, deps-of-hash}
@@ -23,7 +24,6 @@ use Rattle.selection.specs.Members.{someOf}
 use Rattle.selection.specs.ToSend.{lastSyncs, filters, candidate, missed, inTheS, theS, toSend}
 use Rattle.selection.proofs.AnswerLaws.{no-rows, rows-same}
 use Rattle.selection.proofs.MemberLaws.{s-equation, some-of}
-use Rattle.selection.proofs.PutLaws.{keep-most}
 
 -- ---- the order
 
@@ -37,65 +37,7 @@ pub send-order : (t : List Row) (h : Have) (hs : List Have) (need : List ℕ)
 unfolding toSend
 send-order t h hs need = refl
 
--- ---- hashes that are kept
-
-nothing : (l : List ℕ) → ((h : ℕ) → member h l ≡ true → ⊥) → l ≡ []
-unfolding member
-nothing [] g = refl
-nothing (x ∷ xs) g = absurd (g x (or-left (eqb x x) (member x xs) (eq-eqb x x refl)))
-
--- ---- lists that hold no hash twice
-
-unfoldable pub eachOnce : List ℕ → Bool
-eachOnce [] = true
-eachOnce (h ∷ hs) = not (member h hs) && eachOnce hs
-
-keep-once : (p : ℕ → Bool) (l : List ℕ) → eachOnce l ≡ true → eachOnce (keep p l) ≡ true
-unfolding eachOnce keep
-keep-once p [] e = refl
-keep-once p (x ∷ xs) e =
-    let b = both (not (member x xs)) (eachOnce xs) e in
-    let rest = keep-once p xs (b .1) in
-    let none : member x (keep p xs) ≡ false = keep-member p xs x ∙ rw (not-true (member x xs) (b .0)) (and-false (p x)) in
-    split (p x) (λ q. rw (q, none) rest) (λ q. rw q rest)
-
-append-once : (a b : List ℕ) → eachOnce a ≡ true → eachOnce b ≡ true → ((h : ℕ) → member h a ≡ true → member h b ≡ false) → eachOnce (a ++ b) ≡ true
-unfolding eachOnce
-append-once [] b p q f = q
-append-once (x ∷ xs) b p q f =
-    let e = both (not (member x xs)) (eachOnce xs) p in
-    let none : member x (xs ++ b) ≡ false = member-append x xs b ∙ rw (not-true (member x xs) (e .0)) (f x (member-here x xs)) in
-    rw none (append-once xs b (e .1) q (λ h m. f h (member-there h x xs m)))
-
--- by places: no hash at two of them
-pub places-once : (l : List ℕ) → ((i j : ℕ) → i < length l → j < length l → getD l i 0 ≡ getD l j 0 → i ≡ j) → eachOnce l ≡ true
-unfolding eachOnce
-places-once [] f = refl
-places-once (x ∷ xs) f =
-    let none : member x xs ≡ false =
-    split (member x xs)
-    (λ m.
-    let w = member-index x xs m in
-    absurd (omega (arith, f 0 (suc (w .0)) (omega arith) (omega (arith, w .1)) (sym (w .2)))))
-    (λ m. m)
-    in
-    rw none (places-once xs (λ i j h k e. suc-inj (f (suc i) (suc j) (omega arith) (omega arith) e)))
-
-pub once-places : (l : List ℕ) → eachOnce l ≡ true → (i j : ℕ) → i < length l → j < length l → getD l i 0 ≡ getD l j 0 → i ≡ j
-unfolding eachOnce
-once-places [] e i j h k q = absurd (not-suc-le-zero h)
-once-places (x ∷ xs) e zero zero h k q = refl
-once-places (x ∷ xs) e zero (suc j) h k q =
-    let b = both (not (member x xs)) (eachOnce xs) e in
-    let m : member x xs ≡ true = rw (sym q) at (index-member xs j (omega arith)) in
-    absurd (true-false (member x xs) m (not-true (member x xs) (b .0)))
-once-places (x ∷ xs) e (suc i) zero h k q =
-    let b = both (not (member x xs)) (eachOnce xs) e in
-    let m : member x xs ≡ true = rw q at (index-member xs i (omega arith)) in
-    absurd (true-false (member x xs) m (not-true (member x xs) (b .0)))
-once-places (x ∷ xs) e (suc i) (suc j) h k q =
-    let b = both (not (member x xs)) (eachOnce xs) e in
-    ap suc (once-places xs (b .1) i j (omega arith) (omega arith) q)
+-- ---- rows that are chosen
 
 chosen-row : (t : List Row) (p : ℕ → Bool) (i h : ℕ) → member h (rows t) ≡ false → member h (rowsFrom i t p) ≡ false
 unfolding rowsFrom rows member
@@ -105,20 +47,18 @@ chosen-row (r ∷ rs) p i h m =
     let rest = chosen-row rs p (suc i) h (rw here at m) in
     split (p i) (λ e. rw (e, here) rest) (λ e. rw e rest)
 
-chosen-once : (t : List Row) (p : ℕ → Bool) (i : ℕ) → eachOnce (rows t) ≡ true → eachOnce (rowsFrom i t p) ≡ true
-unfolding rowsFrom rows eachOnce
-chosen-once [] p i e = refl
-chosen-once (r ∷ rs) p i e =
-    let b = both (not (member (r .hash) (rows rs))) (eachOnce (rows rs)) e in
-    let rest = chosen-once rs p (suc i) (b .1) in
-    split (p i) (λ q. rw (q, chosen-row rs p (suc i) (r .hash) (not-true (member (r .hash) (rows rs)) (b .0))) rest) (λ q. rw q rest)
+chosen-once : (t : List Row) (p : ℕ → Bool) (i : ℕ) → Once (rows t) → Once (rowsFrom i t p)
+unfolding rowsFrom rows
+chosen-once [] p i o = once-none
+chosen-once (r ∷ rs) p i o =
+    let rest : Once (rowsFrom (suc i) rs p) = chosen-once rs p (suc i) (once-tail (r .hash) (rows rs) o) in
+    let none : member (r .hash) (rowsFrom (suc i) rs p) ≡ false = chosen-row rs p (suc i) (r .hash) (once-first (r .hash) (rows rs) o) in
+    split (p i) (λ q. rw q (once-cons (r .hash) (rowsFrom (suc i) rs p) none rest)) (λ q. rw q rest)
 
 -- no row of a good table is chosen twice
-pub rows-once : (t : List Row) → GoodTable t → (p : ℕ → Bool) → eachOnce (rowsWhere t p) ≡ true
-unfolding rowsWhere hashOf
-rows-once t good p =
-    chosen-once t p 0
-    (places-once (rows t) (λ i j h k e. good .once i j (rw (length-rows t) at h) (rw (length-rows t) at k) e))
+pub rows-once : (t : List Row) → GoodTable t → (p : ℕ → Bool) → Once (rowsWhere t p)
+unfolding rowsWhere
+rows-once t good p = chosen-once t p 0 (good .once)
 
 -- ---- S by hash
 
@@ -134,7 +74,7 @@ module _ (t : List Row) (good : GoodTable t) (haves : List Have) where
   pub s-row : (h : ℕ) → member h (theS t haves) ≡ true → inTheS t haves (place t h) ≡ true
   s-row h m = both (held t h) (inTheS t haves (place t h)) (sym (s-rows h) ∙ m) .1
 
-  pub s-once : eachOnce (theS t haves) ≡ true
+  pub s-once : Once (theS t haves)
   unfolding theS
   s-once = rows-once t good (inTheS t haves)
 
@@ -226,7 +166,7 @@ module _ (t : List Row) (good : GoodTable t) (haves : List Have) where
   -- where every candidate is in some filter, S is empty
   pub s-empty : ((h : ℕ) → held t h ≡ true → below t (lastSyncs haves) h ≡ false → anyContains (filters haves) h ≡ true) → theS t haves ≡ []
   s-empty f =
-      nothing (theS t haves)
+      no-members (theS t haves)
       (λ h m. s-least (λ x. ⊥) (λ g e b c. true-false (anyContains (filters haves) g) (f g e b) c) (λ g k e b d p. p) h m)
 
 -- ---- what is sent
@@ -267,13 +207,13 @@ module _ (t : List Row) (good : GoodTable t) where
       (λ e. s-held t good (x ∷ xs) h e)
 
   -- each once where needs are
-  pub sent-once : (haves : List Have) (need : List ℕ) → eachOnce need ≡ true → eachOnce (toSend t haves need) ≡ true
-  sent-once [] need e = rw send-none (keep-once (held t) need e)
+  pub sent-once : (haves : List Have) (need : List ℕ) → Once need → Once (toSend t haves need)
+  sent-once [] need e = rw send-none (once-keep (held t) need e)
   sent-once (x ∷ xs) need e =
       let s : List ℕ = theS t (x ∷ xs) in
       let p : ℕ → Bool = λ y. held t y && not (member y s) in
       rw send-order
-      (append-once (keep p need) s (keep-once p need e) (s-once t good (x ∷ xs))
+      (once-append (keep p need) s (once-keep p need e) (s-once t good (x ∷ xs))
       (λ h m. not-true (member h s) (both (held t h) (not (member h s)) (both (p h) (member h need) (sym (keep-member p need h) ∙ m) .0) .1)))
 
   -- empty where nothing is needed and every candidate is in some filter

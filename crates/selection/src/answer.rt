@@ -15,9 +15,8 @@ ghost use lib.Seq.{sets};
 ghost use Rattle.rules.specs.Hash.{hashAt, hashesAt, hashesBytes};
 ghost use Rattle.rules.specs.Output.{Written, Output};
 ghost use Rattle.rules.specs.Sizes.{sizes};
-ghost use Rattle.tables.specs.Bytes.{rowSize, rowsAt};
+ghost use Rattle.tables.specs.Bytes.{rowSize, rowsAt, GoodRows};
 ghost use Rattle.tables.specs.Table.{rowsWhere};
-ghost use Rattle.graph.specs.Marks.{GoodRows};
 ghost use Rattle.selection.specs.Members.{heldUnmarked, Kept, answered};
 ghost use Rattle.rules.specs.Order.{keep};
 

@@ -15,9 +15,9 @@ ghost use Rattle.bloom.specs.Filter.{anyContains};
 ghost use Rattle.bloom.specs.Have.{havesOf, filtersOf, GoodFilters};
 ghost use Rattle.rules.specs.Hash.{hashAt};
 ghost use Rattle.rules.specs.Order.{member};
-ghost use Rattle.tables.specs.Bytes.{rowSize, usedAt, rowsAt};
+ghost use Rattle.tables.specs.Bytes.{rowSize, usedAt, rowsAt, GoodRows};
 ghost use Rattle.tables.specs.Table.{hashOf, belowRow};
-ghost use Rattle.graph.specs.Marks.{GoodRows, Marks};
+ghost use Rattle.graph.specs.Marks.{Marks};
 ghost use Rattle.selection.specs.Members.{someOf, SyncsInside};
 ghost use Rattle.selection.specs.ToSend.{lastSyncs, inTheS};
 

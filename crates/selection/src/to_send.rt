@@ -19,10 +19,10 @@ ghost use Rattle.bloom.specs.Have.{havesOf, GoodFilters, passedGood};
 ghost use Rattle.rules.specs.Hash.{hashesAt, hashesBytes};
 ghost use Rattle.rules.specs.Output.{Written, Output};
 ghost use Rattle.rules.specs.Sizes.{sizes};
-ghost use Rattle.tables.specs.Bytes.{rowsAt, tableChecked};
+ghost use Rattle.tables.specs.Bytes.{rowsAt, tableChecked, GoodRows};
 ghost use Rattle.tables.specs.Table.{GoodTable};
 ghost use Rattle.tables.specs.declared.check.Checked.the-variants.{Good};
-ghost use Rattle.graph.specs.Marks.{GoodRows, Marks};
+ghost use Rattle.graph.specs.Marks.{Marks};
 ghost use Rattle.selection.specs.Members.{SyncsInside, answeredRow};
 ghost use Rattle.selection.specs.ToSend.{toSend, toSendOutput};
 

@@ -1,6 +1,8 @@
 -- Laws that the crates above cite.
 pub mod CheckLaws
+pub mod ExtendLaws
 pub mod FindLaws
+pub mod GoodLaws
 pub mod RowLaws
 pub mod TableLaws
 pub mod WaitingLaws

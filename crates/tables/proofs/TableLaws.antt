@@ -9,9 +9,10 @@ use borrow.Author.Tests.{ltb-true, ltb-false, leb-true, eqb-true, eqb-false, not
 use lib.Dec.{ltb, leb, eqb}
 use lib.ListN.{length, getD, take, length-map}
 use Rattle.rules.specs.Hash.{hashAt}
-use Rattle.rules.specs.Order.{member, ascends}
+use Rattle.rules.specs.Order.{member, ascends, Once}
 use Rattle.rules.specs.Sizes.{sizes}
 use Rattle.rules.proofs.Cases.{split, both}
+use Rattle.rules.proofs.KeepLaws.{index-once, once-index}
 use Rattle.tables.specs.Bytes.{twoAt, twosAt, rowSize, countAt, usedAt, unusedAt, rowAt, rowsAt, tableOf, climbs, zeros, rowGood, tableChecked}
 use Rattle.tables.specs.Table.{Row, noRow, rows, hashOf, depsOf, GoodTable, placeIn, place, held}
 use Rattle.tables.specs.declared.check.Checked.the-variants.{Good, Refused}
@@ -84,14 +85,10 @@ pub member-is : (l : List ℕ) (h k : ℕ) → k < length l → getD l k 0 ≡ h
 member-is l h k b e = member-of-place l h (omega (arith, place-first l h k b e))
 
 -- where no number stands twice, each stands at its own place
-pub place-once : (l : List ℕ)
-    → ((i j : ℕ) → i < length l → j < length l → getD l i 0 ≡ getD l j 0 → i ≡ j)
-    → (k : ℕ)
-    → k < length l
-    → placeIn l (getD l k 0) ≡ k
+pub place-once : (l : List ℕ) → Once l → (k : ℕ) → k < length l → placeIn l (getD l k 0) ≡ k
 place-once l once k b =
     let inside : placeIn l (getD l k 0) < length l = omega (arith, place-first l (getD l k 0) k b refl) in
-    once (placeIn l (getD l k 0)) k inside b (at-place l (getD l k 0) inside)
+    once-index l once (placeIn l (getD l k 0)) k inside b (at-place l (getD l k 0) inside)
 
 -- ---- rows by their numbers
 
@@ -102,10 +99,7 @@ length-rows t = length-map t _
 pub place-of-row : (t : List Row) → GoodTable t → (i : ℕ) → i < length t → place t (hashOf t i) ≡ i
 unfolding place hashOf
 place-of-row t g i b =
-    place-once (rows t)
-    (λ j k p q e. g .once j k (rw length-rows at p) (rw length-rows at q) e)
-    i
-    (rw length-rows b)
+    place-once (rows t) (g .once) i (rw length-rows b)
 
 pub held-row : (t : List Row) (i : ℕ) → i < length t → held t (hashOf t i) ≡ true
 unfolding held hashOf
@@ -256,20 +250,22 @@ module _ (s : List ℕ) (n : ℕ) (each : (i : ℕ) → i < n → rowGood s i �
 
   -- rows that are each good make a good table
   pub rows-good : GoodTable (rowsAt s 0 n)
+  unfolding hashOf
   rows-good =
       let long : length (rowsAt s 0 n) ≡ n = length-rows-at s 0 n in
       record {
         once =
-            λ i j bi bj e.
-            let ci : i < n = omega arith in
-            let cj : j < n = omega arith in
+            index-once (rows (rowsAt s 0 n))
+            (λ i j bi bj e.
+            let ci : i < n = rw (length-rows, length-rows-at) at bi in
+            let cj : j < n = rw (length-rows, length-rows-at) at bj in
             let same : hashAt s (i * rowSize) ≡ hashAt s (j * rowSize) = sym (hash-of-row s n i ci) ∙ e ∙ hash-of-row s n j cj in
             split (ltb i j)
             (λ l. absurd (earlier-differs i j (ltb-true i j l) cj same))
             (λ l.
             split (ltb j i)
             (λ k. absurd (earlier-differs j i (ltb-true j i k) ci (sym same)))
-            (λ k. omega (arith, ltb-false i j l, ltb-false j i k)));
+            (λ k. omega (arith, ltb-false i j l, ltb-false j i k))));
         down =
             λ i k b m.
             let c : i < n = omega arith in

@@ -11,11 +11,12 @@ use lib.Dec.{ltb, leb, eqb}
 use lib.ListN.{length, getD, length-map}
 use lib.Seq.{slice, slice-empty, slice-cons}
 use Rattle.rules.specs.Hash.{bigEndian, hashAt, hashesAt}
-use Rattle.rules.specs.Order.{member}
+use Rattle.rules.specs.Order.{member, Once}
 use Rattle.rules.specs.Sizes.{sizes}
 use Rattle.rules.specs.declared.refusal.Refusal.the-variants.{BadWaitingRow}
 use Rattle.rules.proofs.Cases.{split, both}
 use Rattle.rules.proofs.Hash.{length-hashes-at}
+use Rattle.rules.proofs.KeepLaws.{index-once}
 use Rattle.tables.specs.Bytes.{waitingSize, asksCount, waitingAt, waitingsAt, waitingOf, bytesAt, zeros, waitingGood, waitingChecked}
 use Rattle.tables.specs.Table.{Row, rows, placeIn, held}
 use Rattle.tables.specs.Waiting.{Waiting, noWaiting, waiting, asksOf}
@@ -206,12 +207,12 @@ row-waits t s i g =
 -- what a list of waiting rows has beside a table: no row asks for too many, no hash waits twice, and none that waits is held
 pub record GoodWaiting (t : List Row) (w : List Waiting) : Type 0 where
   pub asks : (i : ℕ) → i < length w → length (asksOf w i) ≤ sizes .dependencies
-  pub once : (i j : ℕ) → i < length w → j < length w → getD (waiting w) i 0 ≡ getD (waiting w) j 0 → i ≡ j
+  pub once : Once (waiting w)
   pub unheld : (h : ℕ) → member h (waiting w) ≡ true → held t h ≡ false
 
 pub place-of-waiting : (t : List Row) (w : List Waiting) → GoodWaiting t w → (i : ℕ) → i < length w → placeIn (waiting w) (getD (waiting w) i 0) ≡ i
 place-of-waiting t w g i b =
-    place-once (waiting w) (λ j k p q e. g .once j k (rw length-waiting at p) (rw length-waiting at q) e) i (rw length-waiting b)
+    place-once (waiting w) (g .once) i (rw length-waiting b)
 
 module _ (t : List Row) (s : List ℕ) (n : ℕ) (each : (i : ℕ) → i < n → waitingGood t s i ≡ true) where
   earlier-waits : (i j : ℕ) → i < j → j < n → hashAt s (i * waitingSize) ≡ hashAt s (j * waitingSize) → ⊥
@@ -234,16 +235,17 @@ module _ (t : List Row) (s : List ℕ) (n : ℕ) (each : (i : ℕ) → i < n →
             let c : i < n = omega arith in
             rw (asks-of-waiting s n i c, length-hashes-at) (row-waits t s i (each i c) .count);
         once =
-            λ i j bi bj e.
-            let ci : i < n = omega arith in
-            let cj : j < n = omega arith in
+            index-once (waiting (waitingsAt s 0 n))
+            (λ i j bi bj e.
+            let ci : i < n = rw (length-waiting, length-waitings-at) at bi in
+            let cj : j < n = rw (length-waiting, length-waitings-at) at bj in
             let same : hashAt s (i * waitingSize) ≡ hashAt s (j * waitingSize) = sym (hash-of-waiting s n i ci) ∙ e ∙ hash-of-waiting s n j cj in
             split (ltb i j)
             (λ l. absurd (earlier-waits i j (ltb-true i j l) cj same))
             (λ l.
             split (ltb j i)
             (λ k. absurd (earlier-waits j i (ltb-true j i k) ci (sym same)))
-            (λ k. omega (arith, ltb-false i j l, ltb-false j i k)));
+            (λ k. omega (arith, ltb-false i j l, ltb-false j i k))));
         unheld =
             λ h m.
             let w : List ℕ = waiting (waitingsAt s 0 n) in

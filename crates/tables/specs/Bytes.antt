@@ -1,6 +1,6 @@
 -- The house records of change rows and waiting rows, and when a table is bad. 01, Change table and waiting table; Refusal numbers, 4, 6 and
 -- 9, and "A partial record at a table's end is a bad row with the next row number".
-use Prim.Native.Nat.{ℕ, zero, suc, _+_, _-_, _*_, _/_, _%_}
+use Prim.Native.Nat.{ℕ, zero, suc, _+_, _-_, _*_, _/_, _%_, _≤_, _<_}
 use mathlib.Core.Bool.{Bool, true, false, cond, not, _&&_}
 use mathlib.Core.List.{List, [], _∷_}
 use lib.Dec.{ltb, leb, eqb}
@@ -9,7 +9,7 @@ use Rattle.rules.specs.Hash.{hashAt, hashesAt}
 use Rattle.rules.specs.Order.{member}
 use Rattle.rules.specs.Sizes.{sizes}
 use Rattle.rules.specs.declared.refusal.Refusal.the-variants.{PastSize, BadRow, BadWaitingRow}
-use Rattle.tables.specs.Table.{Row, rows, held}
+use Rattle.tables.specs.Table.{Row, GoodTable, rows, held}
 use Rattle.tables.specs.Waiting.{Waiting}
 use Rattle.tables.specs.declared.check.Checked.{Checked}
 use Rattle.tables.specs.declared.check.Checked.the-variants.{Good, Refused}
@@ -81,6 +81,14 @@ checkedWith bad good size most bytes =
 -- A change table: 4, then 6.
 unfoldable pub tableChecked : List ℕ → Checked
 tableChecked s = checkedWith (λ i. Refused (BadRow i)) (rowGood s) rowSize (sizes .rows) (length s)
+
+-- The one precondition of what computes over a checked table: its first n rows stand there, are no more than a table may have, and are a good
+-- table, each with no more dependencies than a change may have.
+pub record GoodRows (s : List ℕ) (n : ℕ) : Type 0 where
+  pub few : n ≤ sizes .rows
+  pub inside : n * rowSize ≤ length s
+  pub counts : (i : ℕ) → i < n → countAt s i ≤ sizes .dependencies
+  pub good : GoodTable (rowsAt s 0 n)
 
 -- ---- waiting rows
 

@@ -5,7 +5,7 @@ use mathlib.Core.List.{List, [], _∷_, map}
 use mathlib.Core.Path.{_≡_}
 use lib.Dec.{ltb, eqb}
 use lib.ListN.{length, getD, take}
-use Rattle.rules.specs.Order.{member, ascends, ascend}
+use Rattle.rules.specs.Order.{member, ascends, ascend, Once}
 use Rattle.rules.specs.Reach.{someBelow, reach}
 
 -- A change: its hash, and its dependencies by row number. A table is a list of rows.
@@ -28,7 +28,7 @@ depsOf t i = getD t i noRow .deps
 
 -- A good table: no hash twice; each row's numbers ascending and below its own.
 pub record GoodTable (t : List Row) : Type 0 where
-  pub once : (i j : ℕ) → i < length t → j < length t → hashOf t i ≡ hashOf t j → i ≡ j
+  pub once : Once (rows t)
   pub down : (i k : ℕ) → i < length t → member k (depsOf t i) ≡ true → k < i
   pub ordered : (i : ℕ) → i < length t → ascends (depsOf t i) ≡ true
 

@@ -2,13 +2,14 @@
 use mathlib.Core.Path.{_≡_, sym, _∙_}
 use native.Mathlib.Omega.{arith}
 use denote.Ref.{now}
+use Rattle.tables.proofs.GoodLaws.{accepted-rows}
 use Rattle.rules.specs.Passed.{passedHashes}
 use Rattle.rules.specs.declared.passed.Passed.the-variants.{Hashes}
 use Rattle.rules.proofs.Outputs.{refused}
 use Rattle.rules.proofs.PassedLaws.{passed-is}
 use Rattle.tables.specs.Bytes.{tableChecked}
 use Rattle.tables.specs.declared.check.Checked.the-variants.{Good}
-use Rattle.graph.proofs.CallLaws.{accepted-rows, beyond-refused, beyond-no-list, beyond-written}
+use Rattle.graph.proofs.CallLaws.{beyond-refused, beyond-no-list, beyond-written}
 use borrow.Author.Needs.{needs}
 use Rattle.graph.proofs.beyond.beyond.Statement.{statement}
 use Rattle.graph.proofs.beyond.beyond.Tie as tie

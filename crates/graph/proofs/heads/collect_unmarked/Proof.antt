@@ -5,8 +5,8 @@ use mathlib.Core.Path.{_≡_, refl, _∙_}
 use native.Mathlib.Omega.{arith}
 use borrow.Author.Needs.{needs}
 use lib.ListN.{length}
+use Rattle.rules.specs.Output.{Gathered}
 use Rattle.rules.specs.Order.{ascend}
-use Rattle.graph.specs.Marks.{Collected}
 use Rattle.graph.proofs.BeyondLaws.{remaining}
 use Rattle.graph.proofs.CollectLaws.{collect-starts, collect-most, collect-passed, collect-taken, collect-ends}
 use Rattle.graph.proofs.heads.collect_unmarked.Statement.{statement}
@@ -17,7 +17,7 @@ Inv-loop table n list₀ marks count₀ i₀ list count i =
     record {
       upto : i ≤ n;
       long : length list ≡ length list₀;
-      so : Collected (ascend (remaining table n marks i)) list count;
+      so : Gathered (ascend (remaining table n marks i)) list count;
     }
 
 abbrev μ-loop : tie.MeasureT-loop

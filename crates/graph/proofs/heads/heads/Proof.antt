@@ -1,10 +1,11 @@
 -- `graph::heads::heads` meets its contract: one law for each answer (CallLaws), and the first rows of an accepted table are good. Assumes nothing.
 use mathlib.Core.Path.{_≡_, sym, _∙_}
 use denote.Ref.{now}
+use Rattle.tables.proofs.GoodLaws.{accepted-part}
 use Rattle.rules.proofs.Outputs.{refused}
 use Rattle.tables.specs.Bytes.{tableChecked}
 use Rattle.tables.specs.declared.check.Checked.the-variants.{Good}
-use Rattle.graph.proofs.CallLaws.{accepted-part, heads-refused, heads-many, heads-written}
+use Rattle.graph.proofs.CallLaws.{heads-refused, heads-many, heads-written}
 use borrow.Author.Needs.{needs}
 use Rattle.graph.proofs.heads.heads.Statement.{statement}
 use Rattle.graph.proofs.heads.heads.Tie as tie

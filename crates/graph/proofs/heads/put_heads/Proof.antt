@@ -5,9 +5,8 @@ use mathlib.Core.Path.{_≡_, _∙_}
 use native.Mathlib.Omega.{arith}
 use lib.ListN.{length, replicate, length-replicate}
 use Rattle.rules.specs.Hash.{hashesAt, hashesBytes}
-use Rattle.rules.specs.Output.{Output, Written}
+use Rattle.rules.specs.Output.{Output, Written, Gathered}
 use Rattle.rules.specs.declared.output.Write.{Write}
-use Rattle.graph.specs.Marks.{Collected}
 use Rattle.rules.specs.Sizes.{sizes}
 use Rattle.graph.proofs.CollectLaws.{heads-most}
 use borrow.Author.Needs.{needs}
@@ -17,14 +16,14 @@ use Rattle.graph.proofs.heads.put_heads.Tie as tie
 room : (n : ℕ) → n ≤ sizes .rows → sizes .hash * n ≤ length {A = ℕ} (replicate (sizes .hash * sizes .rows) 0)
 room n h = rw length-replicate (omega arith)
 
-fits : (n count : ℕ) (hs list : List ℕ) → n ≤ sizes .rows → length hs ≤ n → Collected hs list count
+fits : (n count : ℕ) (hs list : List ℕ) → n ≤ sizes .rows → length hs ≤ n → Gathered hs list count
     → length list ≡ length {A = ℕ} (replicate (sizes .hash * sizes .rows) 0)
     → sizes .hash * count ≤ length list
 fits n count hs list h k so e =
     let long : length list ≡ sizes .hash * sizes .rows = e ∙ length-replicate {A = ℕ} (sizes .hash * sizes .rows) 0 in
     omega (arith, so .many)
 
-put : (hs list before after : List ℕ) (count : ℕ) (w : Write) → Collected hs list count
+put : (hs list before after : List ℕ) (count : ℕ) (w : Write) → Gathered hs list count
     → Written (Output.bytes (hashesBytes (hashesAt list 0 count))) before after w
     → Written (Output.bytes (hashesBytes hs)) before after w
 put hs list before after count w so r = rw (so .list) at r

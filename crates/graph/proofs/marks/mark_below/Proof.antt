@@ -4,9 +4,10 @@ use Prim.Native.Nat.{_≤_}
 use mathlib.Core.Path.{_≡_, refl, sym, _∙_}
 use native.Mathlib.Omega.{arith}
 use borrow.Author.Needs.{needs}
+use Rattle.tables.proofs.GoodLaws.{good-part}
 use Rattle.tables.specs.Bytes.{rowsAt}
 use Rattle.tables.specs.Table.{depsOf}
-use Rattle.graph.proofs.MarkLaws.{good-part, markDown, down-on, down-done, below-marked}
+use Rattle.graph.proofs.MarkLaws.{markDown, down-on, down-done, below-marked}
 use Rattle.graph.proofs.marks.mark_below.Statement.{statement}
 use Rattle.graph.proofs.marks.mark_below.Tie as tie
 

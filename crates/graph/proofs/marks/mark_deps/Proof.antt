@@ -5,6 +5,7 @@ use mathlib.Core.Path.{_≡_, sym, _∙_}
 use native.Mathlib.Omega.{arith}
 use borrow.Author.Needs.{needs}
 use Rattle.rules.specs.Sizes.{sizes}
+use Rattle.tables.proofs.GoodLaws.{good-down}
 use Rattle.tables.specs.Bytes.{rowSize, usedAt, twosAt}
 use Rattle.graph.specs.Marks.{markAll}
 use Rattle.graph.proofs.MarkLaws.{number-member, numbers-start, numbers-on, numbers-done}
@@ -38,7 +39,7 @@ array-write-next c =
     let count = c .before .before .before in
     let start = count .before .before in
     let in′ = number-member _ _ _ _ _ (count .dep-count .ensures) (c .before .loop-test .taken) (c .dep .ensures) in
-    omega (arith, start .pre .down (start .args .i) (c .dep .result) (omega arith) in′, start .pre .few)
+    omega (arith, good-down _ _ (start .pre) (start .args .i) (c .dep .result) (omega arith) in′, start .pre .few)
 
 add-j : tie.Need-add-j Inv-loop μ-loop
 add-j c = search needs

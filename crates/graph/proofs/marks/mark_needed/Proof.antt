@@ -6,10 +6,11 @@ use mathlib.Core.Path.{_≡_, refl, sym, _∙_}
 use native.Mathlib.Omega.{arith}
 use borrow.Author.Needs.{needs}
 use lib.ListN.{replicate}
+use Rattle.tables.proofs.GoodLaws.{good-part}
 use Rattle.rules.specs.Sizes.{sizes}
 use Rattle.tables.specs.Bytes.{rowsAt}
 use Rattle.tables.specs.Table.{depsOf}
-use Rattle.graph.proofs.MarkLaws.{good-part, markNeeded, needed-on, needed-done, needed-marked}
+use Rattle.graph.proofs.MarkLaws.{markNeeded, needed-on, needed-done, needed-marked}
 use Rattle.graph.proofs.marks.mark_needed.Statement.{statement}
 use Rattle.graph.proofs.marks.mark_needed.Tie as tie
 

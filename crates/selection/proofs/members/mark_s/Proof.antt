@@ -7,10 +7,10 @@ use native.Mathlib.Nat.{not-suc-le-zero}
 use native.Mathlib.Omega.{arith}
 use borrow.Author.Needs.{needs}
 use lib.ListN.{length, getD, length-set, length-replicate}
+use Rattle.tables.proofs.GoodLaws.{good-part}
 use Rattle.bloom.specs.Have.{havesOf}
 use Rattle.rules.specs.Sizes.{sizes}
 use Rattle.tables.specs.Bytes.{rowsAt}
-use Rattle.graph.proofs.MarkLaws.{good-part}
 use Rattle.selection.specs.ToSend.{inTheS}
 use Rattle.selection.proofs.MemberLaws.{joined, marked-on}
 use Rattle.selection.proofs.members.mark_s.Statement.{statement}

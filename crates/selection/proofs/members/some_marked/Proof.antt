@@ -6,6 +6,7 @@ use mathlib.Core.Path.{_≡_, sym, _∙_}
 use native.Mathlib.Omega.{arith}
 use borrow.Author.Needs.{needs}
 use lib.ListN.{getD}
+use Rattle.tables.proofs.GoodLaws.{good-down}
 use Rattle.tables.specs.Bytes.{usedAt}
 use Rattle.graph.proofs.MarkLaws.{number-member}
 use Rattle.selection.specs.Members.{someOf}
@@ -41,7 +42,7 @@ shared-slice-read-if1 c =
     let count = d .before .before .before in
     let start = count .before .before .before in
     let in′ = number-member _ _ _ _ _ (count .dep-count .ensures) (d .before .loop-test .taken) (d .dep .ensures) in
-    omega (arith, start .pre .0 .down (start .args .i) (d .dep .result) (omega arith) in′, start .pre .1)
+    omega (arith, good-down _ _ (start .pre .0) (start .args .i) (d .dep .result) (omega arith) in′, start .pre .1)
 
 returns : tie.Need-returns Inv-loop μ-loop
 returns c =

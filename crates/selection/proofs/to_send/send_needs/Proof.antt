@@ -5,12 +5,12 @@ use native.Mathlib.Omega.{arith}
 use borrow.Author.Needs.{needs}
 use borrow.Author.Tests.{not-true, not-false}
 use denote.Ref.{now}
+use Rattle.tables.proofs.GoodLaws.{accepted-rows}
 use Rattle.bloom.proofs.HaveLaws.{passed-haves, good-filters}
 use Rattle.rules.specs.Passed.{passedHashes}
 use Rattle.rules.specs.declared.passed.Passed.the-variants.{Hashes}
 use Rattle.rules.proofs.Outputs.{refused}
 use Rattle.rules.proofs.PassedLaws.{passed-is}
-use Rattle.graph.proofs.CallLaws.{accepted-rows}
 use Rattle.selection.proofs.SendCalls.{syncs-inside, accepted-good, send-need, send-many, send-written}
 use Rattle.selection.proofs.to_send.send_needs.Statement.{statement}
 use Rattle.selection.proofs.to_send.send_needs.Tie as tie
