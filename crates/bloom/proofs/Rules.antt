@@ -10,7 +10,7 @@ use lib.Dec.{ltb, leb, eqb}
 use Rattle.rules.specs.Sizes.{sizes}
 use Rattle.rules.proofs.Cases.{split, both, other}
 use Rattle.wire.specs.Number.{mostFilter}
-use Rattle.bloom.specs.Filter.{fieldSize, filterRules}
+use Rattle.bloom.specs.Filter.{fieldSize, filterRules, defaultBits, defaultProbes}
 
 -- ---- the size of a field
 
@@ -135,3 +135,13 @@ rules n b p m r =
     (λ t.
     let none : n ≤ 0 = ltb-false _ _ t in
     no-entries n b p m (r .entries) (r .bits) (r .probes) (r .size) (omega arith))
+
+-- A filter with the bits and probes of the default over at most a table's rows keeps the rules.
+pub rules-default : (n : ℕ) → n ≤ sizes .rows → filterRules n defaultBits defaultProbes (fieldSize n defaultBits) ≡ true
+unfolding fieldSize
+rules-default n h =
+    split (ltb 0 n)
+    (λ t. rules-full n defaultBits defaultProbes (fieldSize n defaultBits) (ltb-true _ _ t) (omega arith) (omega arith) (omega arith) (omega arith) refl (omega arith))
+    (λ t.
+    let none : n ≡ 0 = omega (arith, ltb-false 0 n t) in
+    no-entries n defaultBits defaultProbes (fieldSize n defaultBits) (omega arith) (omega arith) (omega arith) refl none)

@@ -6,6 +6,7 @@ use rules::sizes::HAVES;
 ghost use mathlib.Core.Path.{_≡_};
 ghost use Prim.Native.Nat.{_+_, _<_, min};
 ghost use lib.Dec.{leb};
+ghost use Rattle.rules.specs.Sizes.{sizes};
 ghost use Rattle.bloom.specs.Have.{haveCount, numbersIn, filterGood, haveGood, passedGood, passedFew};
 
 // A record: place and count of the last-sync hashes, then the filter's entries, bits per entry, probes, place and length of its field.
@@ -110,7 +111,7 @@ pub fn passed_few(haves: &[u64]) -> bool
 }
 
 fn at_most(count: usize) -> usize
-    ensures { λ r. ⌜ r ≡ min count 16 ⌝ }
+    ensures { λ r. ⌜ r ≡ min count (sizes .haves) ⌝ }
 {
     if count < HAVES { count } else { HAVES }
 }

@@ -23,7 +23,8 @@ use Rattle.rules.specs.declared.passed.Passed.the-variants.{Hashes, Refused}
 use Rattle.rules.specs.declared.refusal.Refusal.{Refusal}
 use Rattle.rules.specs.declared.refusal.Refusal.the-variants.{BadSession}
 use Rattle.wire.specs.Number.{mostFilter}
-use Rattle.bloom.specs.Filter.{fieldSize, filterRules, addHashes, filterOf, buildOutput}
+use Rattle.probe.specs.Build.{addHashes, filterOf, buildOutput}
+use Rattle.bloom.specs.Filter.{fieldSize, filterRules}
 use Rattle.probe.proofs.FieldLaws.{length-add-hashes}
 use Rattle.bloom.proofs.Rules.{capacity-covers, capacity-none, ruled}
 

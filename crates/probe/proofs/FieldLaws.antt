@@ -2,9 +2,9 @@
 -- set, and the order in which bits are set makes no difference. Hence what was added is contained, in whatever order it was added.
 use Prim.Native.Nat.{ℕ, suc, _+_, _*_, _/_, _%_, _^_, _≤_, _<_, max}
 use mathlib.Core.Bool.{true, false}
-use mathlib.Core.List.{List, [], _∷_, _++_, List·Memᴰ, List·Memᴰ·head, List·Memᴰ·tail, List·Memᴰ·not-nil}
+use mathlib.Core.List.{List, [], _∷_, _++_}
 use mathlib.Core.Path.{_≡_, refl, sym, ap, ap₂, _∙_}
-use native.Mathlib.Nat.{mod-lt, suc-ne-zero}
+use native.Mathlib.Nat.{mod-lt}
 use native.Mathlib.Omega.{arith}
 use borrow.Author.Tests.{ltb-true, ltb-false, lt-ltb, ne-eqb, eqb-true, eqb-false}
 use lib.Arith.{bin-ind}
@@ -13,9 +13,15 @@ use lib.Dec.{ltb, eqb}
 use lib.ListN.{length, getD, set, replicate, length-set, length-append}
 use lib.Pow.{shl-shr, pow-lt}
 use lib.Seq.{getD-set-same, getD-set-other, set-out, set-set, set-comm}
-use Rattle.rules.proofs.Cases.{split}
 use Rattle.rules.specs.Hash.{Bytes}
-use Rattle.bloom.specs.Filter.{fieldSize, probesOf, bitAt, clearAt, noneClear, contains, setBit, setBits, addHash, addHashes, filterOf}
+use Rattle.rules.specs.Order.{member}
+use Rattle.rules.proofs.Cases.{split, or-left}
+use Rattle.rules.proofs.KeepLaws.{member-long}
+use Rattle.rules.proofs.OrderLaws.{member-none, member-behind}
+use Rattle.probe.specs.Build.{setBit, setBits, addHash, addHashes, filterOf}
+use Rattle.probe.specs.Contains.{clearAt, noneClear, contains, anyContains}
+use Rattle.probe.specs.Probes.{probesOf, bitAt}
+use Rattle.bloom.specs.Filter.{Filter, fieldSize}
 
 -- ---- bits of a number
 
@@ -149,24 +155,31 @@ hashes-stay p field [] js e = e
 hashes-stay p field (h ∷ hs) js e =
     hashes-stay p (addHash p field h) hs js (stay-none-clear field (probesOf (8 * length field) p h) js e)
 
-hash-added : (p m : ℕ) (field hs : List ℕ) (h : ℕ) → m ≡ 8 * length field → List·Memᴰ h hs
+hash-added : (p m : ℕ) (field hs : List ℕ) (h : ℕ) → m ≡ 8 * length field → member h hs ≡ true
     → noneClear (addHashes p field hs) (probesOf m p h) ≡ true
 unfolding addHashes addHash
-hash-added p m field (g ∷ hs) h e (List·Memᴰ·head q) =
-    rw (e, q) (hashes-stay p (addHash p field g) hs (probesOf (8 * length field) p g) (set-none-clear field (probesOf (8 * length field) p g)))
-hash-added p m field (g ∷ hs) h e (List·Memᴰ·tail d) =
-    hash-added p m (addHash p field g) hs h (rw length-add-hash e) d
+hash-added p m field [] h e d = absurd (member-none h d)
+hash-added p m field (g ∷ hs) h e d =
+    split (eqb h g)
+    (λ q.
+    let same : h ≡ g = eqb-true h g q in
+    rw (e, same) (hashes-stay p (addHash p field g) hs (probesOf (8 * length field) p g) (set-none-clear field (probesOf (8 * length field) p g))))
+    (λ q. hash-added p m (addHash p field g) hs h (rw length-add-hash e) (member-behind h g hs d (eqb-false h g q)))
 
-some-entries : (hs : List ℕ) (h : ℕ) → List·Memᴰ h hs → eqb (length hs) 0 ≡ false
-some-entries [] h d = absurd (List·Memᴰ·not-nil d)
-some-entries (g ∷ hs) h d = ne-eqb (suc (length hs)) 0 (suc-ne-zero (length hs))
+some-entries : (hs : List ℕ) (h : ℕ) → member h hs ≡ true → eqb (length hs) 0 ≡ false
+some-entries hs h d = ne-eqb (length hs) 0 (λ e. omega (arith, member-long h hs d))
 
 -- Whatever the bits per entry and the probes are: a hash that was added is contained.
-pub added-contained : (b p : ℕ) (hs : List ℕ) (h : ℕ) → List·Memᴰ h hs → contains (filterOf b p hs) h ≡ true
+pub added-contained : (b p : ℕ) (hs : List ℕ) (h : ℕ) → member h hs ≡ true → contains (filterOf b p hs) h ≡ true
 unfolding contains filterOf
 added-contained b p hs h d =
     let field : List ℕ = replicate (fieldSize (length hs) b) 0 in
     rw (some-entries hs h d) (hash-added p _ field hs h (ap (λ (n : ℕ). 8 * n) (length-add-hashes p field hs)) d)
+
+-- And in a list of filters that begins with theirs.
+pub added-any : (b p : ℕ) (hs : List ℕ) (fs : List Filter) (h : ℕ) → member h hs ≡ true → anyContains (filterOf b p hs ∷ fs) h ≡ true
+unfolding anyContains
+added-any b p hs fs h d = or-left (contains (filterOf b p hs) h) (anyContains fs h) (added-contained b p hs h d)
 
 -- ---- the order of adding
 

@@ -10,13 +10,13 @@ use lib.Seq.{slice, getD-drop, getD-take}
 use Rattle.rules.proofs.Hash.{hash-bytes}
 use Rattle.rules.specs.Hash.{Bytes, hashAt, hashBytes}
 use Rattle.rules.specs.Sizes.{sizes}
-use Rattle.bloom.specs.Filter.{wordAt, probesFrom, probesOf}
+use Rattle.probe.specs.Probes.{u32At, probesFrom, probesOf}
 
 getD-slice : (s : List ℕ) (a e i : ℕ) → a + i < e → getD (slice a e s) i 0 ≡ getD s (a + i) 0
 getD-slice s a e i h = rw (getD-drop, getD-take)
 
-word-slice : (s : List ℕ) (a e i : ℕ) → a + i + 4 ≤ e → wordAt (slice a e s) i ≡ wordAt s (a + i)
-unfolding wordAt
+word-slice : (s : List ℕ) (a e i : ℕ) → a + i + 4 ≤ e → u32At (slice a e s) i ≡ u32At s (a + i)
+unfolding u32At
 word-slice s a e i h =
     rw (
       getD-slice s a e i (omega arith),
@@ -29,11 +29,11 @@ word-slice s a e i h =
     )
 
 pub hash-word : (s : List ℕ) (at i : ℕ) → Bytes s → at + sizes .hash ≤ length s → i + 4 ≤ sizes .hash
-    → wordAt (hashBytes (hashAt s at)) i ≡ wordAt s (at + i)
+    → u32At (hashBytes (hashAt s at)) i ≡ u32At s (at + i)
 hash-word s at i b h k = rw (hash-bytes s at b h) (word-slice s at (at + sizes .hash) i (omega arith))
 
 pub probes-at : (m p : ℕ) (s : List ℕ) (at : ℕ) → Bytes s → at + sizes .hash ≤ length s
-    → probesOf m p (hashAt s at) ≡ probesFrom (max 1 p) m (wordAt s at % m) (wordAt s (at + 4) % m) (wordAt s (at + 8) % m)
+    → probesOf m p (hashAt s at) ≡ probesFrom (max 1 p) m (u32At s at % m) (u32At s (at + 4) % m) (u32At s (at + 8) % m)
 unfolding probesOf
 probes-at m p s at b h =
     rw (hash-word s at 0 b h (omega arith), hash-word s at 4 b h (omega arith), hash-word s at 8 b h (omega arith), add-zero at)
@@ -48,5 +48,5 @@ steps-below (suc k) m x y z (suc i) h a = steps-below k m ((x + y) % m) ((y + z)
 pub probes-below : (m p h i : ℕ) → 0 < m → getD (probesOf m p h) i 0 < m
 unfolding probesOf
 probes-below m p h i pos =
-    let w : ℕ = wordAt (hashBytes h) 0 in
-    steps-below (max 1 p) m (w % m) (wordAt (hashBytes h) 4 % m) (wordAt (hashBytes h) 8 % m) i pos (mod-lt w pos)
+    let w : ℕ = u32At (hashBytes h) 0 in
+    steps-below (max 1 p) m (w % m) (u32At (hashBytes h) 4 % m) (u32At (hashBytes h) 8 % m) i pos (mod-lt w pos)

@@ -14,7 +14,9 @@ use Rattle.rules.specs.Hash.{Bytes, hashAt}
 use Rattle.rules.specs.Sizes.{sizes}
 use Rattle.rules.proofs.Cases.{both}
 use Rattle.rules.proofs.Hash.{take-drop, length-slice-of}
-use Rattle.bloom.specs.Filter.{Filter, filterRules, wordAt, probesFrom, probesOf, clearAt, noneClear, contains, anyContains}
+use Rattle.probe.specs.Contains.{clearAt, noneClear, contains, anyContains}
+use Rattle.probe.specs.Probes.{u32At, probesFrom, probesOf}
+use Rattle.bloom.specs.Filter.{Filter, filterRules}
 use Rattle.bloom.specs.Have.{haveCount, numbersIn, filterWith, filtersFrom, filtersOf, filterGood}
 use Rattle.bloom.specs.declared.have.FilterNumbers.{FilterNumbers}
 use Rattle.probe.proofs.ProbeLaws.{probes-at}
@@ -23,6 +25,10 @@ use Rattle.bloom.proofs.Rules.{ruled}
 -- ---- probes
 
 module _ (field : List ℕ) (m x y z : ℕ) where
+  -- before the first probe all of them decide
+  pub probes-start : (k rounds : ℕ) → k ≡ 0 → noneClear field (probesFrom (rounds - k) m x y z) ≡ noneClear field (probesFrom rounds m x y z)
+  probes-start k rounds e = let all : rounds - k ≡ rounds = omega arith in rw all
+
   -- the probe is clear: the filter misses
   pub probe-clear : (left : ℕ) → 0 < left → clearAt field x ≡ true → noneClear field (probesFrom left m x y z) ≡ false
   unfolding noneClear probesFrom
@@ -102,7 +108,7 @@ pub probes-decide : (s hashes : List ℕ) (f : FilterNumbers) (at : ℕ) → Pro
     → contains (filterWith s f) (hashAt hashes at)
     ≡ noneClear
     (take (f .place + f .size - f .place) (drop (f .place) s))
-    (probesFrom (max 1 (f .probes)) (8 * f .size) (wordAt hashes at % (8 * f .size)) (wordAt hashes (at + 4) % (8 * f .size)) (wordAt hashes (at + 8) % (8 * f .size)))
+    (probesFrom (max 1 (f .probes)) (8 * f .size) (u32At hashes at % (8 * f .size)) (u32At hashes (at + 4) % (8 * f .size)) (u32At hashes (at + 8) % (8 * f .size)))
 unfolding filterWith
 probes-decide s hashes f at good some b h =
     let long : length (slice (f .place) (f .place + f .size) s) ≡ f .size = length-slice-of (f .size) s (f .place) (good .inside) in

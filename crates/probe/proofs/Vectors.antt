@@ -6,7 +6,10 @@ use mathlib.Core.Path.{_≡_, refl}
 use lib.ListN.{length, replicate}
 use Rattle.rules.specs.Hash.{bigEndian, bigEndianBytes, hashBytes}
 use Rattle.wire.specs.Number.{shortest, sevens}
-use Rattle.bloom.specs.Filter.{Filter, fieldSize, wordAt, probesFrom, probesOf, bitAt, clearAt, noneClear, contains, setBit, setBits, addHash, addHashes, filterOf, filterBytes, defaultBits, defaultProbes}
+use Rattle.probe.specs.Build.{setBit, setBits, addHash, addHashes, filterOf}
+use Rattle.probe.specs.Contains.{clearAt, noneClear, contains}
+use Rattle.probe.specs.Probes.{u32At, probesFrom, probesOf, bitAt}
+use Rattle.bloom.specs.Filter.{Filter, fieldSize, filterBytes, defaultBits, defaultProbes}
 
 -- The hash whose first three words are these bytes, and whose other bytes are 0.
 abbrev pub wordsHash : ℕ → ℕ → ℕ → ℕ
@@ -24,5 +27,5 @@ pub probes-and-filters :
     × (contains small (wordsHash 1 0 0) ≡ true)
     × (contains small (wordsHash 2 0 0) ≡ false)
     × ((m h : ℕ) → length (probesOf m 0 h) ≡ 1)
-unfolding bigEndian bigEndianBytes hashBytes shortest sevens fieldSize wordAt probesFrom probesOf bitAt clearAt noneClear contains setBit setBits addHash addHashes filterOf filterBytes
+unfolding bigEndian bigEndianBytes hashBytes shortest sevens fieldSize u32At probesFrom probesOf bitAt clearAt noneClear contains setBit setBits addHash addHashes filterOf filterBytes
 probes-and-filters = (refl, refl, refl, refl, refl, refl, λ m h. refl)

@@ -1,7 +1,7 @@
 // A filter built from hashes (`from_hashes`, `add_hash`, `set_bit`).
+use crate::probes::Probe;
 use crate::probes::count;
-use crate::probes::step;
-use crate::probes::word;
+use crate::probes::u32_at;
 use bloom::rule::bits_capacity;
 use bloom::rule::build_rules;
 use rules::output::Write;
@@ -14,7 +14,8 @@ ghost use mathlib.Core.Path.{_≡_};
 ghost use Prim.Native.Nat.{_+_, _*_, _≤_, _<_};
 ghost use lib.ListN.{length, replicate};
 ghost use lib.Seq.{sets};
-ghost use Rattle.bloom.specs.Filter.{fieldSize, filterRules, setBit, addHash, addHashes, filterOf, buildOutput};
+ghost use Rattle.probe.specs.Build.{setBit, addHash, addHashes, filterOf, buildOutput};
+ghost use Rattle.bloom.specs.Filter.{fieldSize, filterRules};
 ghost use Rattle.rules.specs.Hash.{hashAt, hashesAt};
 ghost use Rattle.rules.specs.Output.{Written, Output};
 ghost use Rattle.rules.specs.Sizes.{sizes};
@@ -36,15 +37,15 @@ pub fn add_hash(field: &mut [u8], probes: u64, hashes: &[u8], at: usize)
     ensures { λ _. ⌜ now (field .exit) ≡ addHash probes (now (field .entry)) (hashAt (now (hashes .entry)) at) ⌝ }
 {
     let m = 8 * field.len() as u32;
-    let mut x = word(hashes, at) % m;
-    let mut y = word(hashes, at + 4) % m;
-    let z = word(hashes, at + 8) % m;
+    let x = u32_at(hashes, at) % m;
+    let y = u32_at(hashes, at + 4) % m;
+    let z = u32_at(hashes, at + 8) % m;
+    let mut probe = Probe { x, y };
     let rounds = count(probes);
     let mut k: u64 = 0;
     while k < rounds {
-        set_bit(field, x as usize);
-        x = step(x, y, m);
-        y = step(y, z, m);
+        set_bit(field, probe.x as usize);
+        probe = probe.next(z, m);
         k += 1;
     }
 }

@@ -1,7 +1,7 @@
 // Whether filters contain a hash (`contains_hash`, `get_bit`).
+use crate::probes::Probe;
 use crate::probes::count;
-use crate::probes::step;
-use crate::probes::word;
+use crate::probes::u32_at;
 use bloom::have::HAVE_WORDS;
 use bloom::have::filter_in;
 use bloom::have::passed_few;
@@ -11,9 +11,8 @@ use rules::sizes::HASH_SIZE;
 ghost use mathlib.Core.Path.{_≡_};
 ghost use Prim.Native.Nat.{_+_, _≤_, _<_};
 ghost use lib.ListN.{length};
-ghost use Rattle.bloom.specs.Filter.{clearAt, anyContains};
 ghost use Rattle.bloom.specs.Have.{filtersOf, GoodFilters};
-ghost use Rattle.probe.specs.Contains.{containedIn};
+ghost use Rattle.probe.specs.Contains.{containedIn, clearAt, anyContains};
 ghost use Rattle.rules.specs.Hash.{hashAt};
 ghost use Rattle.rules.specs.Sizes.{sizes};
 
@@ -34,9 +33,9 @@ pub fn contains_hash(s: &[u8], haves: &[u64], hashes: &[u8], at: usize) -> bool
     requires { ⌜ GoodFilters (now s) (now haves) × (at + sizes .hash ≤ length (now hashes)) ⌝ }
     ensures { λ r. ⌜ r ≡ anyContains (filtersOf (now (s .entry)) (now (haves .entry))) (hashAt (now (hashes .entry)) at) ⌝ }
 {
-    let first = word(hashes, at);
-    let second = word(hashes, at + 4);
-    let third = word(hashes, at + 8);
+    let first = u32_at(hashes, at);
+    let second = u32_at(hashes, at + 4);
+    let third = u32_at(hashes, at + 8);
     let total = haves.len() / HAVE_WORDS;
     let mut i = 0;
     'next_filter: while i < total {
@@ -49,17 +48,17 @@ pub fn contains_hash(s: &[u8], haves: &[u64], hashes: &[u8], at: usize) -> bool
         let size = f.size;
         let field = &s[place..place + size];
         let m = 8 * size as u32;
-        let mut x = first % m;
-        let mut y = second % m;
+        let x = first % m;
+        let y = second % m;
         let z = third % m;
+        let mut probe = Probe { x, y };
         let rounds = count(f.probes);
         let mut k: u64 = 0;
         while k < rounds {
-            if clear_bit(field, x as usize) {
+            if clear_bit(field, probe.x as usize) {
                 continue 'next_filter;
             }
-            x = step(x, y, m);
-            y = step(y, z, m);
+            probe = probe.next(z, m);
             k += 1;
         }
         return true;

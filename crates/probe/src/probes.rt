@@ -1,8 +1,9 @@
 // Where a hash probes a field.
 ghost use mathlib.Core.Path.{_≡_};
-ghost use Prim.Native.Nat.{_+_, _%_, _≤_, _<_, max};
+ghost use Prim.Native.Nat.{_+_, _*_, _%_, _≤_, _<_, max};
 ghost use lib.ListN.{length, getD};
-ghost use Rattle.bloom.specs.Filter.{wordAt};
+ghost use Rattle.rules.specs.Sizes.{sizes};
+ghost use Rattle.probe.specs.Probes.{u32At};
 
 // The byte at a place, widened.
 fn byte(s: &[u8], at: usize) -> u32
@@ -13,19 +14,37 @@ fn byte(s: &[u8], at: usize) -> u32
 }
 
 // The little-endian word at a place.
-pub fn word(s: &[u8], at: usize) -> u32
+pub fn u32_at(s: &[u8], at: usize) -> u32
     requires { ⌜ at + 4 ≤ length (now s) ⌝ }
-    ensures { λ r. ⌜ r ≡ wordAt (now (s .entry)) at ⌝ }
+    ensures { λ r. ⌜ r ≡ u32At (now (s .entry)) at ⌝ }
 {
     byte(s, at) + 256 * (byte(s, at + 1) + 256 * (byte(s, at + 2) + 256 * byte(s, at + 3)))
 }
 
 // One step of a probe: both numbers are below m, so the sum is less than twice m.
 pub fn step(a: u32, b: u32, m: u32) -> u32
-    requires { ⌜ (a < m) × (b < m) × (m ≤ 65536) ⌝ }
-    ensures { λ r. ⌜ r ≡ (a + b) % m ⌝ }
+    requires { ⌜ (a < m) × (b < m) × (m ≤ 8 * sizes .field) ⌝ }
+    ensures { λ r. ⌜ (r ≡ (a + b) % m) × (r < m) ⌝ }
 {
     (a + b) % m
+}
+
+// The two numbers that move from probe to probe; x is the probe.
+pub struct Probe {
+    pub x: u32,
+    pub y: u32,
+}
+
+impl Probe {
+    // The next probe: x is stepped by y as it was, and y by z after it.
+    pub fn next(self, z: u32, m: u32) -> Probe
+        requires { ⌜ (self .x < m) × (self .y < m) × (z < m) × (m ≤ 8 * sizes .field) ⌝ }
+        ensures { λ r. ⌜ r ≡ record { x = (self .x + self .y) % m; y = (self .y + z) % m } ⌝ }
+    {
+        let x = step(self.x, self.y, m);
+        let y = step(self.y, z, m);
+        Probe { x, y }
+    }
 }
 
 // How many probes a hash has.

@@ -10,7 +10,7 @@ use borrow.Author.Tests.{eqb-true, eq-eqb}
 use lib.Dec.{eqb}
 use lib.ListN.{length, getD, set}
 use lib.Seq.{getD-set-same, getD-set-other}
-use Rattle.bloom.specs.Filter.{anyContains}
+use Rattle.probe.specs.Contains.{anyContains}
 use Rattle.bloom.specs.Have.{Have, haveCount, syncPlace, syncCount, haveIn, havesFrom, havesOf, filtersOf}
 use Rattle.bloom.proofs.HaveLaws.{filters-of-haves}
 use Rattle.rules.specs.Hash.{hashAt, hashesAt}

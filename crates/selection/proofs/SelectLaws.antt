@@ -8,7 +8,7 @@ use native.Mathlib.Omega.{arith}
 use borrow.Author.Tests.{eqb-true, eq-eqb, not-true}
 use lib.Dec.{eqb}
 use lib.ListN.{length, getD, length-append}
-use Rattle.bloom.specs.Filter.{anyContains}
+use Rattle.probe.specs.Contains.{anyContains}
 use Rattle.bloom.specs.Have.{Have}
 use Rattle.rules.specs.Order.{member, keep, Once}
 use Rattle.rules.specs.Sizes.{sizes}

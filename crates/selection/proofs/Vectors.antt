@@ -4,7 +4,9 @@ use Prim.Native.Nat.{ℕ}
 use mathlib.Core.Bool.{true, false}
 use mathlib.Core.List.{List, [], _∷_}
 use mathlib.Core.Path.{_≡_, refl}
-use Rattle.bloom.specs.Filter.{filterOf4, wordAt, probesFrom, probesOf, bitAt, clearAt, noneClear, contains, anyContains}
+use Rattle.probe.specs.Contains.{clearAt, noneClear, contains, anyContains}
+use Rattle.probe.specs.Probes.{u32At, probesFrom, probesOf, bitAt}
+use Rattle.bloom.specs.Filter.{filterOf4}
 use Rattle.bloom.specs.Have.{Have}
 use Rattle.probe.proofs.Vectors.{wordsHash}
 use Rattle.rules.specs.Hash.{bigEndian, bigEndianBytes, hashBytes}
@@ -46,5 +48,5 @@ pub vectors :
     × (toSend four (have ∷ []) (d ∷ []) ≡ b ∷ d ∷ [])
     × (toSend four (have ∷ []) (c ∷ c ∷ []) ≡ c ∷ c ∷ b ∷ d ∷ [])
     × (toSend four [] (c ∷ c ∷ []) ≡ c ∷ c ∷ [])
-unfolding bigEndian bigEndianBytes hashBytes wordAt probesFrom probesOf bitAt clearAt noneClear contains anyContains member someBelow reachIn reach rows hashOf depsOf held rowsFrom rowsWhere belowRow lastSyncs filters candidate missed inTheS theS keep toSend
+unfolding bigEndian bigEndianBytes hashBytes u32At probesFrom probesOf bitAt clearAt noneClear contains anyContains member someBelow reachIn reach rows hashOf depsOf held rowsFrom rowsWhere belowRow lastSyncs filters candidate missed inTheS theS keep toSend
 vectors = (refl, refl, refl, refl, refl, refl, refl, refl)

@@ -5,7 +5,8 @@ use Prim.Native.Nat.{ℕ}
 use mathlib.Core.Bool.{Bool, cond, not, _&&_}
 use mathlib.Core.List.{List, [], _∷_, _++_, map}
 use lib.ListN.{length}
-use Rattle.bloom.specs.Filter.{Filter, anyContains}
+use Rattle.probe.specs.Contains.{anyContains}
+use Rattle.bloom.specs.Filter.{Filter}
 use Rattle.bloom.specs.Have.{Have, havesOf, passedGood, passedFew}
 use Rattle.rules.specs.Hash.{hashesAt, hashesBytes}
 use Rattle.rules.specs.Order.{member, keep}

@@ -11,7 +11,7 @@ ghost use mathlib.Core.Bool.{false, not, _&&_, _||_};
 ghost use mathlib.Core.Path.{_≡_};
 ghost use Prim.Native.Nat.{_+_, _*_, _≤_};
 ghost use lib.ListN.{length, getD};
-ghost use Rattle.bloom.specs.Filter.{anyContains};
+ghost use Rattle.probe.specs.Contains.{anyContains};
 ghost use Rattle.bloom.specs.Have.{havesOf, filtersOf, GoodFilters};
 ghost use Rattle.rules.specs.Hash.{hashAt};
 ghost use Rattle.rules.specs.Order.{member};

@@ -3,32 +3,38 @@
 use Prim.Native.Nat.{ℕ, _+_, _-_, _*_, _%_, _≤_, _<_, suc, max}
 use mathlib.Core.List.{List}
 use mathlib.Core.Path.{_≡_, refl, ap, _∙_}
-use native.Mathlib.Nat.{mod-lt, sub-zero}
+use native.Mathlib.Nat.{mod-lt}
 use native.Mathlib.Omega.{arith}
 use borrow.Author.Needs.{needs}
 use lib.ListN.{length}
 use Rattle.rules.specs.Hash.{Bytes, hashAt}
 use Rattle.rules.specs.Sizes.{sizes}
-use Rattle.bloom.specs.Filter.{wordAt, probesFrom, setBit, setBits, addHash}
+use Rattle.probe.specs.Build.{setBit, setBits, addHash}
+use Rattle.probe.specs.Probes.{u32At, probesFrom}
+use Rattle.probe.specs.declared.probes.Probe.{Probe}
 use Rattle.probe.proofs.FieldLaws.{length-set-bit}
 use Rattle.probe.proofs.ProbeLaws.{probes-at}
 use Rattle.probe.proofs.build.add_hash.Statement.{statement}
 use Rattle.probe.proofs.build.add_hash.Tie as tie
 
 abbrev Inv-loop : tie.InvT-loop
-Inv-loop field₀ probes hashes at m x₀ y₀ z rounds k₀ field x y k =
+Inv-loop field₀ probes hashes at m x y z probe₀ rounds k₀ field probe k =
     record {
       upto : k ≤ rounds;
       long : length field ≡ length field₀;
-      first : x < m;
-      second : y < m;
+      first : probe .x < m;
+      second : probe .y < m;
       third : z < m;
-      most : m ≤ 65536;
-      rest : setBits field (probesFrom (rounds - k) m x y z) ≡ setBits field₀ (probesFrom rounds m x₀ y₀ z);
+      most : m ≤ 8 * sizes .field;
+      rest : setBits field (probesFrom (rounds - k) m (probe .x) (probe .y) z) ≡ setBits field₀ (probesFrom rounds m x y z);
     }
 
 abbrev μ-loop : tie.MeasureT-loop
-μ-loop field₀ probes hashes at m x₀ y₀ z rounds k₀ field x y k = rounds - k
+μ-loop field₀ probes hashes at m x y z probe₀ rounds k₀ field probe k = rounds - k
+
+-- none of them yet
+added-none : (field : List ℕ) (k rounds m x y z : ℕ) → k ≡ 0 → setBits field (probesFrom (rounds - k) m x y z) ≡ setBits field (probesFrom rounds m x y z)
+added-none field k rounds m x y z e = let all : rounds - k ≡ rounds = omega arith in rw all
 
 -- one probe more
 added-more : (field next : List ℕ) (rounds k m x y z u v : ℕ) → k < rounds
@@ -47,7 +53,7 @@ added-all field rounds k m x y z h = let e : rounds - k ≡ 0 = omega arith in r
 
 -- the probes that the code starts from are the hash's
 of-hash : (field : List ℕ) (p : ℕ) (s : List ℕ) (at rounds a b c : ℕ) → Bytes s → at + sizes .hash ≤ length s
-    → rounds ≡ max 1 p → a ≡ wordAt s at → b ≡ wordAt s (at + 4) → c ≡ wordAt s (at + 8)
+    → rounds ≡ max 1 p → a ≡ u32At s at → b ≡ u32At s (at + 4) → c ≡ u32At s (at + 8)
     → let m = 8 * length field in
     setBits field (probesFrom rounds m (a % m) (b % m) (c % m)) ≡ addHash p field (hashAt s at)
 unfolding addHash
@@ -59,26 +65,26 @@ cast-m c = search needs
 mul-m : tie.Need-mul-m Inv-loop μ-loop
 mul-m c = search needs
 
-word-requires : tie.Need-word-requires Inv-loop μ-loop
-word-requires c κs = search needs
+u32-at-requires : tie.Need-u32-at-requires Inv-loop μ-loop
+u32-at-requires c κs = search needs
 
 rem-x : tie.Need-rem-x Inv-loop μ-loop
 rem-x c = search needs
 
-add-word : tie.Need-add-word Inv-loop μ-loop
-add-word c = search needs
+add-u32-at : tie.Need-add-u32-at Inv-loop μ-loop
+add-u32-at c = search needs
 
-word-requires-2 : tie.Need-word-requires-2 Inv-loop μ-loop
-word-requires-2 c κs = search needs
+u32-at-requires-2 : tie.Need-u32-at-requires-2 Inv-loop μ-loop
+u32-at-requires-2 c κs = search needs
 
 rem-y : tie.Need-rem-y Inv-loop μ-loop
 rem-y c = search needs
 
-add-word-2 : tie.Need-add-word-2 Inv-loop μ-loop
-add-word-2 c = search needs
+add-u32-at-2 : tie.Need-add-u32-at-2 Inv-loop μ-loop
+add-u32-at-2 c = search needs
 
-word-requires-3 : tie.Need-word-requires-3 Inv-loop μ-loop
-word-requires-3 c κs = search needs
+u32-at-requires-3 : tie.Need-u32-at-requires-3 Inv-loop μ-loop
+u32-at-requires-3 c κs = search needs
 
 rem-z : tie.Need-rem-z Inv-loop μ-loop
 rem-z c = search needs
@@ -96,7 +102,7 @@ loop-holds c =
       second = mod-lt _ m;
       third = mod-lt _ m;
       most = omega arith;
-      rest = rw sub-zero;
+      rest = added-none _ _ _ _ _ _ _ refl;
     }
 
 cast-set-bit : tie.Need-cast-set-bit Inv-loop μ-loop
@@ -105,11 +111,8 @@ cast-set-bit c = search needs
 set-bit-requires : tie.Need-set-bit-requires Inv-loop μ-loop
 set-bit-requires c κs = search needs
 
-step-requires : tie.Need-step-requires Inv-loop μ-loop
-step-requires c κs = search needs
-
-step-requires-2 : tie.Need-step-requires-2 Inv-loop μ-loop
-step-requires-2 c κs = search needs
+next-requires : tie.Need-next-requires Inv-loop μ-loop
+next-requires c κs = search needs
 
 add-k : tie.Need-add-k Inv-loop μ-loop
 add-k c = search needs
@@ -121,16 +124,17 @@ loop-again : tie.Need-loop-again Inv-loop μ-loop
 loop-again c =
     let t = c .before .before .before .before .before in
     let l = t .before .before .loop in
-    let set = c .before .before .before .before .set-bit .ensures in
+    let set = c .before .before .before .set-bit .ensures in
+    let on = c .next .ensures in
     let m : 0 < 8 * length (t .before .before .before .before .before .before .before .before .before .args .field .now) = omega arith in
     record {
       upto = omega arith;
       long = ap length set ∙ length-set-bit _ _ ∙ l .inv .long;
-      first = step-below _ _ _ m (c .before .step .ensures);
-      second = step-below _ _ _ m (c .step2 .ensures);
+      first = step-below _ _ _ m (ap (λ (p : Probe). p .x) on);
+      second = step-below _ _ _ m (ap (λ (p : Probe). p .y) on);
       third = l .inv .third;
       most = l .inv .most;
-      rest = added-more _ _ _ _ _ _ _ _ _ _ (t .before .loop-test .taken) set (c .before .step .ensures) (c .step2 .ensures) ∙ l .inv .rest;
+      rest = added-more _ _ _ _ _ _ _ _ _ _ (t .before .loop-test .taken) set (ap (λ (p : Probe). p .x) on) (ap (λ (p : Probe). p .y) on) ∙ l .inv .rest;
     }
 
 same-length : tie.Need-same-length Inv-loop μ-loop
@@ -144,7 +148,7 @@ returns c =
     added-all _ _ _ _ _ _ _ (c .loop-test .left)
     ∙ l .inv .rest
     ∙ of-hash _ _ _ _ _ _ _ _ (λ i. f .shared-slice-known .given i .fits) (f .before .before .pre .2)
-    (c .before .before .count .ensures) (three .before .before .word .ensures) (three .before .word2 .ensures) (three .word3 .ensures)
+    (c .before .before .count .ensures) (three .before .before .u32-at .ensures) (three .before .u32-at2 .ensures) (three .u32-at3 .ensures)
 
 pub add-hash-spec : {M : Type 1} → statement M
 add-hash-spec =
@@ -154,20 +158,19 @@ add-hash-spec =
     μ-loop
     cast-m
     mul-m
-    word-requires
+    u32-at-requires
     rem-x
-    add-word
-    word-requires-2
+    add-u32-at
+    u32-at-requires-2
     rem-y
-    add-word-2
-    word-requires-3
+    add-u32-at-2
+    u32-at-requires-3
     rem-z
     count-requires
     loop-holds
     cast-set-bit
     set-bit-requires
-    step-requires
-    step-requires-2
+    next-requires
     add-k
     loop-less
     loop-again

@@ -9,7 +9,7 @@ use borrow.Author.Needs.{needs}
 use lib.ListN.{length}
 use Rattle.rules.specs.Hash.{hashAt, hashesAt}
 use Rattle.rules.specs.Sizes.{sizes}
-use Rattle.bloom.specs.Filter.{addHash, addHashes}
+use Rattle.probe.specs.Build.{addHash, addHashes}
 use Rattle.probe.proofs.FieldLaws.{length-add-hash}
 use Rattle.probe.proofs.build.add_hashes.Statement.{statement}
 use Rattle.probe.proofs.build.add_hashes.Tie as tie

@@ -2,7 +2,7 @@
 use Prim.Native.Nat.{ℕ}
 use mathlib.Core.List.{List}
 use mathlib.Core.Path.{_≡_, ap, _∙_}
-use Rattle.bloom.specs.Filter.{addHashes}
+use Rattle.probe.specs.Build.{addHashes}
 use borrow.Author.Needs.{needs}
 use Rattle.probe.proofs.build.fill.Statement.{statement}
 use Rattle.probe.proofs.build.fill.Tie as tie

@@ -8,7 +8,7 @@ use lib.Bits.{bitOr}
 use lib.ListN.{length, getD, set}
 use lib.Pow.{pow-lt}
 use lib.Seq.{set-out}
-use Rattle.bloom.specs.Filter.{setBit}
+use Rattle.probe.specs.Build.{setBit}
 use borrow.Author.Needs.{needs}
 use Rattle.probe.proofs.build.set_bit.Statement.{statement}
 use Rattle.probe.proofs.build.set_bit.Tie as tie

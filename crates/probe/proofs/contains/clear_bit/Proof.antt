@@ -6,7 +6,8 @@ use mathlib.Core.Path.{_≡_}
 use borrow.Author.Tests.{lt-ltb, le-ltb}
 use lib.Dec.{eqb}
 use lib.ListN.{length, getD}
-use Rattle.bloom.specs.Filter.{bitAt, clearAt}
+use Rattle.probe.specs.Contains.{clearAt}
+use Rattle.probe.specs.Probes.{bitAt}
 use borrow.Author.Needs.{needs}
 use Rattle.probe.proofs.contains.clear_bit.Statement.{statement}
 use Rattle.probe.proofs.contains.clear_bit.Tie as tie

@@ -10,9 +10,11 @@ use native.Mathlib.Nat.{mod-lt}
 use native.Mathlib.Omega.{arith}
 use lib.ListN.{length, take, drop}
 use Rattle.rules.specs.Hash.{hashAt}
-use Rattle.bloom.specs.Filter.{probesFrom, noneClear, contains, anyContains}
+use Rattle.probe.specs.Contains.{noneClear, contains, anyContains}
+use Rattle.probe.specs.Probes.{probesFrom}
 use Rattle.bloom.specs.Have.{filterWith, filtersOf}
 use Rattle.probe.proofs.Search.{
+  probes-start,
   probe-clear,
   probe-on,
   probes-done,
@@ -30,16 +32,16 @@ use Rattle.probe.proofs.contains.contains_hash.Statement.{statement}
 use Rattle.probe.proofs.contains.contains_hash.Tie as tie
 
 abbrev Inv-loop : tie.InvT-loop
-Inv-loop s haves hashes at first second third total i place size field m x₀ y₀ z rounds k₀ x y k =
+Inv-loop s haves hashes at first second third total i place size field m x y z probe₀ rounds k₀ probe k =
     record {
-      xs : x < m;
-      ys : y < m;
+      xs : probe .x < m;
+      ys : probe .y < m;
       upto : k ≤ rounds;
-      rest : noneClear field (probesFrom (rounds - k) m x y z) ≡ noneClear field (probesFrom rounds m x₀ y₀ z);
+      rest : noneClear field (probesFrom (rounds - k) m (probe .x) (probe .y) z) ≡ noneClear field (probesFrom rounds m x y z);
     }
 
 abbrev μ-loop : tie.MeasureT-loop
-μ-loop s haves hashes at first second third total i place size field m x₀ y₀ z rounds k₀ x y k = rounds - k
+μ-loop s haves hashes at first second third total i place size field m x y z probe₀ rounds k₀ probe k = rounds - k
 
 abbrev Inv-next-filter : tie.InvT-next-filter
 Inv-next-filter s haves hashes at first second third total i₀ i =
@@ -71,12 +73,12 @@ decides : (c : tie.After-count Inv-loop μ-loop Inv-next-filter μ-next-filter)
     contains (filterWith (now (a .s)) f) (hashAt (now (a .hashes)) (a .at))
     ≡ noneClear
     (take (f .place + f .size - f .place) (drop (f .place) (now (a .s))))
-    (probesFrom (c .count .result) m (w .before .before .word .result % m) (w .before .word2 .result % m) (w .word3 .result % m))
+    (probesFrom (c .count .result) m (w .before .before .u32-at .result % m) (w .before .u32-at2 .result % m) (w .u32-at3 .result % m))
 decides c =
     let e = c .before .before .before .before in
     let w = e .before .before .before in
     let known = w .before .before .before in
-    rw (c .count .ensures, w .before .before .word .ensures, w .before .word2 .ensures, w .word3 .ensures)
+    rw (c .count .ensures, w .before .before .u32-at .ensures, w .before .u32-at2 .ensures, w .u32-at3 .ensures)
     (probes-decide _ _ _ _
     (good (c .before .before))
     (c .before .before .if1 .left)
@@ -88,20 +90,20 @@ inside : (c : tie.After-count Inv-loop μ-loop Inv-next-filter μ-next-filter) (
     → let m = 8 * c .before .before .before .before .filter-in .result .size in n % m < m
 inside c n = let p = good (c .before .before) in mod-lt n (omega arith)
 
-word-requires : tie.Need-word-requires Inv-loop μ-loop Inv-next-filter μ-next-filter
-word-requires c κs = omega (arith, c .before .before .before .pre .1)
+u32-at-requires : tie.Need-u32-at-requires Inv-loop μ-loop Inv-next-filter μ-next-filter
+u32-at-requires c κs = omega (arith, c .before .before .before .pre .1)
 
-add-word : tie.Need-add-word Inv-loop μ-loop Inv-next-filter μ-next-filter
-add-word c = omega (arith, c .before .before .before .before .pre .1)
+add-u32-at : tie.Need-add-u32-at Inv-loop μ-loop Inv-next-filter μ-next-filter
+add-u32-at c = omega (arith, c .before .before .before .before .pre .1)
 
-word-requires-2 : tie.Need-word-requires-2 Inv-loop μ-loop Inv-next-filter μ-next-filter
-word-requires-2 c κs = omega (arith, c .before .before .before .before .pre .1)
+u32-at-requires-2 : tie.Need-u32-at-requires-2 Inv-loop μ-loop Inv-next-filter μ-next-filter
+u32-at-requires-2 c κs = omega (arith, c .before .before .before .before .pre .1)
 
-add-word-2 : tie.Need-add-word-2 Inv-loop μ-loop Inv-next-filter μ-next-filter
-add-word-2 c = omega (arith, c .before .before .before .before .before .pre .1)
+add-u32-at-2 : tie.Need-add-u32-at-2 Inv-loop μ-loop Inv-next-filter μ-next-filter
+add-u32-at-2 c = omega (arith, c .before .before .before .before .before .pre .1)
 
-word-requires-3 : tie.Need-word-requires-3 Inv-loop μ-loop Inv-next-filter μ-next-filter
-word-requires-3 c κs = omega (arith, c .before .before .before .before .before .pre .1)
+u32-at-requires-3 : tie.Need-u32-at-requires-3 Inv-loop μ-loop Inv-next-filter μ-next-filter
+u32-at-requires-3 c κs = omega (arith, c .before .before .before .before .before .pre .1)
 
 next-filter-holds : tie.Need-next-filter-holds Inv-loop μ-loop Inv-next-filter μ-next-filter
 next-filter-holds c = record { upto = omega arith; rest = search-starts _ _ _ }
@@ -160,12 +162,10 @@ count-requires : tie.Need-count-requires Inv-loop μ-loop Inv-next-filter μ-nex
 count-requires c κs = search needs
 
 loop-holds : tie.Need-loop-holds Inv-loop μ-loop Inv-next-filter μ-next-filter
-loop-holds c =
-    let all : c .count .result - 0 ≡ c .count .result = omega arith in
-    record { xs = inside c _; ys = inside c _; upto = omega arith; rest = rw all }
+loop-holds c = record { xs = inside c _; ys = inside c _; upto = omega arith; rest = probes-start _ _ _ _ _ _ _ refl }
 
 cast-clear-bit : tie.Need-cast-clear-bit Inv-loop μ-loop Inv-next-filter μ-next-filter
-cast-clear-bit c = let p = good (c .before .before .before .before) in omega (arith, c .before .loop .inv .xs)
+cast-clear-bit c = let p = good (c .before .before .before .before .before) in omega (arith, c .before .before .loop .inv .xs)
 
 clear-bit-requires : tie.Need-clear-bit-requires Inv-loop μ-loop Inv-next-filter μ-next-filter
 clear-bit-requires c κs = search needs
@@ -175,10 +175,10 @@ next-filter-less-2 c = search needs
 
 next-filter-again-2 : tie.Need-next-filter-again-2 Inv-loop μ-loop Inv-next-filter μ-next-filter
 next-filter-again-2 c =
-    let l = c .before .before .before in
+    let l = c .before .before .before .before in
     let e = l .before .before .before .before .before in
     let shut = sym (c .before .clear-bit .ensures) ∙ c .if2 .taken in
-    let misses = decides (l .before) ∙ sym (l .loop .inv .rest) ∙ probe-clear _ _ _ _ _ _ (omega (arith, c .before .before .loop-test .taken)) shut in
+    let misses = decides (l .before) ∙ sym (l .loop .inv .rest) ∙ probe-clear _ _ _ _ _ _ (omega (arith, c .before .before .before .loop-test .taken)) shut in
     record {
       upto = omega (arith, e .before .next-filter-test .taken);
       rest =
@@ -186,17 +186,11 @@ next-filter-again-2 c =
           ∙ e .before .before .next-filter .inv .rest;
     }
 
-step-requires : tie.Need-step-requires Inv-loop μ-loop Inv-next-filter μ-next-filter
-step-requires c κs =
-    let l = c .before .before .before in
-    let p = good (l .before .before .before) in
-    (l .loop .inv .xs, l .loop .inv .ys, omega arith)
-
-step-requires-2 : tie.Need-step-requires-2 Inv-loop μ-loop Inv-next-filter μ-next-filter
-step-requires-2 c κs =
+next-requires : tie.Need-next-requires Inv-loop μ-loop Inv-next-filter μ-next-filter
+next-requires c κs =
     let l = c .before .before .before .before in
     let p = good (l .before .before .before) in
-    (l .loop .inv .ys, inside (l .before) _, omega arith)
+    (l .loop .inv .xs, l .loop .inv .ys, inside (l .before) _, omega arith)
 
 add-k : tie.Need-add-k Inv-loop μ-loop Inv-next-filter μ-next-filter
 add-k c = search needs
@@ -207,13 +201,13 @@ loop-less c = search needs
 loop-again : tie.Need-loop-again Inv-loop μ-loop Inv-next-filter μ-next-filter
 loop-again c =
     let l = c .before .before .before .before .before in
-    let open′ = sym (c .before .before .before .clear-bit .ensures) ∙ c .before .before .if2 .left in
+    let open′ = sym (c .before .before .clear-bit .ensures) ∙ c .before .if2 .left in
     record {
-      xs = rw (c .before .step .ensures) (inside (l .before) _);
-      ys = rw (c .step2 .ensures) (inside (l .before) _);
+      xs = rw (c .next .ensures) (inside (l .before) _);
+      ys = rw (c .next .ensures) (inside (l .before) _);
       upto = omega (arith, c .before .before .before .before .loop-test .taken);
       rest =
-          rw (c .before .step .ensures, c .step2 .ensures)
+          rw (c .next .ensures)
           (sym (probe-on _ _ _ _ _ _ _ (omega (arith, c .before .before .before .before .loop-test .taken)) open′) ∙ l .loop .inv .rest);
     }
 
@@ -236,11 +230,11 @@ contains-hash-spec =
     μ-loop
     Inv-next-filter
     μ-next-filter
-    word-requires
-    add-word
-    word-requires-2
-    add-word-2
-    word-requires-3
+    u32-at-requires
+    add-u32-at
+    u32-at-requires-2
+    add-u32-at-2
+    u32-at-requires-3
     next-filter-holds
     filter-in-requires
     add-i
@@ -261,8 +255,7 @@ contains-hash-spec =
     clear-bit-requires
     next-filter-less-2
     next-filter-again-2
-    step-requires
-    step-requires-2
+    next-requires
     add-k
     loop-less
     loop-again

@@ -10,9 +10,8 @@ use lib.ListN.{length}
 use Rattle.rules.specs.Hash.{hashAt}
 use Rattle.rules.specs.Sizes.{sizes}
 use Rattle.rules.specs.declared.refusal.Refusal.the-variants.{Cut, PastSize, BadSession}
-use Rattle.bloom.specs.Filter.{anyContains}
 use Rattle.bloom.specs.Have.{filtersOf, passedGood, passedFew}
-use Rattle.probe.specs.Contains.{containedIn}
+use Rattle.probe.specs.Contains.{containedIn, anyContains}
 use Rattle.probe.specs.declared.contains.Contained.the-variants.{Yes, No, Refused}
 use Rattle.bloom.proofs.HaveLaws.{good-filters, passed-haves}
 use borrow.Author.Needs.{needs}

@@ -1,9 +1,9 @@
--- `probe::probes::word` meets its contract: the four calls return the four bytes of the definition, and the sums fit since each is below 256.
+-- `probe::probes::u32_at` meets its contract: the four calls return the four bytes of the definition, and the sums fit since each is below 256.
 -- Assumes nothing.
-use Rattle.bloom.specs.Filter.{wordAt}
+use Rattle.probe.specs.Probes.{u32At}
 use borrow.Author.Needs.{needs}
-use Rattle.probe.proofs.probes.word.Statement.{statement}
-use Rattle.probe.proofs.probes.word.Tie as tie
+use Rattle.probe.proofs.probes.u32_at.Statement.{statement}
+use Rattle.probe.proofs.probes.u32_at.Tie as tie
 
 byte-requires : tie.Need-byte-requires
 byte-requires c κs = search needs
@@ -45,11 +45,11 @@ add-result-3 : tie.Need-add-result-3
 add-result-3 c = search needs
 
 returns : tie.Need-returns
-unfolding wordAt
+unfolding u32At
 returns c = search needs
 
-pub word-spec : {M : Type 1} → statement M
-word-spec =
+pub u32-at-spec : {M : Type 1} → statement M
+u32-at-spec =
     tie.close
     (tie.spec
     byte-requires
