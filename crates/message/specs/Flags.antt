@@ -1,15 +1,15 @@
 -- Flags. 01, Wire: "each byte of 80 or more adds its low seven bits; lower bytes are ignored. No section and an empty section differ. Written as
 -- 02, 02, 80 + f."
 use Prim.Native.Nat.{ℕ, _+_, _-_, _%_}
-use mathlib.Core.Bool.{cond}
+use mathlib.Core.Bool.{Bool, cond, not}
 use mathlib.Core.List.{List, [], _∷_}
-use lib.Bits.{bitOr}
-use lib.Dec.{ltb}
+use lib.Bits.{bitOr, bitAnd}
+use lib.Dec.{ltb, eqb}
 use Rattle.message.specs.declared.flags.MessageFlags.{MessageFlags}
 use Rattle.message.specs.declared.flags.Section.{Section}
 use Rattle.message.specs.declared.flags.Section.the-variants.{Absent, Present}
 
--- The three flags that have a meaning.
+-- 01, Wire, Flags: "The three flag bits": reset 1, read-only 2, supports reset 4.
 abbrev pub syncReset : ℕ
 syncReset = 1
 
@@ -22,6 +22,10 @@ supportsSyncReset = 4
 -- Flags by their number.
 abbrev pub flagsOf : ℕ → MessageFlags
 flagsOf f = record { 0 = f }
+
+-- Flags have a flag if some bit is in common with it.
+abbrev pub hasFlag : MessageFlags → ℕ → Bool
+hasFlag m flag = not (eqb (bitAnd (m .0) flag) 0)
 
 -- What the bytes of a section say: "adds" is or, so a bit that is said twice is set.
 unfoldable pub addFlags : ℕ → List ℕ → ℕ

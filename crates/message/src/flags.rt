@@ -1,12 +1,10 @@
 // The flags of a message. Version 2 is none of them: any section says that the sender reads it.
 ghost use mathlib.Core.Path.{_≡_};
 ghost use Prim.Native.Nat.{_+_, _≤_};
-ghost use lib.Dec.{eqb};
-ghost use lib.Bits.{bitOr, bitAnd};
-ghost use mathlib.Core.Bool.{not};
+ghost use lib.Bits.{bitOr};
 ghost use lib.ListN.{length};
 ghost use lib.Seq.{slice};
-ghost use Rattle.message.specs.Flags.{flagsIn};
+ghost use Rattle.message.specs.Flags.{syncReset, readOnly, supportsSyncReset, flagsOf, hasFlag, flagsIn};
 
 pub struct MessageFlags(pub u8);
 
@@ -26,21 +24,39 @@ impl MessageFlags {
 
     // No flag.
     pub fn new() -> MessageFlags
-        ensures { λ r. ⌜ r ≡ record { 0 = 0 } ⌝ }
+        ensures { λ r. ⌜ r ≡ flagsOf 0 ⌝ }
     {
         MessageFlags(0)
     }
 
     // Whether some of these bits is set.
     pub fn contains(self, flag: u8) -> bool
-        ensures { λ r. ⌜ r ≡ not (eqb (bitAnd (self .0) flag) 0) ⌝ }
+        ensures { λ r. ⌜ r ≡ hasFlag self flag ⌝ }
     {
         self.0 & flag != 0
     }
 
+    pub fn wants_reset(self) -> bool
+        ensures { λ r. ⌜ r ≡ hasFlag self syncReset ⌝ }
+    {
+        self.contains(MessageFlags::SYNC_RESET)
+    }
+
+    pub fn read_only(self) -> bool
+        ensures { λ r. ⌜ r ≡ hasFlag self readOnly ⌝ }
+    {
+        self.contains(MessageFlags::READ_ONLY)
+    }
+
+    pub fn supports_reset(self) -> bool
+        ensures { λ r. ⌜ r ≡ hasFlag self supportsSyncReset ⌝ }
+    {
+        self.contains(MessageFlags::SUPPORTS_SYNC_RESET)
+    }
+
     // The flags with these bits set.
     pub fn set(self, flag: u8) -> MessageFlags
-        ensures { λ r. ⌜ r ≡ record { 0 = bitOr (self .0) flag } ⌝ }
+        ensures { λ r. ⌜ r ≡ flagsOf (bitOr (self .0) flag) ⌝ }
     {
         MessageFlags(self.0 | flag)
     }
@@ -48,7 +64,7 @@ impl MessageFlags {
     // The flags that the bytes of a section say, from a place up to an end.
     pub fn parse_bytes(s: &[u8], start: usize, end: usize) -> MessageFlags
         requires { ⌜ (start ≤ end) × (end ≤ length (now s)) ⌝ }
-        ensures { λ r. ⌜ r ≡ record { 0 = flagsIn (slice start end (now (s .entry))) } ⌝ }
+        ensures { λ r. ⌜ r ≡ flagsOf (flagsIn (slice start end (now (s .entry)))) ⌝ }
     {
         let mut flags = MessageFlags::new();
         let mut i = start;
