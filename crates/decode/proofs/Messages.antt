@@ -51,7 +51,7 @@ use Rattle.decode.proofs.ReadLaws.{
   section-refused,
   section-read,
   message-refused,
-  message-behind,
+  message-means,
   haves-behind,
   chunks-behind,
 }
@@ -162,7 +162,7 @@ pub record MessageWords (s : List ℕ) (p : Places) (haves chunks : List ℕ) : 
 
 pub message-words : (s : List ℕ) (p : Places) (haves chunks : List ℕ) → messageAt s ≡ read p haves chunks → MessageWords s p haves chunks
 message-words s p haves chunks e =
-    let b = message-behind s p haves chunks e in
+    let b = message-means s p haves chunks e in
     let o = opening-behind s (p .version) (p .heads .start) (p .heads .count) (b .atNeed) (b .opening) in
     let l = hash-list-inside s 1 (length s) (p .heads .start) (p .heads .count) (b .atNeed) (o .heads) in
     let n = hash-list-inside s (b .atNeed) (length s) (p .need .start) (p .need .count) (b .atHaves) (b .need) in
@@ -237,7 +237,7 @@ pub haves-good : (s : List ℕ) → Bytes s → (p : Places) (haves chunks : Lis
     → (passedGood s haves ≡ true) × (passedFew haves ≡ true)
 unfolding passedGood passedFew
 haves-good s all p haves chunks e =
-    let b = message-behind s p haves chunks e in
+    let b = message-means s p haves chunks e in
     let h = haves-behind s (b .atHaves) (p .haves .start) (p .haves .count) haves (b .atChunks) (b .haveList) in
     let g = records-good s all (p .haves .count) 0 (p .haves .start) [] haves (b .atChunks) refl (h .items) in
     let whole : length haves % haveWords ≡ 0 = omega (arith, h .long) in
@@ -268,7 +268,7 @@ chunks-inside s (suc count) at words next e (suc i) h =
 pub chunks-good : (s : List ℕ) (p : Places) (haves chunks : List ℕ) → messageAt s ≡ read p haves chunks
     → (i : ℕ) → i < p .chunks .count → getD chunks (i * chunkWords) 0 + getD chunks (i * chunkWords + 1) 0 ≤ length s
 chunks-good s p haves chunks e i h =
-    let b = message-behind s p haves chunks e in
+    let b = message-means s p haves chunks e in
     let c = chunks-behind s (b .atChunks) (p .chunks .start) (p .chunks .count) chunks (b .atSection) (b .chunkList) in
     chunks-inside s (p .chunks .count) (p .chunks .start) chunks (b .atSection) (c .items) i h
 
@@ -290,7 +290,7 @@ pub flags-small : (s : List ℕ) → Bytes s → (p : Places) (haves chunks : Li
     → f .0 < 0x80
 unfolding flagsIn
 flags-small s all p haves chunks f e is =
-    let b = message-behind s p haves chunks e in
+    let b = message-means s p haves chunks e in
     section-apart s (b .atSection) (p .flags) (p .next) (b .section)
     (λ past q. absurd (let a : _≡_ {A = Section} Absent (Present f) = cc in let z : _≡_ {A = ℕ} 0 1 = cc in omega arith))
     (λ start end here part q.

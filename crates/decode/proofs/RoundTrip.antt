@@ -17,6 +17,7 @@ use Rattle.bloom.specs.Read.{filterAt}
 use Rattle.bloom.proofs.Filters.{no-bytes, filter-written, default-written}
 use Rattle.message.specs.Flags.{flagsOf, addFlags, flagsIn, sectionBytes}
 use Rattle.message.specs.Message.{Message, typeOf, joined, counted, haveBytes, messageBytes}
+use Rattle.message.specs.Sound.{Each, SoundHave, SoundMessage, SaidFilter, entries, default, SaidHave, SaidFlags, SaidMessage}
 use Rattle.message.specs.declared.flags.Section.{Section}
 use Rattle.message.specs.declared.flags.Section.the-variants.{Absent, Present}
 use Rattle.message.specs.declared.version.MessageVersion.{MessageVersion}
@@ -32,46 +33,15 @@ use Rattle.wire.proofs.Item.{count-checks, prefixed-inside, prefixed-written, h
 use Rattle.wire.proofs.Meaning.{number-inside, number-written}
 use Rattle.wire.proofs.Number.{slice-past, shortest-one}
 use Rattle.decode.specs.Items.{Item, item, afterItem, haveItem, chunkItem, manyAt, list, listFrom, listAt, havesAt, chunksAt, chunksOf}
+use Rattle.decode.specs.Means.{MessageMeans}
 use Rattle.decode.specs.Read.{read, run, headsAt, openingAt, sectionAt, messageAt, messageOf}
 use Rattle.decode.specs.declared.parse.Flagged.the-variants.{Section as Sectioned}
 use Rattle.decode.specs.declared.parse.Places.{Places}
 use Rattle.decode.proofs.ItemLaws.{have-read, have-item, chunk-item, many-read, many-sized, have-sized, have-below, chunk-below, list-read}
 use Rattle.decode.proofs.Messages.{first-word, word}
-use Rattle.decode.proofs.ReadLaws.{MessageBehind, message-whole, heads-read, opening-first, opening-second, section-none, section-read}
+use Rattle.decode.proofs.ReadLaws.{means-read, heads-read, opening-first, opening-second, section-none, section-read}
 
--- ---- what can be written
-
--- Each element has a property.
-unfoldable pub Each : {A : Type 0} → (A → Type 0) → List A → Type 0
-Each P [] = Unit {0}
-Each P (x ∷ xs) = P x × Each P xs
-
--- A filter that keeps the filter rules and has entries, or the default filter.
-pub data SoundFilter (f : Filter) : Type 0 where
-  entries : filterRules (f .entries) (f .bits) (f .probes) (length (f .field)) ≡ true → 0 < f .entries → SoundFilter f
-  default : f ≡ filterOf4 0 defaultBits defaultProbes [] → SoundFilter f
-
-pub record SoundHave (h : Have) : Type 0 where
-  pub syncs : AreHashes (h .lastSync)
-  pub fewSyncs : length (h .lastSync) ≤ sizes .hashes
-  pub filter : SoundFilter (h .filter)
-
--- Flags below 80, if there are any.
-abbrev pub SoundFlags : Section → Type 0
-SoundFlags Absent = Unit {0}
-SoundFlags (Present f) = f .0 < 0x80
-
--- A message within its sizes, of such parts.
-pub record Sound (m : Message) : Type 0 where
-  pub small : length (messageBytes m) ≤ sizes .message
-  pub heads : AreHashes (m .heads)
-  pub fewHeads : length (m .heads) ≤ sizes .hashes
-  pub need : AreHashes (m .need)
-  pub fewNeed : length (m .need) ≤ sizes .hashes
-  pub haves : Each SoundHave (m .haves)
-  pub fewHaves : length (m .haves) ≤ sizes .haves
-  pub fewChunks : length (m .chunks) ≤ sizes .chunks
-  pub flags : SoundFlags (m .flags)
+-- ---- reading back
 
 -- The bytes are read, and what they say is the message.
 pub record ReadBack (s : List ℕ) (m : Message) : Type 0 where
@@ -244,9 +214,11 @@ record FilterWritten (s : List ℕ) (from end : ℕ) (f : Filter) : Type 0 where
   is : filterAt s from end ≡ Read n b p field size next
   says : filterOf4 n b p (slice field (field + size) s) ≡ f
 
-filter-back : (s : List ℕ) (from end : ℕ) (f : Filter) → SoundFilter f → slice from end s ≡ filterBytes f → FilterWritten s from end f
-filter-back s from end f (entries rules some) same =
-    let w = filter-written s [] from end f rules some (same ∙ sym (append-nil (filterBytes f))) in
+filter-back : (s : List ℕ) (from end : ℕ) (f : Filter) → filterRules (f .entries) (f .bits) (f .probes) (length (f .field)) ≡ true → SaidFilter f
+    → slice from end s ≡ filterBytes f
+    → FilterWritten s from end f
+filter-back s from end f rules (entries h) same =
+    let w = filter-written s [] from end f rules h (same ∙ sym (append-nil (filterBytes f))) in
     record {
       n = f .entries;
       b = f .bits;
@@ -257,7 +229,7 @@ filter-back s from end f (entries rules some) same =
       is = w .0;
       says = ap (filterOf4 (f .entries) (f .bits) (f .probes)) (w .1);
     }
-filter-back s from end f (default e) same =
+filter-back s from end f rules (default e) same =
     let none : filterBytes f ≡ [] = ap filterBytes e ∙ no-bytes 0 defaultBits defaultProbes [] refl in
     record {
       n = 0;
@@ -300,7 +272,16 @@ have-joined s h at start count i from end syncs are part e f =
           };
     }
 
-have-written : (s : List ℕ) → length s ≤ sizes .message → (h : Have) → SoundHave h → (at : ℕ) (rest : List ℕ)
+-- a have that is written, and that its bytes say
+abbrev GoodHave : Have → Type 0
+GoodHave h = SoundHave h × SaidHave h
+
+good-haves : (hs : List Have) → Each SoundHave hs → Each SaidHave hs → Each GoodHave hs
+unfolding Each
+good-haves [] sound said = tt
+good-haves (h ∷ hs) sound said = ((sound .0, said .0), good-haves hs (sound .1) (said .1))
+
+have-written : (s : List ℕ) → length s ≤ sizes .message → (h : Have) → GoodHave h → (at : ℕ) (rest : List ℕ)
     → slice at (length s) s ≡ haveBytes h ++ rest
     → OneWritten haveBytes (haveItem s) (HaveSays s) at h
 unfolding haveBytes
@@ -308,7 +289,7 @@ have-written s small h good at rest same =
     let hl : List ℕ = hashListBytes (h .lastSync) in
     let fb : List ℕ = filterBytes (h .filter) in
     let first : slice at (length s) s ≡ hl ++ (prefixedBytes fb ++ rest) = same ∙ append-assoc hl (prefixedBytes fb) rest in
-    let l = hash-list-written s (h .lastSync) (prefixedBytes fb ++ rest) at (length s) (good .syncs) (good .fewSyncs) first in
+    let l = hash-list-written s (h .lastSync) (prefixedBytes fb ++ rest) at (length s) (good .0 .lastSync .are) (good .0 .lastSync .few) first in
     let start : ℕ = at + length (shortest (length (h .lastSync))) in
     let i : ℕ = at + length hl in
     let inside = hash-list-inside s at (length s) start (length (h .lastSync)) i (l .0) in
@@ -318,7 +299,7 @@ have-written s small h good at rest same =
     let from : ℕ = i + length (shortest (length fb)) in
     let end : ℕ = i + length (prefixedBytes fb) in
     have-joined s h at start (length (h .lastSync)) i from end (l .0) (l .1) (q .0) (omega (arith, length-append hl (prefixedBytes fb)))
-    (filter-back s from end (h .filter) (good .filter) (q .1))
+    (filter-back s from end (h .filter) (good .0 .filter) (good .1) (q .1))
 
 haves-said : (s : List ℕ) (hs : List Have) (i : ℕ) (before words : List ℕ) → length before ≡ i * haveWords → SayAll (HaveSays s) words hs
     → havesFrom s (before ++ words) i (length hs) ≡ hs
@@ -343,7 +324,7 @@ record SectionWritten (s : List ℕ) (at : ℕ) (flags : Section) : Type 0 where
   next : ℕ
   is : sectionAt s at ≡ Sectioned flags next
 
-section-written : (s : List ℕ) (at : ℕ) (flags : Section) → SoundFlags flags → slice at (length s) s ≡ sectionBytes flags → SectionWritten s at flags
+section-written : (s : List ℕ) (at : ℕ) (flags : Section) → SaidFlags flags → slice at (length s) s ≡ sectionBytes flags → SectionWritten s at flags
 unfolding sectionBytes flagsIn addFlags prefixedBytes
 section-written s at Absent good same =
     let l : length s - at ≡ 0 = sym (length-slice at (length s) s (omega arith)) ∙ ap length same in
@@ -388,42 +369,42 @@ same-message : (v : MessageVersion) (f : Section) (a₁ a₂ b₁ b₂ : List �
     → message-of v a₁ b₁ c₁ d₁ f ≡ message-of v a₂ b₂ c₂ d₂ f
 same-message v f a₁ a₂ b₁ b₂ c₁ c₂ d₁ d₂ p q r t = rw (p, q, r, t)
 
-pub message-there-and-back : (s : List ℕ) (m : Message) → s ≡ messageBytes m → Sound m → ReadBack s m
+pub message-there-and-back : (s : List ℕ) (m : Message) → s ≡ messageBytes m → SoundMessage m → SaidMessage m → ReadBack s m
 unfolding messageBytes messageOf havesAt chunksAt
-message-there-and-back s m e sound =
+message-there-and-back s m e sound said =
     let b5 : List ℕ = sectionBytes (m .flags) in
     let b4 : List ℕ = counted prefixedBytes (m .chunks) ++ b5 in
     let b3 : List ℕ = counted haveBytes (m .haves) ++ b4 in
     let b2 : List ℕ = hashListBytes (m .need) ++ b3 in
     let b1 : List ℕ = hashListBytes (m .heads) ++ b2 in
     let is : s ≡ typeOf (m .version) ∷ b1 = e in
-    let small : length s ≤ sizes .message = rw is (sound .small) in
+    let small : length s ≤ sizes .message = rw is (sound .size) in
     let some : length s ≡ 0 → ⊥ = rw is (λ q. omega (arith, q)) in
     let type : getD s 0 0 ≡ typeOf (m .version) = rw is in
     let s1 : slice 1 (length s) s ≡ b1 = rw is (tail-of (typeOf (m .version)) b1) in
-    let h = hash-list-written s (m .heads) b2 1 (length s) (sound .heads) (sound .fewHeads) s1 in
+    let h = hash-list-written s (m .heads) b2 1 (length s) (sound .heads .are) (sound .heads .few) s1 in
     let hstart : ℕ = 1 + length (shortest (length (m .heads))) in
     let i : ℕ = 1 + length (hashListBytes (m .heads)) in
     let ih = hash-list-inside s 1 (length s) hstart (length (m .heads)) i (h .0) in
     let s2 = onward s (hashListBytes (m .heads)) b2 1 (ih .there) s1 in
-    let n = hash-list-written s (m .need) b3 i (length s) (sound .need) (sound .fewNeed) s2 in
+    let n = hash-list-written s (m .need) b3 i (length s) (sound .need .are) (sound .need .few) s2 in
     let nstart : ℕ = i + length (shortest (length (m .need))) in
     let j : ℕ = i + length (hashListBytes (m .need)) in
     let inn = hash-list-inside s i (length s) nstart (length (m .need)) j (n .0) in
     let s3 = onward s (hashListBytes (m .need)) b3 i (inn .there) s2 in
     let hv =
-    list-written (sizes .haves) haveBytes s (haveItem s) SoundHave (HaveSays s) (have-below s) (have-written s small) (omega arith)
-    (m .haves) (sound .haves) (sound .fewHaves) j b4 s3
+    list-written (sizes .haves) haveBytes s (haveItem s) GoodHave (HaveSays s) (have-below s) (have-written s small) (omega arith)
+    (m .haves) (good-haves (m .haves) (sound .haves) (said .filters)) (sound .few) j b4 s3
     in
     let k : ℕ = j + length (counted haveBytes (m .haves)) in
     let s4 = onward s (counted haveBytes (m .haves)) b4 j (hv .there) s3 in
     let ch =
     list-written (sizes .chunks) prefixedBytes s (chunkItem s) AnyChunk (ChunkSays s) (chunk-below s) (chunk-written s small) (omega arith)
-    (m .chunks) (any-chunks (m .chunks)) (sound .fewChunks) k b5 s4
+    (m .chunks) (any-chunks (m .chunks)) (sound .chunks) k b5 s4
     in
     let l : ℕ = k + length (counted prefixedBytes (m .chunks)) in
     let s5 = onward s (counted prefixedBytes (m .chunks)) b5 k (ch .there) s4 in
-    let sec = section-written s l (m .flags) (sound .flags) s5 in
+    let sec = section-written s l (m .flags) (said .flags) s5 in
     let p : Places =
     record {
       version = m .version;
@@ -435,7 +416,7 @@ message-there-and-back s m e sound =
       next = sec .next;
     }
     in
-    let behind : MessageBehind s p (hv .words) (ch .words) =
+    let behind : MessageMeans s p (hv .words) (ch .words) =
     record {
       atNeed = i;
       atHaves = j;
@@ -453,7 +434,7 @@ message-there-and-back s m e sound =
       places = p;
       haves = hv .words;
       chunks = ch .words;
-      is = message-whole s p (hv .words) (ch .words) behind;
+      is = means-read s p (hv .words) (ch .words) behind;
       says =
           same-message (m .version) (m .flags)
           (hashesAt s hstart (length (m .heads)))

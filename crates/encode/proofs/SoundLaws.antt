@@ -10,8 +10,8 @@ use Rattle.rules.specs.Sizes.{sizes}
 use Rattle.rules.proofs.Hash.{length-hashes-at, hashes-are-hashes}
 use Rattle.rules.proofs.PassedLaws.{passed-is}
 use Rattle.bloom.specs.Have.{haveCount, haveIn, havesFrom, havesOf, syncPlace, syncCount, numbersIn, filterWith}
+use Rattle.message.specs.Sound.{Each, SoundHashes, SoundHave, SoundMessage}
 use Rattle.encode.specs.Size.{GoodHaves, messageOf}
-use Rattle.encode.specs.Sound.{SoundHashes, SoundHave, SoundHaves, SoundMessage}
 use Rattle.encode.specs.Write.{Parts, messageOutput}
 use Rattle.encode.proofs.SizeLaws.{part-long, have-fits, haves-long, haves-few, chunks-long}
 use Rattle.encode.proofs.WriteLaws.{message-written}
@@ -31,8 +31,8 @@ module _ (s haves : List ℕ) (all : Bytes s) (good : GoodHaves s haves) where
         filter = rw (part-long s (f .place) (f .size) (w .field)) (w .rules);
       }
 
-  sound-haves : (count i : ℕ) → i + count ≤ haveCount haves → SoundHaves (havesFrom s haves i count)
-  unfolding SoundHaves havesFrom
+  sound-haves : (count i : ℕ) → i + count ≤ haveCount haves → Each SoundHave (havesFrom s haves i count)
+  unfolding Each havesFrom
   sound-haves zero i h = tt
   sound-haves (suc count) i h = (sound-have i (omega arith), sound-haves count (suc i) (omega arith))
 

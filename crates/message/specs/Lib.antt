@@ -1,2 +1,3 @@
 pub mod Flags
 pub mod Message
+pub mod Sound
