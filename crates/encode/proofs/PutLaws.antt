@@ -20,7 +20,8 @@ use Rattle.rules.specs.Sizes.{sizes}
 use Rattle.wire.specs.Item.{prefixedBytes, hashListBytes}
 use Rattle.wire.specs.Number.{shortest, Put}
 use Rattle.wire.proofs.Number.{put-then, put-joined}
-use Rattle.encode.specs.Size.{chunksFrom, total}
+use Rattle.encode.specs.Size.{total}
+use Rattle.encode.specs.Write.{chunksFrom}
 use Rattle.encode.proofs.SizeLaws.{part-is, part-long, hash-list-is, have-is, haves-next, haves-end, haves-long, chunks-long, counted-is}
 
 -- ---- one part after the other

@@ -7,8 +7,7 @@ use Rattle.decode.proofs.RoundTrip.{ReadBack, message-there-and-back}
 use Rattle.message.specs.Sound.{SaidMessage}
 use Rattle.rules.specs.Hash.{Bytes}
 use Rattle.rules.specs.Output.{Output}
-use Rattle.encode.specs.Size.{messageOf}
-use Rattle.encode.specs.Write.{Parts, messageOutput}
+use Rattle.encode.specs.Write.{Parts, messageOf, messageOutput}
 use Rattle.encode.proofs.SoundLaws.{written-sound}
 use Rattle.encode.proofs.WriteLaws.{message-written}
 

@@ -24,10 +24,34 @@ use Rattle.bloom.proofs.Filters.{no-bytes, bytes-length}
 use Rattle.bloom.proofs.HaveLaws.{passed-haves}
 use Rattle.bloom.proofs.Rules.{ruled, capacity-none}
 use Rattle.message.specs.Message.{joined, counted, haveBytes}
-use Rattle.encode.specs.Size.{GoodHaves, chunksFrom, total, numbersTotal, chunksCut}
-use Rattle.encode.specs.Write.{Pieces, pieces, short, piecesFrom, afterPieces}
-use Rattle.encode.specs.declared.size.Chunks.{Chunks}
+use Rattle.encode.specs.Size.{GoodHaves, total, chunksCut}
+use Rattle.encode.specs.Write.{chunksFrom}
 use Rattle.encode.specs.declared.size.Chunks.the-variants.{Whole, Short}
+
+-- ---- how long the parts can be, where a number has at most ten bytes
+
+abbrev pub most-list : ℕ
+most-list = 10 + sizes .hash * sizes .hashes
+
+abbrev pub most-filter : ℕ
+most-filter = 30 + sizes .field
+
+abbrev pub most-have : ℕ
+most-have = most-list + (10 + most-filter)
+
+abbrev pub most-haves : ℕ
+most-haves = 10 + most-have * sizes .haves
+
+abbrev pub most-numbers : ℕ
+most-numbers = 10 * sizes .chunks
+
+abbrev pub most-chunks : ℕ
+most-chunks = 10 + most-numbers + sizes .message
+
+-- the bytes of chunks' lengths
+unfoldable pub numbersTotal : List ℕ → ℕ
+numbersTotal [] = 0
+numbersTotal (n ∷ ns) = length (shortest n) + numbersTotal ns
 
 -- ---- parts of a slice
 
@@ -61,7 +85,7 @@ pub prefixed-room : (at size room : ℕ) (b : List ℕ) → size ≡ length b �
 prefixed-room at size room b e h = omega (arith, prefixed-long b, ap (λ (k : ℕ). length (shortest k)) e)
 
 -- ten bytes hold a count
-pub ten : (n : ℕ) → n ≤ 4294967295 → length (shortest n) ≤ 10
+pub ten : (n : ℕ) → n ≤ mostFilter → length (shortest n) ≤ 10
 ten n h = shortest-ten n (omega arith)
 
 -- where the number of a list of hashes ends, its hashes have room
@@ -72,13 +96,13 @@ pub hash-list-room : (s : List ℕ) (place count at next room : ℕ) → place +
 hash-list-room s place count at next room fits h e =
     rw (part-is s place (sizes .hash * count), part-long s place (sizes .hash * count) fits) (omega (arith, hash-list-long s place count))
 
-pub list-small : (h x : ℕ) → h ≤ sizes .hashes → x ≡ length (shortest h) + sizes .hash * h → x ≤ 32778
+pub list-small : (h x : ℕ) → h ≤ sizes .hashes → x ≡ length (shortest h) + sizes .hash * h → x ≤ most-list
 list-small h x few e = omega (arith, ten h (omega (arith, few)))
 
 -- ---- filters and haves
 
 pub filter-small : (n b p : ℕ) (field : List ℕ) → n < 2 ^ 64 → b < 2 ^ 64 → p < 2 ^ 64 → length field ≤ sizes .field
-    → length (filterBytes (filterOf4 n b p field)) ≤ 8222
+    → length (filterBytes (filterOf4 n b p field)) ≤ most-filter
 filter-small n b p field fn fb fp h =
     split (eqb n 0)
     (λ t. rw (no-bytes n b p field (eqb-true _ _ t)) (omega arith))
@@ -151,14 +175,14 @@ have-room s haves i f e at room h =
     omega (arith, ap length (have-is s haves i f e), length-append a b)
 
 -- a hash list and a filter with their numbers
-pub have-small : (s haves : List ℕ) (i : ℕ) → GoodHaves s haves → i < haveCount haves → length (haveBytes (haveIn s haves i)) ≤ 50000
+pub have-small : (s haves : List ℕ) (i : ℕ) → GoodHaves s haves → i < haveCount haves → length (haveBytes (haveIn s haves i)) ≤ most-have
 have-small s haves i g h =
     let f = numbersIn haves i in
     let w = have-fits-in s haves i g h in
     let field : List ℕ = take (f .place + f .size - f .place) (drop (f .place) s) in
     let l : length field ≡ f .size = rw part-is (part-long s (f .place) (f .size) (w .field)) in
     let filter : List ℕ = filterBytes (filterOf4 (f .entries) (f .bits) (f .probes) field) in
-    let small : length filter ≤ 8222 =
+    let small : length filter ≤ most-filter =
     filter-small (f .entries) (f .bits) (f .probes) field (omega (arith, w .entries)) (omega (arith, w .bits)) (omega (arith, w .probes)) (omega (arith, w .small))
     in
     rw (have-is s haves i f refl, length-append)
@@ -223,7 +247,7 @@ module _ (s haves : List ℕ) where
       let d : total - 0 ≡ haveCount haves = omega arith in
       rw (d, e, counted-is haveBytes (havesFrom s haves 0 (haveCount haves)) (haveCount haves) (haves-long (haveCount haves) 0), length-append)
 
-  haves-small-from : GoodHaves s haves → (count i : ℕ) → i + count ≤ haveCount haves → length (joined haveBytes (havesFrom s haves i count)) ≤ 50000 * count
+  haves-small-from : GoodHaves s haves → (count i : ℕ) → i + count ≤ haveCount haves → length (joined haveBytes (havesFrom s haves i count)) ≤ most-have * count
   unfolding joined havesFrom
   haves-small-from g zero i h = omega arith
   haves-small-from g (suc count) i h =
@@ -232,7 +256,7 @@ module _ (s haves : List ℕ) where
   pub haves-few : GoodHaves s haves → haveCount haves ≤ sizes .haves
   haves-few g = passed-haves s haves (g .good) (g .few) .few
 
-  pub haves-small : GoodHaves s haves → length (counted haveBytes (havesOf s haves)) ≤ 800010
+  pub haves-small : GoodHaves s haves → length (counted haveBytes (havesOf s haves)) ≤ most-haves
   unfolding havesOf
   haves-small g =
       let n : ℕ = haveCount haves in
@@ -257,79 +281,36 @@ module _ (s : List ℕ) where
       rw (length-append, prefixed-long, l) (omega (arith, chunks-bytes ns (at + n) (omega arith)))
 
   -- the loop that cuts
-  pub cutting : ℕ → ℕ → List ℕ → Chunks
-  cutting end numbers ns = afterPieces (piecesFrom s end ns) Short (λ cs. Whole (end + total ns) (numbers + numbersTotal ns))
-
-  pub cutting-starts : (ns : List ℕ) → cutting 0 0 ns ≡ chunksCut s ns
-  unfolding cutting chunksCut
-  cutting-starts ns =
-      let a : 0 + total ns ≡ total ns = omega arith in
-      let b : 0 + numbersTotal ns ≡ numbersTotal ns = omega arith in
-      rw (a, b)
-
-  after-first : (a b : Chunks) (c : List ℕ) (p : Pieces) → a ≡ b
-      → afterPieces (afterPieces p short (λ cs. pieces (c ∷ cs))) Short (λ cs. a) ≡ afterPieces p Short (λ cs. b)
-  unfolding afterPieces
-  after-first a b c (pieces cs) e = e
-  after-first a b c (short at) e = refl
-
   module _ (ns : List ℕ) (end numbers i : ℕ) where
-    pub cutting-short : i < length ns → length s - end < getD ns i 0 → cutting end numbers (drop i ns) ≡ Short end
-    unfolding cutting piecesFrom afterPieces
+    pub cutting-short : i < length ns → length s - end < getD ns i 0 → chunksCut s end numbers (drop i ns) ≡ Short end
+    unfolding chunksCut
     cutting-short h l = rw (drop-cons ns i 0 h, lt-ltb _ _ l)
 
     pub cutting-on : i < length ns → getD ns i 0 ≤ length s - end
-        → cutting end numbers (drop i ns) ≡ cutting (end + getD ns i 0) (numbers + length (shortest (getD ns i 0))) (drop (i + 1) ns)
-    unfolding cutting piecesFrom total numbersTotal
-    cutting-on h l =
-        let n : ℕ = getD ns i 0 in
-        let rest : List ℕ = drop (suc i) ns in
-        let e : end + (n + total rest) ≡ end + n + total rest = omega arith in
-        let f : numbers + (length (shortest n) + numbersTotal rest) ≡ numbers + length (shortest n) + numbersTotal rest = omega arith in
-        rw (drop-cons ns i 0 h, le-ltb _ _ l, add-one, e, f) (after-first _ _ _ _ refl)
+        → chunksCut s end numbers (drop i ns) ≡ chunksCut s (end + getD ns i 0) (numbers + length (shortest (getD ns i 0))) (drop (i + 1) ns)
+    unfolding chunksCut
+    cutting-on h l = rw (drop-cons ns i 0 h, le-ltb _ _ l, add-one)
 
-    pub cutting-ends : i ≡ length ns → cutting end numbers (drop i ns) ≡ Whole end numbers
-    unfolding cutting piecesFrom afterPieces total numbersTotal
-    cutting-ends e =
-        let a : end + 0 ≡ end = omega arith in
-        let b : numbers + 0 ≡ numbers = omega arith in
-        rw (e, drop-length ns, a, b)
+    pub cutting-ends : i ≡ length ns → chunksCut s end numbers (drop i ns) ≡ Whole end numbers
+    unfolding chunksCut
+    cutting-ends e = rw (e, drop-length ns)
 
--- ---- what stands behind chunks that were cut
+  -- what stands behind chunks that were cut
+  pub record CutWhole (ns : List ℕ) (at k end numbers : ℕ) : Type 0 where
+    pub ends : end ≡ at + total ns
+    pub long : numbers ≡ k + numbersTotal ns
+    pub there : at ≤ length s → end ≤ length s
 
-record Firsts (c : List ℕ) (p : Pieces) (cs : List (List ℕ)) : Type 0 where
-  others : List (List ℕ)
-  is : p ≡ pieces others
-  same : c ∷ others ≡ cs
-
-firsts : (c : List ℕ) (p : Pieces) (cs : List (List ℕ)) → afterPieces p short (λ ds. pieces (c ∷ ds)) ≡ pieces cs → Firsts c p cs
-unfolding afterPieces
-firsts c (pieces ds) cs e = record { others = ds; is = refl; same = cc }
-firsts c (short at) cs e = absurd (let z : _≡_ {A = ℕ} 0 1 = cc in omega arith)
-
-pub record Cuts (s : List ℕ) (at : ℕ) (ns : List ℕ) (cs : List (List ℕ)) : Type 0 where
-  pub are : cs ≡ chunksFrom s at ns
-  pub there : at + total ns ≤ length s
-
-pub pieces-are : (s ns : List ℕ) (at : ℕ) (cs : List (List ℕ)) → at ≤ length s → piecesFrom s at ns ≡ pieces cs → Cuts s at ns cs
-unfolding piecesFrom chunksFrom total
-pieces-are s [] at cs h e = let q : [] ≡ cs = cc in record { are = sym q; there = omega arith }
-pieces-are s (n ∷ ns) at cs h e =
-    split (ltb (length s - at) n)
-    (λ t. absurd (let z : _≡_ {A = ℕ} 0 1 = cc (rw t at e) in omega arith))
-    (λ t.
-    let left : n ≤ length s - at = ltb-false _ _ t in
-    let f = firsts (slice at (at + n) s) (piecesFrom s (at + n) ns) cs (rw t at e) in
-    let rest = pieces-are s ns (at + n) (f .others) (omega arith) (f .is) in
-    record {
-      are = sym (f .same) ∙ ap (λ (ds : List (List ℕ)). slice at (at + n) s ∷ ds) (rest .are);
-      there = omega (arith, rest .there);
-    })
-
--- the way back: chunks that stand in the bytes are cut
-pub pieces-there : (s ns : List ℕ) (at : ℕ) → at + total ns ≤ length s → piecesFrom s at ns ≡ pieces (chunksFrom s at ns)
-unfolding piecesFrom chunksFrom total afterPieces
-pieces-there s [] at h = refl
-pieces-there s (n ∷ ns) at h =
-    let left : n ≤ length s - at = omega arith in
-    rw (le-ltb _ _ left, pieces-there s ns (at + n) (omega arith))
+  pub cut-whole : (ns : List ℕ) (at k end numbers : ℕ) → chunksCut s at k ns ≡ Whole end numbers → CutWhole ns at k end numbers
+  unfolding chunksCut total numbersTotal
+  cut-whole [] at k end numbers e =
+      let a : at ≡ end = cc in
+      let b : k ≡ numbers = cc in
+      record { ends = omega arith; long = omega arith; there = λ h. omega arith }
+  cut-whole (n ∷ ns) at k end numbers e =
+      split (ltb (length s - at) n)
+      (λ t. absurd (let z : _≡_ {A = ℕ} 0 1 = cc (rw t at e) in omega arith))
+      (λ t.
+      let left : n ≤ length s - at = ltb-false _ _ t in
+      let r = cut-whole ns (at + n) (k + length (shortest n)) end numbers (rw t at e) in
+      record { ends = omega (arith, r .ends); long = omega (arith, r .long); there = λ h. r .there (omega arith) })

@@ -1,24 +1,22 @@
--- A message by its parts, for the functions that size it and put it: the message without its tests, the tests without the message, and the two
--- groups in which they are made.
-use Prim.Native.Nat.{ℕ, _+_, _/_, _≤_}
-use mathlib.Core.Bool.{true, cond, _&&_}
+-- What internal functions ensure, which learn the size before they write: no rule of 01 stands here, and no public call's contract needs it. The
+-- tests are those of `messageOutput`, cut in two where the code is.
+use Prim.Native.Nat.{ℕ, _+_, _-_, _/_, _≤_}
+use mathlib.Core.Bool.{true, cond}
 use mathlib.Core.List.{List, [], _∷_, _++_}
 use mathlib.Core.Path.{_≡_}
-use lib.Dec.{ltb, leb}
+use lib.Dec.{ltb}
 use lib.ListN.{length}
-use lib.Seq.{slice}
-use Rattle.bloom.specs.Have.{havesOf, passedGood, passedFew}
-use Rattle.message.specs.Message.{Message, counted}
+use Rattle.bloom.specs.Have.{passedGood, passedFew}
+use Rattle.message.specs.Message.{counted, messageBytes}
 use Rattle.message.specs.declared.version.MessageVersion.{MessageVersion}
-use Rattle.rules.specs.Hash.{hashesAt}
 use Rattle.rules.specs.Output.{Output}
-use Rattle.rules.specs.Passed.{passedHashes, afterPassed}
+use Rattle.rules.specs.Passed.{passedHashes}
 use Rattle.rules.specs.Sizes.{sizes}
 use Rattle.rules.specs.declared.passed.Passed.the-variants.{Hashes}
-use Rattle.rules.specs.declared.refusal.Refusal.the-variants.{Cut as CutOff, PastSize, BadSession}
+use Rattle.rules.specs.declared.refusal.Refusal.the-variants.{PastSize}
 use Rattle.wire.specs.Item.{prefixedBytes, hashListBytes}
 use Rattle.wire.specs.Number.{shortest}
-use Rattle.encode.specs.Write.{Parts, piecesFrom, afterPieces}
+use Rattle.encode.specs.Write.{Parts, hashesOf, chunksFrom, messageOf, testHaves, testHashes, testFew, testChunks}
 use Rattle.encode.specs.declared.size.Chunks.{Chunks}
 use Rattle.encode.specs.declared.size.Chunks.the-variants.{Whole, Short}
 use Rattle.encode.specs.declared.size.Size.{Size}
@@ -38,55 +36,33 @@ pub record GoodHaves (s haves : List ℕ) : Type 0 where
   pub good : passedGood s haves ≡ true
   pub few : passedFew haves ≡ true
 
--- Chunk after chunk from a place on, with no test; their bytes together, and the bytes of their lengths.
-unfoldable pub chunksFrom : List ℕ → ℕ → List ℕ → List (List ℕ)
-chunksFrom s at [] = []
-chunksFrom s at (n ∷ ns) = slice at (at + n) s ∷ chunksFrom s (at + n) ns
-
+-- The bytes of chunks together.
 unfoldable pub total : List ℕ → ℕ
 total [] = 0
 total (n ∷ ns) = n + total ns
 
-unfoldable pub numbersTotal : List ℕ → ℕ
-numbersTotal [] = 0
-numbersTotal (n ∷ ns) = length (shortest n) + numbersTotal ns
-
--- What cutting the chunks answers.
-unfoldable pub chunksCut : List ℕ → List ℕ → Chunks
-chunksCut s lengths = afterPieces (piecesFrom s 0 lengths) Short (λ cs. Whole (total lengths) (numbersTotal lengths))
+-- What cutting the chunks answers, from where the last one ended and with the bytes of the lengths so far.
+unfoldable pub chunksCut : List ℕ → ℕ → ℕ → List ℕ → Chunks
+chunksCut s end numbers [] = Whole end numbers
+chunksCut s end numbers (n ∷ ns) =
+    cond (ltb (length s - end) n) (Short end) (chunksCut s (end + n) (numbers + length (shortest n)) ns)
 
 -- The first tests, and heads and need as they are written.
 unfoldable pub listsOutput : List ℕ → List ℕ → List ℕ → List ℕ → Output
 listsOutput heads need s haves =
-    cond (passedGood s haves)
-    (afterPassed (passedHashes heads)
-    Output.refuse
-    (λ h.
-    afterPassed (passedHashes need)
-    Output.refuse
-    (λ n. Output.bytes (hashListBytes (hashesAt heads 0 h) ++ hashListBytes (hashesAt need 0 n)))))
-    (Output.refuse BadSession)
+    testHaves s haves
+    (testHashes heads (testHashes need (Output.bytes (hashListBytes (hashesOf heads) ++ hashListBytes (hashesOf need)))))
 
--- The tests that follow, and the chunks as they are written: 4 already where their bytes alone pass a message's size.
-unfoldable pub chunksOutput : List ℕ → List ℕ → List ℕ → Output
-chunksOutput haves chunks lengths =
-    cond (passedFew haves && leb (length lengths) (sizes .chunks))
-    (afterPieces (piecesFrom chunks 0 lengths)
-    (λ place. Output.refuse (CutOff place))
-    (λ cs. cond (ltb (sizes .message) (total lengths)) (Output.refuse (PastSize 0)) (Output.bytes (counted prefixedBytes cs))))
+-- 4 already where the bytes of the chunks alone pass a message's size.
+unfoldable pub chunksWithin : List ℕ → List ℕ → Output
+chunksWithin chunks lengths =
+    cond (ltb (sizes .message) (total lengths))
     (Output.refuse (PastSize 0))
+    (Output.bytes (counted prefixedBytes (chunksFrom chunks 0 lengths)))
 
--- The message that the parts are.
-abbrev pub messageOf : Parts → Message
-messageOf p =
-    record {
-      version = p .version;
-      heads = hashesAt (p .heads) 0 (length (p .heads) / sizes .hash);
-      need = hashesAt (p .need) 0 (length (p .need) / sizes .hash);
-      haves = havesOf (p .bytes) (p .haves);
-      chunks = chunksFrom (p .chunks) 0 (p .lengths);
-      flags = p .flags;
-    }
+-- The tests that follow, and the chunks as they are written.
+unfoldable pub chunksOutput : List ℕ → List ℕ → List ℕ → Output
+chunksOutput haves chunks lengths = testFew haves lengths (testChunks chunks 0 lengths (chunksWithin chunks lengths))
 
 -- Parts that pass every test but that of the message's size.
 pub record Accepted (p : Parts) : Type 0 where
@@ -95,3 +71,8 @@ pub record Accepted (p : Parts) : Type 0 where
   pub need : passedHashes (p .need) ≡ Hashes (length (p .need) / sizes .hash)
   pub few : length (p .lengths) ≤ sizes .chunks
   pub whole : total (p .lengths) ≤ length (p .chunks)
+
+-- Such parts, for whose message a buffer has room.
+pub record Placed (p : Parts) (out : List ℕ) : Type 0 where
+  pub accepted : Accepted p
+  pub room : length (messageBytes (messageOf p)) ≤ length out

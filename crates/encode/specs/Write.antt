@@ -1,9 +1,9 @@
 -- A message as it is written. 01, Wire ("Message"), Refusal numbers ("Order": 10, then 4 for a passed list, then the input, then 4 for the
 -- resulting message, then 7). A list that isn't whole hashes, and chunks that run past the lent bytes, are cut: 1.
-use Prim.Native.Nat.{ℕ, _+_, _-_}
-use mathlib.Core.Bool.{cond, _&&_}
+use Prim.Native.Nat.{ℕ, _+_, _-_, _/_}
+use mathlib.Core.Bool.{cond, not}
 use mathlib.Core.List.{List, [], _∷_}
-use lib.Dec.{ltb, leb}
+use lib.Dec.{ltb}
 use lib.ListN.{length}
 use lib.Seq.{slice}
 use Rattle.bloom.specs.Have.{havesOf, passedGood, passedFew}
@@ -27,51 +27,71 @@ pub record Parts : Type 0 where
   pub lengths : List ℕ
   pub flags : Section
 
--- Chunks cut from bytes, or the start of the first chunk for which there aren't enough.
-pub data Pieces : Type 0 where
-  pieces : List (List ℕ) → Pieces
-  short : ℕ → Pieces
+-- The parts, in the order in which a call is lent them.
+abbrev pub partsOf : MessageVersion → List ℕ → List ℕ → List ℕ → List ℕ → List ℕ → List ℕ → Section → Parts
+partsOf version heads need bytes haves chunks lengths flags =
+    record {
+      version = version;
+      heads = heads;
+      need = need;
+      bytes = bytes;
+      haves = haves;
+      chunks = chunks;
+      lengths = lengths;
+      flags = flags;
+    }
 
-unfoldable pub afterPieces : {A : Type 0} → Pieces → (ℕ → A) → (List (List ℕ) → A) → A
-afterPieces (pieces cs) refused k = k cs
-afterPieces (short place) refused k = refused place
+-- The hashes that bytes are.
+abbrev pub hashesOf : List ℕ → List ℕ
+hashesOf s = hashesAt s 0 (length s / sizes .hash)
 
--- Chunk after chunk from a place on; bytes beyond the last aren't used.
-unfoldable pub piecesFrom : List ℕ → ℕ → List ℕ → Pieces
-piecesFrom s at [] = pieces []
-piecesFrom s at (n ∷ ns) =
-    cond (ltb (length s - at) n)
-    (short at)
-    (afterPieces (piecesFrom s (at + n) ns) short (λ cs. pieces (slice at (at + n) s ∷ cs)))
+-- Chunk after chunk, from a place on; bytes beyond the last aren't used.
+unfoldable pub chunksFrom : List ℕ → ℕ → List ℕ → List (List ℕ)
+chunksFrom s at [] = []
+chunksFrom s at (n ∷ ns) = slice at (at + n) s ∷ chunksFrom s (at + n) ns
+
+-- The message that the parts are.
+abbrev pub messageOf : Parts → Message
+messageOf p =
+    record {
+      version = p .version;
+      heads = hashesOf (p .heads);
+      need = hashesOf (p .need);
+      haves = havesOf (p .bytes) (p .haves);
+      chunks = chunksFrom (p .chunks) 0 (p .lengths);
+      flags = p .flags;
+    }
+
+-- The tests, each with its refusal and then what follows. 10 for haves that break a rule.
+unfoldable pub testHaves : List ℕ → List ℕ → Output → Output
+testHaves s haves next = cond (not (passedGood s haves)) (Output.refuse BadSession) next
+
+-- 4, then 1, for a list of hashes.
+unfoldable pub testHashes : List ℕ → Output → Output
+testHashes s next = afterPassed (passedHashes s) Output.refuse (λ n. next)
+
+-- 4 for the haves and for the number of chunks.
+unfoldable pub testFew : List ℕ → List ℕ → Output → Output
+testFew haves lengths next =
+    cond (not (passedFew haves))
+    (Output.refuse (PastSize 0))
+    (cond (ltb (sizes .chunks) (length lengths)) (Output.refuse (PastSize 0)) next)
+
+-- 1 with the start of the first chunk for which there aren't enough bytes.
+unfoldable pub testChunks : List ℕ → ℕ → List ℕ → Output → Output
+testChunks s at [] next = next
+testChunks s at (n ∷ ns) next = cond (ltb (length s - at) n) (Output.refuse (Cut at)) (testChunks s (at + n) ns next)
 
 -- 4 for a message that passes its size.
 unfoldable pub withinSize : List ℕ → Output
 withinSize bytes = cond (ltb (sizes .message) (length bytes)) (Output.refuse (PastSize 0)) (Output.bytes bytes)
 
--- 10 for the haves; 4 and 1 for the passed lists: heads, need, haves, chunks; 1 for chunks that are cut, with the chunk's start; 4 for the
--- total size.
+-- All of them in their order, and the message.
 unfoldable pub messageOutput : Parts → Output
 messageOutput p =
-    cond (passedGood (p .bytes) (p .haves))
-    (afterPassed (passedHashes (p .heads))
-    Output.refuse
-    (λ heads.
-    afterPassed (passedHashes (p .need))
-    Output.refuse
-    (λ need.
-    cond (passedFew (p .haves) && leb (length (p .lengths)) (sizes .chunks))
-    (afterPieces (piecesFrom (p .chunks) 0 (p .lengths))
-    (λ place. Output.refuse (Cut place))
-    (λ chunks.
-    withinSize
-    (messageBytes
-    (record {
-      version = p .version;
-      heads = hashesAt (p .heads) 0 heads;
-      need = hashesAt (p .need) 0 need;
-      haves = havesOf (p .bytes) (p .haves);
-      chunks = chunks;
-      flags = p .flags;
-    }))))
-    (Output.refuse (PastSize 0)))))
-    (Output.refuse BadSession)
+    testHaves (p .bytes) (p .haves)
+    (testHashes (p .heads)
+    (testHashes (p .need)
+    (testFew (p .haves) (p .lengths)
+    (testChunks (p .chunks) 0 (p .lengths)
+    (withinSize (messageBytes (messageOf p)))))))

@@ -6,7 +6,7 @@ use message::flags::Section;
 use message::version::MessageVersion;
 use rules::output::Write;
 use rules::refusal::Refusal;
-ghost use Rattle.encode.specs.Write.{Parts, messageOutput};
+ghost use Rattle.encode.specs.Write.{partsOf, messageOutput};
 ghost use Rattle.rules.specs.Output.{Written};
 
 // Writes a message from its parts; order and repeats are kept.
@@ -21,7 +21,8 @@ pub fn encode(
     lengths: &[u64],
     flags: Section,
 ) -> Write
-    ensures { λ r. ⌜ Written (messageOutput (record { version = version; heads = now (heads .entry); need = now (need .entry); bytes = now (s .entry); haves = now (haves .entry); chunks = now (chunks .entry); lengths = now (lengths .entry); flags = flags })) (now (out .entry)) (now (out .exit)) r ⌝ }
+    ensures { λ r. ⌜ Written (messageOutput (partsOf version (now (heads .entry)) (now (need .entry)) (now (s .entry)) (now (haves .entry))
+        (now (chunks .entry)) (now (lengths .entry)) flags)) (now (out .entry)) (now (out .exit)) r ⌝ }
 {
     let sized = message_size(heads, need, s, haves, chunks, lengths, flags);
     match sized {

@@ -16,8 +16,8 @@ ghost use lib.ListN.{length};
 ghost use lib.Seq.{sets};
 ghost use Rattle.bloom.specs.Filter.{filterBytes, filterOf4};
 ghost use Rattle.bloom.specs.Have.{haveCount, haveIn, havesOf};
-ghost use Rattle.encode.specs.Size.{GoodHaves, Accepted, messageOf, chunksFrom, total};
-ghost use Rattle.encode.specs.Write.{Parts};
+ghost use Rattle.encode.specs.Size.{GoodHaves, Placed, total};
+ghost use Rattle.encode.specs.Write.{partsOf, messageOf, chunksFrom};
 ghost use Rattle.message.specs.Flags.{sectionBytes};
 ghost use Rattle.message.specs.Message.{haveBytes, counted, messageBytes};
 ghost use Rattle.rules.specs.Hash.{hashesAt};
@@ -138,8 +138,9 @@ pub fn put_message(
     lengths: &[u64],
     flags: Section,
 )
-    requires { ⌜ Accepted (record { version = version; heads = now heads; need = now need; bytes = now s; haves = now haves; chunks = now chunks; lengths = now lengths; flags = flags }) × (length (messageBytes (messageOf (record { version = version; heads = now heads; need = now need; bytes = now s; haves = now haves; chunks = now chunks; lengths = now lengths; flags = flags }))) ≤ length (now out)) ⌝ }
-    ensures { λ _. ⌜ now (out .exit) ≡ sets (now (out .entry)) 0 (messageBytes (messageOf (record { version = version; heads = now (heads .entry); need = now (need .entry); bytes = now (s .entry); haves = now (haves .entry); chunks = now (chunks .entry); lengths = now (lengths .entry); flags = flags }))) ⌝ }
+    requires { ⌜ Placed (partsOf version (now heads) (now need) (now s) (now haves) (now chunks) (now lengths) flags) (now out) ⌝ }
+    ensures { λ _. ⌜ now (out .exit) ≡ sets (now (out .entry)) 0 (messageBytes (messageOf (partsOf version (now (heads .entry)) (now (need .entry))
+        (now (s .entry)) (now (haves .entry)) (now (chunks .entry)) (now (lengths .entry)) flags))) ⌝ }
 {
     out[0] = version.encode();
     let at_need = put_hashes(out, 1, heads, 0, heads.len() / HASH_SIZE);

@@ -18,7 +18,7 @@ ghost use lib.ListN.{length};
 ghost use Rattle.bloom.specs.Filter.{filterBytes, filterOf4};
 ghost use Rattle.bloom.specs.Have.{haveCount, haveIn, havesOf};
 ghost use Rattle.encode.specs.Size.{SizedAs, GoodHaves, sizeOf, chunksCut, listsOutput, chunksOutput};
-ghost use Rattle.encode.specs.Write.{messageOutput};
+ghost use Rattle.encode.specs.Write.{partsOf, messageOutput};
 ghost use Rattle.message.specs.Flags.{sectionBytes};
 ghost use Rattle.message.specs.Message.{haveBytes, counted};
 ghost use Rattle.rules.specs.Sizes.{sizes};
@@ -85,7 +85,7 @@ pub fn haves_size(s: &[u8], haves: &[u64]) -> usize
 // Cuts the chunks. A length is compared with what is left and never added before: lengths can be anything.
 pub fn cut_chunks(chunks: &[u8], lengths: &[u64]) -> Chunks
     requires { ⌜ length (now lengths) ≤ sizes .chunks ⌝ }
-    ensures { λ r. ⌜ r ≡ chunksCut (now (chunks .entry)) (now (lengths .entry)) ⌝ }
+    ensures { λ r. ⌜ r ≡ chunksCut (now (chunks .entry)) 0 0 (now (lengths .entry)) ⌝ }
 {
     let mut end: usize = 0;
     let mut numbers: usize = 0;
@@ -166,7 +166,8 @@ pub fn message_size(
     lengths: &[u64],
     flags: Section,
 ) -> Size
-    ensures { λ r. ⌜ SizedAs (λ v. messageOutput (record { version = v; heads = now (heads .entry); need = now (need .entry); bytes = now (s .entry); haves = now (haves .entry); chunks = now (chunks .entry); lengths = now (lengths .entry); flags = flags })) r ⌝ }
+    ensures { λ r. ⌜ SizedAs (λ v. messageOutput (partsOf v (now (heads .entry)) (now (need .entry)) (now (s .entry)) (now (haves .entry))
+        (now (chunks .entry)) (now (lengths .entry)) flags)) r ⌝ }
 {
     let lists = lists_size(heads, need, s, haves);
     match lists {

@@ -5,7 +5,7 @@ use mathlib.Core.Path.{_≡_, refl, sym, ap, ap₂, subst, _∙_}
 use borrow.Author.Tests.{eq-eqb, ne-eqb, lt-ltb, le-ltb}
 use Rattle.decode.specs.Read.{DecodedInto}
 use Rattle.decode.specs.declared.parse.Decoded.{Decoded}
-use Rattle.encode.specs.Write.{Parts, messageOutput}
+use Rattle.encode.specs.Write.{partsOf, messageOutput}
 use Rattle.message.specs.Flags.{flagsOf}
 use Rattle.message.specs.declared.flags.Section.{Section}
 use Rattle.message.specs.declared.flags.Section.the-variants.{Absent, Present}
@@ -60,26 +60,12 @@ message-answered-once x y = (x .answer ∙ sym (y .answer), x .haves ∙ sym (y 
 
 -- ---- a message that is written
 
--- the parts that a call is passed
-abbrev parts : List ℕ → List ℕ → List ℕ → List ℕ → List ℕ → List ℕ → MessageVersion → Section → Parts
-parts heads need bytes haves chunks lengths v f =
-    record {
-      version = v;
-      heads = heads;
-      need = need;
-      bytes = bytes;
-      haves = haves;
-      chunks = chunks;
-      lengths = lengths;
-      flags = f;
-    }
-
 pub message-written : (version flags : ℕ) (v : MessageVersion) (f : Section) (heads need bytes haves chunks lengths before after words : List ℕ) (r : Write)
     → v ≡ versionOf version
     → f ≡ sectionOf flags
-    → Written (messageOutput (parts heads need bytes haves chunks lengths v f)) before after r
+    → Written (messageOutput (partsOf v heads need bytes haves chunks lengths f)) before after r
     → words ≡ writeWords r
-    → Answered (messageOutput (parts heads need bytes haves chunks lengths (versionOf version) (sectionOf flags))) before after words
+    → Answered (messageOutput (partsOf (versionOf version) heads need bytes haves chunks lengths (sectionOf flags))) before after words
 message-written version flags v f heads need bytes haves chunks lengths before after words r e g w h =
-    let same = ap₂ (λ (x : MessageVersion) (y : Section). messageOutput (parts heads need bytes haves chunks lengths x y)) e g in
+    let same = ap₂ (λ (x : MessageVersion) (y : Section). messageOutput (partsOf x heads need bytes haves chunks lengths y)) e g in
     answered _ _ _ _ _ (subst (λ (o : Output). Written o before after r) same w) h

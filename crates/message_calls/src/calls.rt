@@ -3,7 +3,7 @@ use crate::message_words::decoded_words;
 use crate::message_words::section_of;
 use crate::message_words::version_of;
 use words::answer::write_words;
-ghost use Rattle.encode.specs.Write.{Parts, messageOutput};
+ghost use Rattle.encode.specs.Write.{partsOf, messageOutput};
 ghost use Rattle.words.specs.Answer.{Answered};
 ghost use Rattle.message_calls.specs.MessageWords.{versionOf, sectionOf, MessageAnswered};
 
@@ -35,7 +35,8 @@ pub extern "C" fn bt_write_message(
     flags: u64,
     answer: &mut [u64; 4],
 )
-    ensures { λ _. ⌜ Answered (messageOutput (record { version = versionOf version; heads = now (heads .entry); need = now (need .entry); bytes = now (s .entry); haves = now (haves .entry); chunks = now (chunks .entry); lengths = now (lengths .entry); flags = sectionOf flags })) (now (out .entry)) (now (out .exit)) (now (answer .exit)) ⌝ }
+    ensures { λ _. ⌜ Answered (messageOutput (partsOf (versionOf version) (now (heads .entry)) (now (need .entry)) (now (s .entry)) (now (haves .entry))
+        (now (chunks .entry)) (now (lengths .entry)) (sectionOf flags))) (now (out .entry)) (now (out .exit)) (now (answer .exit)) ⌝ }
 {
     let v = version_of(version);
     let f = section_of(flags);

@@ -22,7 +22,7 @@ put-message-requires : tie.Need-put-message-requires
 put-message-requires c κs =
     let k = c .before .before .before in
     let r = ready _ _ (sym (k .before .before .message-size .ensures .each _) ∙ k .sized .given .1) in
-    (r .accepted, omega (arith, r .long, c .before .if1 .left))
+    record { accepted = r .accepted; room = omega (arith, r .long, c .before .if1 .left) }
 
 enum-known-sized-2 : tie.Need-enum-known-sized-2
 enum-known-sized-2 c = search needs

@@ -1,9 +1,10 @@
 -- `encode::put::put_haves` meets its contract: what is put and the haves from record i on are together all of them. Assumes nothing.
-use Prim.Native.Nat.{_+_, _-_, _/_, _≤_}
+use Prim.Native.Nat.{_+_, _-_, _≤_}
 use mathlib.Core.Path.{refl, _∙_}
 use native.Mathlib.Omega.{arith}
 use denote.Ref.{now}
 use lib.ListN.{length}
+use Rattle.bloom.specs.Have.{haveCount}
 use Rattle.encode.proofs.PutLaws.{Putting, putting-starts, next-on, counted-long, counted-put, havesLeft, haves-left, haves-room, haves-none, haves-counted}
 use borrow.Author.Needs.{needs}
 use Rattle.encode.proofs.put.put_haves.Statement.{statement}
@@ -22,7 +23,7 @@ abbrev μ-loop : tie.MeasureT-loop
 put-unsigned-requires : tie.Need-put-unsigned-requires Inv-loop μ-loop
 put-unsigned-requires c κs =
     let s = c .before .before .before .before in
-    omega (arith, s .pre .1, counted-long _ _ _ (haves-counted (now (s .args .s)) (now (s .args .haves)) (length (now (s .args .haves)) / 7) refl))
+    omega (arith, s .pre .1, counted-long _ _ _ (haves-counted (now (s .args .s)) (now (s .args .haves)) (haveCount (now (s .args .haves))) refl))
 
 loop-holds : tie.Need-loop-holds Inv-loop μ-loop
 loop-holds c = record { upto = omega arith; rest = putting-starts _ _ _ }
@@ -31,14 +32,14 @@ loop-holds c = record { upto = omega arith; rest = putting-starts _ _ _ }
 room : (l : tie.At-loop Inv-loop μ-loop)
     → let u = l .before .before .before in
     let a = u .before .before .before .before .before .args in
-    u .put-unsigned .result + length (havesLeft (now (a .s)) (now (a .haves)) (length (now (a .haves)) / 7) 0) ≤ length (now (a .out))
+    u .put-unsigned .result + length (havesLeft (now (a .s)) (now (a .haves)) (haveCount (now (a .haves))) 0) ≤ length (now (a .out))
 room l =
     let u = l .before .before .before in
     let s = u .before .before .before .before .before in
     omega (
       arith,
       s .pre .1,
-      counted-long _ _ _ (haves-counted (now (s .args .s)) (now (s .args .haves)) (length (now (s .args .haves)) / 7) refl),
+      counted-long _ _ _ (haves-counted (now (s .args .s)) (now (s .args .haves)) (haveCount (now (s .args .haves))) refl),
       u .put-unsigned .ensures .place,
     )
 

@@ -2,7 +2,7 @@
 use native.Mathlib.Omega.{arith}
 use denote.Ref.{now}
 use lib.ListN.{set}
-use Rattle.encode.specs.Size.{messageOf}
+use Rattle.encode.specs.Write.{partsOf, messageOf}
 use Rattle.message.specs.Flags.{sectionBytes}
 use Rattle.message.specs.Message.{Message, counted, haveBytes, messageBytes}
 use Rattle.wire.specs.Item.{hashListBytes, prefixedBytes}
@@ -21,17 +21,9 @@ start c = c .before .before .before .before .before .before .before .before
 -- the message that is put
 abbrev msg : tie.Start → Message
 msg s =
+    let a = s .args in
     messageOf
-    (record {
-      version = s .args .version;
-      heads = now (s .args .heads);
-      need = now (s .args .need);
-      bytes = now (s .args .s);
-      haves = now (s .args .haves);
-      chunks = now (s .args .chunks);
-      lengths = now (s .args .lengths);
-      flags = s .args .flags;
-    })
+    (partsOf (a .version) (now (a .heads)) (now (a .need)) (now (a .s)) (now (a .haves)) (now (a .chunks)) (now (a .lengths)) (a .flags))
 
 -- what is put and what is left, part by part
 type-put : (c : tie.After-encode)
@@ -77,41 +69,41 @@ section-put : (c : tie.After-put-section)
 section-put c = putting-last _ _ _ _ _ _ _ _ (chunks-put (c .before .before .before .before)) (c .put-section .ensures)
 
 slice-write-out : tie.Need-slice-write-out
-slice-write-out c = let s = start c in omega (arith, s .pre .1, message-some (msg s))
+slice-write-out c = let s = start c in omega (arith, s .pre .room, message-some (msg s))
 
 put-hashes-requires : tie.Need-put-hashes-requires
 put-hashes-requires c κs =
     let b = c .before in
     let s = start b in
     let m = msg s in
-    (omega arith, putting-room _ _ _ _ _ (hashListBytes (m .heads)) (fromNeed m) (type-put b) (omega (arith, s .pre .1)))
+    (omega arith, putting-room _ _ _ _ _ (hashListBytes (m .heads)) (fromNeed m) (type-put b) (omega (arith, s .pre .room)))
 
 put-hashes-requires-2 : tie.Need-put-hashes-requires-2
 put-hashes-requires-2 c κs =
     let b = c .before .before .before in
     let s = start (b .before .before) in
     let m = msg s in
-    (omega arith, putting-room _ _ _ _ _ (hashListBytes (m .need)) (fromHaves m) (heads-put b) (omega (arith, s .pre .1)))
+    (omega arith, putting-room _ _ _ _ _ (hashListBytes (m .need)) (fromHaves m) (heads-put b) (omega (arith, s .pre .room)))
 
 put-haves-requires : tie.Need-put-haves-requires
 put-haves-requires c κs =
     let b = c .before .before .before in
     let s = start (b .before .before .before .before .before .before) in
     let m = msg s in
-    (s .pre .0 .haves, putting-room _ _ _ _ _ (counted haveBytes (m .haves)) (fromChunks m) (need-put b) (omega (arith, s .pre .1)))
+    (s .pre .accepted .haves, putting-room _ _ _ _ _ (counted haveBytes (m .haves)) (fromChunks m) (need-put b) (omega (arith, s .pre .room)))
 
 put-chunks-requires : tie.Need-put-chunks-requires
 put-chunks-requires c κs =
     let b = c .before .before .before in
     let s = start (b .before .before .before .before .before .before .before .before .before .before) in
     let m = msg s in
-    (s .pre .0 .whole, putting-room _ _ _ _ _ (counted prefixedBytes (m .chunks)) (sectionBytes (m .flags)) (haves-put b) (omega (arith, s .pre .1)))
+    (s .pre .accepted .whole, putting-room _ _ _ _ _ (counted prefixedBytes (m .chunks)) (sectionBytes (m .flags)) (haves-put b) (omega (arith, s .pre .room)))
 
 put-section-requires : tie.Need-put-section-requires
 put-section-requires c κs =
     let b = c .before .before .before in
     let s = start (b .before .before .before .before .before .before .before .before .before .before .before .before .before .before) in
-    putting-all _ _ _ _ _ _ (chunks-put b) (omega (arith, s .pre .1))
+    putting-all _ _ _ _ _ _ (chunks-put b) (omega (arith, s .pre .room))
 
 same-length : tie.Need-same-length
 same-length c = put-long _ _ _ _ _ (section-put (c .before .before))

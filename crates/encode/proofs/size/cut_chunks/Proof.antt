@@ -1,13 +1,13 @@
 -- `encode::size::cut_chunks` meets its contract: cutting the rest from where the last chunk ended is cutting all of them. Assumes nothing.
 use Prim.Native.Nat.{_-_, _*_, _≤_}
-use mathlib.Core.Path.{_≡_, sym, _∙_}
+use mathlib.Core.Path.{_≡_, refl, sym, _∙_}
 use native.Mathlib.Omega.{arith}
 use denote.Ref.{now}
 use lib.ListN.{length, getD, drop}
 use Rattle.encode.specs.Size.{chunksCut}
 use Rattle.wire.specs.Number.{shortest}
 use Rattle.wire.proofs.Number.{shortest-ten}
-use Rattle.encode.proofs.SizeLaws.{cutting, cutting-starts, cutting-short, cutting-on, cutting-ends}
+use Rattle.encode.proofs.SizeLaws.{cutting-short, cutting-on, cutting-ends}
 use borrow.Author.Needs.{needs}
 use Rattle.encode.proofs.size.cut_chunks.Statement.{statement}
 use Rattle.encode.proofs.size.cut_chunks.Tie as tie
@@ -18,14 +18,14 @@ Inv-loop chunks lengths end₀ numbers₀ i₀ end numbers i =
       upto : i ≤ length lengths;
       inside : end ≤ length chunks;
       small : numbers ≤ 10 * i;
-      rest : cutting chunks end numbers (drop i lengths) ≡ chunksCut chunks lengths;
+      rest : chunksCut chunks end numbers (drop i lengths) ≡ chunksCut chunks 0 0 lengths;
     }
 
 abbrev μ-loop : tie.MeasureT-loop
 μ-loop chunks lengths end₀ numbers₀ i₀ end numbers i = length lengths - i
 
 loop-holds : tie.Need-loop-holds Inv-loop μ-loop
-loop-holds c = record { upto = omega arith; inside = omega arith; small = omega arith; rest = cutting-starts _ _ }
+loop-holds c = record { upto = omega arith; inside = omega arith; small = omega arith; rest = refl }
 
 mul-n : tie.Need-mul-n Inv-loop μ-loop
 mul-n c = search needs

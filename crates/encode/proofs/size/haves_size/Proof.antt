@@ -4,9 +4,9 @@ use mathlib.Core.Path.{_≡_, refl, ap, _∙_}
 use native.Mathlib.Omega.{arith}
 use denote.Ref.{now}
 use lib.ListN.{length}
-use Rattle.bloom.specs.Have.{havesOf}
+use Rattle.bloom.specs.Have.{haveCount, havesOf}
 use Rattle.message.specs.Message.{counted, haveBytes}
-use Rattle.encode.proofs.SizeLaws.{havesSize, haves-again, haves-all, haves-counted-long, haves-few, have-small, ten}
+use Rattle.encode.proofs.SizeLaws.{most-have, havesSize, haves-again, haves-all, haves-counted-long, haves-few, have-small, ten}
 use borrow.Author.Needs.{needs}
 use Rattle.encode.proofs.size.haves_size.Statement.{statement}
 use Rattle.encode.proofs.size.haves_size.Tie as tie
@@ -15,7 +15,7 @@ abbrev Inv-loop : tie.InvT-loop
 Inv-loop s haves total size₀ i₀ size i =
     record {
       upto : i ≤ total;
-      small : size ≤ 10 + 50000 * i;
+      small : size ≤ 10 + most-have * i;
       rest : size + havesSize s haves total i ≡ length (counted haveBytes (havesOf s haves));
     }
 
@@ -29,18 +29,18 @@ loop-holds : tie.Need-loop-holds Inv-loop μ-loop
 loop-holds c =
     let a = c .before .before .before in
     let few = haves-few _ _ (a .pre) in
-    let n = ten (length (now (a .args .haves)) / 7) (omega (arith, few)) in
+    let n = ten (haveCount (now (a .args .haves))) (omega (arith, few)) in
     record {
       upto = omega arith;
       small = omega (arith, n, c .unsigned-size .ensures);
-      rest = ap (λ (k : ℕ). k + havesSize (now (a .args .s)) (now (a .args .haves)) (length (now (a .args .haves)) / 7) 0) (c .unsigned-size .ensures) ∙ haves-counted-long _ _ _ refl;
+      rest = ap (λ (k : ℕ). k + havesSize (now (a .args .s)) (now (a .args .haves)) (haveCount (now (a .args .haves))) 0) (c .unsigned-size .ensures) ∙ haves-counted-long _ _ _ refl;
     }
 
 have-size-requires : tie.Need-have-size-requires Inv-loop μ-loop
 have-size-requires c κs = search needs
 
 -- one have more
-one : (c : tie.After-have-size Inv-loop μ-loop) → c .have-size .result ≤ 50000
+one : (c : tie.After-have-size Inv-loop μ-loop) → c .have-size .result ≤ most-have
 one c =
     let l = c .before .before in
     let s = l .before .before .before .before in

@@ -1,7 +1,7 @@
--- `encode::size::prefixed_filter_size` meets its contract: a filter that fits its size has less than 10,000 bytes. Assumes nothing.
+-- `encode::size::prefixed_filter_size` meets its contract: a filter that fits its size has no more bytes than its numbers and the largest field. Assumes nothing.
 use Prim.Native.Nat.{_≤_}
 use native.Mathlib.Omega.{arith}
-use Rattle.encode.proofs.SizeLaws.{filter-small, prefixed-sum, ten}
+use Rattle.encode.proofs.SizeLaws.{most-filter, filter-small, prefixed-sum, ten}
 use borrow.Author.Needs.{needs}
 use Rattle.encode.proofs.size.prefixed_filter_size.Statement.{statement}
 use Rattle.encode.proofs.size.prefixed_filter_size.Tie as tie
@@ -13,7 +13,7 @@ unsigned-size-requires : tie.Need-unsigned-size-requires
 unsigned-size-requires c κs = search needs
 
 -- three numbers and a field
-small : (c : tie.After-filter-size) → c .filter-size .result ≤ 8222
+small : (c : tie.After-filter-size) → c .filter-size .result ≤ most-filter
 small c =
     let a = c .before .before in
     rw (c .filter-size .ensures) (filter-small _ _ _ _ (a .fits .entries .fits) (a .fits .bits .fits) (a .fits .probes .fits) (a .pre))
