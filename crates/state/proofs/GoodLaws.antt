@@ -15,7 +15,6 @@ use Rattle.rules.specs.Order.{ascends}
 use Rattle.rules.specs.Sizes.{sizes}
 use Rattle.rules.proofs.Cases.{split, both}
 use Rattle.state.specs.Good.{
-  Lent,
   heardGood,
   keptGood,
   keptGoodFrom,
@@ -25,6 +24,7 @@ use Rattle.state.specs.Good.{
   sessionGood,
 }
 use Rattle.state.specs.Saved.{sharedGood}
+use Rattle.state.specs.Value.{Lent}
 use Rattle.state.specs.declared.session.Heard.{Heard}
 use Rattle.state.specs.declared.session.Heard.the-variants.{Nothing, Count}
 use Rattle.state.specs.declared.session.Session.{Session}

@@ -32,7 +32,7 @@ use Rattle.wire.specs.Number.{shortest, Put}
 use Rattle.wire.specs.declared.parse.HashList.the-variants.{Hashes, Refused as NoHashes}
 use Rattle.wire.proofs.Item.{HashesInside, hash-list-inside, hash-list-written}
 use Rattle.wire.proofs.Number.{put-then}
-use Rattle.state.specs.Session.{restored}
+use Rattle.state.specs.Counts.{restoredCounts}
 use Rattle.state.specs.Saved.{stateType, sharedGood, stateOutput, stateAt, loadedWith, loadedInto, Restored}
 use Rattle.state.specs.declared.saved.Loaded.{Loaded}
 use Rattle.state.specs.declared.saved.Loaded.the-variants.{Session, Refused}
@@ -143,7 +143,7 @@ module _ (s before : List ℕ) where
         rw (part-is, length-slice start next s (w .there)) (omega (arith, w .whole))
 
     pub load-session : (after : List ℕ) → sizes .hash * count ≤ length before → after ≡ sets before 0 (take (next - start) (drop start s))
-        → Restored s before after (Session (restored count))
+        → Restored s before after (Session (restoredCounts count))
     unfolding loadedWith loadedInto
     load-session after h q = record { answer = rw (is, le-ltb _ _ h); content = rw (is, le-ltb _ _ h, ← part-is) q }
 
@@ -153,7 +153,7 @@ state-out s count e = rw e
 
 loaded : (before s after : List ℕ) (start count next : ℕ) (r : Loaded) → sizes .hash * count ≤ length before → stateAt s ≡ Hashes start count next
     → Restored s before after r
-    → (r ≡ Session (restored count)) × (after ≡ sets before 0 (slice start next s))
+    → (r ≡ Session (restoredCounts count)) × (after ≡ sets before 0 (slice start next s))
 unfolding loadedWith loadedInto
 loaded before s after start count next r h e l = (rw (e, le-ltb _ _ h) at (l .answer), rw (e, le-ltb _ _ h) at (l .content))
 
@@ -213,7 +213,7 @@ pub saved-and-loaded : (s before saved shared after : List ℕ) (count : ℕ) (w
     → sizes .hash * count ≤ length shared
     → Written (stateOutput s count) before saved w
     → Restored saved shared after r
-    → (r ≡ Session (restored count)) × (hashesAt after 0 count ≡ hashesAt s 0 count)
+    → (r ≡ Session (restoredCounts count)) × (hashesAt after 0 count ≡ hashesAt s 0 count)
 saved-and-loaded s before saved shared after count w r good are room wide v l =
     let hs : List ℕ = hashesAt s 0 count in
     let rest : List ℕ = drop (1 + length (hashListBytes hs)) before in

@@ -10,19 +10,10 @@ use Rattle.rules.specs.Hash.{hashesAt}
 use Rattle.rules.specs.Order.{ascends}
 use Rattle.rules.specs.Sizes.{sizes}
 use Rattle.state.specs.Saved.{sharedGood}
+use Rattle.state.specs.Value.{Lent}
 use Rattle.state.specs.declared.session.Heard.{Heard}
 use Rattle.state.specs.declared.session.Heard.the-variants.{Nothing, Count}
 use Rattle.state.specs.declared.session.Session.{Session}
-
--- The lent lists of a session: buffers of hashes, and the peer's haves as words over bytes.
-pub record Lent : Type 0 where
-  pub shared : List ℕ
-  pub lastSent : List ℕ
-  pub theirHeads : List ℕ
-  pub theirNeed : List ℕ
-  pub haves : List ℕ
-  pub bytes : List ℕ
-  pub sent : List ℕ
 
 -- A list that may be absent.
 unfoldable pub heardGood : List ℕ → Heard → Bool

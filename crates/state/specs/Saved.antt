@@ -14,7 +14,7 @@ use Rattle.rules.specs.declared.refusal.Refusal.the-variants.{Cut, WrongType, N
 use Rattle.wire.specs.Item.{hashListBytes, hashListAt}
 use Rattle.wire.specs.declared.parse.HashList.{HashList}
 use Rattle.wire.specs.declared.parse.HashList.the-variants.{Hashes, Refused as NoHashes}
-use Rattle.state.specs.Session.{restored}
+use Rattle.state.specs.Counts.{restoredCounts}
 use Rattle.state.specs.declared.saved.Loaded.{Loaded}
 use Rattle.state.specs.declared.saved.Loaded.the-variants.{Session, Refused}
 
@@ -40,7 +40,7 @@ stateAt s =
 
 -- The session that is read, with 7 where the buffer for its shared heads is too short; and that buffer at exit.
 unfoldable pub loadedWith : HashList → ℕ → Loaded
-loadedWith (Hashes start count next) room = cond (ltb room (sizes .hash * count)) (Refused (NoRoom (sizes .hash * count))) (Session (restored count))
+loadedWith (Hashes start count next) room = cond (ltb room (sizes .hash * count)) (Refused (NoRoom (sizes .hash * count))) (Session (restoredCounts count))
 loadedWith (NoHashes r) room = Refused r
 
 unfoldable pub loadedInto : HashList → List ℕ → List ℕ → List ℕ

@@ -1,64 +1,122 @@
--- Sessions and read-only mode. 01, Session: "Setting read-only hands back the changed session, by set_read_only's rules: off to on clears
--- in-flight and have-responded; on to off gives a fresh session that keeps the capabilities and wants a reset; no change is no change."
+-- Sessions as values, and read-only mode. 01, Session. A session here has its lists themselves; code has their counts (Counts), and lent
+-- buffers that they stand in (Value).
 use Prim.Native.Nat.{ℕ}
 use mathlib.Core.Bool.{Bool, true, false, cond}
-use Rattle.state.specs.declared.session.Heard.{Heard}
-use Rattle.state.specs.declared.session.Heard.the-variants.{Nothing, Count}
-use Rattle.state.specs.declared.session.Session.{Session}
+use mathlib.Core.List.{List, []}
+use mathlib.Core.Option.{Option, none, some}
+use Rattle.bloom.specs.Have.{Have}
 
--- A session that has so many shared heads, has heard these haves and nothing else, with these capabilities and flags, and in which nothing
--- was sent.
-abbrev pub quiet : ℕ → Heard → Bool → Bool → Bool → Bool → Session
-quiet shared have v2 reset readOnly needsReset =
+-- What a unit remembers of a peer. Heads, need and haves are what the peer said last; what it never said is none, which isn't empty.
+pub record State : Type 0 where
+  pub sharedHeads : List ℕ
+  pub lastSentHeads : List ℕ
+  pub theirHeads : Option (List ℕ)
+  pub theirNeed : Option (List ℕ)
+  pub theirHave : Option (List Have)
+  pub sentHashes : List ℕ
+  pub inFlight : Bool
+  pub haveResponded : Bool
+  pub supportsV2 : Bool
+  pub supportsReset : Bool
+  pub readOnly : Bool
+  pub peerReadOnly : Bool
+  pub needsReset : Bool
+
+-- 01, Session: nothing was said yet, by either peer.
+abbrev pub fresh : State
+fresh =
     record {
-      «shared_heads» = shared;
-      «last_sent_heads» = 0;
-      «their_heads» = Nothing;
-      «their_need» = Nothing;
-      «their_have» = have;
-      «sent_hashes» = 0;
-      «in_flight» = false;
-      «have_responded» = false;
-      «supports_v2» = v2;
-      «supports_reset» = reset;
-      «read_only» = readOnly;
-      «peer_read_only» = false;
-      «needs_reset» = needsReset;
+      sharedHeads = [];
+      lastSentHeads = [];
+      theirHeads = none;
+      theirNeed = none;
+      theirHave = none;
+      sentHashes = [];
+      inFlight = false;
+      haveResponded = false;
+      supportsV2 = false;
+      supportsReset = false;
+      readOnly = false;
+      peerReadOnly = false;
+      needsReset = false;
     }
 
--- A fresh session, and a fresh one of a unit that takes no changes.
-abbrev pub fresh : Session
-fresh = quiet 0 Nothing false false false false
+-- 01, Session: fresh, of a unit that takes no changes.
+abbrev pub freshReadOnly : State
+freshReadOnly =
+    record {
+      sharedHeads = [];
+      lastSentHeads = [];
+      theirHeads = none;
+      theirNeed = none;
+      theirHave = none;
+      sentHashes = [];
+      inFlight = false;
+      haveResponded = false;
+      supportsV2 = false;
+      supportsReset = false;
+      readOnly = true;
+      peerReadOnly = false;
+      needsReset = false;
+    }
 
-abbrev pub freshReadOnly : Session
-freshReadOnly = quiet 0 Nothing false false true false
+-- 01, Wire, saved state: fresh but for its shared heads, and their haves are present and none.
+abbrev pub restored : List ℕ → State
+restored shared =
+    record {
+      sharedHeads = shared;
+      lastSentHeads = [];
+      theirHeads = none;
+      theirNeed = none;
+      theirHave = some [];
+      sentHashes = [];
+      inFlight = false;
+      haveResponded = false;
+      supportsV2 = false;
+      supportsReset = false;
+      readOnly = false;
+      peerReadOnly = false;
+      needsReset = false;
+    }
 
--- A session read from a saved state: fresh but for its shared heads, and their-have is present and empty.
-abbrev pub restored : ℕ → Session
-restored shared = quiet shared (Count 0) false false false false
-
--- Off to on: the next message is sent, so that the peer learns of it.
-abbrev pub switchedOn : Session → Session
+-- 01, Session, read-only from off to on: nothing is in flight or was answered any more, so that the next message tells the peer.
+abbrev pub switchedOn : State → State
 switchedOn s =
     record {
-      «shared_heads» = s .«shared_heads»;
-      «last_sent_heads» = s .«last_sent_heads»;
-      «their_heads» = s .«their_heads»;
-      «their_need» = s .«their_need»;
-      «their_have» = s .«their_have»;
-      «sent_hashes» = s .«sent_hashes»;
-      «in_flight» = false;
-      «have_responded» = false;
-      «supports_v2» = s .«supports_v2»;
-      «supports_reset» = s .«supports_reset»;
-      «read_only» = true;
-      «peer_read_only» = s .«peer_read_only»;
-      «needs_reset» = s .«needs_reset»;
+      sharedHeads = s .sharedHeads;
+      lastSentHeads = s .lastSentHeads;
+      theirHeads = s .theirHeads;
+      theirNeed = s .theirNeed;
+      theirHave = s .theirHave;
+      sentHashes = s .sentHashes;
+      inFlight = false;
+      haveResponded = false;
+      supportsV2 = s .supportsV2;
+      supportsReset = s .supportsReset;
+      readOnly = true;
+      peerReadOnly = s .peerReadOnly;
+      needsReset = s .needsReset;
     }
 
--- On to off: afresh, with the capabilities, and wanting a reset.
-abbrev pub switchedOff : Session → Session
-switchedOff s = quiet 0 Nothing (s .«supports_v2») (s .«supports_reset») false true
+-- 01, Session, read-only from on to off: fresh, but the peer's capabilities stay known, and it is asked to send again what was ignored.
+abbrev pub switchedOff : State → State
+switchedOff s =
+    record {
+      sharedHeads = [];
+      lastSentHeads = [];
+      theirHeads = none;
+      theirNeed = none;
+      theirHave = none;
+      sentHashes = [];
+      inFlight = false;
+      haveResponded = false;
+      supportsV2 = s .supportsV2;
+      supportsReset = s .supportsReset;
+      readOnly = false;
+      peerReadOnly = false;
+      needsReset = true;
+    }
 
-unfoldable pub setReadOnly : Session → Bool → Session
-setReadOnly s on = cond on (cond (s .«read_only») s (switchedOn s)) (cond (s .«read_only») (switchedOff s) s)
+-- 01, Session: setting read-only to what it is changes nothing.
+unfoldable pub setReadOnly : State → Bool → State
+setReadOnly s on = cond on (cond (s .readOnly) s (switchedOn s)) (cond (s .readOnly) (switchedOff s) s)

@@ -1,6 +1,6 @@
 // Sessions, and read-only mode.
 ghost use mathlib.Core.Path.{_≡_};
-ghost use Rattle.state.specs.Session.{quiet, fresh, freshReadOnly, restored, setReadOnly};
+ghost use Rattle.state.specs.Counts.{heardOnly, freshCounts, freshReadOnlyCounts, restoredCounts, setReadOnlyCounts};
 
 // How many hashes or haves the peer's last message had, if there was one.
 pub enum Heard {
@@ -34,19 +34,12 @@ pub struct Session {
 }
 
 impl Session {
-    // A session in which nothing was sent, and of which nothing was heard but perhaps haves.
-    fn quiet(
-        shared_heads: usize,
-        their_have: Heard,
-        supports_v2: bool,
-        supports_reset: bool,
-        read_only: bool,
-        needs_reset: bool,
-    ) -> Session
-        ensures { λ r. ⌜ r ≡ quiet «shared_heads» «their_have» «supports_v2» «supports_reset» «read_only» «needs_reset» ⌝ }
+    // A session in which nothing was said, but these haves were heard.
+    fn heard_only(their_have: Heard) -> Session
+        ensures { λ r. ⌜ r ≡ heardOnly «their_have» ⌝ }
     {
         Session {
-            shared_heads,
+            shared_heads: 0,
             last_sent_heads: 0,
             their_heads: Heard::Nothing,
             their_need: Heard::Nothing,
@@ -54,55 +47,61 @@ impl Session {
             sent_hashes: 0,
             in_flight: false,
             have_responded: false,
-            supports_v2,
-            supports_reset,
-            read_only,
+            supports_v2: false,
+            supports_reset: false,
+            read_only: false,
             peer_read_only: false,
-            needs_reset,
+            needs_reset: false,
         }
     }
 
     // A session in which nothing was said yet.
     pub fn new() -> Session
-        ensures { λ r. ⌜ r ≡ fresh ⌝ }
+        ensures { λ r. ⌜ r ≡ freshCounts ⌝ }
     {
-        Session::quiet(0, Heard::Nothing, false, false, false, false)
+        Session::heard_only(Heard::Nothing)
     }
 
     // The same for a unit that takes no changes.
     pub fn new_read_only() -> Session
-        ensures { λ r. ⌜ r ≡ freshReadOnly ⌝ }
+        ensures { λ r. ⌜ r ≡ freshReadOnlyCounts ⌝ }
     {
-        Session::quiet(0, Heard::Nothing, false, false, true, false)
+        let mut s = Session::new();
+        s.read_only = true;
+        s
     }
 
     // What a saved state gives: so many shared heads, and haves that are present and none.
     pub fn restored(shared_heads: usize) -> Session
-        ensures { λ r. ⌜ r ≡ restored «shared_heads» ⌝ }
+        ensures { λ r. ⌜ r ≡ restoredCounts «shared_heads» ⌝ }
     {
-        Session::quiet(shared_heads, Heard::Count(0), false, false, false, false)
+        let mut s = Session::heard_only(Heard::Count(0));
+        s.shared_heads = shared_heads;
+        s
     }
 
     // Hands back the changed session. Switching on makes the next message tell the peer; switching off starts afresh and asks the peer to
     // send again what was ignored.
     pub fn set_read_only(self, read_only: bool) -> Session
-        ensures { λ r. ⌜ r ≡ setReadOnly self «read_only» ⌝ }
+        ensures { λ r. ⌜ r ≡ setReadOnlyCounts self «read_only» ⌝ }
     {
         let was = self.read_only;
         if read_only {
             if was {
                 return self;
             }
-            let mut s = self;
-            s.read_only = true;
-            s.in_flight = false;
-            s.have_responded = false;
-            return s;
+            let mut on = self;
+            on.read_only = true;
+            on.in_flight = false;
+            on.have_responded = false;
+            return on;
         }
         if was {
-            let v2 = self.supports_v2;
-            let reset = self.supports_reset;
-            return Session::quiet(0, Heard::Nothing, v2, reset, false, true);
+            let mut off = Session::new();
+            off.supports_v2 = self.supports_v2;
+            off.supports_reset = self.supports_reset;
+            off.needs_reset = true;
+            return off;
         }
         self
     }

@@ -9,14 +9,14 @@ use words::answer::write_words;
 ghost use mathlib.Core.Path.{_≡_};
 ghost use Rattle.state.specs.Good.{sessionGood};
 ghost use Rattle.state.specs.Saved.{stateOutput};
-ghost use Rattle.state.specs.Session.{fresh, freshReadOnly, setReadOnly};
+ghost use Rattle.state.specs.Counts.{freshCounts, freshReadOnlyCounts, setReadOnlyCounts};
 ghost use Rattle.words.specs.Answer.{Answered};
 ghost use Rattle.state_calls.specs.SessionWords.{flagOf, sessionWords, sessionOf, goodWords, StateRead};
 
 // Writes the words of a session in which nothing was said yet.
 #[no_mangle]
 pub extern "C" fn bt_fresh(session: &mut [u64; 16])
-    ensures { λ _. ⌜ now (session .exit) ≡ sessionWords fresh ⌝ }
+    ensures { λ _. ⌜ now (session .exit) ≡ sessionWords freshCounts ⌝ }
 {
     *session = session_words(Session::new());
 }
@@ -24,7 +24,7 @@ pub extern "C" fn bt_fresh(session: &mut [u64; 16])
 // The same for a unit that takes no changes.
 #[no_mangle]
 pub extern "C" fn bt_fresh_read_only(session: &mut [u64; 16])
-    ensures { λ _. ⌜ now (session .exit) ≡ sessionWords freshReadOnly ⌝ }
+    ensures { λ _. ⌜ now (session .exit) ≡ sessionWords freshReadOnlyCounts ⌝ }
 {
     *session = session_words(Session::new_read_only());
 }
@@ -32,7 +32,7 @@ pub extern "C" fn bt_fresh_read_only(session: &mut [u64; 16])
 // Changes the words of a session to those that it has once read-only is set: off for 0, else on.
 #[no_mangle]
 pub extern "C" fn bt_set_read_only(session: &mut [u64; 16], on: u64)
-    ensures { λ _. ⌜ now (session .exit) ≡ sessionWords (setReadOnly (sessionOf (now (session .entry))) (flagOf on)) ⌝ }
+    ensures { λ _. ⌜ now (session .exit) ≡ sessionWords (setReadOnlyCounts (sessionOf (now (session .entry))) (flagOf on)) ⌝ }
 {
     *session = session_words(session_of(*session).set_read_only(on != 0));
 }

@@ -1,0 +1,151 @@
+-- What the struct's functions return is, with any lent lists, the session that the definitions of Session give; and a struct of counts is
+-- determined by the sessions that it is.
+use Prim.Native.Nat.{ℕ, zero, suc, _+_, _*_, _≤_}
+use mathlib.Core.Bool.{Bool, true, false}
+use mathlib.Core.List.{List, [], _∷_}
+use mathlib.Core.Option.{Option, none, some}
+use mathlib.Core.Path.{_≡_, refl, sym, ap, _∙_}
+use native.Mathlib.Omega.{arith}
+use lib.ListN.{length, replicate, length-replicate}
+use lib.Seq.{length-take-le}
+use Rattle.bloom.specs.Have.{Have, haveWords, haveCount, havesOf, havesFrom}
+use Rattle.rules.specs.Hash.{hashesAt}
+use Rattle.rules.proofs.Cases.{split}
+use Rattle.rules.proofs.Hash.{length-hashes-at}
+use Rattle.state.specs.Counts.{freshCounts, freshReadOnlyCounts, restoredCounts, switchedOffCounts, setReadOnlyCounts}
+use Rattle.state.specs.Session.{State, fresh, freshReadOnly, restored, switchedOff, setReadOnly}
+use Rattle.state.specs.Value.{Lent, keptHaves, heardHashes, heardHaves, valueOf}
+use Rattle.state.specs.declared.session.Heard.{Heard}
+use Rattle.state.specs.declared.session.Heard.the-variants.{Nothing, Count}
+use Rattle.state.specs.declared.session.Session.{Session}
+use Rattle.state.proofs.CountsLaws.{counts-same, counts-on, counts-off}
+use Rattle.state.proofs.SessionLaws.{switch-same, switch-on, switch-off}
+
+-- ---- what was heard
+
+pub hashes-absent : (s : List ℕ) (h : Heard) → h ≡ Nothing → heardHashes s h ≡ none
+unfolding heardHashes
+hashes-absent s h e = rw e
+
+pub hashes-there : (s : List ℕ) (h : Heard) (n : ℕ) → h ≡ Count n → heardHashes s h ≡ some (hashesAt s 0 n)
+unfolding heardHashes
+hashes-there s h n e = rw e
+
+pub haves-absent : (s haves : List ℕ) (h : Heard) → h ≡ Nothing → heardHaves s haves h ≡ none
+unfolding heardHaves
+haves-absent s haves h e = rw e
+
+pub haves-there : (s haves : List ℕ) (h : Heard) (n : ℕ) → h ≡ Count n → heardHaves s haves h ≡ some (havesOf s (keptHaves haves n))
+unfolding heardHaves
+haves-there s haves h n e = rw e
+
+-- ---- the struct's functions
+
+module _ (l : Lent) where
+  pub fresh-value : valueOf freshCounts l ≡ fresh
+  unfolding heardHashes heardHaves hashesAt
+  fresh-value = refl
+
+  pub fresh-read-only-value : valueOf freshReadOnlyCounts l ≡ freshReadOnly
+  unfolding heardHashes heardHaves hashesAt
+  fresh-read-only-value = refl
+
+  pub restored-value : (n : ℕ) → valueOf (restoredCounts n) l ≡ restored (hashesAt (l .shared) 0 n)
+  unfolding heardHashes heardHaves hashesAt havesOf havesFrom
+  restored-value n = refl
+
+  switched-off-value : (s : Session) → valueOf (switchedOffCounts s) l ≡ switchedOff (valueOf s l)
+  unfolding heardHashes heardHaves hashesAt
+  switched-off-value s = refl
+
+  pub set-read-only-value : (s : Session) (on : Bool) → valueOf (setReadOnlyCounts s on) l ≡ setReadOnly (valueOf s l) on
+  set-read-only-value s true = split (s .«read_only»)
+      (λ w. rw (counts-same s true w, switch-same (valueOf s l) true w))
+      (λ w. rw (counts-on s w, switch-on (valueOf s l) w))
+  set-read-only-value s false = split (s .«read_only»)
+      (λ w. rw (counts-off s w, switch-off (valueOf s l) w, switched-off-value s))
+      (λ w. rw (counts-same s false w, switch-same (valueOf s l) false w))
+
+-- ---- each list's length is its count
+
+length-haves-from : (s haves : List ℕ) (count i : ℕ) → length (havesFrom s haves i count) ≡ count
+unfolding havesFrom
+length-haves-from s haves zero i = refl
+length-haves-from s haves (suc count) i = ap suc (length-haves-from s haves count (suc i))
+
+-- so many haves have as many records
+pub kept-records : (haves : List ℕ) (n : ℕ) → haveWords * n ≤ length haves → haveCount (keptHaves haves n) ≡ n
+kept-records haves n h =
+    let e : length (keptHaves haves n) ≡ haveWords * n = length-take-le (haveWords * n) haves h in
+    rw e (omega arith)
+
+pub kept-length : (s haves : List ℕ) (n : ℕ) → haveWords * n ≤ length haves → length (havesOf s (keptHaves haves n)) ≡ n
+unfolding havesOf
+kept-length s haves n h = length-haves-from s (keptHaves haves n) (haveCount (keptHaves haves n)) 0 ∙ kept-records haves n h
+
+-- the counts that a session has
+abbrev heardMany : {A : Type 0} → Option (List A) → Heard
+heardMany none = Nothing
+heardMany (some l) = Count (length l)
+
+abbrev countsOf : State → Session
+countsOf v =
+    record {
+      «shared_heads» = length (v .sharedHeads);
+      «last_sent_heads» = length (v .lastSentHeads);
+      «their_heads» = heardMany (v .theirHeads);
+      «their_need» = heardMany (v .theirNeed);
+      «their_have» = heardMany (v .theirHave);
+      «sent_hashes» = length (v .sentHashes);
+      «in_flight» = v .inFlight;
+      «have_responded» = v .haveResponded;
+      «supports_v2» = v .supportsV2;
+      «supports_reset» = v .supportsReset;
+      «read_only» = v .readOnly;
+      «peer_read_only» = v .peerReadOnly;
+      «needs_reset» = v .needsReset;
+    }
+
+hashes-many : (s : List ℕ) (h : Heard) → heardMany (heardHashes s h) ≡ h
+unfolding heardHashes
+hashes-many s Nothing = refl
+hashes-many s (Count n) = ap Count (length-hashes-at s 0 n)
+
+-- All records of the haves that were heard are lent.
+pub HavesLent : List ℕ → Heard → Type 0
+HavesLent haves h = (n : ℕ) → h ≡ Count n → haveWords * n ≤ length haves
+
+haves-many : (s haves : List ℕ) (h : Heard) → HavesLent haves h → heardMany (heardHaves s haves h) ≡ h
+unfolding heardHaves HavesLent
+haves-many s haves Nothing f = refl
+haves-many s haves (Count n) f = ap Count (kept-length s haves n (f n refl))
+
+counts-back : (s : Session) (l : Lent) → HavesLent (l .haves) (s .«their_have») → countsOf (valueOf s l) ≡ s
+counts-back s l f =
+    rw (length-hashes-at (l .shared) 0 (s .«shared_heads»), length-hashes-at (l .lastSent) 0 (s .«last_sent_heads»), hashes-many (l .theirHeads) (s .«their_heads»), hashes-many (l .theirNeed) (s .«their_need»), haves-many (l .bytes) (l .haves) (s .«their_have») f, length-hashes-at (l .sent) 0 (s .«sent_hashes»))
+
+-- Over the same lent lists two structs that are the same session are equal.
+pub same-counts : (s t : Session) (l : Lent) → HavesLent (l .haves) (s .«their_have») → HavesLent (l .haves) (t .«their_have») → valueOf s l ≡ valueOf t l
+    → s ≡ t
+same-counts s t l f g e = sym (counts-back s l f) ∙ ap countsOf e ∙ counts-back t l g
+
+-- lent lists with records of so many haves
+abbrev room : ℕ → Lent
+room n = record { shared = []; lastSent = []; theirHeads = []; theirNeed = []; haves = replicate (haveWords * n) 0; bytes = []; sent = [] }
+
+abbrev many : Heard → ℕ
+many Nothing = 0
+many (Count n) = n
+
+room-lent : (h : Heard) (k : ℕ) → many h ≤ k → HavesLent (room k .haves) h
+unfolding HavesLent
+room-lent h k le n e =
+    let m : many h ≡ n = rw e in
+    let long : length (room k .haves) ≡ haveWords * k = length-replicate (haveWords * k) 0 in
+    rw long (omega arith)
+
+-- Two structs that are the same session whatever is lent are equal.
+pub value-once : (s t : Session) → ((l : Lent) → valueOf s l ≡ valueOf t l) → s ≡ t
+value-once s t e =
+    let k : ℕ = many (s .«their_have») + many (t .«their_have») in
+    same-counts s t (room k) (room-lent (s .«their_have») k (omega arith)) (room-lent (t .«their_have») k (omega arith)) (e (room k))

@@ -1,0 +1,52 @@
+-- The session that a struct of counts is, with the lists that are lent beside it.
+use Prim.Native.Nat.{ℕ, _*_}
+use mathlib.Core.List.{List}
+use mathlib.Core.Option.{Option, none, some}
+use lib.ListN.{take}
+use Rattle.bloom.specs.Have.{Have, haveWords, havesOf}
+use Rattle.rules.specs.Hash.{hashesAt}
+use Rattle.state.specs.Session.{State}
+use Rattle.state.specs.declared.session.Heard.{Heard}
+use Rattle.state.specs.declared.session.Heard.the-variants.{Nothing, Count}
+use Rattle.state.specs.declared.session.Session.{Session}
+
+-- The lent lists of a session: buffers of hashes, and the peer's haves as words over bytes.
+pub record Lent : Type 0 where
+  pub shared : List ℕ
+  pub lastSent : List ℕ
+  pub theirHeads : List ℕ
+  pub theirNeed : List ℕ
+  pub haves : List ℕ
+  pub bytes : List ℕ
+  pub sent : List ℕ
+
+-- The records of the first n haves.
+abbrev pub keptHaves : List ℕ → ℕ → List ℕ
+keptHaves haves n = take (haveWords * n) haves
+
+-- What the peer said last, which may be absent: the first hashes of a buffer, or the first haves.
+unfoldable pub heardHashes : List ℕ → Heard → Option (List ℕ)
+heardHashes s Nothing = none
+heardHashes s (Count n) = some (hashesAt s 0 n)
+
+unfoldable pub heardHaves : List ℕ → List ℕ → Heard → Option (List Have)
+heardHaves s haves Nothing = none
+heardHaves s haves (Count n) = some (havesOf s (keptHaves haves n))
+
+abbrev pub valueOf : Session → Lent → State
+valueOf s l =
+    record {
+      sharedHeads = hashesAt (l .shared) 0 (s .«shared_heads»);
+      lastSentHeads = hashesAt (l .lastSent) 0 (s .«last_sent_heads»);
+      theirHeads = heardHashes (l .theirHeads) (s .«their_heads»);
+      theirNeed = heardHashes (l .theirNeed) (s .«their_need»);
+      theirHave = heardHaves (l .bytes) (l .haves) (s .«their_have»);
+      sentHashes = hashesAt (l .sent) 0 (s .«sent_hashes»);
+      inFlight = s .«in_flight»;
+      haveResponded = s .«have_responded»;
+      supportsV2 = s .«supports_v2»;
+      supportsReset = s .«supports_reset»;
+      readOnly = s .«read_only»;
+      peerReadOnly = s .«peer_read_only»;
+      needsReset = s .«needs_reset»;
+    }
