@@ -7,9 +7,9 @@ use mathlib.Core.Path.{_≡_}
 use lib.Dec.{eqb}
 use lib.ListN.{length, getD}
 use Rattle.rules.specs.declared.refusal.Refusal.the-variants.{BadSession}
-use Rattle.state.specs.Saved.{stateAt, loadedWith, loadedInto}
-use Rattle.state.specs.declared.saved.Loaded.{Loaded}
-use Rattle.state.specs.declared.saved.Loaded.the-variants.{Session as Read, Refused as NotRead}
+use Rattle.saved.specs.Saved.{stateAt, loadedWith, loadedInto}
+use Rattle.saved.specs.declared.saved.Loaded.{Loaded}
+use Rattle.saved.specs.declared.saved.Loaded.the-variants.{Session as Read, Refused as NotRead}
 use Rattle.state.specs.declared.session.Heard.{Heard}
 use Rattle.state.specs.declared.session.Heard.the-variants.{Nothing, Count}
 use Rattle.state.specs.declared.session.Session.{Session}

@@ -1,6 +1,6 @@
 // An answer as words.
 use rules::refusal::Refusal;
-use state::saved::Loaded;
+use saved::saved::Loaded;
 use words::answer::refusal_words;
 ghost use mathlib.Core.Path.{_≡_};
 ghost use Rattle.state_calls.specs.SessionWords.{goodWords, loadedWords};

@@ -1,4 +1,4 @@
-// Calls of the crate `state`.
+// Calls of the crates `state`, `lent` and `saved`.
 use crate::answer::good_words;
 use crate::answer::loaded_words;
 use crate::session_words::loaded_session;
@@ -7,8 +7,8 @@ use crate::session_words::session_words;
 use state::session::Session;
 use words::answer::write_words;
 ghost use mathlib.Core.Path.{_≡_};
-ghost use Rattle.state.specs.Good.{sessionGood};
-ghost use Rattle.state.specs.Saved.{stateOutput};
+ghost use Rattle.lent.specs.Good.{sessionGood};
+ghost use Rattle.saved.specs.Saved.{stateOutput};
 ghost use Rattle.state.specs.Counts.{freshCounts, freshReadOnlyCounts, setReadOnlyCounts};
 ghost use Rattle.words.specs.Answer.{Answered};
 ghost use Rattle.state_calls.specs.SessionWords.{flagOf, sessionWords, sessionOf, goodWords, StateRead};
@@ -52,7 +52,7 @@ pub extern "C" fn bt_check_session(
 )
     ensures { λ _. ⌜ now (answer .exit) ≡ goodWords (sessionGood (sessionOf (now (session .entry))) (record { shared = now (shared .entry); lastSent = now («last_sent» .entry); theirHeads = now («their_heads» .entry); theirNeed = now («their_need» .entry); haves = now (haves .entry); bytes = now (bytes .entry); sent = now (sent .entry) })) ⌝ }
 {
-    *answer = good_words(state::good::session_good(
+    *answer = good_words(lent::good::session_good(
         session_of(*session),
         shared,
         last_sent,
@@ -69,7 +69,7 @@ pub extern "C" fn bt_check_session(
 pub extern "C" fn bt_write_state(out: &mut [u8], shared: &[u8], count: usize, answer: &mut [u64; 4])
     ensures { λ _. ⌜ Answered (stateOutput (now (shared .entry)) count) (now (out .entry)) (now (out .exit)) (now (answer .exit)) ⌝ }
 {
-    *answer = write_words(state::saved::encode(out, shared, count));
+    *answer = write_words(saved::saved::encode(out, shared, count));
 }
 
 // Reads a saved state into a buffer for its shared heads and the words of a session: 0, shared heads.
@@ -82,7 +82,7 @@ pub extern "C" fn bt_read_state(
 )
     ensures { λ _. ⌜ StateRead (now (s .entry)) (now (shared .entry)) (now (shared .exit)) (now (session .entry)) (now (session .exit)) (now (answer .exit)) ⌝ }
 {
-    let loaded = state::saved::decode(s, shared);
+    let loaded = saved::saved::decode(s, shared);
     *session = loaded_session(loaded, *session);
     *answer = loaded_words(loaded);
 }

@@ -1,5 +1,5 @@
 // A session as sixteen words, which is how exported calls are lent it.
-use state::saved::Loaded;
+use saved::saved::Loaded;
 use state::session::Heard;
 use state::session::Session;
 ghost use mathlib.Core.Path.{_≡_};

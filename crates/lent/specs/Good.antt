@@ -1,0 +1,43 @@
+-- When a session is bad. 01, Refusal numbers, 10: "bad session (a count passes its size, sent hashes not strictly ascending), or a filter kept
+-- .. as numbers breaks the filter rules or its field size". A count passes its size also where the lent buffer is shorter.
+use Prim.Native.Nat.{ℕ, _*_}
+use mathlib.Core.Bool.{Bool, true, _&&_}
+use mathlib.Core.List.{List}
+use lib.Dec.{leb}
+use lib.ListN.{length}
+use Rattle.bloom.specs.Have.{haveWords, passedGood, passedFew}
+use Rattle.rules.specs.Hash.{hashesAt}
+use Rattle.rules.specs.Order.{ascends}
+use Rattle.rules.specs.Sizes.{sizes}
+use Rattle.state.specs.Value.{Lent, keptHaves}
+use Rattle.state.specs.declared.session.Heard.{Heard}
+use Rattle.state.specs.declared.session.Heard.the-variants.{Nothing, Count}
+use Rattle.state.specs.declared.session.Session.{Session}
+
+-- A list of hashes: no more than a list may have, and all of them are lent.
+unfoldable pub listGood : List ℕ → ℕ → Bool
+listGood s n = leb n (sizes .hashes) && leb (sizes .hash * n) (length s)
+
+-- The same where it may be absent.
+unfoldable pub heardGood : List ℕ → Heard → Bool
+heardGood s Nothing = true
+heardGood s (Count n) = listGood s n
+
+-- Kept haves, which may be absent: no more than there may be, all of their records are lent, and these are good as passed ones are, with no
+-- more last-sync hashes each than a list may have.
+unfoldable pub havesGood : List ℕ → List ℕ → Heard → Bool
+havesGood s haves Nothing = true
+havesGood s haves (Count n) =
+    (leb n (sizes .haves) && leb (haveWords * n) (length haves))
+    && (passedGood s (keptHaves haves n) && passedFew (keptHaves haves n))
+
+-- Sent hashes are strictly ascending; there may be as many as the session remembers.
+unfoldable pub sentGood : List ℕ → ℕ → Bool
+sentGood s n = (leb n (sizes .sentHashes) && leb (sizes .hash * n) (length s)) && ascends (hashesAt s 0 n)
+
+-- Every list of the session.
+unfoldable pub sessionGood : Session → Lent → Bool
+sessionGood s l =
+    (listGood (l .shared) (s .«shared_heads») && listGood (l .lastSent) (s .«last_sent_heads»))
+    && ((heardGood (l .theirHeads) (s .«their_heads») && heardGood (l .theirNeed) (s .«their_need»))
+    && (havesGood (l .bytes) (l .haves) (s .«their_have») && sentGood (l .sent) (s .«sent_hashes»)))

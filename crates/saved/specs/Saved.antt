@@ -1,0 +1,51 @@
+-- Saved states. 01, Wire: "Saved state: 43 and the shared heads; the rest is ignored. Reading gives a fresh session, but their-have is present
+-- and empty."
+use Prim.Native.Nat.{ℕ, _*_}
+use mathlib.Core.Bool.{not, cond}
+use mathlib.Core.List.{List, _∷_}
+use mathlib.Core.Path.{_≡_}
+use lib.Dec.{ltb, eqb}
+use lib.ListN.{length, getD}
+use lib.Seq.{slice, sets}
+use Rattle.lent.specs.Good.{listGood}
+use Rattle.rules.specs.Hash.{hashesAt}
+use Rattle.rules.specs.Output.{Output}
+use Rattle.rules.specs.Sizes.{sizes}
+use Rattle.rules.specs.declared.refusal.Refusal.the-variants.{Cut, WrongType, NoRoom, BadSession}
+use Rattle.wire.specs.Item.{hashListBytes, hashListAt}
+use Rattle.wire.specs.declared.parse.HashList.{HashList}
+use Rattle.wire.specs.declared.parse.HashList.the-variants.{Hashes, Refused as NoHashes}
+use Rattle.state.specs.Counts.{restoredCounts}
+use Rattle.saved.specs.declared.saved.Loaded.{Loaded}
+use Rattle.saved.specs.declared.saved.Loaded.the-variants.{Session, Refused}
+
+-- The first byte, hexadecimal 43.
+abbrev pub stateType : ℕ
+stateType = 0x43
+
+-- What is written for the first `count` hashes of a lent buffer; 10 where they are no list.
+unfoldable pub stateOutput : List ℕ → ℕ → Output
+stateOutput s count =
+    cond (not (listGood s count)) (Output.refuse BadSession) (Output.bytes (stateType ∷ hashListBytes (hashesAt s 0 count)))
+
+-- A saved state as it is read: 1 where it is empty, 2 for another first byte, then the list's refusals.
+unfoldable pub stateAt : List ℕ → HashList
+stateAt s =
+    cond (eqb (length s) 0)
+    (NoHashes (Cut 0))
+    (cond (not (eqb (getD s 0 0) stateType)) (NoHashes (WrongType (getD s 0 0))) (hashListAt s 1 (length s)))
+
+-- The session that is read, with 7 where the buffer for its shared heads is too short; and that buffer at exit.
+unfoldable pub loadedWith : HashList → ℕ → Loaded
+loadedWith (NoHashes r) room = Refused r
+loadedWith (Hashes start count next) room =
+    cond (ltb room (sizes .hash * count)) (Refused (NoRoom (sizes .hash * count))) (Session (restoredCounts count))
+
+unfoldable pub loadedInto : HashList → List ℕ → List ℕ → List ℕ
+loadedInto (NoHashes r) s before = before
+loadedInto (Hashes start count next) s before =
+    cond (ltb (length before) (sizes .hash * count)) before (sets before 0 (slice start next s))
+
+pub record Restored (s before after : List ℕ) (r : Loaded) : Type 0 where
+  pub answer : r ≡ loadedWith (stateAt s) (length before)
+  pub content : after ≡ loadedInto (stateAt s) s before
