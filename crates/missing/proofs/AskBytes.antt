@@ -2,7 +2,7 @@
 use Prim.Native.Nat.{ℕ, zero, suc, _+_, _-_, _*_, _/_, _≤_, _<_}
 use mathlib.Core.Bool.{Bool, true, false}
 use mathlib.Core.List.{List}
-use mathlib.Core.Path.{_≡_, refl, _∙_}
+use mathlib.Core.Path.{_≡_, refl, sym, ap, _∙_}
 use native.Mathlib.Omega.{arith}
 use lib.ListN.{length, getD, set, length-set, replicate, length-replicate}
 use Rattle.rules.specs.Hash.{hashAt, hashesAt}
@@ -14,7 +14,7 @@ use Rattle.tables.specs.Table.{rows, held, placeIn}
 use Rattle.tables.specs.Waiting.{waiting, asks}
 use Rattle.tables.proofs.TableLaws.{length-rows, length-rows-at, place-at-most, member-of-place, stranger-of-place}
 use Rattle.tables.proofs.WaitingLaws.{length-waiting, length-waitings-at, asks-of-waiting, WaitingDecoded, decoded-asks-count}
-use Rattle.missing.specs.Ask.{Request, change, list, known, marked, waits, strange, none, more, Askable, Asked, Found}
+use Rattle.missing.specs.Ask.{Request, change, list, held-hash, marked, waits, unknown-hash, none, more, Askable, Asked, Found}
 use Rattle.missing.specs.Missing.{missing}
 use Rattle.missing.proofs.AskLaws.{unmarked, unmarked-set, fewer-unmarked, within-most}
 use Rattle.missing.proofs.MissingLaws.{found-all, found-many}
@@ -48,13 +48,13 @@ module _ (s : List ℕ) (n h r : ℕ) (e : r ≡ placeIn (waiting (waitingsAt s 
 module _ {table : List ℕ} {n : ℕ} {waitings : List ℕ} {m h r : ℕ} {marks : List Bool} {found : List ℕ} {count : ℕ}
     (e : r ≡ placeIn (rows (rowsAt table 0 n)) h) where
   pub gives-nothing : r < n → Asked table n waitings m (change h) marks found count marks found count
-  gives-nothing b = record { way = known (is-held table n h r e b) }
+  gives-nothing b = record { way = held-hash (is-held table n h r e b) }
 
   module _ (k : ℕ) (away : n ≤ r) (q : k ≡ placeIn (waiting (waitingsAt waitings 0 m)) h) where
     pub gives-itself : (found′ : List ℕ) (count′ : ℕ) → m ≤ k → Inserted found found′ count h count′
         → Asked table n waitings m (change h) marks found count marks found′ count′
     gives-itself found′ count′ b i =
-        record { way = rw (i .list) (strange (not-held table n h r e away) (not-waiting waitings m h k q b)) }
+        record { way = rw (i .list) (unknown-hash (not-held table n h r e away) (not-waiting waitings m h k q b)) }
 
     pub gives-nothing-new : k < m → getD marks k false ≡ true → Asked table n waitings m (change h) marks found count marks found count
     gives-nothing-new b i = record { way = marked {m = marks} (not-held table n h r e away) (is-waiting waitings m h k q b) (rw (← q) i) }
@@ -153,8 +153,11 @@ module _ (table : List ℕ) (n : ℕ) (waitings : List ℕ) (m : ℕ) (d : Waiti
         within = omega (arith, long, fits);
         all =
             λ h.
+            let is : hashesAt found′ 0 count′ ≡ missing (rowsAt table 0 n) (waitingOf waitings) hs =
             rw (d .is)
-            (found-all (rowsAt table 0 n) (waitingsAt waitings 0 m) once (a .way) (blank (sizes .waitingRows)) (omega (arith, long, h)));
+            (found-all (rowsAt table 0 n) (waitingsAt waitings 0 m) once (a .way) (blank (sizes .waitingRows)) (omega (arith, long, h)))
+            in
+            record { many = sym long ∙ ap length is; list = is };
         full =
             λ h.
             rw (d .is)

@@ -16,7 +16,7 @@ use Rattle.rules.specs.Order.{member, ascends, insertOnce, insertUpTo}
 use Rattle.tables.specs.Table.{Row, held, placeIn}
 use Rattle.tables.specs.Waiting.{Waiting, waiting, asks, asksOf}
 use Rattle.missing.specs.Missing.{unknown, Missing, itself, through}
-use Rattle.missing.specs.Ask.{Request, change, list, Asks, known, marked, waits, strange, none, more}
+use Rattle.missing.specs.Ask.{Request, change, list, Asks, held-hash, marked, waits, unknown-hash, none, more}
 
 -- ---- tests
 
@@ -161,62 +161,62 @@ module _ (t : List Row) (w : List Waiting) where
 module _ {t : List Row} {w : List Waiting} {most : ℕ} where
   pub marks-kept : {q : Request} {m : List Bool} {l : List ℕ} {m′ : List Bool} {l′ : List ℕ} → Asks t w most q m l m′ l′
       → (k : ℕ) → getD m k false ≡ true → getD m′ k false ≡ true
-  marks-kept (known a) k e = e
+  marks-kept (held-hash a) k e = e
   marks-kept (marked a b c) k e = e
   marks-kept (waits {h} {m} a b i c d) k e = marks-kept d k (set-kept m (placeIn (waiting w) h) k e)
-  marks-kept (strange a b) k e = e
+  marks-kept (unknown-hash a b) k e = e
   marks-kept none k e = e
   marks-kept (more d f) k e = marks-kept f k (marks-kept d k e)
 
   pub as-many-marks : {q : Request} {m : List Bool} {l : List ℕ} {m′ : List Bool} {l′ : List ℕ} → Asks t w most q m l m′ l′ → length m′ ≡ length m
-  as-many-marks (known a) = refl
+  as-many-marks (held-hash a) = refl
   as-many-marks (marked a b c) = refl
   as-many-marks (waits {h} {m} a b i c d) = as-many-marks d ∙ length-set m (placeIn (waiting w) h) true
-  as-many-marks (strange a b) = refl
+  as-many-marks (unknown-hash a b) = refl
   as-many-marks none = refl
   as-many-marks (more d f) = as-many-marks f ∙ as-many-marks d
 
   pub fewer-unmarked : {q : Request} {m : List Bool} {l : List ℕ} {m′ : List Bool} {l′ : List ℕ} → Asks t w most q m l m′ l′
       → unmarked m′ ≤ unmarked m
-  fewer-unmarked (known a) = omega arith
+  fewer-unmarked (held-hash a) = omega arith
   fewer-unmarked (marked a b c) = omega arith
   fewer-unmarked (waits {h} {m} a b i c d) = let p = fewer-unmarked d in let r = unmarked-less m (placeIn (waiting w) h) in omega (arith, p, r)
-  fewer-unmarked (strange a b) = omega arith
+  fewer-unmarked (unknown-hash a b) = omega arith
   fewer-unmarked none = omega arith
   fewer-unmarked (more d f) = let p = fewer-unmarked d in let r = fewer-unmarked f in omega (arith, p, r)
 
   pub found-kept : {q : Request} {m : List Bool} {l : List ℕ} {m′ : List Bool} {l′ : List ℕ} → Asks t w most q m l m′ l′
       → (x : ℕ) → member x l ≡ true → member x l′ ≡ true
-  found-kept (known a) x e = e
+  found-kept (held-hash a) x e = e
   found-kept (marked a b c) x e = e
   found-kept (waits a b i c d) x e = found-kept d x e
-  found-kept (strange a b) x e = insert-found _ _ x _ e
+  found-kept (unknown-hash a b) x e = insert-found _ _ x _ e
   found-kept none x e = e
   found-kept (more d f) x e = found-kept f x (found-kept d x e)
 
   pub no-shorter : {q : Request} {m : List Bool} {l : List ℕ} {m′ : List Bool} {l′ : List ℕ} → Asks t w most q m l m′ l′ → length l ≤ length l′
-  no-shorter (known a) = omega arith
+  no-shorter (held-hash a) = omega arith
   no-shorter (marked a b c) = omega arith
   no-shorter (waits a b i c d) = no-shorter d
-  no-shorter (strange a b) = insert-no-shorter _ _ _
+  no-shorter (unknown-hash a b) = insert-no-shorter _ _ _
   no-shorter none = omega arith
   no-shorter (more d f) = let p = no-shorter d in let r = no-shorter f in omega (arith, p, r)
 
   pub within-most : {q : Request} {m : List Bool} {l : List ℕ} {m′ : List Bool} {l′ : List ℕ} → Asks t w most q m l m′ l′
       → length l ≤ most → length l′ ≤ most
-  within-most (known a) s = s
+  within-most (held-hash a) s = s
   within-most (marked a b c) s = s
   within-most (waits a b i c d) s = within-most d s
-  within-most (strange {h} {m} {l} a b) s = up-to-fits most h l s
+  within-most (unknown-hash {h} {m} {l} a b) s = up-to-fits most h l s
   within-most none s = s
   within-most (more d f) s = within-most f (within-most d s)
 
   pub still-ascending : {q : Request} {m : List Bool} {l : List ℕ} {m′ : List Bool} {l′ : List ℕ} → Asks t w most q m l m′ l′
       → ascends l ≡ true → ascends l′ ≡ true
-  still-ascending (known a) s = s
+  still-ascending (held-hash a) s = s
   still-ascending (marked a b c) s = s
   still-ascending (waits a b i c d) s = still-ascending d s
-  still-ascending (strange {h} {m} {l} a b) s = up-to-ascends most h l s
+  still-ascending (unknown-hash {h} {m} {l} a b) s = up-to-ascends most h l s
   still-ascending none s = s
   still-ascending (more d f) s = still-ascending f (still-ascending d s)
 
@@ -226,10 +226,10 @@ module _ {t : List Row} {w : List Waiting} {most : ℕ} where
       → ((x : ℕ) → Missing t w (asked q) x → P x)
       → (x : ℕ) → member x l′ ≡ true → P x
   unfolding asked
-  found-missing P (known a) f g x e = f x e
+  found-missing P (held-hash a) f g x e = f x e
   found-missing P (marked a b c) f g x e = f x e
   found-missing P (waits {h} a b i c d) f g x e = found-missing P d f (λ y z. g y (through h (member-here h []) a b z)) x e
-  found-missing P (strange {h} a b) f g x e = insert-of _ h x _ e (λ p. g x (itself (rw p (member-here h [])) (rw p (is-unknown t w h a b)))) (f x)
+  found-missing P (unknown-hash {h} a b) f g x e = insert-of _ h x _ e (λ p. g x (itself (rw p (member-here h [])) (rw p (is-unknown t w h a b)))) (f x)
   found-missing P none f g x e = f x e
   found-missing P (more {h} {hs} d k) f g x e =
       found-missing P k
@@ -245,10 +245,10 @@ module _ {t : List Row} {w : List Waiting} {most : ℕ} where
   pub asked-settled : {q : Request} {m : List Bool} {l : List ℕ} {m′ : List Bool} {l′ : List ℕ} → Asks t w most q m l m′ l′
       → length l′ < most → (g : ℕ) → member g (asked q) ≡ true → settled t w m′ l′ g ≡ true
   unfolding asked member
-  asked-settled (known {h} {m} {l} a) s g e = rw (single g h e) (is-held t w m l h a)
+  asked-settled (held-hash {h} {m} {l} a) s g e = rw (single g h e) (is-held t w m l h a)
   asked-settled (marked {h} {m} {l} a b c) s g e = rw (single g h e) (is-marked t w m l h a b c)
   asked-settled (waits {h} {m} {l} {m′} {l′} a b i c d) s g e = rw (single g h e) (is-marked t w m′ l′ h a b (marks-kept d _ (getD-set-same m _ true false i)))
-  asked-settled (strange {h} {m} {l} a b) s g e = rw (single g h e) (is-found t w m _ h a b (insert-has most h l s))
+  asked-settled (unknown-hash {h} {m} {l} a b) s g e = rw (single g h e) (is-found t w m _ h a b (insert-has most h l s))
   asked-settled none s g e = true-false false e refl
   asked-settled (more {h} {hs} {m} {l} {m′} {l′} {m″} {l″} d f) s g e =
       either (eqb g h) (member g hs) e
@@ -260,13 +260,13 @@ module _ {t : List Row} {w : List Waiting} {most : ℕ} where
       → (k : ℕ) → getD m k false ≡ false → getD m′ k false ≡ true
       → (g : ℕ) → member g (asksOf w k) ≡ true → settled t w m′ l′ g ≡ true
   unfolding asks asked
-  newly-settled (known a) s k x y g e = true-false _ y x
+  newly-settled (held-hash a) s k x y g e = true-false _ y x
   newly-settled (marked a b c) s k x y g e = true-false _ y x
   newly-settled (waits {h} {m} {l} {m′} {l′} a b i c d) s k x y g e =
       split (getD (set m (placeIn (waiting w) h) true) k false)
       (λ p. asked-settled d s g (rw (set-new m (placeIn (waiting w) h) k p x) at e))
       (λ p. newly-settled d s k p y g e)
-  newly-settled (strange a b) s k x y g e = true-false _ y x
+  newly-settled (unknown-hash a b) s k x y g e = true-false _ y x
   newly-settled none s k x y g e = true-false _ y x
   newly-settled (more {h} {hs} {m} {l} {m′} {l′} {m″} {l″} d f) s k x y g e =
       split (getD m′ k false)

@@ -1,4 +1,5 @@
 -- Laws that the crates above cite.
+pub mod AcceptedLaws
 pub mod AskBytes
 pub mod AskLaws
 pub mod MissingCalls

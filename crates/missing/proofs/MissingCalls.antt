@@ -1,24 +1,21 @@
 -- What the call for missing hashes writes: one law for each way out, with the code's tests as hypotheses.
-use Prim.Native.Nat.{ℕ, suc, _+_, _*_, _-_, _/_, _≤_, _<_}
+use Prim.Native.Nat.{ℕ, suc, _+_, _*_, _/_, _≤_, _<_}
 use mathlib.Core.List.{List}
-use mathlib.Core.Path.{_≡_, sym, ap, _∙_}
-use native.Mathlib.Nat.{zero-add, sub-zero}
+use mathlib.Core.Path.{_≡_, ap}
 use native.Mathlib.Omega.{arith}
 use borrow.Author.Tests.{lt-ltb, le-ltb}
-use lib.ListN.{length, take, drop, replicate, length-replicate}
-use lib.Seq.{sets}
-use Rattle.rules.specs.Hash.{Bytes, hashesAt, hashesBytes}
+use lib.ListN.{length, replicate, length-replicate}
+use Rattle.rules.specs.Hash.{hashesAt, hashesBytes}
 use Rattle.rules.specs.Output.{Output, Written}
 use Rattle.rules.specs.Passed.{passedHashes}
 use Rattle.rules.specs.Sizes.{sizes}
 use Rattle.rules.specs.declared.output.Write.{Write}
-use Rattle.rules.specs.declared.output.Write.the-variants.{Wrote, Refused}
+use Rattle.rules.specs.declared.output.Write.the-variants.{Refused}
 use Rattle.rules.specs.declared.passed.Passed.the-variants.{Hashes}
 use Rattle.rules.specs.declared.passed.Passed.the-variants as passed
 use Rattle.rules.specs.declared.refusal.Refusal.{Refusal}
-use Rattle.rules.specs.declared.refusal.Refusal.the-variants.{PastSize, NoRoom}
-use Rattle.rules.proofs.Hash.{length-hashes-at, length-hashes-bytes, hashes-at-bytes}
-use Rattle.rules.proofs.Outputs.{written-bytes, no-room, refused}
+use Rattle.rules.specs.declared.refusal.Refusal.the-variants.{PastSize}
+use Rattle.rules.proofs.Outputs.{refused}
 use Rattle.rules.proofs.PassedLaws.{after-refused, after-hashes}
 use Rattle.tables.specs.Bytes.{rowsAt, waitingOf, tableChecked, waitingChecked}
 use Rattle.tables.specs.Calls.{afterCheck}
@@ -30,25 +27,6 @@ use Rattle.tables.proofs.TableLaws.{table-good}
 use Rattle.missing.specs.Ask.{Found}
 use Rattle.missing.specs.Calls.{missingOf, missingFrom, missingBeside, missingOutput}
 use Rattle.missing.specs.Missing.{missing}
-
--- ---- the bytes of a list
-
-module _ (s : List ℕ) (count : ℕ) where
-  length-bytes : sizes .hash * count ≡ length (hashesBytes (hashesAt s 0 count))
-  length-bytes = sym (length-hashes-bytes (hashesAt s 0 count) ∙ ap (λ (n : ℕ). sizes .hash * n) (length-hashes-at s 0 count))
-
-  pub put-short : (out : List ℕ) → length out < sizes .hash * count
-      → Written (Output.bytes (hashesBytes (hashesAt s 0 count))) out out (Refused (NoRoom (sizes .hash * count)))
-  put-short out h = no-room _ out _ length-bytes h
-
-  pub put-whole : (out out′ : List ℕ) → Bytes s → sizes .hash * count ≤ length s → sizes .hash * count ≤ length out
-      → out′ ≡ sets out 0 (take (sizes .hash * count - 0) (drop 0 s))
-      → Written (Output.bytes (hashesBytes (hashesAt s 0 count))) out out′ (Wrote (sizes .hash * count))
-  put-whole out out′ b h k e =
-      let same : take (sizes .hash * count - 0) (drop 0 s) ≡ hashesBytes (hashesAt s 0 count) =
-      rw (sub-zero (sizes .hash * count)) (sym (hashes-at-bytes s 0 count b (rw zero-add h) ∙ rw (zero-add (sizes .hash * count))))
-      in
-      written-bytes _ out out′ _ length-bytes k (rw same at e)
 
 -- ---- a list that was found
 
@@ -79,9 +57,9 @@ module _ (t : List Row) (w : List Waiting) (l out : List ℕ) where
           → Written (missingFrom t w l) out out′ r
       unfolding missingOf
       few-enough h v =
-          let q : hashesAt after 0 count ≡ missing t w (hashesAt l 0 n) = f .all (omega arith) in
-          let few : length (missing t w (hashesAt l 0 n)) ≤ sizes .hashes = omega (arith, ap length q, length-hashes-at after 0 count) in
-          rw (from-list, le-ltb _ _ few) (rw q at v)
+          let g = f .all (omega arith) in
+          let few : length (missing t w (hashesAt l 0 n)) ≤ sizes .hashes = omega (arith, g .many) in
+          rw (from-list, le-ltb _ _ few) (rw (g .list) at v)
 
 -- ---- after the checks
 

@@ -9,8 +9,9 @@ use native.Mathlib.Omega.{arith}
 use borrow.Author.Tests.{eqb-true, not-true}
 use lib.Dec.{eqb}
 use lib.ListN.{length, getD}
+use Rattle.rules.specs.Hash.{AreHashes}
 use Rattle.rules.specs.Order.{member, ascends, keep, Once}
-use Rattle.rules.proofs.KeepLaws.{keep-member, no-members}
+use Rattle.rules.proofs.KeepLaws.{keep-member, no-members, hashes-member, hashes-each}
 use Rattle.rules.proofs.Cases.{split, both, true-false, same-truth, either, or-left, or-right, and-true}
 use Rattle.rules.proofs.OrderLaws.{ascend-ascends, ascend-members, member-append, member-here, member-none, ascending-unique, ascending-shorter}
 use Rattle.rules.proofs.ReachLaws.{reach-base, reach-closed, reach-least}
@@ -124,6 +125,23 @@ module _ (t : List Row) (w : List Waiting) where
     pub missing-unknown : (x : ℕ) → member x (missing t w l) ≡ true → unknown t w x ≡ true
     missing-unknown x e = both (unknown t w x) (member x asked-for) (kept-of-missing x e) .0
 
+    -- What is missing stands in the list, or among what an asked row asks for.
+    pub missing-among : {C : Type 0} (x : ℕ) → member x (missing t w l) ≡ true → (member x l ≡ true → C)
+        → ((k : ℕ) → k < length w → askedRow t w l k ≡ true → member x (asksOf w k) ≡ true → C)
+        → C
+    unfolding asked-for
+    missing-among x e f g =
+        either (member x l) (member x (asksFrom 0 w (askedRow t w l)))
+        (sym (member-append x l (asksFrom 0 w (askedRow t w l))) ∙ both (unknown t w x) (member x asked-for) (kept-of-missing x e) .1)
+        f
+        (λ p. asks-some (askedRow t w l) x w p g)
+
+    -- If the list is of hashes, and all that rows ask for, then what is missing is too.
+    pub missing-are-hashes : AreHashes l → ((k : ℕ) → k < length w → AreHashes (asksOf w k)) → AreHashes (missing t w l)
+    missing-are-hashes a f =
+        hashes-each (missing t w l)
+        (λ x e. missing-among x e (hashes-member l a x) (λ k h q r. hashes-member (asksOf w k) (f k h) x r))
+
     -- Each once, ascending.
     pub missing-ascends : ascends (missing t w l) ≡ true
     unfolding missing
@@ -153,36 +171,50 @@ module _ (t : List Row) (w : List Waiting) where
           k h e
 
       pub member-missing : (x : ℕ) → member x (missing t w l) ≡ true → Missing t w l x
-      unfolding asked-for
       member-missing x e =
-          let a = both (unknown t w x) (member x asked-for) (kept-of-missing x e) in
-          either (member x l) (member x (asksFrom 0 w (askedRow t w l))) (sym (member-append x l (asksFrom 0 w (askedRow t w l))) ∙ a .1)
-          (λ p. itself p (a .0))
-          (λ p. asks-some (askedRow t w l) x w p (λ k h q r. row-missing k h q x (itself r (a .0))))
+          missing-among x e (λ p. itself p (missing-unknown x e)) (λ k h q r. row-missing k h q x (itself r (missing-unknown x e)))
 
-  -- Nothing is missing from nothing.
-  none-asked : (k : ℕ) → k < length w → askedRow t w [] k ≡ true → ⊥
-  unfolding askedRow member
-  none-asked k h e =
-      reach-least (length w) _ _ (λ i. ⊥)
-      (λ i b q. true-false false q refl)
-      (λ i j b c f q. f)
-      k h e
+  -- what holds of a list, and passes to what waiting hashes ask for, holds along the relation
+  missing-passes : {l : List ℕ} {x : ℕ} (P : ℕ → Type 0)
+      → ((g : ℕ) → member g (waiting w) ≡ true → held t g ≡ false → P g → (d : ℕ) → member d (asks w g) ≡ true → P d)
+      → Missing t w l x → ((h : ℕ) → member h l ≡ true → P h) → P x
+  missing-passes P step (itself {l} {h} a b) f = f h a
+  missing-passes P step (through {l} {h} g a b c d) f = missing-passes P step d (step g c b (f g a))
 
-  nothing-missing : (x : ℕ) → member x (missing t w []) ≡ true → ⊥
-  unfolding asked-for
-  nothing-missing x e =
-      let a = both (unknown t w x) (member x (asked-for [])) (kept-of-missing [] x e) in
-      asks-some (askedRow t w []) x w (a .1) (λ k h q r. none-asked k h q)
+  -- Nothing is missing from held hashes.
+  module _ (l : List ℕ) (have : (h : ℕ) → member h l ≡ true → held t h ≡ true) where
+    none-asked : (k : ℕ) → k < length w → askedRow t w l k ≡ true → ⊥
+    unfolding askedRow
+    none-asked k h e =
+        reach-least (length w) _ _ (λ i. ⊥)
+        (λ i b q.
+        let a = both (member (getD (waiting w) i 0) l) (not (held t (getD (waiting w) i 0))) q in
+        true-false _ (have _ (a .0)) (not-true _ (a .1)))
+        (λ i j b c f q. f)
+        k h e
+
+    pub missing-held : missing t w l ≡ []
+    missing-held =
+        no-members (missing t w l)
+        (λ x e.
+        missing-among l x e
+        (λ p. true-false (held t x) (have x p) (unknown-not-held x (missing-unknown l x e)))
+        (λ k h q r. none-asked k h q))
 
   pub missing-of-nothing : missing t w [] ≡ []
-  missing-of-nothing = no-members (missing t w []) nothing-missing
+  missing-of-nothing = missing-held [] (λ h m. absurd (member-none h m))
 
   module _ (once : Once (waiting w)) where
     -- What is missing from a list is missing from one that has its members.
     pub missing-grows : (l l′ : List ℕ) → ((g : ℕ) → member g l ≡ true → member g l′ ≡ true)
         → (x : ℕ) → member x (missing t w l) ≡ true → member x (missing t w l′) ≡ true
     missing-grows l l′ f x e = missing-member l′ (more-missing f (member-missing l once x e))
+
+    -- What holds of the list, and passes from a waiting hash to what its row asks for, holds of all that is missing.
+    pub missing-induction : (P : ℕ → Type 0) (l : List ℕ) → ((h : ℕ) → member h l ≡ true → P h)
+        → ((g : ℕ) → member g (waiting w) ≡ true → held t g ≡ false → P g → (d : ℕ) → member d (asks w g) ≡ true → P d)
+        → (x : ℕ) → member x (missing t w l) ≡ true → P x
+    missing-induction P l base step x e = missing-passes P step (member-missing l once x e) base
 
     -- Asking from nothing finds what is missing, all of it unless the list is full.
     module _ {most : ℕ} {hs : List ℕ} {m m′ : List Bool} {l : List ℕ} (d : Asks t w most (list hs) m [] m′ l)

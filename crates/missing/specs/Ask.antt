@@ -8,6 +8,7 @@ use mathlib.Core.Path.{_≡_}
 use lib.ListN.{length, getD, set}
 use Rattle.rules.specs.Hash.{hashesAt}
 use Rattle.rules.specs.Order.{member, insertUpTo}
+use Rattle.rules.specs.Output.{Gathered}
 use Rattle.rules.specs.Sizes.{sizes}
 use Rattle.tables.specs.Bytes.{rowSize, waitingSize, rowsAt, waitingsAt, asksCount}
 use Rattle.tables.specs.Table.{Row, held, placeIn}
@@ -20,7 +21,7 @@ pub data Request : Type 0 where
 
 -- From the marked rows and the hashes found so far to those afterwards; the list of hashes holds no more than `most`.
 pub data Asks (t : List Row) (w : List Waiting) (most : ℕ) : Request → List Bool → List ℕ → List Bool → List ℕ → Type 0 where
-  known : {h : ℕ} {m : List Bool} {l : List ℕ} → held t h ≡ true → Asks t w most (change h) m l m l
+  held-hash : {h : ℕ} {m : List Bool} {l : List ℕ} → held t h ≡ true → Asks t w most (change h) m l m l
   marked : {h : ℕ} {m : List Bool} {l : List ℕ} → held t h ≡ false → member h (waiting w) ≡ true
       → getD m (placeIn (waiting w) h) false ≡ true
       → Asks t w most (change h) m l m l
@@ -29,7 +30,7 @@ pub data Asks (t : List Row) (w : List Waiting) (most : ℕ) : Request → List 
       → getD m (placeIn (waiting w) h) false ≡ false
       → Asks t w most (list (asks w h)) (set m (placeIn (waiting w) h) true) l m′ l′
       → Asks t w most (change h) m l m′ l′
-  strange : {h : ℕ} {m : List Bool} {l : List ℕ} → held t h ≡ false → member h (waiting w) ≡ false
+  unknown-hash : {h : ℕ} {m : List Bool} {l : List ℕ} → held t h ≡ false → member h (waiting w) ≡ false
       → Asks t w most (change h) m l m (insertUpTo most h l)
   none : {m : List Bool} {l : List ℕ} → Asks t w most (list []) m l m l
   more : {h : ℕ} {hs : List ℕ} {m : List Bool} {l : List ℕ} {m′ : List Bool} {l′ : List ℕ} {m″ : List Bool} {l″ : List ℕ}
@@ -54,5 +55,5 @@ pub record Asked (table : List ℕ) (n : ℕ) (waitings : List ℕ) (m : ℕ) (q
 -- A list asked for in a buffer that holds no more than `most` hashes: all of it, or as many of them as fit.
 pub record Found (l : List ℕ) (most : ℕ) (after : List ℕ) (count : ℕ) : Type 0 where
   pub within : count ≤ most
-  pub all : count < most → hashesAt after 0 count ≡ l
+  pub all : count < most → Gathered l after count
   pub full : count ≡ most → most ≤ length l

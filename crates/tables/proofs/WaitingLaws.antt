@@ -10,12 +10,12 @@ use borrow.Author.Tests.{ltb-true, ltb-false, leb-true, eqb-true, eqb-false, not
 use lib.Dec.{ltb, leb, eqb}
 use lib.ListN.{length, getD, length-map}
 use lib.Seq.{slice, slice-empty, slice-cons}
-use Rattle.rules.specs.Hash.{bigEndian, hashAt, hashesAt}
+use Rattle.rules.specs.Hash.{Bytes, AreHashes, bigEndian, hashAt, hashesAt}
 use Rattle.rules.specs.Order.{member, Once}
 use Rattle.rules.specs.Sizes.{sizes}
 use Rattle.rules.specs.declared.refusal.Refusal.the-variants.{BadWaitingRow}
 use Rattle.rules.proofs.Cases.{split, both}
-use Rattle.rules.proofs.Hash.{length-hashes-at}
+use Rattle.rules.proofs.Hash.{length-hashes-at, hash-is-hash, hashes-are-hashes}
 use Rattle.rules.proofs.KeepLaws.{index-once}
 use Rattle.tables.specs.Bytes.{waitingSize, asksCount, waitingAt, waitingsAt, waitingOf, bytesAt, zeros, waitingGood, waitingChecked}
 use Rattle.tables.specs.Table.{Row, rows, placeIn, held}
@@ -58,6 +58,18 @@ module _ (s : List ℕ) where
 
   pub hash-of-waiting : (n i : ℕ) → i < n → getD (waiting (waitingsAt s 0 n)) i 0 ≡ hashAt s (i * waitingSize)
   hash-of-waiting n i b = waiting-hashes-index 0 n i b ∙ rw zero-add
+
+-- what rows ask for are hashes, if the bytes are bytes, and so are the hashes that wait
+pub asks-hashes : (s : List ℕ) → Bytes s → (i : ℕ) → i < length (waitingOf s) → AreHashes (asksOf (waitingOf s) i)
+unfolding waitingOf
+asks-hashes s b i h =
+    rw (asks-of-waiting s (length s / waitingSize) i (rw length-waitings-at at h))
+    (hashes-are-hashes s (i * waitingSize + 2 * sizes .hash) (asksCount s i) b)
+
+pub waiting-hashes : (s : List ℕ) (i n : ℕ) → Bytes s → AreHashes (waiting (waitingsAt s i n))
+unfolding AreHashes waiting waitingsAt waitingAt
+waiting-hashes s i zero b = tt
+waiting-hashes s i (suc n) b = (hash-is-hash s (i * waitingSize) b, waiting-hashes s (suc i) n b)
 
 -- ---- zeros
 
