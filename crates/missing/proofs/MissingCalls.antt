@@ -1,7 +1,7 @@
 -- What the call for missing hashes writes: one law for each way out, with the code's tests as hypotheses.
 use Prim.Native.Nat.{ℕ, suc, _+_, _*_, _/_, _≤_, _<_}
 use mathlib.Core.List.{List}
-use mathlib.Core.Path.{_≡_, ap}
+use mathlib.Core.Path.{_≡_, ap, _∙_}
 use native.Mathlib.Omega.{arith}
 use borrow.Author.Tests.{lt-ltb, le-ltb}
 use lib.ListN.{length, replicate, length-replicate}
@@ -33,6 +33,13 @@ use Rattle.missing.specs.Missing.{missing}
 -- The scratch list has room for one hash more than a list may have.
 pub one-more : length (replicate {A = ℕ} (sizes .hash * (sizes .hashes + 1)) 0) / sizes .hash ≡ suc (sizes .hashes)
 one-more = ap (λ (n : ℕ). n / sizes .hash) (length-replicate {A = ℕ} (sizes .hash * (sizes .hashes + 1)) 0)
+
+fits : (count most n : ℕ) → count ≤ most → n ≡ sizes .hash * (most + 1) → sizes .hash * count ≤ n
+fits count most n h e = omega arith
+
+-- So what a list may have fits in it.
+pub list-fits : (count n : ℕ) → n ≡ length (replicate {A = ℕ} (sizes .hash * (sizes .hashes + 1)) 0) → count ≤ sizes .hashes → sizes .hash * count ≤ n
+list-fits count n e h = fits count (sizes .hashes) n h (e ∙ length-replicate {A = ℕ} (sizes .hash * (sizes .hashes + 1)) 0)
 
 module _ (t : List Row) (w : List Waiting) (l out : List ℕ) where
   pub no-list : (r : Refusal) → passedHashes l ≡ passed.Refused r → Written (missingFrom t w l) out out (Refused r)

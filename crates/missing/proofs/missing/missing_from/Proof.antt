@@ -5,7 +5,7 @@ use native.Mathlib.Omega.{arith}
 use Rattle.rules.specs.Passed.{passedHashes}
 use Rattle.rules.specs.declared.passed.Passed.the-variants.{Hashes}
 use Rattle.rules.proofs.PassedLaws.{passed-is}
-use Rattle.missing.proofs.MissingCalls.{one-more, no-list, too-many, few-enough}
+use Rattle.missing.proofs.MissingCalls.{one-more, list-fits, no-list, too-many, few-enough}
 use borrow.Author.Needs.{needs}
 use Rattle.missing.proofs.missing.missing_from.Statement.{statement}
 use Rattle.missing.proofs.missing.missing_from.Tie as tie
@@ -42,7 +42,9 @@ slice-aggregate-put-list : tie.Need-slice-aggregate-put-list
 slice-aggregate-put-list c = search needs
 
 put-list-requires : tie.Need-put-list-requires
-put-list-requires c κs = search needs
+put-list-requires c κs =
+    let g = c .before .before in
+    list-fits _ _ (g .before .before .find-missing .kept .1 .1 .1 .1 .1 .1 .1 .0) (g .if1 .left)
 
 returns-2 : tie.Need-returns-2
 returns-2 c =
