@@ -9,7 +9,7 @@ use Rattle.rules.specs.Hash.{hashAt, hashesAt}
 use Rattle.rules.specs.Order.{member, Inserted}
 use Rattle.rules.specs.Sizes.{sizes}
 use Rattle.rules.proofs.Hash.{length-hashes-at}
-use Rattle.tables.specs.Bytes.{rowSize, rowsAt, waitingSize, asksCount, waitingsAt, waitingOf}
+use Rattle.tables.specs.Bytes.{rowSize, rowsAt, asksCount, asksPlace, waitingsAt, waitingOf}
 use Rattle.tables.specs.Table.{rows, held, placeIn}
 use Rattle.tables.specs.Waiting.{waiting, asks}
 use Rattle.tables.proofs.TableLaws.{length-rows, length-rows-at, place-at-most, member-of-place, stranger-of-place}
@@ -61,7 +61,7 @@ module _ {table : List ℕ} {n : ℕ} {waitings : List ℕ} {m h r : ℕ} {marks
 
     pub asks-its-list : (marks′ : List Bool) (found′ : List ℕ) (count′ : ℕ) {entries : ℕ} → k < m → k < length marks → getD marks k false ≡ false
         → entries ≡ asksCount waitings k
-        → Asked table n waitings m (list (hashesAt waitings (k * waitingSize + 2 * sizes .hash) entries)) (set marks k true) found count marks′ found′ count′
+        → Asked table n waitings m (list (hashesAt waitings (asksPlace k) entries)) (set marks k true) found count marks′ found′ count′
         → Asked table n waitings m (change h) marks found count marks′ found′ count′
     unfolding asks
     asks-its-list marks′ found′ count′ b l i c d =
@@ -83,7 +83,7 @@ module _ {table : List ℕ} {n : ℕ} {waitings : List ℕ} {m : ℕ} {marks : L
 
   -- its list stands in the table
   pub asks-inside : (k entries : ℕ) → k < m → entries ≡ asksCount waitings k
-      → k * waitingSize + 2 * sizes .hash + sizes .hash * entries ≤ length waitings
+      → asksPlace k + sizes .hash * entries ≤ length waitings
   asks-inside k entries b c = omega (arith, a .few k b, a .waitingRows)
 
   -- with other marks and found hashes

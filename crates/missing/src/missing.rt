@@ -12,6 +12,7 @@ use tables::check::Checked;
 use tables::check::check_table;
 use tables::find::find_row;
 use tables::find::find_waiting;
+use tables::row::ASKS_PLACE;
 use tables::row::WAITING_SIZE;
 use tables::waiting::asks_count;
 use tables::waiting::check_waiting;
@@ -57,7 +58,7 @@ fn ask_change(
         return count;
     }
     marks[row] = true;
-    let place = row * WAITING_SIZE + 2 * HASH_SIZE;
+    let place = row * WAITING_SIZE + ASKS_PLACE;
     let entries = asks_count(waiting, row);
     ask_list(
         table,

@@ -4,16 +4,16 @@ use Prim.Native.Nat.{ℕ, zero, suc, _+_, _-_, _*_, _/_, _%_, _≤_, _<_}
 use mathlib.Core.Bool.{Bool, true, false}
 use mathlib.Core.List.{List}
 use mathlib.Core.Path.{_≡_, sym, _∙_}
-use native.Mathlib.Nat.{div-add-mod'}
+use native.Mathlib.Nat.{div-add-mod', mul-lt-mul-of-pos-right}
 use native.Mathlib.Numerals.{add-one}
 use native.Mathlib.Omega.{arith}
-use borrow.Author.Tests.{ltb-false, eqb-true, eqb-false, lt-ltb, le-ltb, eq-eqb, ne-eqb}
+use borrow.Author.Tests.{ltb-true, ltb-false, eqb-true, eqb-false, lt-ltb, le-ltb, eq-eqb, ne-eqb}
 use lib.Dec.{ltb, eqb}
 use lib.ListN.{length}
 use Rattle.rules.specs.Sizes.{sizes}
 use Rattle.rules.specs.declared.refusal.Refusal.the-variants.{PastSize, BadRow, BadWaitingRow}
 use Rattle.rules.proofs.Cases.{split}
-use Rattle.tables.specs.Bytes.{rowSize, rowGood, firstBad, checkedWith, tableChecked, waitingSize, waitingGood, waitingChecked}
+use Rattle.tables.specs.Bytes.{rowSize, rowGood, firstBad, checkedWith, tableCheckedOf, tableChecked, waitingSize, waitingGood, waitingCheckedOf, waitingChecked}
 use Rattle.tables.specs.Table.{Row}
 use Rattle.tables.specs.declared.check.Checked.{Checked}
 use Rattle.tables.specs.declared.check.Checked.the-variants.{Good, Refused}
@@ -132,43 +132,52 @@ module _ (bad : ℕ → Checked) (good : ℕ → Bool) (size most bytes : ℕ) w
       })
       (λ g. absurd (never (bytes / size) n (rw g at a₂)))))
 
+-- records of a size are no more than others if their bytes aren't
+pub fewer : (n most size : ℕ) → 0 < size → n * size ≤ most * size → n ≤ most
+fewer n most size h b =
+    split (ltb most n)
+    (λ e.
+    let more : most * size < n * size = mul-lt-mul-of-pos-right (ltb-true most n e) h in
+    absurd (omega arith))
+    (λ e. ltb-false most n e)
+
 -- ---- the two tables
 
 module _ (s : List ℕ) where
   pub table-past : sizes .rows * rowSize < length s → tableChecked s ≡ Refused (PastSize 0)
-  unfolding tableChecked
+  unfolding tableCheckedOf
   table-past h = check-past _ (rowGood s) rowSize (sizes .rows) (length s) h
 
   module _ (few : length s ≤ sizes .rows * rowSize) where
     pub table-bad : (r : ℕ) → r ≡ firstBad (rowGood s) 0 (length s / rowSize) → r < length s / rowSize → tableChecked s ≡ Refused (BadRow r)
-    unfolding tableChecked
+    unfolding tableCheckedOf
     table-bad r e h = check-bad _ (rowGood s) rowSize (sizes .rows) (length s) few r e h
 
     module _ (r : ℕ) (e : r ≡ firstBad (rowGood s) 0 (length s / rowSize)) (none : length s / rowSize ≤ r) where
       pub table-partial : (length s % rowSize ≡ 0 → ⊥) → tableChecked s ≡ Refused (BadRow (length s / rowSize))
-      unfolding tableChecked
+      unfolding tableCheckedOf
       table-partial h = check-partial _ (rowGood s) rowSize (sizes .rows) (length s) few r e none h
 
       pub table-fine : length s % rowSize ≡ 0 → tableChecked s ≡ Good (length s / rowSize)
-      unfolding tableChecked
+      unfolding tableCheckedOf
       table-fine h = check-good _ (rowGood s) rowSize (sizes .rows) (length s) few r e none h
 
 module _ (t : List Row) (s : List ℕ) where
   pub waiting-past : sizes .waitingRows * waitingSize < length s → waitingChecked t s ≡ Refused (PastSize 0)
-  unfolding waitingChecked
+  unfolding waitingCheckedOf
   waiting-past h = check-past _ (waitingGood t s) waitingSize (sizes .waitingRows) (length s) h
 
   module _ (few : length s ≤ sizes .waitingRows * waitingSize) where
     pub waiting-bad : (r : ℕ) → r ≡ firstBad (waitingGood t s) 0 (length s / waitingSize) → r < length s / waitingSize
         → waitingChecked t s ≡ Refused (BadWaitingRow r)
-    unfolding waitingChecked
+    unfolding waitingCheckedOf
     waiting-bad r e h = check-bad _ (waitingGood t s) waitingSize (sizes .waitingRows) (length s) few r e h
 
     module _ (r : ℕ) (e : r ≡ firstBad (waitingGood t s) 0 (length s / waitingSize)) (none : length s / waitingSize ≤ r) where
       pub waiting-partial : (length s % waitingSize ≡ 0 → ⊥) → waitingChecked t s ≡ Refused (BadWaitingRow (length s / waitingSize))
-      unfolding waitingChecked
+      unfolding waitingCheckedOf
       waiting-partial h = check-partial _ (waitingGood t s) waitingSize (sizes .waitingRows) (length s) few r e none h
 
       pub waiting-fine : length s % waitingSize ≡ 0 → waitingChecked t s ≡ Good (length s / waitingSize)
-      unfolding waitingChecked
+      unfolding waitingCheckedOf
       waiting-fine h = check-good _ (waitingGood t s) waitingSize (sizes .waitingRows) (length s) few r e none h

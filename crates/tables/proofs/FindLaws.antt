@@ -9,7 +9,7 @@ use native.Mathlib.Numerals.{add-one}
 use native.Mathlib.Omega.{arith}
 use lib.Dec.{eqb}
 use Rattle.rules.specs.Hash.{hashAt}
-use Rattle.tables.specs.Bytes.{rowSize, rowAt, rowsAt, waitingSize, waitingAt, waitingsAt}
+use Rattle.tables.specs.Bytes.{rowOf, rowsOf, rowSize, rowsAt, waitingRowOf, waitingRowsOf, waitingSize, waitingsAt}
 use Rattle.tables.specs.Table.{rows, placeIn}
 use Rattle.tables.specs.Waiting.{waiting}
 
@@ -19,12 +19,12 @@ listed f i zero = []
 listed f i (suc count) = f i ∷ listed f (suc i) count
 
 pub rows-listed : (s : List ℕ) (i count : ℕ) → rows (rowsAt s i count) ≡ listed (λ k. hashAt s (k * rowSize)) i count
-unfolding rows rowsAt rowAt listed
+unfolding rows rowsOf rowOf listed
 rows-listed s i zero = refl
 rows-listed s i (suc count) = ap (λ (l : List ℕ). hashAt s (i * rowSize) ∷ l) (rows-listed s (suc i) count)
 
 pub waiting-listed : (s : List ℕ) (i count : ℕ) → waiting (waitingsAt s i count) ≡ listed (λ k. hashAt s (k * waitingSize)) i count
-unfolding waiting waitingsAt waitingAt listed
+unfolding waiting waitingRowsOf waitingRowOf listed
 waiting-listed s i zero = refl
 waiting-listed s i (suc count) = ap (λ (l : List ℕ). hashAt s (i * waitingSize) ∷ l) (waiting-listed s (suc i) count)
 

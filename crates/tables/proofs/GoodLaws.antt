@@ -11,7 +11,7 @@ use Rattle.rules.specs.Order.{member}
 use Rattle.rules.specs.Sizes.{sizes}
 use Rattle.rules.proofs.Hash.{hash-is-hash}
 use Rattle.rules.proofs.KeepLaws.{once-index}
-use Rattle.tables.specs.Bytes.{rowSize, usedAt, rowAt, rowsAt, tableChecked, GoodRows}
+use Rattle.tables.specs.Bytes.{rowSizeOf, rowOf, rowsOf, rowSize, usedAt, rowsAt, tableChecked, GoodRows}
 use Rattle.tables.specs.Table.{Row, GoodTable, rows, hashOf, depsOf}
 use Rattle.tables.specs.declared.check.Checked.the-variants.{Good}
 use Rattle.tables.proofs.ExtendLaws.{good-take}
@@ -53,10 +53,13 @@ good-differ s n g i j h k e =
     once-index (rows (rowsAt s 0 n)) (g .good .once) i j (omega arith) (omega arith) (hash-of-row s n i h ∙ e ∙ sym (hash-of-row s n j k))
 
 -- hashes of rows are hashes, and no more than a list may have
+pub row-hashes-of : (d : ℕ) (s : List ℕ) (i n : ℕ) → Bytes s → AreHashes (rows (rowsOf d s i n))
+unfolding AreHashes rows rowsOf rowOf
+row-hashes-of d s i zero b = tt
+row-hashes-of d s i (suc n) b = (hash-is-hash s (i * rowSizeOf d) b, row-hashes-of d s (suc i) n b)
+
 pub rows-hashes : (s : List ℕ) (i n : ℕ) → Bytes s → AreHashes (rows (rowsAt s i n))
-unfolding AreHashes rows rowsAt rowAt
-rows-hashes s i zero b = tt
-rows-hashes s i (suc n) b = (hash-is-hash s (i * rowSize) b, rows-hashes s (suc i) n b)
+rows-hashes = row-hashes-of (sizes .dependencies)
 
 pub rows-few : (s : List ℕ) (n : ℕ) → GoodRows s n → length (rows (rowsAt s 0 n)) ≤ sizes .hashes
 rows-few s n g =

@@ -10,7 +10,7 @@ use lib.Dec.{eqb}
 use lib.ListN.{length}
 use Rattle.rules.specs.Hash.{hashAt}
 use Rattle.rules.specs.Sizes.{sizes}
-use Rattle.tables.specs.Bytes.{twoAt, twosAt, rowSize, countAt, usedAt, unusedAt, rowsAt, climbs, zeros, rowGood}
+use Rattle.tables.specs.Bytes.{twoAt, twosAt, usedOf, unusedOf, rowGoodOf, rowSize, countAt, usedAt, unusedAt, rowsAt, climbs, zeros, rowGood}
 use Rattle.tables.specs.Table.{rows, placeIn}
 use Rattle.tables.proofs.TableLaws.{numberAt, length-rows, length-rows-at, place-tells}
 
@@ -25,7 +25,7 @@ module _ (s : List ℕ) (i count : ℕ) where
   climbing least j = climbs least i (twosAt s (numberAt i j) (count - j))
 
   pub climb-starts : count ≡ countAt s i → climbing 0 0 ≡ climbs 0 i (usedAt s i)
-  unfolding climbing usedAt
+  unfolding climbing usedOf
   climb-starts e =
       let d : count - 0 ≡ countAt s i = omega arith in
       let p : numberAt i 0 ≡ i * rowSize + sizes .hash + 2 = omega arith in
@@ -59,7 +59,7 @@ module _ (s : List ℕ) (i : ℕ) where
   zeroing j = zeros (twosAt s (numberAt i j) (sizes .dependencies - j))
 
   pub zero-starts : (count : ℕ) → count ≡ countAt s i → zeroing count ≡ zeros (unusedAt s i)
-  unfolding zeroing unusedAt
+  unfolding zeroing unusedOf
   zero-starts count e = rw e
 
   module _ (j d : ℕ) (inside : j < sizes .dependencies) (read : d ≡ twoAt s (numberAt i j)) where
@@ -85,22 +85,22 @@ module _ (s : List ℕ) (i : ℕ) where
 module _ (s : List ℕ) (i : ℕ) where
   module _ (count : ℕ) (is : count ≡ countAt s i) where
     pub row-many : sizes .dependencies < count → rowGood s i ≡ false
-    unfolding rowGood
+    unfolding rowGoodOf
     row-many h = rw (← is, lt-leb count (sizes .dependencies) h)
 
     module _ (few : count ≤ sizes .dependencies) where
       pub row-numbers : climbs 0 i (usedAt s i) ≡ false → rowGood s i ≡ false
-      unfolding rowGood
+      unfolding rowGoodOf
       row-numbers e = rw (← is, le-leb count (sizes .dependencies) few, e)
 
       module _ (climb : climbs 0 i (usedAt s i) ≡ true) where
         pub row-unused : zeros (unusedAt s i) ≡ false → rowGood s i ≡ false
-        unfolding rowGood
+        unfolding rowGoodOf
         row-unused e = rw (← is, le-leb count (sizes .dependencies) few, climb, e)
 
         pub row-hash : zeros (unusedAt s i) ≡ true → (r : ℕ) → r ≡ placeIn (rows (rowsAt s 0 i)) (hashAt s (i * rowSize))
             → rowGood s i ≡ eqb r i
-        unfolding rowGood
+        unfolding rowGoodOf
         row-hash e r q =
             let n : length (rows (rowsAt s 0 i)) ≡ i = length-rows (rowsAt s 0 i) ∙ length-rows-at s 0 i in
             rw (← is, le-leb count (sizes .dependencies) few, climb, e, place-tells, ← q) (ap (eqb r) n)

@@ -13,11 +13,11 @@ use Rattle.rules.specs.Order.{member, ascends, Once}
 use Rattle.rules.specs.Sizes.{sizes}
 use Rattle.rules.proofs.Cases.{split, both}
 use Rattle.rules.proofs.KeepLaws.{index-once, once-index}
-use Rattle.tables.specs.Bytes.{twoAt, twosAt, rowSize, countAt, usedAt, unusedAt, rowAt, rowsAt, tableOf, climbs, zeros, rowGood, tableChecked}
+use Rattle.tables.specs.Bytes.{twoAt, twosAt, rowSizeOf, countOf, usedOf, unusedOf, rowOf, rowsOf, wholeRowsOf, rowGoodOf, tableCheckedOf, rowSize, countAt, usedAt, rowAt, rowsAt, tableOf, climbs, zeros, rowGood, tableChecked}
 use Rattle.tables.specs.Table.{Row, noRow, rows, hashOf, depsOf, GoodTable, placeIn, place, held}
 use Rattle.tables.specs.declared.check.Checked.the-variants.{Good, Refused}
 use Rattle.rules.specs.declared.refusal.Refusal.the-variants.{BadRow}
-use Rattle.tables.proofs.CheckLaws.{accepted, good-is-accepted}
+use Rattle.tables.proofs.CheckLaws.{fewer, accepted, good-is-accepted}
 
 -- ---- places in a list
 
@@ -116,64 +116,85 @@ hash-of-held t h e = at-place (rows t) h (place-of-member (rows t) h e)
 
 -- ---- rows in bytes
 
+-- rows with room for d dependencies
+module _ (d : ℕ) (s : List ℕ) where
+  pub length-rows-of : (i n : ℕ) → length (rowsOf d s i n) ≡ n
+  unfolding rowsOf
+  length-rows-of i zero = refl
+  length-rows-of i (suc n) = ap suc (length-rows-of (suc i) n)
+
+  pub rows-of-index : (i n k : ℕ) → k < n → getD (rowsOf d s i n) k noRow ≡ rowOf d s (i + k)
+  unfolding rowsOf
+  rows-of-index i zero k b = absurd (not-suc-le-zero b)
+  rows-of-index i (suc n) zero b = rw add-zero
+  rows-of-index i (suc n) (suc k) b =
+      let e : i + suc k ≡ suc i + k = omega arith in
+      rw e (rows-of-index (suc i) n k (omega arith))
+
+  pub take-rows-of : (i k n : ℕ) → k ≤ n → take k (rowsOf d s i n) ≡ rowsOf d s i k
+  unfolding rowsOf
+  take-rows-of i zero n b = refl
+  take-rows-of i (suc k) zero b = absurd (not-suc-le-zero b)
+  take-rows-of i (suc k) (suc n) b = ap (λ (t : List Row). rowOf d s i ∷ t) (take-rows-of (suc i) k n (omega arith))
+
+  pub row-deps-of : (n i : ℕ) → i < n → depsOf (rowsOf d s 0 n) i ≡ usedOf d s i
+  unfolding depsOf rowOf
+  row-deps-of n i b = ap (λ (r : Row). r .deps) (rows-of-index 0 n i b) ∙ rw zero-add
+
+  hashes-of-index : (i n k : ℕ) → k < n → getD (rows (rowsOf d s i n)) k 0 ≡ hashAt s ((i + k) * rowSizeOf d)
+  unfolding rows rowsOf rowOf
+  hashes-of-index i zero k b = absurd (not-suc-le-zero b)
+  hashes-of-index i (suc n) zero b = rw add-zero
+  hashes-of-index i (suc n) (suc k) b =
+      let e : i + suc k ≡ suc i + k = omega arith in
+      rw e (hashes-of-index (suc i) n k (omega arith))
+
+  pub row-hash-of : (n i : ℕ) → i < n → hashOf (rowsOf d s 0 n) i ≡ hashAt s (i * rowSizeOf d)
+  unfolding hashOf
+  row-hash-of n i b = hashes-of-index 0 n i b ∙ rw zero-add
+
+-- today's rows
 module _ (s : List ℕ) where
   pub length-rows-at : (i n : ℕ) → length (rowsAt s i n) ≡ n
-  unfolding rowsAt
-  length-rows-at i zero = refl
-  length-rows-at i (suc n) = ap suc (length-rows-at (suc i) n)
+  length-rows-at = length-rows-of (sizes .dependencies) s
 
   pub rows-at-index : (i n k : ℕ) → k < n → getD (rowsAt s i n) k noRow ≡ rowAt s (i + k)
-  unfolding rowsAt
-  rows-at-index i zero k b = absurd (not-suc-le-zero b)
-  rows-at-index i (suc n) zero b = rw add-zero
-  rows-at-index i (suc n) (suc k) b =
-      let e : i + suc k ≡ suc i + k = omega arith in
-      rw e (rows-at-index (suc i) n k (omega arith))
+  rows-at-index = rows-of-index (sizes .dependencies) s
 
   pub take-rows-at : (i k n : ℕ) → k ≤ n → take k (rowsAt s i n) ≡ rowsAt s i k
-  unfolding rowsAt
-  take-rows-at i zero n b = refl
-  take-rows-at i (suc k) zero b = absurd (not-suc-le-zero b)
-  take-rows-at i (suc k) (suc n) b = ap (λ (t : List Row). rowAt s i ∷ t) (take-rows-at (suc i) k n (omega arith))
+  take-rows-at = take-rows-of (sizes .dependencies) s
 
   pub deps-of-row : (n i : ℕ) → i < n → depsOf (rowsAt s 0 n) i ≡ usedAt s i
-  unfolding depsOf rowAt
-  deps-of-row n i b = ap (λ (r : Row). r .deps) (rows-at-index 0 n i b) ∙ rw zero-add
-
-  hashes-at-index : (i n k : ℕ) → k < n → getD (rows (rowsAt s i n)) k 0 ≡ hashAt s ((i + k) * rowSize)
-  unfolding rows rowsAt rowAt
-  hashes-at-index i zero k b = absurd (not-suc-le-zero b)
-  hashes-at-index i (suc n) zero b = rw add-zero
-  hashes-at-index i (suc n) (suc k) b =
-      let e : i + suc k ≡ suc i + k = omega arith in
-      rw e (hashes-at-index (suc i) n k (omega arith))
+  deps-of-row = row-deps-of (sizes .dependencies) s
 
   pub hash-of-row : (n i : ℕ) → i < n → hashOf (rowsAt s 0 n) i ≡ hashAt s (i * rowSize)
-  unfolding hashOf
-  hash-of-row n i b = hashes-at-index 0 n i b ∙ rw zero-add
+  hash-of-row = row-hash-of (sizes .dependencies) s
 
   -- the same of all whole rows
   pub length-table : length (tableOf s) ≡ length s / rowSize
-  unfolding tableOf
+  unfolding wholeRowsOf
   length-table = length-rows-at 0 (length s / rowSize)
 
   pub deps-of-table : (i : ℕ) → i < length s / rowSize → depsOf (tableOf s) i ≡ usedAt s i
-  unfolding tableOf
+  unfolding wholeRowsOf
   deps-of-table i b = deps-of-row (length s / rowSize) i b
 
   pub hash-of-table : (i : ℕ) → i < length s / rowSize → hashOf (tableOf s) i ≡ hashAt s (i * rowSize)
-  unfolding tableOf
+  unfolding wholeRowsOf
   hash-of-table i b = hash-of-row (length s / rowSize) i b
 
   pub take-table : (k : ℕ) → k ≤ length s / rowSize → take k (tableOf s) ≡ rowsAt s 0 k
-  unfolding tableOf
+  unfolding wholeRowsOf
   take-table k b = take-rows-at 0 k (length s / rowSize) b
 
 -- ---- the numbers of a row
 
 -- where the j-th number of row i stands
+abbrev pub numberPlaceOf : ℕ → ℕ → ℕ → ℕ
+numberPlaceOf d i j = i * rowSizeOf d + sizes .hash + 2 + 2 * j
+
 abbrev pub numberAt : ℕ → ℕ → ℕ
-numberAt i j = i * rowSize + sizes .hash + 2 + 2 * j
+numberAt i j = numberPlaceOf (sizes .dependencies) i j
 
 length-twos-at : (s : List ℕ) (at count : ℕ) → length (twosAt s at count) ≡ count
 unfolding twosAt
@@ -188,13 +209,19 @@ twos-index s at (suc count) (suc j) b =
     let e : at + 2 * suc j ≡ at + 2 + 2 * j = omega arith in
     rw e (twos-index s (at + 2) count j (omega arith))
 
+pub length-used-of : (d : ℕ) (s : List ℕ) (i : ℕ) → length (usedOf d s i) ≡ countOf d s i
+unfolding usedOf
+length-used-of d s i = length-twos-at s (i * rowSizeOf d + sizes .hash + 2) (countOf d s i)
+
+pub used-of-index : (d : ℕ) (s : List ℕ) (i j : ℕ) → j < countOf d s i → getD (usedOf d s i) j 0 ≡ twoAt s (numberPlaceOf d i j)
+unfolding usedOf
+used-of-index d s i j b = twos-index s (i * rowSizeOf d + sizes .hash + 2) (countOf d s i) j b
+
 pub length-used : (s : List ℕ) (i : ℕ) → length (usedAt s i) ≡ countAt s i
-unfolding usedAt
-length-used s i = length-twos-at s (i * rowSize + sizes .hash + 2) (countAt s i)
+length-used = length-used-of (sizes .dependencies)
 
 pub used-index : (s : List ℕ) (i j : ℕ) → j < countAt s i → getD (usedAt s i) j 0 ≡ twoAt s (numberAt i j)
-unfolding usedAt
-used-index s i j b = twos-index s (i * rowSize + sizes .hash + 2) (countAt s i) j b
+used-index = used-of-index (sizes .dependencies)
 
 pub climbs-below : (least end : ℕ) (l : List ℕ) (k : ℕ) → climbs least end l ≡ true → member k l ≡ true → k < end
 unfolding climbs member
@@ -221,97 +248,120 @@ climbs-ascends least end (x ∷ y ∷ ys) c =
 -- ---- good rows
 
 -- what a good row has
-pub record RowGood (s : List ℕ) (i : ℕ) : Type 0 where
-  pub count : countAt s i ≤ sizes .dependencies
-  pub climb : climbs 0 i (usedAt s i) ≡ true
-  pub unused : zeros (unusedAt s i) ≡ true
-  pub new : member (hashAt s (i * rowSize)) (rows (rowsAt s 0 i)) ≡ false
+pub record RowGoodOf (d : ℕ) (s : List ℕ) (i : ℕ) : Type 0 where
+  pub count : countOf d s i ≤ d
+  pub climb : climbs 0 i (usedOf d s i) ≡ true
+  pub unused : zeros (unusedOf d s i) ≡ true
+  pub new : member (hashAt s (i * rowSizeOf d)) (rows (rowsOf d s 0 i)) ≡ false
+
+module _ (d : ℕ) (s : List ℕ) where
+  pub good-row-has : (i : ℕ) → rowGoodOf d s i ≡ true → RowGoodOf d s i
+  unfolding rowGoodOf
+  good-row-has i g =
+      let new : Bool = not (member (hashAt s (i * rowSizeOf d)) (rows (rowsOf d s 0 i))) in
+      let p = both (leb (countOf d s i) d) (climbs 0 i (usedOf d s i) && (zeros (unusedOf d s i) && new)) g in
+      let q = both (climbs 0 i (usedOf d s i)) (zeros (unusedOf d s i) && new) (p .1) in
+      let r = both (zeros (unusedOf d s i)) new (q .1) in
+      record { count = leb-true _ _ (p .0); climb = q .0; unused = r .0; new = not-true _ (r .1) }
+
+  module _ (n : ℕ) (each : (i : ℕ) → i < n → rowGoodOf d s i ≡ true) where
+    earlier-differs : (i j : ℕ) → i < j → j < n → hashAt s (i * rowSizeOf d) ≡ hashAt s (j * rowSizeOf d) → ⊥
+    unfolding hashOf
+    earlier-differs i j l b e =
+        let h : ℕ = hashAt s (j * rowSizeOf d) in
+        let before : List ℕ = rows (rowsOf d s 0 j) in
+        let long : length before ≡ j = length-rows (rowsOf d s 0 j) ∙ length-rows-of d s 0 j in
+        let there : member h before ≡ true = member-is before h i (omega arith) (row-hash-of d s j i l ∙ e) in
+        let new : member h before ≡ false = good-row-has j (each j b) .new in
+        let z : _≡_ {A = ℕ} 0 1 = cc in
+        omega arith
+
+    -- rows that are each good make a good table
+    pub good-rows-of : GoodTable (rowsOf d s 0 n)
+    unfolding hashOf
+    good-rows-of =
+        let long : length (rowsOf d s 0 n) ≡ n = length-rows-of d s 0 n in
+        record {
+          once =
+              index-once (rows (rowsOf d s 0 n))
+              (λ i j bi bj e.
+              let ci : i < n = rw (length-rows, length-rows-of) at bi in
+              let cj : j < n = rw (length-rows, length-rows-of) at bj in
+              let same : hashAt s (i * rowSizeOf d) ≡ hashAt s (j * rowSizeOf d) = sym (row-hash-of d s n i ci) ∙ e ∙ row-hash-of d s n j cj in
+              split (ltb i j)
+              (λ l. absurd (earlier-differs i j (ltb-true i j l) cj same))
+              (λ l.
+              split (ltb j i)
+              (λ k. absurd (earlier-differs j i (ltb-true j i k) ci (sym same)))
+              (λ k. omega (arith, ltb-false i j l, ltb-false j i k))));
+          down =
+              λ i k b m.
+              let c : i < n = omega arith in
+              climbs-below 0 i (usedOf d s i) k (good-row-has i (each i c) .climb) (rw (row-deps-of d s n i c) at m);
+          ordered =
+              λ i b.
+              let c : i < n = omega arith in
+              rw (row-deps-of d s n i c) (climbs-ascends 0 i (usedOf d s i) (good-row-has i (each i c) .climb));
+        }
+
+abbrev pub RowGood : List ℕ → ℕ → Type 0
+RowGood s i = RowGoodOf (sizes .dependencies) s i
 
 pub row-has : (s : List ℕ) (i : ℕ) → rowGood s i ≡ true → RowGood s i
-unfolding rowGood
-row-has s i g =
-    let new : Bool = not (member (hashAt s (i * rowSize)) (rows (rowsAt s 0 i))) in
-    let p = both (leb (countAt s i) (sizes .dependencies)) (climbs 0 i (usedAt s i) && (zeros (unusedAt s i) && new)) g in
-    let q = both (climbs 0 i (usedAt s i)) (zeros (unusedAt s i) && new) (p .1) in
-    let r = both (zeros (unusedAt s i)) new (q .1) in
-    record { count = leb-true _ _ (p .0); climb = q .0; unused = r .0; new = not-true _ (r .1) }
+row-has = good-row-has (sizes .dependencies)
 
-module _ (s : List ℕ) (n : ℕ) (each : (i : ℕ) → i < n → rowGood s i ≡ true) where
-  earlier-differs : (i j : ℕ) → i < j → j < n → hashAt s (i * rowSize) ≡ hashAt s (j * rowSize) → ⊥
-  unfolding hashOf
-  earlier-differs i j l b e =
-      let h : ℕ = hashAt s (j * rowSize) in
-      let before : List ℕ = rows (rowsAt s 0 j) in
-      let long : length before ≡ j = length-rows (rowsAt s 0 j) ∙ length-rows-at s 0 j in
-      let there : member h before ≡ true = member-is before h i (omega arith) (hash-of-row s j i l ∙ e) in
-      let new : member h before ≡ false = row-has s j (each j b) .new in
-      let z : _≡_ {A = ℕ} 0 1 = cc in
-      omega arith
-
-  -- rows that are each good make a good table
-  pub rows-good : GoodTable (rowsAt s 0 n)
-  unfolding hashOf
-  rows-good =
-      let long : length (rowsAt s 0 n) ≡ n = length-rows-at s 0 n in
-      record {
-        once =
-            index-once (rows (rowsAt s 0 n))
-            (λ i j bi bj e.
-            let ci : i < n = rw (length-rows, length-rows-at) at bi in
-            let cj : j < n = rw (length-rows, length-rows-at) at bj in
-            let same : hashAt s (i * rowSize) ≡ hashAt s (j * rowSize) = sym (hash-of-row s n i ci) ∙ e ∙ hash-of-row s n j cj in
-            split (ltb i j)
-            (λ l. absurd (earlier-differs i j (ltb-true i j l) cj same))
-            (λ l.
-            split (ltb j i)
-            (λ k. absurd (earlier-differs j i (ltb-true j i k) ci (sym same)))
-            (λ k. omega (arith, ltb-false i j l, ltb-false j i k))));
-        down =
-            λ i k b m.
-            let c : i < n = omega arith in
-            climbs-below 0 i (usedAt s i) k (row-has s i (each i c) .climb) (rw (deps-of-row s n i c) at m);
-        ordered =
-            λ i b.
-            let c : i < n = omega arith in
-            rw (deps-of-row s n i c) (climbs-ascends 0 i (usedAt s i) (row-has s i (each i c) .climb));
-      }
+pub rows-good : (s : List ℕ) (n : ℕ) → ((i : ℕ) → i < n → rowGood s i ≡ true) → GoodTable (rowsAt s 0 n)
+rows-good = good-rows-of (sizes .dependencies)
 
 -- ---- accepted tables
 
 -- what is accepted as a table of n rows: as many whole rows and not too many, each good; its rows are a good table
-pub record Decoded (s : List ℕ) (n : ℕ) : Type 0 where
-  pub whole : length s ≡ n * rowSize
-  pub few : n ≤ sizes .rows
-  pub count : n ≡ length s / rowSize
-  pub is : tableOf s ≡ rowsAt s 0 n
-  pub long : length (tableOf s) ≡ n
-  pub each : (i : ℕ) → i < n → rowGood s i ≡ true
-  pub good : GoodTable (tableOf s)
+pub record DecodedOf (d most : ℕ) (s : List ℕ) (n : ℕ) : Type 0 where
+  pub whole : length s ≡ n * rowSizeOf d
+  pub few : n ≤ most
+  pub count : n ≡ length s / rowSizeOf d
+  pub is : wholeRowsOf d s ≡ rowsOf d s 0 n
+  pub long : length (wholeRowsOf d s) ≡ n
+  pub each : (i : ℕ) → i < n → rowGoodOf d s i ≡ true
+  pub good : GoodTable (wholeRowsOf d s)
 
-pub table-good : (s : List ℕ) (n : ℕ) → tableChecked s ≡ Good n → Decoded s n
-unfolding tableChecked tableOf
-table-good s n e =
-    let a = accepted (λ i. Refused (BadRow i)) (rowGood s) rowSize (sizes .rows) (length s) (λ i m q. let z : _≡_ {A = ℕ} 0 1 = cc in omega arith) n e in
-    let few : n * rowSize ≤ sizes .rows * rowSize = omega (arith, a .whole, a .few) in
-    let is : rowsAt s 0 (length s / rowSize) ≡ rowsAt s 0 n = ap (rowsAt s 0) (sym (a .count)) in
+pub good-table-of : (d most : ℕ) (s : List ℕ) (n : ℕ) → tableCheckedOf d most s ≡ Good n → DecodedOf d most s n
+unfolding tableCheckedOf wholeRowsOf
+good-table-of d most s n e =
+    let a = accepted (λ i. Refused (BadRow i)) (rowGoodOf d s) (rowSizeOf d) most (length s) (λ i m q. let z : _≡_ {A = ℕ} 0 1 = cc in omega arith) n e in
+    let is : rowsOf d s 0 (length s / rowSizeOf d) ≡ rowsOf d s 0 n = ap (rowsOf d s 0) (sym (a .count)) in
     record {
       whole = a .whole;
-      few = omega arith;
+      few = fewer n most (rowSizeOf d) (omega arith) (rw (a .whole) at (a .few));
       count = a .count;
       is = is;
-      long = ap length is ∙ length-rows-at s 0 n;
+      long = ap length is ∙ length-rows-of d s 0 n;
       each = a .each;
-      good = rw is (rows-good s n (a .each));
+      good = rw is (good-rows-of d s n (a .each));
     }
 
 -- a whole table that isn't too long and whose rows are good is accepted
+pub good-accepted-of : (d most : ℕ) (s : List ℕ)
+    → length s % rowSizeOf d ≡ 0
+    → length s ≤ most * rowSizeOf d
+    → ((i : ℕ) → i < length s / rowSizeOf d → rowGoodOf d s i ≡ true)
+    → tableCheckedOf d most s ≡ Good (length s / rowSizeOf d)
+unfolding tableCheckedOf
+good-accepted-of d most s rest few each = good-is-accepted (λ i. Refused (BadRow i)) (rowGoodOf d s) (rowSizeOf d) most (length s) few rest each
+
+-- the same of today's tables
+abbrev pub Decoded : List ℕ → ℕ → Type 0
+Decoded s n = DecodedOf (sizes .dependencies) (sizes .rows) s n
+
+pub table-good : (s : List ℕ) (n : ℕ) → tableChecked s ≡ Good n → Decoded s n
+table-good = good-table-of (sizes .dependencies) (sizes .rows)
+
 pub good-accepted : (s : List ℕ)
     → length s % rowSize ≡ 0
     → length s ≤ sizes .rows * rowSize
     → ((i : ℕ) → i < length s / rowSize → rowGood s i ≡ true)
     → tableChecked s ≡ Good (length s / rowSize)
-unfolding tableChecked
-good-accepted s rest few each = good-is-accepted (λ i. Refused (BadRow i)) (rowGood s) rowSize (sizes .rows) (length s) few rest each
+good-accepted = good-accepted-of (sizes .dependencies) (sizes .rows)
 
 -- the bytes of an accepted table and its rows
 module _ (s : List ℕ) (n : ℕ) (d : Decoded s n) where

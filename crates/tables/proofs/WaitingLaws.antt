@@ -17,11 +17,11 @@ use Rattle.rules.specs.declared.refusal.Refusal.the-variants.{BadWaitingRow}
 use Rattle.rules.proofs.Cases.{split, both}
 use Rattle.rules.proofs.Hash.{length-hashes-at, hash-is-hash, hashes-are-hashes}
 use Rattle.rules.proofs.KeepLaws.{index-once}
-use Rattle.tables.specs.Bytes.{waitingSize, asksCount, waitingAt, waitingsAt, waitingOf, bytesAt, zeros, waitingGood, waitingChecked}
+use Rattle.tables.specs.Bytes.{waitingSizeOf, asksCountOf, asksPlaceOf, waitingRowOf, waitingRowsOf, wholeWaitingOf, waitingGoodOf, waitingCheckedOf, waitingSize, asksCount, asksPlace, waitingsAt, waitingOf, bytesAt, zeros, waitingGood, waitingChecked}
 use Rattle.tables.specs.Table.{Row, rows, placeIn, held}
 use Rattle.tables.specs.Waiting.{Waiting, noWaiting, waiting, asksOf}
 use Rattle.tables.specs.declared.check.Checked.the-variants.{Good, Refused}
-use Rattle.tables.proofs.CheckLaws.{accepted, good-is-accepted}
+use Rattle.tables.proofs.CheckLaws.{fewer, accepted, good-is-accepted}
 use Rattle.tables.proofs.TableLaws.{length-rows, place-tells, place-once, member-is, place-of-member, at-place}
 
 -- ---- waiting rows by their numbers
@@ -30,46 +30,64 @@ pub length-waiting : (w : List Waiting) → length (waiting w) ≡ length w
 unfolding waiting
 length-waiting w = length-map w _
 
-module _ (s : List ℕ) where
-  pub length-waitings-at : (i n : ℕ) → length (waitingsAt s i n) ≡ n
-  unfolding waitingsAt
-  length-waitings-at i zero = refl
-  length-waitings-at i (suc n) = ap suc (length-waitings-at (suc i) n)
+-- rows with room for d dependencies
+module _ (d : ℕ) (s : List ℕ) where
+  pub length-waiting-of : (i n : ℕ) → length (waitingRowsOf d s i n) ≡ n
+  unfolding waitingRowsOf
+  length-waiting-of i zero = refl
+  length-waiting-of i (suc n) = ap suc (length-waiting-of (suc i) n)
 
-  pub waitings-at-index : (i n k : ℕ) → k < n → getD (waitingsAt s i n) k noWaiting ≡ waitingAt s (i + k)
-  unfolding waitingsAt
-  waitings-at-index i zero k b = absurd (not-suc-le-zero b)
-  waitings-at-index i (suc n) zero b = rw add-zero
-  waitings-at-index i (suc n) (suc k) b =
+  pub waiting-of-index : (i n k : ℕ) → k < n → getD (waitingRowsOf d s i n) k noWaiting ≡ waitingRowOf d s (i + k)
+  unfolding waitingRowsOf
+  waiting-of-index i zero k b = absurd (not-suc-le-zero b)
+  waiting-of-index i (suc n) zero b = rw add-zero
+  waiting-of-index i (suc n) (suc k) b =
       let e : i + suc k ≡ suc i + k = omega arith in
-      rw e (waitings-at-index (suc i) n k (omega arith))
+      rw e (waiting-of-index (suc i) n k (omega arith))
 
-  pub asks-of-waiting : (n i : ℕ) → i < n → asksOf (waitingsAt s 0 n) i ≡ hashesAt s (i * waitingSize + 2 * sizes .hash) (asksCount s i)
-  unfolding asksOf waitingAt
-  asks-of-waiting n i b = ap (λ (r : Waiting). r .asks) (waitings-at-index 0 n i b) ∙ rw zero-add
+  pub waiting-asks-of : (n i : ℕ) → i < n → asksOf (waitingRowsOf d s 0 n) i ≡ hashesAt s (asksPlaceOf d i) (asksCountOf d s i)
+  unfolding asksOf waitingRowOf
+  waiting-asks-of n i b = ap (λ (r : Waiting). r .asks) (waiting-of-index 0 n i b) ∙ rw zero-add
 
-  waiting-hashes-index : (i n k : ℕ) → k < n → getD (waiting (waitingsAt s i n)) k 0 ≡ hashAt s ((i + k) * waitingSize)
-  unfolding waiting waitingsAt waitingAt
+  waiting-hashes-index : (i n k : ℕ) → k < n → getD (waiting (waitingRowsOf d s i n)) k 0 ≡ hashAt s ((i + k) * waitingSizeOf d)
+  unfolding waiting waitingRowsOf waitingRowOf
   waiting-hashes-index i zero k b = absurd (not-suc-le-zero b)
   waiting-hashes-index i (suc n) zero b = rw add-zero
   waiting-hashes-index i (suc n) (suc k) b =
       let e : i + suc k ≡ suc i + k = omega arith in
       rw e (waiting-hashes-index (suc i) n k (omega arith))
 
+  pub waiting-hash-of : (n i : ℕ) → i < n → getD (waiting (waitingRowsOf d s 0 n)) i 0 ≡ hashAt s (i * waitingSizeOf d)
+  waiting-hash-of n i b = waiting-hashes-index 0 n i b ∙ rw zero-add
+
+  -- what rows ask for are hashes, if the bytes are bytes, and so are the hashes that wait
+  pub asks-hashes-of : Bytes s → (n i : ℕ) → i < n → AreHashes (asksOf (waitingRowsOf d s 0 n) i)
+  asks-hashes-of b n i h = rw (waiting-asks-of n i h) (hashes-are-hashes s (asksPlaceOf d i) (asksCountOf d s i) b)
+
+  pub waiting-hashes-of : Bytes s → (i n : ℕ) → AreHashes (waiting (waitingRowsOf d s i n))
+  unfolding AreHashes waiting waitingRowsOf waitingRowOf
+  waiting-hashes-of b i zero = tt
+  waiting-hashes-of b i (suc n) = (hash-is-hash s (i * waitingSizeOf d) b, waiting-hashes-of b (suc i) n)
+
+-- today's rows
+module _ (s : List ℕ) where
+  pub length-waitings-at : (i n : ℕ) → length (waitingsAt s i n) ≡ n
+  length-waitings-at = length-waiting-of (sizes .dependencies) s
+
+  pub asks-of-waiting : (n i : ℕ) → i < n → asksOf (waitingsAt s 0 n) i ≡ hashesAt s (asksPlace i) (asksCount s i)
+  asks-of-waiting = waiting-asks-of (sizes .dependencies) s
+
   pub hash-of-waiting : (n i : ℕ) → i < n → getD (waiting (waitingsAt s 0 n)) i 0 ≡ hashAt s (i * waitingSize)
-  hash-of-waiting n i b = waiting-hashes-index 0 n i b ∙ rw zero-add
+  hash-of-waiting = waiting-hash-of (sizes .dependencies) s
 
--- what rows ask for are hashes, if the bytes are bytes, and so are the hashes that wait
-pub asks-hashes : (s : List ℕ) → Bytes s → (i : ℕ) → i < length (waitingOf s) → AreHashes (asksOf (waitingOf s) i)
-unfolding waitingOf
-asks-hashes s b i h =
-    rw (asks-of-waiting s (length s / waitingSize) i (rw length-waitings-at at h))
-    (hashes-are-hashes s (i * waitingSize + 2 * sizes .hash) (asksCount s i) b)
+  -- the same of all whole rows
+  pub asks-hashes : Bytes s → (i : ℕ) → i < length (waitingOf s) → AreHashes (asksOf (waitingOf s) i)
+  unfolding wholeWaitingOf
+  asks-hashes b i h = asks-hashes-of (sizes .dependencies) s b (length s / waitingSize) i (rw length-waiting-of at h)
 
-pub waiting-hashes : (s : List ℕ) (i n : ℕ) → Bytes s → AreHashes (waiting (waitingsAt s i n))
-unfolding AreHashes waiting waitingsAt waitingAt
-waiting-hashes s i zero b = tt
-waiting-hashes s i (suc n) b = (hash-is-hash s (i * waitingSize) b, waiting-hashes s (suc i) n b)
+  pub waiting-hashes : Bytes s → AreHashes (waiting (waitingOf s))
+  unfolding wholeWaitingOf
+  waiting-hashes b = waiting-hashes-of (sizes .dependencies) s b 0 (length s / waitingSize)
 
 -- ---- zeros
 
@@ -158,36 +176,36 @@ zero-hashes s at (suc count) h =
 
 module _ (t : List Row) (s : List ℕ) (i count : ℕ) (is : count ≡ asksCount s i) where
   pub waiting-many : sizes .dependencies < count → waitingGood t s i ≡ false
-  unfolding waitingGood
+  unfolding waitingGoodOf
   waiting-many h = rw (← is, lt-leb count (sizes .dependencies) h)
 
   module _ (few : count ≤ sizes .dependencies) where
     pub waiting-behind : zeros (bytesAt s (i * waitingSize + sizes .hash + 1) (sizes .hash - 1)) ≡ false → waitingGood t s i ≡ false
-    unfolding waitingGood
+    unfolding waitingGoodOf
     waiting-behind e = rw (← is, le-leb count (sizes .dependencies) few, e)
 
     module _ (behind : zeros (bytesAt s (i * waitingSize + sizes .hash + 1) (sizes .hash - 1)) ≡ true) (inside : (i + 1) * waitingSize ≤ length s) where
-      spare-hashes : zeros (hashesAt s (i * waitingSize + 2 * sizes .hash + sizes .hash * count) (sizes .dependencies - count))
-          ≡ zeros (bytesAt s (i * waitingSize + 2 * sizes .hash + sizes .hash * count) (sizes .hash * (sizes .dependencies - count)))
-      spare-hashes = zero-hashes s (i * waitingSize + 2 * sizes .hash + sizes .hash * count) (sizes .dependencies - count) (omega arith)
+      spare-hashes : zeros (hashesAt s (asksPlace i + sizes .hash * count) (sizes .dependencies - count))
+          ≡ zeros (bytesAt s (asksPlace i + sizes .hash * count) (sizes .hash * (sizes .dependencies - count)))
+      spare-hashes = zero-hashes s (asksPlace i + sizes .hash * count) (sizes .dependencies - count) (omega arith)
 
-      pub waiting-spare : zeros (bytesAt s (i * waitingSize + 2 * sizes .hash + sizes .hash * count) (sizes .hash * (sizes .dependencies - count))) ≡ false
+      pub waiting-spare : zeros (bytesAt s (asksPlace i + sizes .hash * count) (sizes .hash * (sizes .dependencies - count))) ≡ false
           → waitingGood t s i ≡ false
-      unfolding waitingGood
+      unfolding waitingGoodOf
       waiting-spare e = rw (← is, le-leb count (sizes .dependencies) few, behind, spare-hashes, e)
 
-      module _ (unused : zeros (bytesAt s (i * waitingSize + 2 * sizes .hash + sizes .hash * count) (sizes .hash * (sizes .dependencies - count))) ≡ true) (r : ℕ) (found : r ≡ placeIn (waiting (waitingsAt s 0 i)) (hashAt s (i * waitingSize))) where
+      module _ (unused : zeros (bytesAt s (asksPlace i + sizes .hash * count) (sizes .hash * (sizes .dependencies - count))) ≡ true) (r : ℕ) (found : r ≡ placeIn (waiting (waitingsAt s 0 i)) (hashAt s (i * waitingSize))) where
         found-tells : not (member (hashAt s (i * waitingSize)) (waiting (waitingsAt s 0 i))) ≡ eqb r i
         found-tells =
             let n : length (waiting (waitingsAt s 0 i)) ≡ i = length-waiting (waitingsAt s 0 i) ∙ length-waitings-at s 0 i in
             rw (place-tells, ← found, n)
 
         pub waiting-twice : (r ≡ i → ⊥) → waitingGood t s i ≡ false
-        unfolding waitingGood
+        unfolding waitingGoodOf
         waiting-twice h = rw (← is, le-leb count (sizes .dependencies) few, behind, spare-hashes, unused, found-tells, ne-eqb r i h)
 
         pub waiting-held : r ≡ i → (n q : ℕ) → length t ≡ n → q ≡ placeIn (rows t) (hashAt s (i * waitingSize)) → waitingGood t s i ≡ eqb q n
-        unfolding waitingGood held
+        unfolding waitingGoodOf held
         waiting-held h n q long e =
             let l : length (rows t) ≡ n = length-rows t ∙ long in
             rw (← is, le-leb count (sizes .dependencies) few, behind, spare-hashes, unused, found-tells, eq-eqb r i h, place-tells, ← e, l)
@@ -195,63 +213,59 @@ module _ (t : List Row) (s : List ℕ) (i count : ℕ) (is : count ≡ asksCount
 -- ---- good waiting rows
 
 -- what a good waiting row has
-pub record RowWaits (t : List Row) (s : List ℕ) (i : ℕ) : Type 0 where
-  pub count : asksCount s i ≤ sizes .dependencies
-  pub behind : zeros (bytesAt s (i * waitingSize + sizes .hash + 1) (sizes .hash - 1)) ≡ true
-  pub spare : zeros (hashesAt s (i * waitingSize + 2 * sizes .hash + sizes .hash * asksCount s i) (sizes .dependencies - asksCount s i)) ≡ true
-  pub new : member (hashAt s (i * waitingSize)) (waiting (waitingsAt s 0 i)) ≡ false
-  pub unheld : held t (hashAt s (i * waitingSize)) ≡ false
+pub record RowWaitsOf (d : ℕ) (t : List Row) (s : List ℕ) (i : ℕ) : Type 0 where
+  pub count : asksCountOf d s i ≤ d
+  pub behind : zeros (bytesAt s (i * waitingSizeOf d + sizes .hash + 1) (sizes .hash - 1)) ≡ true
+  pub spare : zeros (hashesAt s (asksPlaceOf d i + sizes .hash * asksCountOf d s i) (d - asksCountOf d s i)) ≡ true
+  pub new : member (hashAt s (i * waitingSizeOf d)) (waiting (waitingRowsOf d s 0 i)) ≡ false
+  pub unheld : held t (hashAt s (i * waitingSizeOf d)) ≡ false
 
-pub row-waits : (t : List Row) (s : List ℕ) (i : ℕ) → waitingGood t s i ≡ true → RowWaits t s i
-unfolding waitingGood
-row-waits t s i g =
-    let few : Bool = leb (asksCount s i) (sizes .dependencies) in
-    let behind : Bool = zeros (bytesAt s (i * waitingSize + sizes .hash + 1) (sizes .hash - 1)) in
-    let spare : Bool = zeros (hashesAt s (i * waitingSize + 2 * sizes .hash + sizes .hash * asksCount s i) (sizes .dependencies - asksCount s i)) in
-    let new : Bool = not (member (hashAt s (i * waitingSize)) (waiting (waitingsAt s 0 i))) in
-    let unheld : Bool = not (held t (hashAt s (i * waitingSize))) in
+pub row-waits-of : (d : ℕ) (t : List Row) (s : List ℕ) (i : ℕ) → waitingGoodOf d t s i ≡ true → RowWaitsOf d t s i
+unfolding waitingGoodOf
+row-waits-of d t s i g =
+    let few : Bool = leb (asksCountOf d s i) d in
+    let behind : Bool = zeros (bytesAt s (i * waitingSizeOf d + sizes .hash + 1) (sizes .hash - 1)) in
+    let spare : Bool = zeros (hashesAt s (asksPlaceOf d i + sizes .hash * asksCountOf d s i) (d - asksCountOf d s i)) in
+    let new : Bool = not (member (hashAt s (i * waitingSizeOf d)) (waiting (waitingRowsOf d s 0 i))) in
+    let unheld : Bool = not (held t (hashAt s (i * waitingSizeOf d))) in
     let p = both (few && behind) (spare && (new && unheld)) g in
     let q = both few behind (p .0) in
     let r = both spare (new && unheld) (p .1) in
     let z = both new unheld (r .1) in
     record { count = leb-true _ _ (q .0); behind = q .1; spare = r .0; new = not-true _ (z .0); unheld = not-true _ (z .1) }
 
--- what a list of waiting rows has beside a table: no row asks for too many, no hash waits twice, and none that waits is held
-pub record GoodWaiting (t : List Row) (w : List Waiting) : Type 0 where
-  pub asks : (i : ℕ) → i < length w → length (asksOf w i) ≤ sizes .dependencies
+-- what a list of waiting rows has beside a table: no row asks for more than d, no hash waits twice, and none that waits is held
+pub record GoodWaitingOf (d : ℕ) (t : List Row) (w : List Waiting) : Type 0 where
+  pub asks : (i : ℕ) → i < length w → length (asksOf w i) ≤ d
   pub once : Once (waiting w)
   pub unheld : (h : ℕ) → member h (waiting w) ≡ true → held t h ≡ false
 
-pub place-of-waiting : (t : List Row) (w : List Waiting) → GoodWaiting t w → (i : ℕ) → i < length w → placeIn (waiting w) (getD (waiting w) i 0) ≡ i
-place-of-waiting t w g i b =
-    place-once (waiting w) (g .once) i (rw length-waiting b)
-
-module _ (t : List Row) (s : List ℕ) (n : ℕ) (each : (i : ℕ) → i < n → waitingGood t s i ≡ true) where
-  earlier-waits : (i j : ℕ) → i < j → j < n → hashAt s (i * waitingSize) ≡ hashAt s (j * waitingSize) → ⊥
+module _ (d : ℕ) (t : List Row) (s : List ℕ) (n : ℕ) (each : (i : ℕ) → i < n → waitingGoodOf d t s i ≡ true) where
+  earlier-waits : (i j : ℕ) → i < j → j < n → hashAt s (i * waitingSizeOf d) ≡ hashAt s (j * waitingSizeOf d) → ⊥
   earlier-waits i j l b e =
-      let h : ℕ = hashAt s (j * waitingSize) in
-      let before : List ℕ = waiting (waitingsAt s 0 j) in
-      let long : length before ≡ j = length-waiting (waitingsAt s 0 j) ∙ length-waitings-at s 0 j in
-      let there : member h before ≡ true = member-is before h i (omega arith) (hash-of-waiting s j i l ∙ e) in
-      let new : member h before ≡ false = row-waits t s j (each j b) .new in
+      let h : ℕ = hashAt s (j * waitingSizeOf d) in
+      let before : List ℕ = waiting (waitingRowsOf d s 0 j) in
+      let long : length before ≡ j = length-waiting (waitingRowsOf d s 0 j) ∙ length-waiting-of d s 0 j in
+      let there : member h before ≡ true = member-is before h i (omega arith) (waiting-hash-of d s j i l ∙ e) in
+      let new : member h before ≡ false = row-waits-of d t s j (each j b) .new in
       let z : _≡_ {A = ℕ} 0 1 = cc in
       omega arith
 
   -- rows that are each good make a good waiting list
-  pub waitings-good : GoodWaiting t (waitingsAt s 0 n)
-  waitings-good =
-      let long : length (waitingsAt s 0 n) ≡ n = length-waitings-at s 0 n in
+  pub good-waiting-of : GoodWaitingOf d t (waitingRowsOf d s 0 n)
+  good-waiting-of =
+      let long : length (waitingRowsOf d s 0 n) ≡ n = length-waiting-of d s 0 n in
       record {
         asks =
             λ i b.
             let c : i < n = omega arith in
-            rw (asks-of-waiting s n i c, length-hashes-at) (row-waits t s i (each i c) .count);
+            rw (waiting-asks-of d s n i c, length-hashes-at) (row-waits-of d t s i (each i c) .count);
         once =
-            index-once (waiting (waitingsAt s 0 n))
+            index-once (waiting (waitingRowsOf d s 0 n))
             (λ i j bi bj e.
-            let ci : i < n = rw (length-waiting, length-waitings-at) at bi in
-            let cj : j < n = rw (length-waiting, length-waitings-at) at bj in
-            let same : hashAt s (i * waitingSize) ≡ hashAt s (j * waitingSize) = sym (hash-of-waiting s n i ci) ∙ e ∙ hash-of-waiting s n j cj in
+            let ci : i < n = rw (length-waiting, length-waiting-of) at bi in
+            let cj : j < n = rw (length-waiting, length-waiting-of) at bj in
+            let same : hashAt s (i * waitingSizeOf d) ≡ hashAt s (j * waitingSizeOf d) = sym (waiting-hash-of d s n i ci) ∙ e ∙ waiting-hash-of d s n j cj in
             split (ltb i j)
             (λ l. absurd (earlier-waits i j (ltb-true i j l) cj same))
             (λ l.
@@ -260,55 +274,84 @@ module _ (t : List Row) (s : List ℕ) (n : ℕ) (each : (i : ℕ) → i < n →
             (λ k. omega (arith, ltb-false i j l, ltb-false j i k))));
         unheld =
             λ h m.
-            let w : List ℕ = waiting (waitingsAt s 0 n) in
+            let w : List ℕ = waiting (waitingRowsOf d s 0 n) in
             let i : ℕ = placeIn w h in
             let inside : i < length w = place-of-member w h m in
-            let c : i < n = rw (length-waiting, length-waitings-at) at inside in
-            let there : h ≡ hashAt s (i * waitingSize) = sym (at-place w h inside) ∙ hash-of-waiting s n i c in
-            ap (held t) there ∙ row-waits t s i (each i c) .unheld;
+            let c : i < n = rw (length-waiting, length-waiting-of) at inside in
+            let there : h ≡ hashAt s (i * waitingSizeOf d) = sym (at-place w h inside) ∙ waiting-hash-of d s n i c in
+            ap (held t) there ∙ row-waits-of d t s i (each i c) .unheld;
       }
 
 -- ---- accepted waiting tables
 
 -- what is accepted as a waiting table of n rows beside a table
-pub record WaitingDecoded (t : List Row) (s : List ℕ) (n : ℕ) : Type 0 where
-  pub whole : length s ≡ n * waitingSize
+pub record WaitingDecodedOf (d : ℕ) (t : List Row) (s : List ℕ) (n : ℕ) : Type 0 where
+  pub whole : length s ≡ n * waitingSizeOf d
   pub few : n ≤ sizes .waitingRows
-  pub count : n ≡ length s / waitingSize
-  pub is : waitingOf s ≡ waitingsAt s 0 n
-  pub long : length (waitingOf s) ≡ n
-  pub each : (i : ℕ) → i < n → waitingGood t s i ≡ true
-  pub good : GoodWaiting t (waitingOf s)
+  pub count : n ≡ length s / waitingSizeOf d
+  pub is : wholeWaitingOf d s ≡ waitingRowsOf d s 0 n
+  pub long : length (wholeWaitingOf d s) ≡ n
+  pub each : (i : ℕ) → i < n → waitingGoodOf d t s i ≡ true
+  pub good : GoodWaitingOf d t (wholeWaitingOf d s)
 
-pub waiting-good : (t : List Row) (s : List ℕ) (n : ℕ) → waitingChecked t s ≡ Good n → WaitingDecoded t s n
-unfolding waitingChecked waitingOf
-waiting-good t s n e =
-    let a = accepted (λ i. Refused (BadWaitingRow i)) (waitingGood t s) waitingSize (sizes .waitingRows) (length s) (λ i m q. let z : _≡_ {A = ℕ} 0 1 = cc in omega arith) n e in
-    let few : n * waitingSize ≤ sizes .waitingRows * waitingSize = omega (arith, a .whole, a .few) in
-    let is : waitingsAt s 0 (length s / waitingSize) ≡ waitingsAt s 0 n = ap (waitingsAt s 0) (sym (a .count)) in
+pub waiting-table-of : (d : ℕ) (t : List Row) (s : List ℕ) (n : ℕ) → waitingCheckedOf d t s ≡ Good n → WaitingDecodedOf d t s n
+unfolding waitingCheckedOf wholeWaitingOf
+waiting-table-of d t s n e =
+    let a = accepted (λ i. Refused (BadWaitingRow i)) (waitingGoodOf d t s) (waitingSizeOf d) (sizes .waitingRows) (length s) (λ i m q. let z : _≡_ {A = ℕ} 0 1 = cc in omega arith) n e in
+    let is : waitingRowsOf d s 0 (length s / waitingSizeOf d) ≡ waitingRowsOf d s 0 n = ap (waitingRowsOf d s 0) (sym (a .count)) in
     record {
       whole = a .whole;
-      few = omega arith;
+      few = fewer n (sizes .waitingRows) (waitingSizeOf d) (omega arith) (rw (a .whole) at (a .few));
       count = a .count;
       is = is;
-      long = ap length is ∙ length-waitings-at s 0 n;
+      long = ap length is ∙ length-waiting-of d s 0 n;
       each = a .each;
-      good = rw is (waitings-good t s n (a .each));
+      good = rw is (good-waiting-of d t s n (a .each));
     }
 
 -- a whole waiting table that isn't too long and whose rows are good is accepted
+pub waiting-accepted-of : (d : ℕ) (t : List Row) (s : List ℕ)
+    → length s % waitingSizeOf d ≡ 0
+    → length s ≤ sizes .waitingRows * waitingSizeOf d
+    → ((i : ℕ) → i < length s / waitingSizeOf d → waitingGoodOf d t s i ≡ true)
+    → waitingCheckedOf d t s ≡ Good (length s / waitingSizeOf d)
+unfolding waitingCheckedOf
+waiting-accepted-of d t s rest few each =
+    good-is-accepted (λ i. Refused (BadWaitingRow i)) (waitingGoodOf d t s) (waitingSizeOf d) (sizes .waitingRows) (length s) few rest each
+
+-- the same of today's tables
+abbrev pub RowWaits : List Row → List ℕ → ℕ → Type 0
+RowWaits t s i = RowWaitsOf (sizes .dependencies) t s i
+
+abbrev pub GoodWaiting : List Row → List Waiting → Type 0
+GoodWaiting t w = GoodWaitingOf (sizes .dependencies) t w
+
+abbrev pub WaitingDecoded : List Row → List ℕ → ℕ → Type 0
+WaitingDecoded t s n = WaitingDecodedOf (sizes .dependencies) t s n
+
+pub row-waits : (t : List Row) (s : List ℕ) (i : ℕ) → waitingGood t s i ≡ true → RowWaits t s i
+row-waits = row-waits-of (sizes .dependencies)
+
+pub waitings-good : (t : List Row) (s : List ℕ) (n : ℕ) → ((i : ℕ) → i < n → waitingGood t s i ≡ true) → GoodWaiting t (waitingsAt s 0 n)
+waitings-good = good-waiting-of (sizes .dependencies)
+
+pub waiting-good : (t : List Row) (s : List ℕ) (n : ℕ) → waitingChecked t s ≡ Good n → WaitingDecoded t s n
+waiting-good = waiting-table-of (sizes .dependencies)
+
 pub good-waiting-accepted : (t : List Row) (s : List ℕ)
     → length s % waitingSize ≡ 0
     → length s ≤ sizes .waitingRows * waitingSize
     → ((i : ℕ) → i < length s / waitingSize → waitingGood t s i ≡ true)
     → waitingChecked t s ≡ Good (length s / waitingSize)
-unfolding waitingChecked
-good-waiting-accepted t s rest few each =
-    good-is-accepted (λ i. Refused (BadWaitingRow i)) (waitingGood t s) waitingSize (sizes .waitingRows) (length s) few rest each
+good-waiting-accepted = waiting-accepted-of (sizes .dependencies)
+
+pub place-of-waiting : (t : List Row) (w : List Waiting) → GoodWaiting t w → (i : ℕ) → i < length w → placeIn (waiting w) (getD (waiting w) i 0) ≡ i
+place-of-waiting t w g i b =
+    place-once (waiting w) (g .once) i (rw length-waiting b)
 
 -- the bytes of an accepted waiting table and its rows
 module _ (t : List Row) (s : List ℕ) (n : ℕ) (d : WaitingDecoded t s n) where
-  pub decoded-asks : (i : ℕ) → i < n → asksOf (waitingOf s) i ≡ hashesAt s (i * waitingSize + 2 * sizes .hash) (asksCount s i)
+  pub decoded-asks : (i : ℕ) → i < n → asksOf (waitingOf s) i ≡ hashesAt s (asksPlace i) (asksCount s i)
   decoded-asks i b = rw (d .is) (asks-of-waiting s n i b)
 
   pub decoded-waiting : (i : ℕ) → i < n → getD (waiting (waitingOf s)) i 0 ≡ hashAt s (i * waitingSize)

@@ -1,5 +1,7 @@
 -- The house records of change rows and waiting rows, and when a table is bad. 01, Change table and waiting table; Refusal numbers, 4, 6 and
 -- 9, and "A partial record at a table's end is a bad row with the next row number".
+-- A row has room for d dependencies. All of it is said over d, in names that end in `Of`; the names without it are for as many dependencies as a
+-- change may have.
 use Prim.Native.Nat.{ℕ, zero, suc, _+_, _-_, _*_, _/_, _%_, _≤_, _<_}
 use mathlib.Core.Bool.{Bool, true, false, cond, not, _&&_}
 use mathlib.Core.List.{List, [], _∷_}
@@ -10,7 +12,7 @@ use Rattle.rules.specs.Order.{member}
 use Rattle.rules.specs.Sizes.{sizes}
 use Rattle.rules.specs.declared.refusal.Refusal.the-variants.{PastSize, BadRow, BadWaitingRow}
 use Rattle.tables.specs.Table.{Row, GoodTable, rows, held}
-use Rattle.tables.specs.Waiting.{Waiting}
+use Rattle.tables.specs.Waiting.{Waiting, waiting}
 use Rattle.tables.specs.declared.check.Checked.{Checked}
 use Rattle.tables.specs.declared.check.Checked.the-variants.{Good, Refused}
 
@@ -24,30 +26,30 @@ twosAt s at (suc count) = twoAt s at ∷ twosAt s (at + 2) count
 
 -- ---- change rows
 
--- Change row: hash, count (two bytes), and as many row numbers (two bytes each) as a change may have dependencies.
-abbrev pub rowSize : ℕ
-rowSize = sizes .hash + 2 * (1 + sizes .dependencies)
+-- Change row: hash, count (two bytes), and d row numbers (two bytes each).
+abbrev pub rowSizeOf : ℕ → ℕ
+rowSizeOf d = sizes .hash + 2 * (1 + d)
 
-unfoldable pub countAt : List ℕ → ℕ → ℕ
-countAt s i = twoAt s (i * rowSize + sizes .hash)
+unfoldable pub countOf : ℕ → List ℕ → ℕ → ℕ
+countOf d s i = twoAt s (i * rowSizeOf d + sizes .hash)
 
 -- The row numbers in use, and the others.
-unfoldable pub usedAt : List ℕ → ℕ → List ℕ
-usedAt s i = twosAt s (i * rowSize + sizes .hash + 2) (countAt s i)
+unfoldable pub usedOf : ℕ → List ℕ → ℕ → List ℕ
+usedOf d s i = twosAt s (i * rowSizeOf d + sizes .hash + 2) (countOf d s i)
 
-unfoldable pub unusedAt : List ℕ → ℕ → List ℕ
-unusedAt s i = twosAt s (i * rowSize + sizes .hash + 2 + 2 * countAt s i) (sizes .dependencies - countAt s i)
+unfoldable pub unusedOf : ℕ → List ℕ → ℕ → List ℕ
+unusedOf d s i = twosAt s (i * rowSizeOf d + sizes .hash + 2 + 2 * countOf d s i) (d - countOf d s i)
 
-unfoldable pub rowAt : List ℕ → ℕ → Row
-rowAt s i = record { hash = hashAt s (i * rowSize); deps = usedAt s i }
+unfoldable pub rowOf : ℕ → List ℕ → ℕ → Row
+rowOf d s i = record { hash = hashAt s (i * rowSizeOf d); deps = usedOf d s i }
 
 -- So many rows from row i on, and all whole rows of the bytes.
-unfoldable pub rowsAt : List ℕ → ℕ → ℕ → List Row
-rowsAt s i zero = []
-rowsAt s i (suc count) = rowAt s i ∷ rowsAt s (suc i) count
+unfoldable pub rowsOf : ℕ → List ℕ → ℕ → ℕ → List Row
+rowsOf d s i zero = []
+rowsOf d s i (suc count) = rowOf d s i ∷ rowsOf d s (suc i) count
 
-unfoldable pub tableOf : List ℕ → List Row
-tableOf s = rowsAt s 0 (length s / rowSize)
+unfoldable pub wholeRowsOf : ℕ → List ℕ → List Row
+wholeRowsOf d s = rowsOf d s 0 (length s / rowSizeOf d)
 
 -- Strictly ascending from `least` on, and each below `end`.
 unfoldable pub climbs : ℕ → ℕ → List ℕ → Bool
@@ -58,11 +60,11 @@ unfoldable pub zeros : List ℕ → Bool
 zeros [] = true
 zeros (x ∷ xs) = eqb x 0 && zeros xs
 
--- A good row: its count is at most 15; the numbers in use strictly ascending and below the own row; the others 0; no earlier row has its hash.
-unfoldable pub rowGood : List ℕ → ℕ → Bool
-rowGood s i =
-    leb (countAt s i) (sizes .dependencies)
-    && (climbs 0 i (usedAt s i) && (zeros (unusedAt s i) && not (member (hashAt s (i * rowSize)) (rows (rowsAt s 0 i)))))
+-- A good row: its count is at most d; the numbers in use strictly ascending and below the own row; the others 0; no earlier row has its hash.
+unfoldable pub rowGoodOf : ℕ → List ℕ → ℕ → Bool
+rowGoodOf d s i =
+    leb (countOf d s i) d
+    && (climbs 0 i (usedOf d s i) && (zeros (unusedOf d s i) && not (member (hashAt s (i * rowSizeOf d)) (rows (rowsOf d s 0 i)))))
 
 -- The first of so many rows from row i on that isn't good, or the row after them.
 unfoldable pub firstBad : (ℕ → Bool) → ℕ → ℕ → ℕ
@@ -78,9 +80,37 @@ checkedWith bad good size most bytes =
     (bad (firstBad good 0 (bytes / size)))
     (cond (eqb (bytes % size) 0) (Good (bytes / size)) (bad (bytes / size))))
 
--- A change table: 4, then 6.
-unfoldable pub tableChecked : List ℕ → Checked
-tableChecked s = checkedWith (λ i. Refused (BadRow i)) (rowGood s) rowSize (sizes .rows) (length s)
+-- A change table of at most `most` rows: 4, then 6.
+unfoldable pub tableCheckedOf : ℕ → ℕ → List ℕ → Checked
+tableCheckedOf d most s = checkedWith (λ i. Refused (BadRow i)) (rowGoodOf d s) (rowSizeOf d) most (length s)
+
+-- The same of rows that have room for as many dependencies as a change may have.
+abbrev pub rowSize : ℕ
+rowSize = rowSizeOf (sizes .dependencies)
+
+abbrev pub countAt : List ℕ → ℕ → ℕ
+countAt s i = countOf (sizes .dependencies) s i
+
+abbrev pub usedAt : List ℕ → ℕ → List ℕ
+usedAt s i = usedOf (sizes .dependencies) s i
+
+abbrev pub unusedAt : List ℕ → ℕ → List ℕ
+unusedAt s i = unusedOf (sizes .dependencies) s i
+
+abbrev pub rowAt : List ℕ → ℕ → Row
+rowAt s i = rowOf (sizes .dependencies) s i
+
+abbrev pub rowsAt : List ℕ → ℕ → ℕ → List Row
+rowsAt s i count = rowsOf (sizes .dependencies) s i count
+
+abbrev pub tableOf : List ℕ → List Row
+tableOf s = wholeRowsOf (sizes .dependencies) s
+
+abbrev pub rowGood : List ℕ → ℕ → Bool
+rowGood s i = rowGoodOf (sizes .dependencies) s i
+
+abbrev pub tableChecked : List ℕ → Checked
+tableChecked s = tableCheckedOf (sizes .dependencies) (sizes .rows) s
 
 -- The one precondition of what computes over a checked table: its first n rows stand there, are no more than a table may have, and are a good
 -- table, each with no more dependencies than a change may have.
@@ -92,40 +122,69 @@ pub record GoodRows (s : List ℕ) (n : ℕ) : Type 0 where
 
 -- ---- waiting rows
 
--- Waiting row: hash, count byte and zeros up to the size of a hash, and as many hashes as a change may have dependencies.
-abbrev pub waitingSize : ℕ
-waitingSize = sizes .hash * (2 + sizes .dependencies)
+-- Waiting row: hash, count byte and zeros up to the size of a hash, and d hashes.
+abbrev pub waitingSizeOf : ℕ → ℕ
+waitingSizeOf d = sizes .hash * (2 + d)
 
-unfoldable pub asksCount : List ℕ → ℕ → ℕ
-asksCount s i = getD s (i * waitingSize + sizes .hash) 0
+unfoldable pub asksCountOf : ℕ → List ℕ → ℕ → ℕ
+asksCountOf d s i = getD s (i * waitingSizeOf d + sizes .hash) 0
 
-unfoldable pub waitingAt : List ℕ → ℕ → Waiting
-waitingAt s i =
+-- Where the first hash that row i asks for stands.
+abbrev pub asksPlaceOf : ℕ → ℕ → ℕ
+asksPlaceOf d i = i * waitingSizeOf d + 2 * sizes .hash
+
+unfoldable pub waitingRowOf : ℕ → List ℕ → ℕ → Waiting
+waitingRowOf d s i =
     record {
-      hash = hashAt s (i * waitingSize);
-      asks = hashesAt s (i * waitingSize + 2 * sizes .hash) (asksCount s i);
+      hash = hashAt s (i * waitingSizeOf d);
+      asks = hashesAt s (asksPlaceOf d i) (asksCountOf d s i);
     }
 
-unfoldable pub waitingsAt : List ℕ → ℕ → ℕ → List Waiting
-waitingsAt s i zero = []
-waitingsAt s i (suc count) = waitingAt s i ∷ waitingsAt s (suc i) count
+unfoldable pub waitingRowsOf : ℕ → List ℕ → ℕ → ℕ → List Waiting
+waitingRowsOf d s i zero = []
+waitingRowsOf d s i (suc count) = waitingRowOf d s i ∷ waitingRowsOf d s (suc i) count
 
-unfoldable pub waitingOf : List ℕ → List Waiting
-waitingOf s = waitingsAt s 0 (length s / waitingSize)
+unfoldable pub wholeWaitingOf : ℕ → List ℕ → List Waiting
+wholeWaitingOf d s = waitingRowsOf d s 0 (length s / waitingSizeOf d)
 
 -- So many bytes from a place on.
 unfoldable pub bytesAt : List ℕ → ℕ → ℕ → List ℕ
 bytesAt s at zero = []
 bytesAt s at (suc count) = getD s at 0 ∷ bytesAt s (at + 1) count
 
--- A good waiting row: its count is at most 15; zeros follow the count; unused hashes are zero; its hash stands neither in an earlier waiting
+-- A good waiting row: its count is at most d; zeros follow the count; unused hashes are zero; its hash stands neither in an earlier waiting
 -- row nor in the change table.
-unfoldable pub waitingGood : List Row → List ℕ → ℕ → Bool
-waitingGood t s i =
-    (leb (asksCount s i) (sizes .dependencies) && zeros (bytesAt s (i * waitingSize + sizes .hash + 1) (sizes .hash - 1)))
-    && (zeros (hashesAt s (i * waitingSize + 2 * sizes .hash + sizes .hash * asksCount s i) (sizes .dependencies - asksCount s i))
-    && (not (member (hashAt s (i * waitingSize)) (Rattle.tables.specs.Waiting.waiting (waitingsAt s 0 i))) && not (held t (hashAt s (i * waitingSize)))))
+unfoldable pub waitingGoodOf : ℕ → List Row → List ℕ → ℕ → Bool
+waitingGoodOf d t s i =
+    (leb (asksCountOf d s i) d && zeros (bytesAt s (i * waitingSizeOf d + sizes .hash + 1) (sizes .hash - 1)))
+    && (zeros (hashesAt s (asksPlaceOf d i + sizes .hash * asksCountOf d s i) (d - asksCountOf d s i))
+    && (not (member (hashAt s (i * waitingSizeOf d)) (waiting (waitingRowsOf d s 0 i))) && not (held t (hashAt s (i * waitingSizeOf d)))))
 
 -- A waiting table beside a change table: 4, then 9.
-unfoldable pub waitingChecked : List Row → List ℕ → Checked
-waitingChecked t s = checkedWith (λ i. Refused (BadWaitingRow i)) (waitingGood t s) waitingSize (sizes .waitingRows) (length s)
+unfoldable pub waitingCheckedOf : ℕ → List Row → List ℕ → Checked
+waitingCheckedOf d t s = checkedWith (λ i. Refused (BadWaitingRow i)) (waitingGoodOf d t s) (waitingSizeOf d) (sizes .waitingRows) (length s)
+
+-- The same of rows that have room for as many dependencies as a change may have.
+abbrev pub waitingSize : ℕ
+waitingSize = waitingSizeOf (sizes .dependencies)
+
+abbrev pub asksCount : List ℕ → ℕ → ℕ
+asksCount s i = asksCountOf (sizes .dependencies) s i
+
+abbrev pub asksPlace : ℕ → ℕ
+asksPlace i = asksPlaceOf (sizes .dependencies) i
+
+abbrev pub waitingAt : List ℕ → ℕ → Waiting
+waitingAt s i = waitingRowOf (sizes .dependencies) s i
+
+abbrev pub waitingsAt : List ℕ → ℕ → ℕ → List Waiting
+waitingsAt s i count = waitingRowsOf (sizes .dependencies) s i count
+
+abbrev pub waitingOf : List ℕ → List Waiting
+waitingOf s = wholeWaitingOf (sizes .dependencies) s
+
+abbrev pub waitingGood : List Row → List ℕ → ℕ → Bool
+waitingGood t s i = waitingGoodOf (sizes .dependencies) t s i
+
+abbrev pub waitingChecked : List Row → List ℕ → Checked
+waitingChecked t s = waitingCheckedOf (sizes .dependencies) t s

@@ -3,6 +3,7 @@ use crate::check::Checked;
 use crate::check::check_table;
 use crate::find::find_row;
 use crate::find::find_waiting;
+use crate::row::ASKS_PLACE;
 use crate::row::WAITING_SIZE;
 use rules::refusal::Refusal;
 use rules::sizes::DEPENDENCIES;
@@ -53,7 +54,7 @@ fn waiting_good(table: &[u8], n: usize, waiting: &[u8], i: usize) -> bool
     }
     if !zero_bytes(
         waiting,
-        start + 2 * HASH_SIZE + HASH_SIZE * count,
+        start + ASKS_PLACE + HASH_SIZE * count,
         HASH_SIZE * (DEPENDENCIES - count),
     ) {
         return false;

@@ -108,9 +108,6 @@ ask-change-slice-write-marks t c = search needs
 ask-change-mul-place : (t : ℕ) → ask-change-lts.Need-mul-place (change-calls t) (ask-change-at t) ask-change.Post
 ask-change-mul-place t c = search needs
 
-ask-change-mul-place-2 : (t : ℕ) → ask-change-lts.Need-mul-place-2 (change-calls t) (ask-change-at t) ask-change.Post
-ask-change-mul-place-2 t c = search needs
-
 ask-change-add-place : (t : ℕ) → ask-change-lts.Need-add-place (change-calls t) (ask-change-at t) ask-change.Post
 ask-change-add-place t c = search needs
 
@@ -236,7 +233,6 @@ pub +ask-change+ask-list-spec : {M : Type 1} → statement M
     (ask-change-returns-3 t)
     (ask-change-slice-write-marks t)
     (ask-change-mul-place t)
-    (ask-change-mul-place-2 t)
     (ask-change-add-place t)
     (ask-change-asks-count-requires t)
     (ask-change-ask-list-requires t)

@@ -1,5 +1,5 @@
 -- `tables::row::dep_count` meets its contract: the count stands behind the hash. Assumes nothing.
-use Rattle.tables.specs.Bytes.{countAt}
+use Rattle.tables.specs.Bytes.{countOf}
 use borrow.Author.Needs.{needs}
 use Rattle.tables.proofs.row.dep_count.Statement.{statement}
 use Rattle.tables.proofs.row.dep_count.Tie as tie
@@ -14,7 +14,7 @@ two-requires : tie.Need-two-requires
 two-requires c κs = search needs
 
 returns : tie.Need-returns
-unfolding countAt
+unfolding countOf
 returns c = search needs
 
 pub dep-count-spec : {M : Type 1} → statement M

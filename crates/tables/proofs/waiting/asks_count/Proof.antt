@@ -3,7 +3,7 @@ use Prim.Native.Nat.{_+_, _*_}
 use native.Mathlib.Omega.{arith}
 use borrow.Author.Needs.{needs}
 use Rattle.rules.specs.Sizes.{sizes}
-use Rattle.tables.specs.Bytes.{waitingSize, asksCount}
+use Rattle.tables.specs.Bytes.{waitingSize, asksCountOf}
 use Rattle.tables.proofs.waiting.asks_count.Statement.{statement}
 use Rattle.tables.proofs.waiting.asks_count.Tie as tie
 
@@ -20,7 +20,7 @@ cast-result : tie.Need-cast-result
 cast-result c = omega (arith, c .shared-slice-known .given (c .before .args .i * waitingSize + sizes .hash) .fits)
 
 returns : tie.Need-returns
-unfolding asksCount
+unfolding asksCountOf
 returns c = search needs
 
 pub asks-count-spec : {M : Type 1} → statement M

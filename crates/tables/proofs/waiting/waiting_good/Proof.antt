@@ -34,20 +34,17 @@ returns-2 c =
     let a = z .before .before in
     sym (waiting-behind _ _ _ _ (a .asks-count .ensures) (z .before .if1 .left) (sym (z .zero-bytes .ensures) ∙ not-true _ (c .if2 .taken)))
 
-mul-zero-bytes : tie.Need-mul-zero-bytes
-mul-zero-bytes c = search needs
-
 add-zero-bytes-3 : tie.Need-add-zero-bytes-3
 add-zero-bytes-3 c = search needs
 
-mul-zero-bytes-2 : tie.Need-mul-zero-bytes-2
-mul-zero-bytes-2 c = search needs
+mul-zero-bytes : tie.Need-mul-zero-bytes
+mul-zero-bytes c = search needs
 
 add-zero-bytes-4 : tie.Need-add-zero-bytes-4
 add-zero-bytes-4 c = search needs
 
-mul-zero-bytes-3 : tie.Need-mul-zero-bytes-3
-mul-zero-bytes-3 c = search needs
+mul-zero-bytes-2 : tie.Need-mul-zero-bytes-2
+mul-zero-bytes-2 c = search needs
 
 zero-bytes-requires-2 : tie.Need-zero-bytes-requires-2
 zero-bytes-requires-2 c κs = search needs
@@ -115,11 +112,10 @@ waiting-good-spec =
     sub-zero-bytes
     zero-bytes-requires
     returns-2
-    mul-zero-bytes
     add-zero-bytes-3
-    mul-zero-bytes-2
+    mul-zero-bytes
     add-zero-bytes-4
-    mul-zero-bytes-3
+    mul-zero-bytes-2
     zero-bytes-requires-2
     returns-3
     find-waiting-requires
