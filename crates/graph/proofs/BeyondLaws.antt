@@ -14,7 +14,7 @@ use Rattle.rules.specs.Sizes.{sizes}
 use Rattle.rules.proofs.Cases.{split}
 use Rattle.rules.proofs.Hash.{hash-bytes, length-hash-bytes, length-hashes-bytes}
 use Rattle.rules.proofs.Outputs.{sets-append}
-use Rattle.tables.specs.Bytes.{rowSize, rowAt, rowsAt}
+use Rattle.tables.specs.Bytes.{rowOf, rowsOf, rowSize, rowAt, rowsAt}
 use Rattle.rules.proofs.ReachLaws.{reach-same}
 use Rattle.tables.specs.Table.{Row, rowsFrom, rowsWhere, hashOf, depsOf, belowRow, beyond}
 use Rattle.tables.proofs.TableLaws.{length-rows-at}
@@ -35,19 +35,19 @@ module _ (s : List ℕ) (n : ℕ) (m : List Bool) where
       rw e
 
   pub remaining-none : (i : ℕ) → n ≤ i → remaining s n m i ≡ []
-  unfolding remaining rowsFrom rowsAt
+  unfolding remaining rowsFrom rowsOf
   remaining-none i h =
       let e : n - i ≡ 0 = omega arith in
       rw e
 
   pub remaining-taken : (i : ℕ) → i < n → getD m i false ≡ false → remaining s n m i ≡ hashAt s (i * rowSize) ∷ remaining s n m (i + 1)
-  unfolding remaining rowsFrom rowsAt rowAt
+  unfolding remaining rowsFrom rowsOf rowOf
   remaining-taken i h q =
       let e : n - i ≡ suc (n - (i + 1)) = omega arith in
       rw (e, q, add-one)
 
   pub remaining-passed : (i : ℕ) → i < n → getD m i false ≡ true → remaining s n m i ≡ remaining s n m (i + 1)
-  unfolding remaining rowsFrom rowsAt
+  unfolding remaining rowsFrom rowsOf
   remaining-passed i h q =
       let e : n - i ≡ suc (n - (i + 1)) = omega arith in
       rw (e, q, add-one)
@@ -115,7 +115,7 @@ module _ (s : List ℕ) (n : ℕ) (m : List Bool) where
 
 -- rows are told by what p says of the first n of them
 pub same-rows : (s : List ℕ) (p q : ℕ → Bool) (i count : ℕ) → ((k : ℕ) → k < i + count → p k ≡ q k) → rowsFrom i (rowsAt s i count) p ≡ rowsFrom i (rowsAt s i count) q
-unfolding rowsFrom rowsAt
+unfolding rowsFrom rowsOf
 same-rows s p q i zero f = refl
 same-rows s p q i (suc count) f =
     rw (f i (omega arith), same-rows s p q (suc i) count (λ k h. f k (omega arith)))

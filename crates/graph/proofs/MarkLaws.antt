@@ -15,7 +15,7 @@ use Rattle.rules.specs.Hash.{hashAt, hashesAt}
 use Rattle.rules.specs.Order.{member, Once}
 use Rattle.rules.specs.Reach.{someBelow, reach}
 use Rattle.rules.specs.Sizes.{sizes}
-use Rattle.tables.specs.Bytes.{twoAt, twosAt, rowSize, countAt, usedAt, rowsAt, GoodRows}
+use Rattle.tables.specs.Bytes.{twoAt, twosAt, usedOf, rowSize, countAt, usedAt, rowsAt, GoodRows}
 use Rattle.tables.specs.Table.{Row, rows, hashOf, depsOf, placeIn, needed}
 use Rattle.rules.proofs.KeepLaws.{once-index}
 use Rattle.tables.proofs.GoodLaws.{good-down}
@@ -141,11 +141,11 @@ module _ (s : List ℕ) (i count : ℕ) where
   numbers = i * rowSize + sizes .hash + 2
 
   pub number-member : (j k : ℕ) → count ≡ countAt s i → j < count → k ≡ twoAt s (numbers + 2 * j) → member k (usedAt s i) ≡ true
-  unfolding usedAt
+  unfolding usedOf
   number-member j k c h e = rw (e, ← c) (member-twos s numbers count j h)
 
   pub numbers-start : (m : List Bool) → count ≡ countAt s i → markAll m (twosAt s (numbers + 2 * 0) (count - 0)) ≡ markAll m (usedAt s i)
-  unfolding usedAt
+  unfolding usedOf
   numbers-start m c =
       let a : numbers + 2 * 0 ≡ numbers = omega arith in
       let b : count - 0 ≡ count = omega arith in
