@@ -20,7 +20,7 @@ use Rattle.rules.specs.Sizes.{sizes}
 use Rattle.rules.proofs.Cases.{both, true-false, same-truth, either, or-left, or-right, and-true}
 use Rattle.rules.proofs.OrderLaws.{member-append}
 use Rattle.rules.proofs.ReachLaws.{below-suc, some-below, some-witness, reach-equation, reach-same}
-use Rattle.tables.specs.Bytes.{twoAt, twosAt, rowSize, countAt, usedAt, rowsAt, GoodRows}
+use Rattle.tables.specs.Bytes.{twoAt, twosAt, usedOf, rowSize, countAt, usedAt, rowsAt, GoodRows}
 use Rattle.tables.specs.Table.{Row, hashOf, depsOf, belowRow}
 use Rattle.tables.proofs.GoodLaws.{good-down}
 use Rattle.tables.proofs.TableLaws.{length-rows-at, deps-of-row, hash-of-row}
@@ -64,7 +64,7 @@ module _ (s : List ℕ) (i count : ℕ) (p : ℕ → Bool) where
   numbersFrom j = someOf p (twosAt s (numbers + 2 * j) (count - j))
 
   pub numbers-start : count ≡ countAt s i → numbersFrom 0 ≡ someOf p (usedAt s i)
-  unfolding numbersFrom usedAt
+  unfolding numbersFrom usedOf
   numbers-start c =
       let a : numbers + 2 * 0 ≡ numbers = omega arith in
       let b : count - 0 ≡ count = omega arith in

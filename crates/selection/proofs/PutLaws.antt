@@ -14,7 +14,7 @@ use Rattle.rules.proofs.Cases.{split}
 use Rattle.rules.proofs.Hash.{hash-bytes, length-hash-bytes, length-hashes-bytes, length-hashes-at}
 use Rattle.rules.proofs.Outputs.{sets-append, take-sets}
 use Rattle.rules.proofs.KeepLaws.{keep-most}
-use Rattle.tables.specs.Bytes.{rowSize, rowAt, rowsAt}
+use Rattle.tables.specs.Bytes.{rowOf, rowsOf, rowSize, rowAt, rowsAt}
 use Rattle.tables.specs.Table.{Row, rows, place, placeIn, held, rowsFrom, rowsWhere}
 use Rattle.tables.proofs.TableLaws.{length-rows, length-rows-at, member-of-place, stranger-of-place, place-at-most}
 use Rattle.selection.specs.Members.{heldUnmarked, answered, Kept}
@@ -69,19 +69,19 @@ module _ (s : List ℕ) (n : ℕ) (p : ℕ → Bool) where
       rw e
 
   pub rows-taken : (i : ℕ) → i < n → p i ≡ true → rowsLeft i ≡ hashAt s (i * rowSize) ∷ rowsLeft (i + 1)
-  unfolding rowsLeft rowsFrom rowsAt rowAt
+  unfolding rowsLeft rowsFrom rowsOf rowOf
   rows-taken i h q =
       let e : n - i ≡ suc (n - (i + 1)) = omega arith in
       rw (e, q, add-one i)
 
   pub rows-passed : (i : ℕ) → i < n → p i ≡ false → rowsLeft i ≡ rowsLeft (i + 1)
-  unfolding rowsLeft rowsFrom rowsAt
+  unfolding rowsLeft rowsFrom rowsOf
   rows-passed i h q =
       let e : n - i ≡ suc (n - (i + 1)) = omega arith in
       rw (e, q, add-one i)
 
   pub rows-none : (i : ℕ) → n ≤ i → rowsLeft i ≡ []
-  unfolding rowsLeft rowsFrom rowsAt
+  unfolding rowsLeft rowsFrom rowsOf
   rows-none i h =
       let e : n - i ≡ 0 = omega arith in
       rw e
