@@ -37,6 +37,7 @@ use Rattle.wire.proofs.Number.{put-then}
 use Rattle.state.specs.Counts.{restoredCounts}
 use Rattle.state.specs.Session.{restored}
 use Rattle.state.specs.Value.{Lent, valueOf}
+use Rattle.state.specs.declared.session.Session.{Session as Counts}
 use Rattle.state.proofs.ValueLaws.{restored-value}
 use Rattle.saved.specs.Saved.{stateType, stateOutput, stateAt, loadedWith, loadedInto, Restored}
 use Rattle.saved.specs.declared.saved.Loaded.{Loaded}
@@ -132,9 +133,11 @@ module _ (s before : List ℕ) where
         rw (part-is, length-slice start next s (w .there)) (omega (arith, w .whole))
 
     pub load-session : (after : List ℕ) → sizes .hash * count ≤ length before → after ≡ sets before 0 (take (next - start) (drop start s))
-        → Restored s before after (Session (restoredCounts count))
+        → (session : Counts)
+        → session ≡ restoredCounts count
+        → Restored s before after (Session session)
     unfolding loadedWith loadedInto
-    load-session after h q = record { answer = rw (is, le-ltb _ _ h); content = rw (is, le-ltb _ _ h, ← part-is) q }
+    load-session after h q session e = record { answer = rw (is, le-ltb _ _ h) (ap Session e); content = rw (is, le-ltb _ _ h, ← part-is) q }
 
 state-out : (s : List ℕ) (count : ℕ) → listGood s count ≡ true → stateOutput s count ≡ bytes (stateType ∷ hashListBytes (hashesAt s 0 count))
 unfolding stateOutput

@@ -1,5 +1,5 @@
 // Saved states, read and written.
-use lent::good::list_good;
+use lent::list::list_good;
 use rules::output::Write;
 use rules::put::copy_into;
 use rules::refusal::Refusal;

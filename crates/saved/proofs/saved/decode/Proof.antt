@@ -63,7 +63,7 @@ returns-2 : tie.Need-returns-2
 returns-2 c =
     let copy = c .before .before .before in
     let room = copy .before .before .before in
-    rw (c .restored .ensures) (load-session _ _ _ _ _ (found (room .before .before)) _ (room .if1 .left) (copy .copy-into .ensures))
+    load-session _ _ _ _ _ (found (room .before .before)) _ (room .if1 .left) (copy .copy-into .ensures) _ (c .restored .ensures)
 
 returns-3 : tie.Need-returns-3
 returns-3 c =

@@ -1,9 +1,9 @@
--- `lent::good::heard_good` meets its contract: what is absent is good, and else the count decides. Assumes nothing.
+-- `lent::list::heard_good` meets its contract: what is absent is good, and else the count decides. Assumes nothing.
 use mathlib.Core.Path.{sym, _∙_}
 use borrow.Author.Needs.{needs}
 use Rattle.lent.proofs.GoodLaws.{heard-nothing, heard-count}
-use Rattle.lent.proofs.good.heard_good.Statement.{statement}
-use Rattle.lent.proofs.good.heard_good.Tie as tie
+use Rattle.lent.proofs.list.heard_good.Statement.{statement}
+use Rattle.lent.proofs.list.heard_good.Tie as tie
 
 enum-told : tie.Need-enum-told
 enum-told c = search needs

@@ -1,4 +1,4 @@
--- `lent::good::ascending` meets its contract: the hashes from number i on decide what all of them do. Assumes nothing.
+-- `lent::list::ascending` meets its contract: the hashes from number i on decide what all of them do. Assumes nothing.
 use Prim.Native.Nat.{_-_, _≤_}
 use mathlib.Core.Path.{_≡_, sym, _∙_}
 use native.Mathlib.Omega.{arith}
@@ -7,8 +7,8 @@ use borrow.Author.Tests.{not-true, not-false}
 use Rattle.rules.specs.Hash.{hashesAt}
 use Rattle.rules.specs.Order.{ascends}
 use Rattle.lent.proofs.GoodLaws.{climbing, climbing-starts, climbing-fails, climbing-on, climbing-ends}
-use Rattle.lent.proofs.good.ascending.Statement.{statement}
-use Rattle.lent.proofs.good.ascending.Tie as tie
+use Rattle.lent.proofs.list.ascending.Statement.{statement}
+use Rattle.lent.proofs.list.ascending.Tie as tie
 
 abbrev Inv-loop : tie.InvT-loop
 Inv-loop s count i₀ i = record { upto : i ≤ count; rest : climbing s count i ≡ ascends (hashesAt s 0 count) }

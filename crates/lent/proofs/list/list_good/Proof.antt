@@ -1,9 +1,9 @@
--- `lent::good::list_good` meets its contract: the limit is tested first, and else the buffer decides. Assumes nothing.
+-- `lent::list::list_good` meets its contract: the limit is tested first, and else the buffer decides. Assumes nothing.
 use mathlib.Core.Path.{sym}
 use borrow.Author.Needs.{needs}
 use Rattle.lent.proofs.GoodLaws.{list-many, list-where}
-use Rattle.lent.proofs.good.list_good.Statement.{statement}
-use Rattle.lent.proofs.good.list_good.Tie as tie
+use Rattle.lent.proofs.list.list_good.Statement.{statement}
+use Rattle.lent.proofs.list.list_good.Tie as tie
 
 returns : tie.Need-returns
 returns c = sym (list-many _ _ (c .if1 .taken))

@@ -1,9 +1,9 @@
--- `lent::good::sent_good` meets its contract: the limit is tested first, then the buffer, and then the order decides. Assumes nothing.
+-- `lent::list::sent_good` meets its contract: the limit is tested first, then the buffer, and then the order decides. Assumes nothing.
 use mathlib.Core.Path.{sym, _∙_}
 use borrow.Author.Needs.{needs}
 use Rattle.lent.proofs.GoodLaws.{sent-many, sent-short, sent-there}
-use Rattle.lent.proofs.good.sent_good.Statement.{statement}
-use Rattle.lent.proofs.good.sent_good.Tie as tie
+use Rattle.lent.proofs.list.sent_good.Statement.{statement}
+use Rattle.lent.proofs.list.sent_good.Tie as tie
 
 returns : tie.Need-returns
 returns c = sym (sent-many _ _ (c .if1 .taken))
