@@ -1,3 +1,4 @@
 -- Laws that the crates above cite.
 pub mod GoodLaws
 pub mod GoodSessions
+pub mod KeptLaws

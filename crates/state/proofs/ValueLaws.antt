@@ -2,13 +2,13 @@
 -- determined by the sessions that it is.
 use Prim.Native.Nat.{ℕ, zero, suc, _+_, _*_, _≤_}
 use mathlib.Core.Bool.{Bool, true, false}
-use mathlib.Core.List.{List, [], _∷_}
+use mathlib.Core.List.{List, []}
 use mathlib.Core.Option.{Option, none, some}
 use mathlib.Core.Path.{_≡_, refl, sym, ap, _∙_}
 use native.Mathlib.Omega.{arith}
 use lib.ListN.{length, replicate, length-replicate}
 use lib.Seq.{length-take-le}
-use Rattle.bloom.specs.Have.{Have, haveWords, haveCount, havesOf, havesFrom}
+use Rattle.bloom.specs.Have.{haveWords, haveCount, havesOf, havesFrom}
 use Rattle.rules.specs.Hash.{hashesAt}
 use Rattle.rules.proofs.Cases.{split}
 use Rattle.rules.proofs.Hash.{length-hashes-at}

@@ -1,6 +1,5 @@
 -- `state::session::Session::set_read_only` meets its contract: one law for each way through the two tests. Assumes nothing.
-use mathlib.Core.Bool.{Bool, true, false}
-use mathlib.Core.Path.{_≡_, sym, _∙_}
+use mathlib.Core.Path.{sym}
 use Rattle.state.proofs.CountsLaws.{counts-same, counts-on, counts-off}
 use borrow.Author.Needs.{needs}
 use Rattle.state.proofs.session.Session.set_read_only.Statement.{statement}
