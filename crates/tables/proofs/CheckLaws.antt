@@ -7,7 +7,7 @@ use mathlib.Core.Path.{_≡_, sym, _∙_}
 use native.Mathlib.Nat.{div-add-mod', mul-lt-mul-of-pos-right}
 use native.Mathlib.Numerals.{add-one}
 use native.Mathlib.Omega.{arith}
-use borrow.Author.Tests.{ltb-true, ltb-false, eqb-true, eqb-false, lt-ltb, le-ltb, eq-eqb, ne-eqb}
+use borrow.Author.Tests.{ltb-true, ltb-false, eqb-true, eqb-false, lt-ltb, le-ltb}
 use lib.Dec.{ltb, eqb}
 use lib.ListN.{length}
 use Rattle.rules.specs.Sizes.{sizes}
@@ -79,6 +79,9 @@ pub record Accepted (good : ℕ → Bool) (size most bytes n : ℕ) : Type 0 whe
   pub few : bytes ≤ most * size
   pub each : (i : ℕ) → i < n → good i ≡ true
 
+some-left : (r : ℕ) → (r ≡ 0 → ⊥) → 0 < r
+some-left r h = omega arith
+
 module _ (bad : ℕ → Checked) (good : ℕ → Bool) (size most bytes : ℕ) where
   pub check-past : most * size < bytes → checkedWith bad good size most bytes ≡ Refused (PastSize 0)
   unfolding checkedWith
@@ -92,11 +95,11 @@ module _ (bad : ℕ → Checked) (good : ℕ → Bool) (size most bytes : ℕ) w
     module _ (r : ℕ) (e : r ≡ firstBad good 0 (bytes / size)) (none : bytes / size ≤ r) where
       pub check-partial : (bytes % size ≡ 0 → ⊥) → checkedWith bad good size most bytes ≡ bad (bytes / size)
       unfolding checkedWith
-      check-partial h = rw (le-ltb (most * size) bytes few, ← e, le-ltb r (bytes / size) none, ne-eqb (bytes % size) 0 h)
+      check-partial h = rw (le-ltb (most * size) bytes few, ← e, le-ltb r (bytes / size) none, lt-ltb 0 (bytes % size) (some-left (bytes % size) h))
 
       pub check-good : bytes % size ≡ 0 → checkedWith bad good size most bytes ≡ Good (bytes / size)
       unfolding checkedWith
-      check-good h = rw (le-ltb (most * size) bytes few, ← e, le-ltb r (bytes / size) none, eq-eqb (bytes % size) 0 h)
+      check-good h = rw (le-ltb (most * size) bytes few, ← e, le-ltb r (bytes / size) none, le-ltb 0 (bytes % size) (omega arith))
 
   pub good-is-accepted : bytes ≤ most * size → bytes % size ≡ 0 → ((i : ℕ) → i < bytes / size → good i ≡ true)
       → checkedWith bad good size most bytes ≡ Good (bytes / size)
@@ -116,11 +119,12 @@ module _ (bad : ℕ → Checked) (good : ℕ → Bool) (size most bytes : ℕ) w
       (λ f. absurd (never (firstBad good 0 (bytes / size)) n (rw f at a₁)))
       (λ f.
       let a₂ = rw f at a₁ in
-      split (eqb (bytes % size) 0)
+      split (ltb 0 (bytes % size))
+      (λ g. absurd (never (bytes / size) n (rw g at a₂)))
       (λ g.
       let same : Good (bytes / size) ≡ Good n = rw g at a₂ in
       let count : n ≡ bytes / size = cc in
-      let rest : bytes % size ≡ 0 = eqb-true (bytes % size) 0 g in
+      let rest : bytes % size ≤ 0 = ltb-false 0 (bytes % size) g in
       let sum : bytes / size * size + bytes % size ≡ bytes = div-add-mod' bytes size in
       record {
         count = count;
@@ -129,8 +133,7 @@ module _ (bad : ℕ → Checked) (good : ℕ → Bool) (size most bytes : ℕ) w
         each =
             λ i b.
             first-bad-all good 0 (bytes / size) i (let l = ltb-false (firstBad good 0 (bytes / size)) (bytes / size) f in omega (arith, l)) (omega arith) (omega arith);
-      })
-      (λ g. absurd (never (bytes / size) n (rw g at a₂)))))
+      })))
 
 -- records of a size are no more than others if their bytes aren't
 pub fewer : (n most size : ℕ) → 0 < size → n * size ≤ most * size → n ≤ most

@@ -1,18 +1,69 @@
 -- How a row is checked. Each law is one turn of a loop over its numbers, or one way through its tests, with the tests as hypotheses.
 use Prim.Native.Nat.{ℕ, suc, _+_, _-_, _*_, _≤_, _<_}
-use mathlib.Core.Bool.{Bool, true, false}
-use mathlib.Core.List.{List}
-use mathlib.Core.Path.{_≡_, _∙_, ap}
+use mathlib.Core.Bool.{Bool, true, false, _&&_}
+use mathlib.Core.List.{List, [], _∷_}
+use mathlib.Core.Path.{_≡_, refl, _∙_, ap}
 use native.Mathlib.Numerals.{add-one}
 use native.Mathlib.Omega.{arith}
-use borrow.Author.Tests.{lt-ltb, le-ltb, le-leb, lt-leb, eq-eqb, ne-eqb}
-use lib.Dec.{eqb}
+use borrow.Author.Tests.{ltb-true, leb-true, eqb-true, lt-ltb, le-ltb, le-leb, lt-leb, eq-eqb, ne-eqb}
+use lib.Dec.{ltb, leb, eqb}
 use lib.ListN.{length}
 use Rattle.rules.specs.Hash.{hashAt}
+use Rattle.rules.specs.Order.{member, every, ascends}
 use Rattle.rules.specs.Sizes.{sizes}
-use Rattle.tables.specs.Bytes.{twoAt, twosAt, usedOf, unusedOf, rowGoodOf, rowSize, countAt, usedAt, unusedAt, rowsAt, climbs, zeros, rowGood}
+use Rattle.rules.proofs.Cases.{split, both, same-truth, and-true}
+use Rattle.rules.proofs.KeepLaws.{every-member, every-one}
+use Rattle.rules.proofs.OrderLaws.{member-here, member-there, ascends-tail, ascends-first}
+use Rattle.tables.specs.Bytes.{twoAt, twosAt, usedOf, unusedOf, rowGoodOf, rowSize, countAt, usedAt, unusedAt, rowsAt, numbersGood, zeros, rowGood}
 use Rattle.tables.specs.Table.{rows, placeIn}
 use Rattle.tables.proofs.TableLaws.{numberAt, length-rows, length-rows-at, place-tells}
+
+-- ---- numbers that climb
+
+-- Strictly ascending from `least` on, and each below `end`, as the loop tests them.
+unfoldable pub climbs : ℕ → ℕ → List ℕ → Bool
+climbs least end [] = true
+climbs least end (x ∷ xs) = (leb least x && ltb x end) && climbs (suc x) end xs
+
+climbs-below : (least end : ℕ) (l : List ℕ) (k : ℕ) → climbs least end l ≡ true → member k l ≡ true → k < end
+unfolding climbs member
+climbs-below least end [] k c m = absurd (let z : _≡_ {A = ℕ} 0 1 = cc in omega arith)
+climbs-below least end (x ∷ xs) k c m =
+    let parts = both (leb least x && ltb x end) (climbs (suc x) end xs) c in
+    split (eqb k x)
+    (λ e.
+    let same : k ≡ x = eqb-true k x e in
+    let below : x < end = ltb-true x end (both (leb least x) (ltb x end) (parts .0) .1) in
+    omega arith)
+    (λ e. climbs-below (suc x) end xs k (parts .1) (rw e at m))
+
+climbs-ascends : (least end : ℕ) (l : List ℕ) → climbs least end l ≡ true → ascends l ≡ true
+unfolding climbs ascends
+climbs-ascends least end [] c = refl
+climbs-ascends least end (x ∷ []) c = refl
+climbs-ascends least end (x ∷ y ∷ ys) c =
+    let rest = both (leb least x && ltb x end) (climbs (suc x) end (y ∷ ys)) c .1 in
+    let next = both (leb (suc x) y && ltb y end) (climbs (suc y) end ys) rest .0 in
+    let above : suc x ≤ y = leb-true (suc x) y (both (leb (suc x) y) (ltb y end) next .0) in
+    rw (lt-ltb x y (omega arith)) (climbs-ascends (suc x) end (y ∷ ys) rest)
+
+ascends-climbs : (least end : ℕ) (l : List ℕ) → ascends l ≡ true → ((k : ℕ) → member k l ≡ true → least ≤ k) → ((k : ℕ) → member k l ≡ true → k < end)
+    → climbs least end l ≡ true
+unfolding climbs
+ascends-climbs least end [] a low high = refl
+ascends-climbs least end (x ∷ xs) a low high =
+    rw (le-leb least x (low x (member-here x xs)), lt-ltb x end (high x (member-here x xs)))
+    (ascends-climbs (suc x) end xs (ascends-tail x xs a) (ascends-first x xs a) (λ k m. high k (member-there k x xs m)))
+
+-- from 0 on: just what a row's numbers are to be
+pub climbs-good : (i : ℕ) (l : List ℕ) → climbs 0 i l ≡ numbersGood i l
+unfolding numbersGood
+climbs-good i l =
+    same-truth _ _
+    (λ c. and-true _ _ (climbs-ascends 0 i l c) (every-one (λ k. ltb k i) l (λ k m. lt-ltb k i (climbs-below 0 i l k c m))))
+    (λ g.
+    let b = both (ascends l) (every (λ k. ltb k i) l) g in
+    ascends-climbs 0 i l (b .0) (λ k m. omega arith) (λ k m. ltb-true k i (every-member (λ j. ltb j i) l (b .1) k m)))
 
 -- ---- a row's numbers
 
@@ -24,12 +75,12 @@ module _ (s : List ℕ) (i count : ℕ) where
   pub climbing : ℕ → ℕ → Bool
   climbing least j = climbs least i (twosAt s (numberAt i j) (count - j))
 
-  pub climb-starts : count ≡ countAt s i → climbing 0 0 ≡ climbs 0 i (usedAt s i)
+  pub climb-starts : count ≡ countAt s i → climbing 0 0 ≡ numbersGood i (usedAt s i)
   unfolding climbing usedOf
   climb-starts e =
       let d : count - 0 ≡ countAt s i = omega arith in
       let p : numberAt i 0 ≡ i * rowSize + sizes .hash + 2 = omega arith in
-      rw (d, p)
+      rw (d, p) (climbs-good i (usedAt s i))
 
   module _ (least j d : ℕ) (inside : j < count) (read : d ≡ twoAt s (numberAt i j)) where
     left : count - j ≡ suc (count - (j + 1))
@@ -89,18 +140,18 @@ module _ (s : List ℕ) (i : ℕ) where
     row-many h = rw (← is, lt-leb count (sizes .dependencies) h)
 
     module _ (few : count ≤ sizes .dependencies) where
-      pub row-numbers : climbs 0 i (usedAt s i) ≡ false → rowGood s i ≡ false
+      pub row-numbers : numbersGood i (usedAt s i) ≡ false → rowGood s i ≡ false
       unfolding rowGoodOf
       row-numbers e = rw (← is, le-leb count (sizes .dependencies) few, e)
 
-      module _ (climb : climbs 0 i (usedAt s i) ≡ true) where
+      module _ (numbers : numbersGood i (usedAt s i) ≡ true) where
         pub row-unused : zeros (unusedAt s i) ≡ false → rowGood s i ≡ false
         unfolding rowGoodOf
-        row-unused e = rw (← is, le-leb count (sizes .dependencies) few, climb, e)
+        row-unused e = rw (← is, le-leb count (sizes .dependencies) few, numbers, e)
 
         pub row-hash : zeros (unusedAt s i) ≡ true → (r : ℕ) → r ≡ placeIn (rows (rowsAt s 0 i)) (hashAt s (i * rowSize))
             → rowGood s i ≡ eqb r i
         unfolding rowGoodOf
         row-hash e r q =
             let n : length (rows (rowsAt s 0 i)) ≡ i = length-rows (rowsAt s 0 i) ∙ length-rows-at s 0 i in
-            rw (← is, le-leb count (sizes .dependencies) few, climb, e, place-tells, ← q) (ap (eqb r) n)
+            rw (← is, le-leb count (sizes .dependencies) few, numbers, e, place-tells, ← q) (ap (eqb r) n)

@@ -9,11 +9,11 @@ use borrow.Author.Tests.{ltb-true, ltb-false, leb-true, eqb-true, eqb-false, not
 use lib.Dec.{ltb, leb, eqb}
 use lib.ListN.{length, getD, take, length-map}
 use Rattle.rules.specs.Hash.{hashAt}
-use Rattle.rules.specs.Order.{member, ascends, Once}
+use Rattle.rules.specs.Order.{member, every, ascends, Once}
 use Rattle.rules.specs.Sizes.{sizes}
 use Rattle.rules.proofs.Cases.{split, both}
-use Rattle.rules.proofs.KeepLaws.{index-once, once-index}
-use Rattle.tables.specs.Bytes.{twoAt, twosAt, rowSizeOf, countOf, usedOf, unusedOf, rowOf, rowsOf, wholeRowsOf, rowGoodOf, tableCheckedOf, rowSize, countAt, usedAt, rowAt, rowsAt, tableOf, climbs, zeros, rowGood, tableChecked}
+use Rattle.rules.proofs.KeepLaws.{every-member, index-once, once-index}
+use Rattle.tables.specs.Bytes.{twoAt, twosAt, rowSizeOf, countOf, usedOf, unusedOf, rowOf, rowsOf, wholeRowsOf, rowGoodOf, tableCheckedOf, rowSize, countAt, usedAt, rowAt, rowsAt, tableOf, numbersGood, zeros, rowGood, tableChecked}
 use Rattle.tables.specs.Table.{Row, noRow, rows, hashOf, depsOf, GoodTable, placeIn, place, held}
 use Rattle.tables.specs.declared.check.Checked.the-variants.{Good, Refused}
 use Rattle.rules.specs.declared.refusal.Refusal.the-variants.{BadRow}
@@ -223,46 +223,35 @@ length-used = length-used-of (sizes .dependencies)
 pub used-index : (s : List ℕ) (i j : ℕ) → j < countAt s i → getD (usedAt s i) j 0 ≡ twoAt s (numberAt i j)
 used-index = used-of-index (sizes .dependencies)
 
-pub climbs-below : (least end : ℕ) (l : List ℕ) (k : ℕ) → climbs least end l ≡ true → member k l ≡ true → k < end
-unfolding climbs member
-climbs-below least end [] k c m = absurd (let z : _≡_ {A = ℕ} 0 1 = cc in omega arith)
-climbs-below least end (x ∷ xs) k c m =
-    let parts = both (leb least x && ltb x end) (climbs (suc x) end xs) c in
-    split (eqb k x)
-    (λ e.
-    let same : k ≡ x = eqb-true k x e in
-    let below : x < end = ltb-true x end (both (leb least x) (ltb x end) (parts .0) .1) in
-    omega arith)
-    (λ e. climbs-below (suc x) end xs k (parts .1) (rw e at m))
-
-pub climbs-ascends : (least end : ℕ) (l : List ℕ) → climbs least end l ≡ true → ascends l ≡ true
-unfolding climbs ascends
-climbs-ascends least end [] c = refl
-climbs-ascends least end (x ∷ []) c = refl
-climbs-ascends least end (x ∷ y ∷ ys) c =
-    let rest = both (leb least x && ltb x end) (climbs (suc x) end (y ∷ ys)) c .1 in
-    let next = both (leb (suc x) y && ltb y end) (climbs (suc y) end ys) rest .0 in
-    let above : suc x ≤ y = leb-true (suc x) y (both (leb (suc x) y) (ltb y end) next .0) in
-    rw (lt-ltb x y (omega arith)) (climbs-ascends (suc x) end (y ∷ ys) rest)
-
 -- ---- good rows
 
 -- what a good row has
 pub record RowGoodOf (d : ℕ) (s : List ℕ) (i : ℕ) : Type 0 where
   pub count : countOf d s i ≤ d
-  pub climb : climbs 0 i (usedOf d s i) ≡ true
+  pub ordered : ascends (usedOf d s i) ≡ true
+  pub below : (k : ℕ) → member k (usedOf d s i) ≡ true → k < i
   pub unused : zeros (unusedOf d s i) ≡ true
   pub new : member (hashAt s (i * rowSizeOf d)) (rows (rowsOf d s 0 i)) ≡ false
 
 module _ (d : ℕ) (s : List ℕ) where
   pub good-row-has : (i : ℕ) → rowGoodOf d s i ≡ true → RowGoodOf d s i
-  unfolding rowGoodOf
+  unfolding rowGoodOf numbersGood
   good-row-has i g =
-      let new : Bool = not (member (hashAt s (i * rowSizeOf d)) (rows (rowsOf d s 0 i))) in
-      let p = both (leb (countOf d s i) d) (climbs 0 i (usedOf d s i) && (zeros (unusedOf d s i) && new)) g in
-      let q = both (climbs 0 i (usedOf d s i)) (zeros (unusedOf d s i) && new) (p .1) in
-      let r = both (zeros (unusedOf d s i)) new (q .1) in
-      record { count = leb-true _ _ (p .0); climb = q .0; unused = r .0; new = not-true _ (r .1) }
+      let used : List ℕ = usedOf d s i in
+      let count : Bool = leb (countOf d s i) d in
+      let numbers : Bool = ascends used && every (λ k. ltb k i) used in
+      let unused : Bool = zeros (unusedOf d s i) in
+      let p = both (count && numbers && unused) (not (member (hashAt s (i * rowSizeOf d)) (rows (rowsOf d s 0 i)))) g in
+      let q = both (count && numbers) unused (p .0) in
+      let r = both count numbers (q .0) in
+      let z = both (ascends used) (every (λ k. ltb k i) used) (r .1) in
+      record {
+        count = leb-true _ _ (r .0);
+        ordered = z .0;
+        below = λ k m. ltb-true k i (every-member (λ j. ltb j i) used (z .1) k m);
+        unused = q .1;
+        new = not-true _ (p .1);
+      }
 
   module _ (n : ℕ) (each : (i : ℕ) → i < n → rowGoodOf d s i ≡ true) where
     earlier-differs : (i j : ℕ) → i < j → j < n → hashAt s (i * rowSizeOf d) ≡ hashAt s (j * rowSizeOf d) → ⊥
@@ -297,11 +286,11 @@ module _ (d : ℕ) (s : List ℕ) where
           down =
               λ i k b m.
               let c : i < n = omega arith in
-              climbs-below 0 i (usedOf d s i) k (good-row-has i (each i c) .climb) (rw (row-deps-of d s n i c) at m);
+              good-row-has i (each i c) .below k (rw (row-deps-of d s n i c) at m);
           ordered =
               λ i b.
               let c : i < n = omega arith in
-              rw (row-deps-of d s n i c) (climbs-ascends 0 i (usedOf d s i) (good-row-has i (each i c) .climb));
+              rw (row-deps-of d s n i c) (good-row-has i (each i c) .ordered);
         }
 
 abbrev pub RowGood : List ℕ → ℕ → Type 0
@@ -381,7 +370,7 @@ module _ (s : List ℕ) (n : ℕ) (d : Decoded s n) where
   pub decoded-below : (i j : ℕ) → i < n → j < countAt s i → twoAt s (numberAt i j) < i
   decoded-below i j b l =
       let long : j < length (usedAt s i) = rw length-used l in
-      climbs-below 0 i (usedAt s i) (twoAt s (numberAt i j)) (row-has s i (d .each i b) .climb)
+      row-has s i (d .each i b) .below (twoAt s (numberAt i j))
       (member-is (usedAt s i) (twoAt s (numberAt i j)) j long (used-index s i j l))
 
   -- its first rows are a good table too

@@ -17,7 +17,7 @@ use Rattle.rules.specs.declared.refusal.Refusal.the-variants.{BadWaitingRow}
 use Rattle.rules.proofs.Cases.{split, both}
 use Rattle.rules.proofs.Hash.{length-hashes-at, hash-is-hash, hashes-are-hashes}
 use Rattle.rules.proofs.KeepLaws.{index-once}
-use Rattle.tables.specs.Bytes.{waitingSizeOf, asksCountOf, asksPlaceOf, waitingRowOf, waitingRowsOf, wholeWaitingOf, waitingGoodOf, waitingCheckedOf, waitingSize, asksCount, asksPlace, waitingsAt, waitingOf, bytesAt, zeros, waitingGood, waitingChecked}
+use Rattle.tables.specs.Bytes.{waitingSizeOf, asksCountOf, asksPlaceOf, waitingRowOf, waitingRowsOf, wholeWaitingOf, fillOf, unaskedOf, waitingGoodOf, waitingCheckedOf, waitingSize, asksCount, asksPlace, waitingsAt, waitingOf, bytesAt, zeros, waitingGood, waitingChecked}
 use Rattle.tables.specs.Table.{Row, rows, placeIn, held}
 use Rattle.tables.specs.Waiting.{Waiting, noWaiting, waiting, asksOf}
 use Rattle.tables.specs.declared.check.Checked.the-variants.{Good, Refused}
@@ -180,59 +180,58 @@ module _ (t : List Row) (s : List ℕ) (i count : ℕ) (is : count ≡ asksCount
   waiting-many h = rw (← is, lt-leb count (sizes .dependencies) h)
 
   module _ (few : count ≤ sizes .dependencies) where
-    pub waiting-behind : zeros (bytesAt s (i * waitingSize + sizes .hash + 1) (sizes .hash - 1)) ≡ false → waitingGood t s i ≡ false
-    unfolding waitingGoodOf
-    waiting-behind e = rw (← is, le-leb count (sizes .dependencies) few, e)
+    pub waiting-fill : zeros (bytesAt s (i * waitingSize + sizes .hash + 1) (sizes .hash - 1)) ≡ false → waitingGood t s i ≡ false
+    unfolding waitingGoodOf fillOf
+    waiting-fill e = rw (← is, le-leb count (sizes .dependencies) few, e)
 
-    module _ (behind : zeros (bytesAt s (i * waitingSize + sizes .hash + 1) (sizes .hash - 1)) ≡ true) (inside : (i + 1) * waitingSize ≤ length s) where
-      spare-hashes : zeros (hashesAt s (asksPlace i + sizes .hash * count) (sizes .dependencies - count))
-          ≡ zeros (bytesAt s (asksPlace i + sizes .hash * count) (sizes .hash * (sizes .dependencies - count)))
-      spare-hashes = zero-hashes s (asksPlace i + sizes .hash * count) (sizes .dependencies - count) (omega arith)
+    module _ (fill : zeros (bytesAt s (i * waitingSize + sizes .hash + 1) (sizes .hash - 1)) ≡ true) (inside : (i + 1) * waitingSize ≤ length s) where
+      unasked-bytes : zeros (unaskedOf (sizes .dependencies) s i) ≡ zeros (bytesAt s (asksPlace i + sizes .hash * count) (sizes .hash * (sizes .dependencies - count)))
+      unfolding unaskedOf
+      unasked-bytes = rw (← is) (zero-hashes s (asksPlace i + sizes .hash * count) (sizes .dependencies - count) (omega arith))
 
-      pub waiting-spare : zeros (bytesAt s (asksPlace i + sizes .hash * count) (sizes .hash * (sizes .dependencies - count))) ≡ false
+      pub waiting-unasked : zeros (bytesAt s (asksPlace i + sizes .hash * count) (sizes .hash * (sizes .dependencies - count))) ≡ false
           → waitingGood t s i ≡ false
-      unfolding waitingGoodOf
-      waiting-spare e = rw (← is, le-leb count (sizes .dependencies) few, behind, spare-hashes, e)
+      unfolding waitingGoodOf fillOf
+      waiting-unasked e = rw (← is, le-leb count (sizes .dependencies) few, fill, unasked-bytes, e)
 
-      module _ (unused : zeros (bytesAt s (asksPlace i + sizes .hash * count) (sizes .hash * (sizes .dependencies - count))) ≡ true) (r : ℕ) (found : r ≡ placeIn (waiting (waitingsAt s 0 i)) (hashAt s (i * waitingSize))) where
+      module _ (unasked : zeros (bytesAt s (asksPlace i + sizes .hash * count) (sizes .hash * (sizes .dependencies - count))) ≡ true) (r : ℕ) (found : r ≡ placeIn (waiting (waitingsAt s 0 i)) (hashAt s (i * waitingSize))) where
         found-tells : not (member (hashAt s (i * waitingSize)) (waiting (waitingsAt s 0 i))) ≡ eqb r i
         found-tells =
             let n : length (waiting (waitingsAt s 0 i)) ≡ i = length-waiting (waitingsAt s 0 i) ∙ length-waitings-at s 0 i in
             rw (place-tells, ← found, n)
 
         pub waiting-twice : (r ≡ i → ⊥) → waitingGood t s i ≡ false
-        unfolding waitingGoodOf
-        waiting-twice h = rw (← is, le-leb count (sizes .dependencies) few, behind, spare-hashes, unused, found-tells, ne-eqb r i h)
+        unfolding waitingGoodOf fillOf
+        waiting-twice h = rw (← is, le-leb count (sizes .dependencies) few, fill, unasked-bytes, unasked, found-tells, ne-eqb r i h)
 
         pub waiting-held : r ≡ i → (n q : ℕ) → length t ≡ n → q ≡ placeIn (rows t) (hashAt s (i * waitingSize)) → waitingGood t s i ≡ eqb q n
-        unfolding waitingGoodOf held
+        unfolding waitingGoodOf fillOf held
         waiting-held h n q long e =
             let l : length (rows t) ≡ n = length-rows t ∙ long in
-            rw (← is, le-leb count (sizes .dependencies) few, behind, spare-hashes, unused, found-tells, eq-eqb r i h, place-tells, ← e, l)
+            rw (← is, le-leb count (sizes .dependencies) few, fill, unasked-bytes, unasked, found-tells, eq-eqb r i h, place-tells, ← e, l)
 
 -- ---- good waiting rows
 
 -- what a good waiting row has
 pub record RowWaitsOf (d : ℕ) (t : List Row) (s : List ℕ) (i : ℕ) : Type 0 where
   pub count : asksCountOf d s i ≤ d
-  pub behind : zeros (bytesAt s (i * waitingSizeOf d + sizes .hash + 1) (sizes .hash - 1)) ≡ true
-  pub spare : zeros (hashesAt s (asksPlaceOf d i + sizes .hash * asksCountOf d s i) (d - asksCountOf d s i)) ≡ true
+  pub fill : zeros (fillOf d s i) ≡ true
+  pub unasked : zeros (unaskedOf d s i) ≡ true
   pub new : member (hashAt s (i * waitingSizeOf d)) (waiting (waitingRowsOf d s 0 i)) ≡ false
   pub unheld : held t (hashAt s (i * waitingSizeOf d)) ≡ false
 
 pub row-waits-of : (d : ℕ) (t : List Row) (s : List ℕ) (i : ℕ) → waitingGoodOf d t s i ≡ true → RowWaitsOf d t s i
 unfolding waitingGoodOf
 row-waits-of d t s i g =
-    let few : Bool = leb (asksCountOf d s i) d in
-    let behind : Bool = zeros (bytesAt s (i * waitingSizeOf d + sizes .hash + 1) (sizes .hash - 1)) in
-    let spare : Bool = zeros (hashesAt s (asksPlaceOf d i + sizes .hash * asksCountOf d s i) (d - asksCountOf d s i)) in
+    let count : Bool = leb (asksCountOf d s i) d in
+    let fill : Bool = zeros (fillOf d s i) in
+    let unasked : Bool = zeros (unaskedOf d s i) in
     let new : Bool = not (member (hashAt s (i * waitingSizeOf d)) (waiting (waitingRowsOf d s 0 i))) in
-    let unheld : Bool = not (held t (hashAt s (i * waitingSizeOf d))) in
-    let p = both (few && behind) (spare && (new && unheld)) g in
-    let q = both few behind (p .0) in
-    let r = both spare (new && unheld) (p .1) in
-    let z = both new unheld (r .1) in
-    record { count = leb-true _ _ (q .0); behind = q .1; spare = r .0; new = not-true _ (z .0); unheld = not-true _ (z .1) }
+    let p = both (count && fill && unasked && new) (not (held t (hashAt s (i * waitingSizeOf d)))) g in
+    let q = both (count && fill && unasked) new (p .0) in
+    let r = both (count && fill) unasked (q .0) in
+    let z = both count fill (r .0) in
+    record { count = leb-true _ _ (z .0); fill = z .1; unasked = r .1; new = not-true _ (q .1); unheld = not-true _ (p .1) }
 
 -- what a list of waiting rows has beside a table: no row asks for more than d, no hash waits twice, and none that waits is held
 pub record GoodWaitingOf (d : ℕ) (t : List Row) (w : List Waiting) : Type 0 where

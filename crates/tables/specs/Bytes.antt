@@ -8,7 +8,7 @@ use mathlib.Core.List.{List, [], _∷_}
 use lib.Dec.{ltb, leb, eqb}
 use lib.ListN.{length, getD}
 use Rattle.rules.specs.Hash.{hashAt, hashesAt}
-use Rattle.rules.specs.Order.{member}
+use Rattle.rules.specs.Order.{member, every, ascends}
 use Rattle.rules.specs.Sizes.{sizes}
 use Rattle.rules.specs.declared.refusal.Refusal.the-variants.{PastSize, BadRow, BadWaitingRow}
 use Rattle.tables.specs.Table.{Row, GoodTable, rows, held}
@@ -51,34 +51,39 @@ rowsOf d s i (suc count) = rowOf d s i ∷ rowsOf d s (suc i) count
 unfoldable pub wholeRowsOf : ℕ → List ℕ → List Row
 wholeRowsOf d s = rowsOf d s 0 (length s / rowSizeOf d)
 
--- Strictly ascending from `least` on, and each below `end`.
-unfoldable pub climbs : ℕ → ℕ → List ℕ → Bool
-climbs least end [] = true
-climbs least end (x ∷ xs) = (leb least x && ltb x end) && climbs (suc x) end xs
-
+-- Nothing but zeros.
 unfoldable pub zeros : List ℕ → Bool
 zeros [] = true
 zeros (x ∷ xs) = eqb x 0 && zeros xs
 
--- A good row: its count is at most d; the numbers in use strictly ascending and below the own row; the others 0; no earlier row has its hash.
+-- The numbers in use: strictly ascending, and below the own row.
+unfoldable pub numbersGood : ℕ → List ℕ → Bool
+numbersGood i used = ascends used && every (λ k. ltb k i) used
+
+-- A good row: its count is at most d; the numbers in use are good; the others are 0; no earlier row has its hash.
 unfoldable pub rowGoodOf : ℕ → List ℕ → ℕ → Bool
 rowGoodOf d s i =
     leb (countOf d s i) d
-    && (climbs 0 i (usedOf d s i) && (zeros (unusedOf d s i) && not (member (hashAt s (i * rowSizeOf d)) (rows (rowsOf d s 0 i)))))
+    && numbersGood i (usedOf d s i)
+    && zeros (unusedOf d s i)
+    && not (member (hashAt s (i * rowSizeOf d)) (rows (rowsOf d s 0 i)))
 
 -- The first of so many rows from row i on that isn't good, or the row after them.
 unfoldable pub firstBad : (ℕ → Bool) → ℕ → ℕ → ℕ
 firstBad good i zero = i
 firstBad good i (suc count) = cond (good i) (firstBad good (suc i) count) i
 
--- A table of records of `size` bytes, at most `most` of them: 4 for more bytes, then the first bad row; a partial record at the end is one.
+-- A table of records of `size` bytes, at most `most` of them: 4 for more bytes; then the first bad row, which a partial record at the end is, with
+-- the next number; else its number of rows.
 unfoldable pub checkedWith : (ℕ → Checked) → (ℕ → Bool) → ℕ → ℕ → ℕ → Checked
 checkedWith bad good size most bytes =
     cond (ltb (most * size) bytes)
     (Refused (PastSize 0))
     (cond (ltb (firstBad good 0 (bytes / size)) (bytes / size))
     (bad (firstBad good 0 (bytes / size)))
-    (cond (eqb (bytes % size) 0) (Good (bytes / size)) (bad (bytes / size))))
+    (cond (ltb 0 (bytes % size))
+    (bad (bytes / size))
+    (Good (bytes / size))))
 
 -- A change table of at most `most` rows: 4, then 6.
 unfoldable pub tableCheckedOf : ℕ → ℕ → List ℕ → Checked
@@ -152,13 +157,22 @@ unfoldable pub bytesAt : List ℕ → ℕ → ℕ → List ℕ
 bytesAt s at zero = []
 bytesAt s at (suc count) = getD s at 0 ∷ bytesAt s (at + 1) count
 
--- A good waiting row: its count is at most d; zeros follow the count; unused hashes are zero; its hash stands neither in an earlier waiting
--- row nor in the change table.
+-- The bytes between the count and the hashes, and the hashes not in use.
+unfoldable pub fillOf : ℕ → List ℕ → ℕ → List ℕ
+fillOf d s i = bytesAt s (i * waitingSizeOf d + sizes .hash + 1) (sizes .hash - 1)
+
+unfoldable pub unaskedOf : ℕ → List ℕ → ℕ → List ℕ
+unaskedOf d s i = hashesAt s (asksPlaceOf d i + sizes .hash * asksCountOf d s i) (d - asksCountOf d s i)
+
+-- A good waiting row: its count is at most d, and zeros follow it; unused hashes are zero; its own hash stands neither in an earlier waiting row
+-- nor in the change table.
 unfoldable pub waitingGoodOf : ℕ → List Row → List ℕ → ℕ → Bool
 waitingGoodOf d t s i =
-    (leb (asksCountOf d s i) d && zeros (bytesAt s (i * waitingSizeOf d + sizes .hash + 1) (sizes .hash - 1)))
-    && (zeros (hashesAt s (asksPlaceOf d i + sizes .hash * asksCountOf d s i) (d - asksCountOf d s i))
-    && (not (member (hashAt s (i * waitingSizeOf d)) (waiting (waitingRowsOf d s 0 i))) && not (held t (hashAt s (i * waitingSizeOf d)))))
+    leb (asksCountOf d s i) d
+    && zeros (fillOf d s i)
+    && zeros (unaskedOf d s i)
+    && not (member (hashAt s (i * waitingSizeOf d)) (waiting (waitingRowsOf d s 0 i)))
+    && not (held t (hashAt s (i * waitingSizeOf d)))
 
 -- A waiting table beside a change table: 4, then 9.
 unfoldable pub waitingCheckedOf : ℕ → List Row → List ℕ → Checked

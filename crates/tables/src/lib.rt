@@ -1,7 +1,7 @@
 // Change tables and waiting tables: their rows, how a row is found, and when a table is good.
 //
-//     change row, 64 bytes      hash, count, the numbers of the rows that it depends on, all below its own
-//     waiting row, 544 bytes    hash, count, the hashes that it asks for
+//     change row     hash, count, the numbers of the rows that it depends on, all below its own
+//     waiting row    hash, count, the hashes that it asks for
 //
 // A table is lent as bytes and checked before anything is read from it.
 pub mod check;

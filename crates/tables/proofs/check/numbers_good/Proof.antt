@@ -4,14 +4,14 @@ use Prim.Native.Nat.{_-_, _≤_}
 use borrow.Author.Needs.{needs}
 use mathlib.Core.Path.{_≡_, sym, _∙_}
 use native.Mathlib.Omega.{arith}
-use Rattle.tables.specs.Bytes.{usedAt, climbs}
+use Rattle.tables.specs.Bytes.{usedAt, numbersGood}
 use Rattle.tables.proofs.RowLaws.{climbing, climb-starts, climb-low, climb-high, climb-on, climb-ends}
 use Rattle.tables.proofs.check.numbers_good.Statement.{statement}
 use Rattle.tables.proofs.check.numbers_good.Tie as tie
 
 abbrev Inv-loop : tie.InvT-loop
 Inv-loop table i count least₀ j₀ least j =
-    record { upto : j ≤ count; rest : climbing table i count least j ≡ climbs 0 i (usedAt table i) }
+    record { upto : j ≤ count; rest : climbing table i count least j ≡ numbersGood i (usedAt table i) }
 
 abbrev μ-loop : tie.MeasureT-loop
 μ-loop table i count least₀ j₀ least j = count - j

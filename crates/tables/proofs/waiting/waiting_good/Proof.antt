@@ -2,7 +2,7 @@
 use mathlib.Core.Path.{sym, _∙_}
 use borrow.Author.Tests.{not-true, not-false}
 use Rattle.tables.proofs.TableLaws.{length-rows-at}
-use Rattle.tables.proofs.WaitingLaws.{waiting-many, waiting-behind, waiting-spare, waiting-twice, waiting-held}
+use Rattle.tables.proofs.WaitingLaws.{waiting-many, waiting-fill, waiting-unasked, waiting-twice, waiting-held}
 use borrow.Author.Needs.{needs}
 use Rattle.tables.proofs.waiting.waiting_good.Statement.{statement}
 use Rattle.tables.proofs.waiting.waiting_good.Tie as tie
@@ -32,7 +32,7 @@ returns-2 : tie.Need-returns-2
 returns-2 c =
     let z = c .before in
     let a = z .before .before in
-    sym (waiting-behind _ _ _ _ (a .asks-count .ensures) (z .before .if1 .left) (sym (z .zero-bytes .ensures) ∙ not-true _ (c .if2 .taken)))
+    sym (waiting-fill _ _ _ _ (a .asks-count .ensures) (z .before .if1 .left) (sym (z .zero-bytes .ensures) ∙ not-true _ (c .if2 .taken)))
 
 add-zero-bytes-3 : tie.Need-add-zero-bytes-3
 add-zero-bytes-3 c = search needs
@@ -55,7 +55,7 @@ returns-3 c =
     let z = y .before .before in
     let a = z .before .before in
     sym
-    (waiting-spare _ _ _ _ (a .asks-count .ensures) (z .before .if1 .left)
+    (waiting-unasked _ _ _ _ (a .asks-count .ensures) (z .before .if1 .left)
     (sym (z .zero-bytes .ensures) ∙ not-false _ (y .before .if2 .left))
     (a .before .before .before .pre .1)
     (sym (y .zero-bytes2 .ensures) ∙ not-true _ (c .if3 .taken)))
