@@ -1,5 +1,6 @@
-# `make run` shows the library at work; `make test` proves and tests all of it; `make bench` measures. Each does its own set-up.
-.PHONY: run test lib bench
+# `make run` shows the library at work; `make test` proves and tests all of it; `make bench` measures. Each does its own
+# set-up. docs/WORKING.md has what is useful while something is changed.
+.PHONY: run test lib bench check edit tools
 
 run: lib
 	@cd host && cargo run --offline --quiet --release --package bisquetower --example sample
@@ -12,5 +13,16 @@ bench: lib
 	@bash host/bench/run
 
 # The proved library as an archive that Rust and C link.
-lib:
+lib: tools
 	@bash .ci/lib
+
+tools:
+	@bash .ci/need rt cargo
+
+# One crate and what it is built on: make check CRATE=wire.
+check:
+	@bash .ci/check $(CRATE)
+
+# One edit that the prover must refuse: make edit CRATE=wire EDIT=the-edits-name.
+edit:
+	@bash .ci/edit $(CRATE) $(EDIT)
