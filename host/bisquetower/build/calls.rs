@@ -5,6 +5,7 @@
 //! returns the words of a parameter named `answer`.
 
 use crate::exported::{Function, Item, Kind, Lent, Parameter};
+use std::collections::BTreeSet;
 
 /// How the methods of a batch reach the library: by the declared symbols, or by
 /// requests to the program caller.c.
@@ -13,6 +14,13 @@ pub enum Way {
     Linked,
     Emulated,
 }
+
+/// Why a generated call is sound.
+const SAFETY: &str = "        \
+// SAFETY: the function is declared from its own source. Each pointer is a borrow's,
+        // which isn't null, with its length behind it where it is a slice's; what is written is
+        // borrowed mutably, so it overlaps nothing. The call keeps no pointer, and takes any numbers.
+";
 
 /// The calls' names as caller.c takes them, in the order of their numbers.
 pub fn c_text(functions: &[Function]) -> String {
@@ -44,7 +52,36 @@ pub fn rust_text(functions: &[Function], way: Way) -> String {
     for function in functions {
         text += &alone(function);
     }
-    text
+    text + &answers(functions)
+}
+
+/// Every length of an answer, told from its refusal.
+fn answers(functions: &[Function]) -> String {
+    let lengths: BTreeSet<usize> = functions.iter().filter_map(answer_words).collect();
+    let each = lengths.iter().map(|&words| {
+        let numbers = words - 1;
+        format!(
+            "
+impl crate::refusal::Answer for [u64; {words}] {{
+    type Numbers = [u64; {numbers}];
+
+    fn numbers(self) -> Result<[u64; {numbers}], crate::refusal::Refusal> {{
+        crate::refusal::numbers(self)
+    }}
+}}
+"
+        )
+    });
+    each.collect()
+}
+
+/// How many words a function's answer has; none if it has no answer.
+fn answer_words(f: &Function) -> Option<usize> {
+    let answer = f.parameters.iter().find(|p| p.is_answer())?;
+    match answer.kind {
+        Kind::Array(_, words) => Some(words),
+        _ => None,
+    }
 }
 
 fn method(f: &Function, number: usize, way: Way) -> String {
@@ -55,7 +92,8 @@ fn method(f: &Function, number: usize, way: Way) -> String {
             let fill = answers.map(|p| format!("        {}.fill(UNWRITTEN);\n", p.name));
             let words = list(f, pointers);
             let fill: String = fill.collect();
-            format!("{fill}        unsafe {{ {}({words}) }}\n", f.name)
+            let name = &f.name;
+            format!("{fill}{SAFETY}        unsafe {{ {name}({words}) }}\n")
         }
         Way::Emulated => {
             let words = list(f, arguments);
@@ -83,15 +121,12 @@ fn alone(f: &Function) -> String {
     );
     let comment = comment(f, "");
     let head = format!("\n{comment}#[inline]\npub fn {name}({own})");
-    match f.parameters.iter().find(|p| p.is_answer()) {
-        Some(Parameter {
-            kind: Kind::Array(_, length),
-            ..
-        }) => {
+    match answer_words(f) {
+        Some(length) => {
             let words = format!("    let mut answer = [UNWRITTEN; {length}];\n");
             format!("{head} -> [u64; {length}] {{\n{words}{call}    answer\n}}\n")
         }
-        _ => format!("{head} {{\n{call}}}\n"),
+        None => format!("{head} {{\n{call}}}\n"),
     }
 }
 

@@ -1,6 +1,7 @@
 //! Reads and writes a few samples through the proved library, and prints what
 //! they are.
 
+use bisquetower::message::{Message, CHUNK_WORDS, HASH, HAVES, HAVE_WORDS};
 use bisquetower::{raw, refusal};
 
 type Reader = fn(&[u8], usize, usize) -> [u64; 4];
@@ -120,20 +121,18 @@ fn messages() {
 }
 
 fn message(name: &str, bytes: &[u8]) {
-    let (mut haves, mut chunks) = ([0; 7 * 16], [0; 2 * 16]);
-    let words = raw::read_message(bytes, &mut haves, &mut chunks);
-    let tell = |[version, _, heads, _, need, _, haves, _, chunks, flags, _]: [u64; 11]| {
-        let flags = match flags {
-            256 => "no flags".to_string(),
-            flags => format!("flags {flags}"),
+    let (mut haves, mut chunks) = ([0; HAVE_WORDS * HAVES], [0; CHUNK_WORDS * 16]);
+    let told = Message::read(bytes, &mut haves, &mut chunks).map(|message| {
+        let flags = match message.flags() {
+            None => "no flags".to_string(),
+            Some(flags) => format!("flags {flags}"),
         };
+        let version = message.version();
+        let [heads, need] = [message.heads(), message.need()].map(|hashes| hashes.len() / HASH);
+        let (haves, chunks) = (message.haves().len(), message.chunks().len());
         format!("version {version}: {heads} heads, {need} needed, {haves} haves, {chunks} chunks, {flags}")
-    };
-    let answer = match words {
-        [0, told @ ..] => Ok(tell(told)),
-        [number, value, ..] => Err(refusal::Refusal { number, value }),
-    };
-    print_line(name, &shown(bytes), answer);
+    });
+    print_line(name, &shown(bytes), told);
 }
 
 /// Rows a; b on a; c on a; d on b and c. The peer's filter has all but b.

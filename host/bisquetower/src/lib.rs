@@ -1,6 +1,8 @@
 //! The proved sync library, called from Rust.
 //!
 //! ```text
+//!   message     a message that was read, part by part
+//!     |
 //!   refusal     an answer as a result: numbers, or a refusal that can be read
 //!     |
 //!   raw         the exported functions, on slices and numbers
@@ -24,5 +26,6 @@
 //! assert_eq!(cut.sentence(), "the input ends inside the item that starts at place 2");
 //! ```
 
+pub mod message;
 pub mod raw;
 pub mod refusal;

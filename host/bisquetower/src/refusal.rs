@@ -9,11 +9,40 @@ pub struct Refusal {
     pub value: u64,
 }
 
-/// The three numbers of a call that answered, or its refusal.
-pub fn answer(words: [u64; 4]) -> Result<[u64; 3], Refusal> {
-    match words {
-        [0, first, second, third] => Ok([first, second, third]),
-        [number, value, ..] => Err(Refusal { number, value }),
+/// The words of an answer, of any length that an exported call has: build.rs writes
+/// an implementation for each.
+pub trait Answer {
+    /// One less than there are words.
+    type Numbers;
+
+    fn numbers(self) -> Result<Self::Numbers, Refusal>;
+}
+
+/// The numbers of a call that answered, or its refusal.
+///
+/// ```
+/// use bisquetower::{raw, refusal};
+///
+/// let bytes = [0x01, 0x0a, 0x07, 0x0b, 0x0f];
+/// let filter = refusal::answer(raw::read_filter(&bytes, 0, 5));
+/// let [entries, bits, probes, field, length, next, _] = filter.unwrap();
+/// assert_eq!([entries, bits, probes, field, length, next], [1, 10, 7, 3, 2, 5]);
+/// ```
+pub fn answer<A: Answer>(words: A) -> Result<A::Numbers, Refusal> {
+    words.numbers()
+}
+
+/// The first word told from the others.
+pub(crate) fn numbers<const WORDS: usize, const NUMBERS: usize>(
+    words: [u64; WORDS],
+) -> Result<[u64; NUMBERS], Refusal> {
+    const { assert!(NUMBERS >= 1 && WORDS == NUMBERS + 1) };
+    match words[0] {
+        0 => Ok(std::array::from_fn(|k| words[k + 1])),
+        number => Err(Refusal {
+            number,
+            value: words[1],
+        }),
     }
 }
 
@@ -65,6 +94,9 @@ mod tests {
             value: 64,
         };
         assert_eq!(answer([7, 64, 0, 0]), Err(refusal));
+        assert_eq!(answer([0, 1, 2, 3, 4, 5, 6, 8]), Ok([1, 2, 3, 4, 5, 6, 8]));
+        let words = [7, 64, 0, 0, 0, 0, 0, 0, 0, 0, 0, 0];
+        assert_eq!(answer(words), Err(refusal));
     }
 
     /// Refusals 8, 10 and 11 have the value 0 always, so theirs don't show it.

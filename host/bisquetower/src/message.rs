@@ -1,0 +1,151 @@
+//! A message that was read, part by part. The library answers places and counts in
+//! the message's own bytes, and two lists of words (docs/ABI.md); this is a view of
+//! them, and copies nothing.
+//!
+//! ```
+//! use bisquetower::message::{Message, CHUNK_WORDS, HAVES, HAVE_WORDS};
+//!
+//! // Version 2, no heads, no need, no have, one chunk, no flags.
+//! let bytes = b"\x43\0\0\0\x01\x04sync";
+//! let (mut haves, mut chunks) = ([0; HAVES * HAVE_WORDS], [0; CHUNK_WORDS]);
+//! let message = Message::read(bytes, &mut haves, &mut chunks).unwrap();
+//! assert_eq!((message.version(), message.flags()), (2, None));
+//! assert_eq!(message.chunks().collect::<Vec<_>>(), [b"sync"]);
+//!
+//! let cut = Message::read(&bytes[..7], &mut haves, &mut chunks).unwrap_err();
+//! assert_eq!((cut.number, cut.value), (1, 5));
+//! ```
+
+use crate::raw;
+use crate::refusal::{answer, Refusal};
+
+/// Words of the answer, of a have and of a chunk.
+pub const ANSWER_WORDS: usize = 12;
+pub const HAVE_WORDS: usize = 7;
+pub const CHUNK_WORDS: usize = 2;
+
+/// As many haves as a message may have.
+pub const HAVES: usize = 16;
+
+/// Bytes of a hash.
+pub const HASH: usize = 32;
+
+/// How the answer says that there is no flags section.
+pub const NO_FLAGS: u64 = 256;
+
+#[derive(Clone, Copy, Debug)]
+pub struct Message<'a> {
+    s: &'a [u8],
+    version: u64,
+    heads: &'a [u8],
+    need: &'a [u8],
+    haves: &'a [u64],
+    chunks: &'a [u64],
+    flags: u64,
+    next: u64,
+}
+
+/// What the peer has: the hashes of the last sync, one after the other, and its
+/// filter.
+#[derive(Clone, Copy, Debug, PartialEq, Eq)]
+pub struct Have<'a> {
+    pub last_sync: &'a [u8],
+    pub entries: u64,
+    pub bits: u64,
+    pub probes: u64,
+    pub field: &'a [u8],
+}
+
+impl<'a> Message<'a> {
+    /// Reads a message. The lists get `HAVE_WORDS` words a have and `CHUNK_WORDS` a
+    /// chunk; one that is too short is refusal 7.
+    pub fn read(
+        s: &'a [u8],
+        haves: &'a mut [u64],
+        chunks: &'a mut [u64],
+    ) -> Result<Message<'a>, Refusal> {
+        let words = raw::read_message(s, haves, chunks);
+        Message::of(s, words, haves, chunks)
+    }
+
+    /// The message of an answer and of the lists that `raw::read_message` left with
+    /// it. Other words than these may panic.
+    pub fn of(
+        s: &'a [u8],
+        words: [u64; ANSWER_WORDS],
+        haves: &'a [u64],
+        chunks: &'a [u64],
+    ) -> Result<Message<'a>, Refusal> {
+        let [version, heads, head_count, need, need_count, _, have_count, _, chunk_count, flags, next] =
+            answer(words)?;
+        Ok(Message {
+            s,
+            version,
+            heads: hashes(s, heads, head_count),
+            need: hashes(s, need, need_count),
+            haves: &haves[..HAVE_WORDS * have_count as usize],
+            chunks: &chunks[..CHUNK_WORDS * chunk_count as usize],
+            flags,
+            next,
+        })
+    }
+
+    /// The bytes that it was read from.
+    pub fn bytes(&self) -> &'a [u8] {
+        self.s
+    }
+
+    /// 1 or 2.
+    pub fn version(&self) -> u64 {
+        self.version
+    }
+
+    /// Hashes one after the other, here and in the need.
+    pub fn heads(&self) -> &'a [u8] {
+        self.heads
+    }
+
+    pub fn need(&self) -> &'a [u8] {
+        self.need
+    }
+
+    pub fn haves(&self) -> impl ExactSizeIterator<Item = Have<'a>> {
+        let s = self.s;
+        self.haves.chunks(HAVE_WORDS).map(move |words| Have {
+            last_sync: hashes(s, words[0], words[1]),
+            entries: words[2],
+            bits: words[3],
+            probes: words[4],
+            field: part(s, words[5], words[6]),
+        })
+    }
+
+    /// The haves as the calls take them that are lent haves, over `bytes`.
+    pub fn have_words(&self) -> &'a [u64] {
+        self.haves
+    }
+
+    pub fn chunks(&self) -> impl ExactSizeIterator<Item = &'a [u8]> {
+        let s = self.s;
+        let words = self.chunks.chunks(CHUNK_WORDS);
+        words.map(move |words| part(s, words[0], words[1]))
+    }
+
+    /// None if there is no flags section.
+    pub fn flags(&self) -> Option<u8> {
+        u8::try_from(self.flags).ok()
+    }
+
+    /// The place after all that was read.
+    pub fn next(&self) -> usize {
+        self.next as usize
+    }
+}
+
+fn part(s: &[u8], place: u64, length: u64) -> &[u8] {
+    &s[place as usize..][..length as usize]
+}
+
+fn hashes(s: &[u8], place: u64, count: u64) -> &[u8] {
+    part(s, place, HASH as u64 * count)
+}
