@@ -2,13 +2,14 @@
 //! them, and one of nearly 4 MiB.
 
 use crate::measure::{line, line_of, Line};
+use bisquetower::message::Message as View;
 use bisquetower::raw;
 use compare::inputs::message::Draft;
+use compare::inputs::table::Likeness;
 use compare::inputs::Random;
-use compare::messages::{Chunks, Reading};
+use compare::messages::parts::{parts, write, Chunks};
 use compare::model::filter::built;
 use compare::model::number_bytes;
-use compare::table_inputs::Likeness;
 use crate_under_test::facade::Message;
 use std::hint::black_box;
 
@@ -108,21 +109,15 @@ fn decode_beside_a_sum(size: &str, s: &[u8]) {
 /// so it gets copies that are made beforehand.
 fn encode(size: &str, s: &[u8]) {
     let (mut haves, mut chunks) = room();
-    let words = raw::read_message(s, &mut haves, &mut chunks);
-    let reading = Reading {
-        s,
-        words,
-        haves: &haves,
-        chunks: &chunks,
-    };
-    let chunks = Chunks::of(&reading);
-    let parts = reading.parts(&chunks);
+    let view = View::read(s, &mut haves, &mut chunks).expect("a good message");
+    let chunks = Chunks::of(&view);
+    let parts = parts(&view, &chunks);
     let message = Message::decode(s).expect("a good message");
     let mut out = vec![0; s.len()];
-    assert_eq!(compare::messages::write(&parts, &mut out)[0], 0);
+    assert_eq!(write(&parts, &mut out)[0], 0);
     assert_eq!(out, message.clone().encode());
     let library = || {
-        let written = compare::messages::write(black_box(&parts), &mut out)[1];
+        let written = write(black_box(&parts), &mut out)[1];
         black_box(&out);
         written
     };

@@ -5,10 +5,10 @@
 use crate::measure::{line, Line};
 use bisquetower::raw;
 use compare::inputs::selection::{lend, OwnHave};
+use compare::inputs::table::{table_bytes, Likeness, Shape};
 use compare::inputs::Random;
+use compare::model::table::{Hash, HASH};
 use compare::published;
-use compare::table_inputs::{table_bytes, Likeness, Shape};
-use compare::table_model::{Hash, HASH};
 use compare::tables::document;
 use crate_under_test::facade::{hashes_to_send, Automerge, ChangeHash, Have};
 use std::hint::black_box;

@@ -4,9 +4,9 @@
 
 use crate::measure::{line, Line};
 use bisquetower::raw;
+use compare::inputs::table::{table_bytes, waiting_bytes, Likeness, Row, Shape, WaitingRow};
 use compare::inputs::Random;
-use compare::table_inputs::{table_bytes, waiting_bytes, Likeness, Row, Shape, WaitingRow};
-use compare::table_model::{Hash, HASH};
+use compare::model::table::{Hash, HASH};
 use compare::tables::document;
 use crate_under_test::facade::{Automerge, ChangeHash};
 use std::hint::black_box;

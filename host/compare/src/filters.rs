@@ -64,7 +64,7 @@ pub fn difference(part: Part) -> Option<(Difference, u64)> {
                     at,
                     end: s.len(),
                 };
-                return crate::difference(&read).map(|_| (Difference::CutNumber, 1));
+                return crate::wire::difference(&read).map(|_| (Difference::CutNumber, 1));
             }
         }
     }

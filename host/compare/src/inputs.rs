@@ -4,6 +4,7 @@
 pub mod filter;
 pub mod message;
 pub mod selection;
+pub mod table;
 
 use crate::model::{number_bytes, prefixed_bytes};
 use std::fmt::Write as _;
@@ -71,11 +72,44 @@ pub fn shown(bytes: &[u8]) -> String {
     text
 }
 
-/// The seed of the random tests: COMPARE_SEED, or always the same.
-pub fn seed() -> u64 {
-    match std::env::var("COMPARE_SEED") {
-        Ok(seed) => seed.parse().expect("COMPARE_SEED is a number"),
-        Err(_) => 20_120_047_200,
+/// The seed of a random test. A test that fails says it.
+pub struct Seed(u64);
+
+/// What sets the seed of every random test.
+const SEED: &str = "COMPARE_SEED";
+
+impl Seed {
+    /// The one that is told, or always the same.
+    pub fn fixed() -> Seed {
+        Seed(told().unwrap_or(20_120_047_200))
+    }
+
+    /// The one that is told, or another each time, from the clock.
+    pub fn fresh() -> Seed {
+        let clock = || {
+            let now = std::time::SystemTime::now();
+            let since = now.duration_since(std::time::UNIX_EPOCH);
+            Random(since.map_or(0, |time| time.as_nanos() as u64)).word()
+        };
+        Seed(told().unwrap_or_else(clock))
+    }
+
+    /// The numbers of this seed; those of another `salt` are others.
+    pub fn random(&self, salt: u64) -> Random {
+        Random(self.0 ^ salt)
+    }
+}
+
+fn told() -> Option<u64> {
+    let seed = std::env::var(SEED).ok()?;
+    Some(seed.parse().expect("COMPARE_SEED is a number"))
+}
+
+impl Drop for Seed {
+    fn drop(&mut self) {
+        if std::thread::panicking() {
+            eprintln!("{SEED}={} makes this run again", self.0);
+        }
     }
 }
 

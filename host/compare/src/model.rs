@@ -7,6 +7,7 @@ pub mod have;
 pub mod message;
 pub mod selection;
 pub mod state;
+pub mod table;
 
 use bisquetower::raw::{Read, Reader};
 

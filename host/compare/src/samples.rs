@@ -1,5 +1,9 @@
-//! A fixed sample of the crate's answers for messages, saved states, hashes to
-//! send and filters, as text: a file of host/compare/samples for each.
+//! Fixed samples of the crate's answers, the same each time they are made. Inputs of
+//! the intended differences are left out.
+//!
+//! Those of wire items are bytes (`wire`), for the proved program crates/replay, which
+//! has them as its standard input. Those of messages, saved states, hashes to send
+//! and filters are text, a file of host/compare/samples for each:
 //!
 //! ```text
 //!   # 60 records: what the columns are
@@ -9,18 +13,20 @@
 //!
 //! All but the number of records is hexadecimal. Hashes stand one after the
 //! other, 32 bytes each; items of another list have commas between them. No
-//! bytes, and a list of nothing, are a dash. Inputs of the intended differences
-//! are left out.
+//! bytes, and a list of nothing, are a dash.
 
 pub mod filters;
 pub mod messages;
 pub mod selections;
 pub mod states;
+pub mod wire;
 
 use crate::model::Refused;
+use std::path::{Path, PathBuf};
 
-/// A line of a file.
+/// A line of a text.
 pub trait Record: Sized {
+    /// The file's name, from the repository's root on.
     const FILE: &'static str;
     /// What the columns are, in words.
     const COLUMNS: &'static str;
@@ -36,13 +42,38 @@ pub trait Record: Sized {
 
 /// A file as it is made from the crate.
 pub struct File {
+    /// From the repository's root on.
     pub name: &'static str,
     pub records: usize,
-    pub text: String,
+    pub bytes: Vec<u8>,
 }
 
-pub fn files() -> [File; 4] {
+impl File {
+    pub fn path(&self) -> PathBuf {
+        path(self.name)
+    }
+
+    /// The bytes that are stored under its name.
+    pub fn stored(&self) -> std::io::Result<Vec<u8>> {
+        std::fs::read(self.path())
+    }
+}
+
+/// Where a file stands that is named from the repository's root on.
+pub fn path(name: &str) -> PathBuf {
+    let root = Path::new(env!("CARGO_MANIFEST_DIR")).join("../..");
+    root.join(name)
+}
+
+pub fn files() -> [File; 5] {
+    let records = wire::sample();
+    let wire = File {
+        name: wire::FILE,
+        records: records.len(),
+        bytes: wire::encode(&records),
+    };
     [
+        wire,
         file::<messages::Record>(),
         file::<states::Record>(),
         file::<selections::Record>(),
@@ -55,7 +86,7 @@ fn file<R: Record>() -> File {
     File {
         name: R::FILE,
         records: records.len(),
-        text: encode(&records),
+        bytes: encode(&records).into_bytes(),
     }
 }
 

@@ -2,14 +2,15 @@
 //! is chosen beside what the crate chooses. The crate's `get_hashes_to_send` runs
 //! over the stand-in document, whose graph rests on document 01.
 
+use crate::guarded::{Fill, Guarded, FILLS};
 use crate::inputs::selection::{lend, Case, OwnHave};
 use crate::inputs::Random;
 use crate::model::selection::hashes_to_send;
+use crate::model::table::{Hash, HASH};
 use crate::model::{self, Refused};
 use crate::published;
-use crate::table_model::{Hash, HASH};
+use crate::same_answer;
 use crate::tables::{document, Rooms};
-use crate::GUARD;
 use bisquetower::raw::{self, Batch};
 use crate_under_test::facade::{self, ChangeHash, Have};
 
@@ -54,7 +55,7 @@ impl Tally {
     }
 
     fn count(&mut self, case: &Case, chosen: &[Hash]) {
-        let rows = case.table.len() / crate::table_model::ROW;
+        let rows = case.table.len() / crate::model::table::ROW;
         let place = |hash: &Hash| case.table.chunks(64).position(|row| row[..32] == *hash);
         self.cases += 1;
         self.chosen += chosen.len() as u64;
@@ -114,14 +115,12 @@ impl Selection<'_> {
     }
 }
 
-/// A selection with one buffer, before and after.
+/// A selection with one buffer.
 struct Asked<'a> {
     selection: Selection<'a>,
-    room: usize,
     expected: [u64; 4],
-    expected_memory: Vec<u8>,
     answer: [u64; 4],
-    memory: Vec<u8>,
+    out: Guarded<u8>,
 }
 
 impl<'a> Asked<'a> {
@@ -129,61 +128,40 @@ impl<'a> Asked<'a> {
         selection: Selection<'a>,
         chosen: &Result<Vec<Hash>, Refused>,
         room: usize,
-        flip: u8,
+        fill: Fill,
     ) -> Self {
-        let pattern = (0..room + 2 * GUARD).map(|k| (k * 37 + 11) as u8 ^ flip);
-        let memory: Vec<u8> = pattern.collect();
-        let mut expected_memory = memory.clone();
-        let lent = &mut expected_memory[GUARD..GUARD + room];
+        let mut out = Guarded::new(room, fill);
         let wanted = chosen.as_ref().map(|hashes| hashes.concat());
-        let expected = model::write(lent, wanted.map_err(|&refused| refused));
         Asked {
             selection,
-            room,
-            expected,
-            expected_memory,
+            expected: model::write(out.expected(), wanted.map_err(|&refused| refused)),
             answer: [raw::UNWRITTEN; 4],
-            memory,
+            out,
         }
     }
 
     fn ask<'m>(&'m mut self, batch: &mut Batch<'m>) {
-        let lent = &mut self.memory[GUARD..GUARD + self.room];
         let Selection {
             table,
             s,
             haves,
             need,
         } = self.selection;
-        batch.hashes_to_send(table, s, haves, need, lent, &mut self.answer);
+        batch.hashes_to_send(table, s, haves, need, self.out.lent(), &mut self.answer);
     }
 
     fn agrees(&self) -> Result<(), String> {
-        let told = || format!("{} into {} bytes", self.selection.shown(), self.room);
-        let (answer, expected) = (self.answer, self.expected);
-        if answer != expected {
-            let told = told();
-            return Err(format!(
-                "{told}: the library's answer is {answer:?}, the model's {expected:?}"
-            ));
-        }
-        let mut bytes = self.memory.iter().zip(&self.expected_memory);
-        match bytes.position(|(byte, expected)| byte != expected) {
-            Some(k) => {
-                let place = k as i64 - GUARD as i64;
-                Err(format!("{}: the byte at {place} is wrong", told()))
-            }
-            None => Ok(()),
-        }
+        let (selection, room) = (self.selection, self.out.room());
+        let told = |why| format!("{} into {room} bytes: {why}", selection.shown());
+        same_answer(self.answer, self.expected).map_err(told)?;
+        self.out.agrees().map_err(told)
     }
 
     fn written(&self) -> &[u8] {
-        let length = if self.answer[0] == 0 {
-            self.answer[1]
-        } else {
-            0
-        };
-        &self.memory[GUARD..GUARD + length as usize]
+        match self.answer {
+            [0, length, ..] => &self.out.left()[..length as usize],
+            _ => &[],
+        }
     }
 }
 
@@ -193,10 +171,9 @@ pub fn compare(selection: Selection, rooms: Rooms) -> Result<Vec<[u64; 4]>, Stri
     let chosen = selection.model();
     // A refused call gets some buffers too.
     let wanted = chosen.as_ref().map_or(2, |hashes| hashes.len()) * HASH;
-    let flips = [0x00, 0xff];
     let mut asked = Vec::new();
     for room in rooms.sizes(wanted) {
-        asked.extend(flips.map(|flip| Asked::new(selection, &chosen, room, flip)));
+        asked.extend(FILLS.map(|fill| Asked::new(selection, &chosen, room, fill)));
     }
     let mut batch = Batch::new();
     for one in &mut asked {
@@ -208,7 +185,7 @@ pub fn compare(selection: Selection, rooms: Rooms) -> Result<Vec<[u64; 4]>, Stri
     }
     Ok(asked
         .iter()
-        .step_by(flips.len())
+        .step_by(FILLS.len())
         .map(|one| one.answer)
         .collect())
 }
@@ -233,7 +210,7 @@ pub fn compare_cases(cases: &[Case], random: &mut Random) -> Result<(Tally, Vec<
         };
         let chosen = selection.model();
         let room = HASH * chosen.as_ref().map_or(1, |hashes| 1 + hashes.len());
-        asked.extend([0x00, 0xff].map(|flip| Asked::new(selection, &chosen, room, flip)));
+        asked.extend(FILLS.map(|fill| Asked::new(selection, &chosen, room, fill)));
     }
     let mut batch = Batch::new();
     for one in &mut asked {
@@ -242,7 +219,7 @@ pub fn compare_cases(cases: &[Case], random: &mut Random) -> Result<(Tally, Vec<
     batch.run();
     let mut tally = Tally::default();
     let mut lists = Vec::new();
-    for (case, two) in cases.iter().zip(asked.chunks(2)) {
+    for (case, two) in cases.iter().zip(asked.chunks(FILLS.len())) {
         for one in two {
             one.agrees()?;
         }

@@ -1,12 +1,14 @@
 //! Sessions and saved states: the library's answers, buffers and words beside the
 //! model's and the crate's.
 
+use crate::guarded::{Fill, Guarded, FILLS};
 use crate::inputs;
 use crate::model::state::{
     self, Lists, Session, HAVE_RESPONDED, IN_FLIGHT, NEEDS_RESET, PEER_READ_ONLY, READ_ONLY, RESET,
     V2, WORDS,
 };
 use crate::published;
+use crate::same_answer;
 use bisquetower::raw::{Batch, UNWRITTEN};
 use crate_under_test::facade::{self, Capability, ChangeHash, Have, State};
 
@@ -38,52 +40,48 @@ impl Tally {
     }
 }
 
-/// What is lent to a reading call, and what it leaves.
-#[derive(Clone, PartialEq, Eq)]
+/// What is lent to a reading call.
 struct Lent {
-    shared: Vec<u8>,
-    session: [u64; WORDS],
+    shared: Guarded<u8>,
+    session: Guarded<u64>,
     answer: [u64; 4],
 }
 
 impl Lent {
-    /// Memory in which each item differs from its neighbours; over `flip` it has
-    /// other values in every one.
-    fn new(room: usize, flip: u8) -> Self {
-        let byte = |k: usize| (k * 37 + 11) as u8 ^ flip;
+    fn new(room: usize, fill: Fill) -> Self {
         Lent {
-            shared: (0..room).map(byte).collect(),
-            session: std::array::from_fn(|k| u64::from_be_bytes([byte(k); 8])),
+            shared: Guarded::new(room, fill),
+            session: Guarded::new(WORDS, fill),
             answer: [UNWRITTEN; 4],
         }
+    }
+
+    fn session(&self) -> [u64; WORDS] {
+        self.session.left().try_into().expect("sixteen words")
     }
 }
 
 /// Compares the library's answers to these reads, the buffer and the session that
 /// it leaves, with the model's and the crate's; the first that disagrees is the
-/// error. Each is read twice, over memory of two kinds, so that a stray write of
-/// any value is seen.
+/// error.
 pub fn compare_reads(reads: &[Reading]) -> Result<Tally, String> {
     let mut tally = Tally::default();
-    for flip in [0x00, 0xff] {
-        let fresh = reads.iter().map(|read| Lent::new(read.room, flip));
+    for fill in FILLS {
+        let fresh = reads.iter().map(|read| Lent::new(read.room, fill));
         let mut lent: Vec<Lent> = fresh.collect();
         let mut batch = Batch::new();
         for (read, l) in reads.iter().zip(&mut lent) {
-            batch.read_state(read.s, &mut l.shared, &mut l.session, &mut l.answer);
+            let session = l.session.lent().try_into().expect("sixteen words");
+            batch.read_state(read.s, l.shared.lent(), session, &mut l.answer);
         }
         batch.run();
         tally = Tally::default();
-        for (read, left) in reads.iter().zip(&lent) {
+        for (read, left) in reads.iter().zip(&mut lent) {
             let told = |why: String| {
-                let answer = left.answer;
-                let s = inputs::shown(read.s);
-                format!(
-                    "the state {s} into {}: the answer is {answer:?}, {why}",
-                    read.room
-                )
+                let (s, room) = (inputs::shown(read.s), read.room);
+                format!("the state {s} into {room} bytes: {why}")
             };
-            compare_left(read, left, Lent::new(read.room, flip)).map_err(told)?;
+            compare_left(read.s, left).map_err(told)?;
             tally.answers[left.answer[0] as usize] += 1;
             tally.past_limit += u64::from(left.answer[0] == 4);
         }
@@ -91,30 +89,28 @@ pub fn compare_reads(reads: &[Reading]) -> Result<Tally, String> {
     Ok(tally)
 }
 
-fn compare_left(read: &Reading, left: &Lent, mut expected: Lent) -> Result<(), String> {
-    expected.answer = state::read(read.s, &mut expected.shared, &mut expected.session);
-    if left.answer != expected.answer {
-        return Err(format!("the model's {:?}", expected.answer));
-    }
-    if left.session != expected.session {
-        let (mine, models) = (left.session, expected.session);
-        return Err(format!("the session is {mine:?}, the model's {models:?}"));
-    }
-    if left.shared != expected.shared {
-        return Err("another byte of the buffer is the model's".to_string());
-    }
-    match (left.answer[0], published::read_state(read.s)) {
+fn compare_left(s: &[u8], left: &mut Lent) -> Result<(), String> {
+    let session = left.session.expected().try_into().expect("sixteen words");
+    let expected = state::read(s, left.shared.expected(), session);
+    same_answer(left.answer, expected)?;
+    left.session.agrees()?;
+    left.shared.agrees()?;
+    let answer = left.answer;
+    match (answer[0], published::read_state(s)) {
         (0, Ok(state)) => {
             let heads: Vec<u8> = state.shared_heads.iter().flat_map(|hash| hash.0).collect();
-            let same = left.session == words_of(&state) && left.shared.starts_with(&heads);
+            let same = left.session() == words_of(&state) && left.shared.left().starts_with(&heads);
             same.then_some(())
                 .ok_or("the crate's session is another".to_string())
         }
         // The crate has neither a buffer nor a limit.
         (7, Ok(_)) | (4, Ok(_)) | (4, Err([1, _])) => Ok(()),
-        (2, Err(theirs)) if theirs == left.answer[..2] => Ok(()),
+        (2, Err(theirs)) if theirs == answer[..2] => Ok(()),
         (mine @ (1 | 3), Err([theirs, _])) if mine == theirs => Ok(()),
-        (_, theirs) => Err(format!("the crate's {:?}", theirs.map(|s| words_of(&s)))),
+        (_, theirs) => {
+            let theirs = theirs.map(|state| words_of(&state));
+            Err(format!("the answer is {answer:?}, the crate's {theirs:?}"))
+        }
     }
 }
 

@@ -3,9 +3,10 @@
 //! under test, which keeps rows and waiting changes in its own way. The crate's
 //! own graph can't be had.
 
+use crate::guarded::{Fill, Guarded, FILLS};
+use crate::model::table::{self, Hash, HASH, ROW, WAITING_ROW};
 use crate::model::{self, Refused};
-use crate::table_model::{self, Hash, HASH, ROW, WAITING_ROW};
-use crate::GUARD;
+use crate::same_answer;
 use bisquetower::raw::{self, Batch};
 use crate_under_test::facade::{Automerge, Change, ChangeHash};
 
@@ -77,17 +78,17 @@ impl Call<'_> {
 
     fn model(&self) -> Result<Found, Refused> {
         match *self {
-            Call::CheckTable { table } => table_model::check_table(table).map(Found::Rows),
+            Call::CheckTable { table } => table::check_table(table).map(Found::Rows),
             Call::CheckWaiting { table, waiting } => {
-                table_model::check_waiting(table, waiting).map(Found::Rows)
+                table::check_waiting(table, waiting).map(Found::Rows)
             }
-            Call::Heads { table, before } => table_model::heads(table, before).map(Found::Hashes),
-            Call::Beyond { table, hashes } => table_model::beyond(table, hashes).map(Found::Hashes),
+            Call::Heads { table, before } => table::heads(table, before).map(Found::Hashes),
+            Call::Beyond { table, hashes } => table::beyond(table, hashes).map(Found::Hashes),
             Call::Missing {
                 table,
                 waiting,
                 hashes,
-            } => table_model::missing(table, waiting, hashes).map(Found::Hashes),
+            } => table::missing(table, waiting, hashes).map(Found::Hashes),
         }
     }
 
@@ -218,60 +219,44 @@ impl Tally {
     }
 }
 
-/// A call with one buffer, before and after.
+/// A call with one buffer.
 struct Asked<'a> {
     call: Call<'a>,
-    room: usize,
     expected: [u64; 4],
-    expected_memory: Vec<u8>,
     answer: [u64; 4],
-    memory: Vec<u8>,
+    out: Guarded<u8>,
 }
 
 impl<'a> Asked<'a> {
-    /// Every byte of the buffer and some around it hold a value that `flip` makes
-    /// another, so that over two flips a stray write of either is seen.
-    fn new(call: Call<'a>, found: &Result<Found, Refused>, room: usize, flip: u8) -> Self {
-        let pattern = (0..room + 2 * GUARD).map(|k| (k * 37 + 11) as u8 ^ flip);
-        let memory: Vec<u8> = pattern.collect();
-        let mut expected_memory = memory.clone();
-        let lent = &mut expected_memory[GUARD..GUARD + room];
+    fn new(call: Call<'a>, found: &Result<Found, Refused>, room: usize, fill: Fill) -> Self {
+        let mut out = Guarded::new(room, fill);
         let expected = match found {
             Ok(Found::Rows(rows)) => [0, *rows as u64, 0, 0],
-            Ok(Found::Hashes(hashes)) => model::write(lent, Ok(hashes.concat())),
-            Err(refused) => model::write(lent, Err(*refused)),
+            Ok(Found::Hashes(hashes)) => model::write(out.expected(), Ok(hashes.concat())),
+            Err(refused) => model::write(out.expected(), Err(*refused)),
         };
         Asked {
             call,
-            room,
             expected,
-            expected_memory,
             answer: [raw::UNWRITTEN; 4],
-            memory,
+            out,
         }
     }
 
     fn ask<'m>(&'m mut self, batch: &mut Batch<'m>) {
-        let lent = &mut self.memory[GUARD..GUARD + self.room];
-        self.call.library(batch, lent, &mut self.answer);
+        self.call.library(batch, self.out.lent(), &mut self.answer);
     }
 
     fn agrees(&self) -> Result<(), String> {
-        let told = format!("{} into {} bytes", self.call.shown(), self.room);
-        let (answer, expected) = (self.answer, self.expected);
-        if answer != expected {
-            return Err(format!(
-                "{told}: the library's answer is {answer:?}, the model's {expected:?}"
-            ));
-        }
-        let mut bytes = self.memory.iter().zip(&self.expected_memory);
-        match bytes.position(|(byte, expected)| byte != expected) {
-            Some(k) => {
-                let place = k as i64 - GUARD as i64;
-                Err(format!("{told}: the byte at {place} is wrong"))
-            }
-            None => Ok(()),
-        }
+        let told = |why| {
+            format!(
+                "{} into {} bytes: {why}",
+                self.call.shown(),
+                self.out.room()
+            )
+        };
+        same_answer(self.answer, self.expected).map_err(told)?;
+        self.out.agrees().map_err(told)
     }
 }
 
@@ -289,7 +274,7 @@ pub fn compare(calls: &[(Call, Rooms)]) -> Result<Tally, String> {
             }
         }
         if !call.writes() {
-            asked.push(Asked::new(call, &found, 0, 0));
+            asked.push(Asked::new(call, &found, 0, Fill::One));
             continue;
         }
         // A refused call gets some buffers too, long enough for its hashes.
@@ -298,7 +283,7 @@ pub fn compare(calls: &[(Call, Rooms)]) -> Result<Tally, String> {
             _ => 2 * HASH,
         };
         for room in rooms.sizes(wanted) {
-            asked.extend([0x00, 0xff].map(|flip| Asked::new(call, &found, room, flip)));
+            asked.extend(FILLS.map(|fill| Asked::new(call, &found, room, fill)));
         }
     }
     let mut batch = Batch::new();

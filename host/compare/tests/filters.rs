@@ -18,7 +18,7 @@ use bisquetower::raw;
 use compare::inputs::filter::{edges, hash_of};
 use compare::inputs::Random;
 use compare::model::filter::{field_size, Filter};
-use compare::{compare_rooms, Write};
+use compare::writes::{compare_rooms, Write};
 
 /// Compares a write into buffers of these sizes; returns how many were written.
 fn compare_writes(write: Write, rooms: impl IntoIterator<Item = usize>) -> usize {

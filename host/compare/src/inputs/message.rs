@@ -5,8 +5,8 @@ use super::selection::{lend, OwnHave};
 use super::{overlong, Random};
 use crate::model::filter::field_size;
 use crate::model::message::Parts;
+use crate::model::table::{Hash, HASH};
 use crate::model::{number_bytes, prefixed_bytes};
-use crate::table_model::{Hash, HASH};
 
 /// A message before it is spelt as bytes.
 #[derive(Clone, Debug, Default, PartialEq, Eq)]

@@ -3,10 +3,10 @@
 
 use super::filter::hash_of;
 use super::Random;
+use crate::inputs::table::{table_bytes, waiting_bytes, LIKENESSES, SHAPES};
 use crate::model::filter::{built, field_size, Filter};
 use crate::model::have::HAVE_WORDS;
-use crate::table_inputs::{table_bytes, waiting_bytes, LIKENESSES, SHAPES};
-use crate::table_model::{Hash, HASH};
+use crate::model::table::{Hash, HASH};
 use std::ops::Range;
 
 /// A have with what it owns.

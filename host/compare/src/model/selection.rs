@@ -4,7 +4,7 @@
 use super::filter::contains;
 use super::have::{haves, limited, Have};
 use super::Refused;
-use crate::table_model::{hash_list, reached, table, Hash, Table, HASH};
+use crate::model::table::{hash_list, reached, table, Hash, Table, HASH};
 use std::collections::{BTreeSet, HashSet};
 
 /// The hashes to send: "held needs outside S, then S in table order", and with no

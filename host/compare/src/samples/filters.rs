@@ -3,10 +3,10 @@
 
 use super::{bytes_column, bytes_of};
 use crate::inputs::filter::hash_of;
+use crate::inputs::table::Likeness;
 use crate::inputs::Random;
+use crate::model::table::Hash;
 use crate::published;
-use crate::table_inputs::Likeness;
-use crate::table_model::Hash;
 use crate_under_test::facade::BloomFilter;
 
 #[derive(Clone, Debug, PartialEq, Eq)]
@@ -25,7 +25,7 @@ const OWN: usize = 3;
 const OTHERS: usize = 8;
 
 impl super::Record for Record {
-    const FILE: &'static str = "filters.txt";
+    const FILE: &'static str = "host/compare/samples/filters.txt";
     const COLUMNS: &'static str =
         "hashes; the filter over them; some hashes that it contains; some that it doesn't";
 

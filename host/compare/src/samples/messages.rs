@@ -5,7 +5,8 @@ use super::{bytes_column, bytes_of, number_of, refusal_columns, refusal_of};
 use crate::inputs::message::{good_messages, string};
 use crate::inputs::message::{TELLING, TELLING_OF_FILTERS, UP_TO_FILTER};
 use crate::inputs::{overlong, Random};
-use crate::messages::{beside_model, Beside};
+use crate::messages::beside::Beside;
+use crate::messages::beside_model;
 use crate::model::{number_bytes, Refused};
 use crate::published;
 use crate_under_test::facade;
@@ -29,7 +30,7 @@ const READ: &str = "read";
 const NO_FLAGS: &str = "none";
 
 impl super::Record for Record {
-    const FILE: &'static str = "messages.txt";
+    const FILE: &'static str = "host/compare/samples/messages.txt";
     const COLUMNS: &'static str = "input; the refusal (1, 2 and the byte, 3), or `read`, the message encoded again, its flags (`none`, or their value)";
 
     fn sample() -> Vec<Record> {

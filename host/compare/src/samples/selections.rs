@@ -4,10 +4,10 @@
 
 use super::{bytes_column, bytes_of, list_column, list_of, number_of};
 use crate::inputs::selection::{lend, Case};
+use crate::inputs::table::{table_bytes, Row};
 use crate::inputs::Random;
+use crate::model::table::{table, DEPENDENCIES};
 use crate::selections::published;
-use crate::table_inputs::{table_bytes, Row};
-use crate::table_model::{table, DEPENDENCIES};
 
 #[derive(Clone, Debug)]
 pub struct Record {
@@ -31,7 +31,7 @@ const ROWS: usize = 25;
 const HAVES: usize = 4;
 
 impl super::Record for Record {
-    const FILE: &'static str = "selections.txt";
+    const FILE: &'static str = "host/compare/samples/selections.txt";
     const COLUMNS: &'static str = "rows (hash:row.row, with the rows it depends on); bytes; haves as words over them; need; the hashes to send";
 
     fn sample() -> Vec<Record> {

@@ -4,9 +4,9 @@
 use super::{bytes_column, bytes_of, refusal_columns, refusal_of};
 use crate::inputs::{overlong, Random};
 use crate::model::state::{self, WORDS};
+use crate::model::table::{HASH, HASHES};
 use crate::model::{number_bytes, Refused};
 use crate::published;
-use crate::table_model::{HASH, HASHES};
 use std::collections::HashSet;
 
 #[derive(Clone, Debug, PartialEq, Eq)]
@@ -19,7 +19,7 @@ pub struct Record {
 const READ: &str = "read";
 
 impl super::Record for Record {
-    const FILE: &'static str = "states.txt";
+    const FILE: &'static str = "host/compare/samples/states.txt";
     const COLUMNS: &'static str =
         "input; the refusal (1, 2 and the byte, 3), or `read` and the state encoded again";
 

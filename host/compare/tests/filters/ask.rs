@@ -4,7 +4,7 @@ use crate::{field_of, lists, random_filter, with_field, COUNTS};
 use bisquetower::raw;
 use compare::filters::Haves;
 use compare::inputs::filter::{edges, hash_of};
-use compare::inputs::{seed, Random};
+use compare::inputs::{Random, Seed};
 use compare::model::filter::Filter;
 
 /// Compares the answers for these hashes; returns how many are yes.
@@ -94,8 +94,8 @@ fn words_at_the_edges_of_a_field() {
 /// the other and against the model.
 #[test]
 fn random_questions() {
-    let seed = seed();
-    let mut random = Random(seed);
+    let seed = Seed::fixed();
+    let mut random = seed.random(0);
     let (mut asked, mut yes) = (0, 0);
     while asked < 2_000_000 {
         let count = if random.one_in(3) {
@@ -114,7 +114,7 @@ fn random_questions() {
             .collect();
         match haves.compare(&hashes) {
             Ok(some) => yes += some,
-            Err(disagreement) => panic!("COMPARE_SEED={seed}, question {asked}: {disagreement}"),
+            Err(disagreement) => panic!("question {asked}: {disagreement}"),
         }
         asked += hashes.len();
     }

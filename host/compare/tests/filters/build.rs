@@ -2,9 +2,9 @@
 
 use crate::{compare_writes, every, lists, COUNTS};
 use compare::filters::Build;
-use compare::inputs::{seed, Random};
+use compare::inputs::{Random, Seed};
 use compare::model::filter::field_size;
-use compare::{compare_rooms, compare_write, Write};
+use compare::writes::{compare_rooms, compare_write, Write};
 
 fn built(bits: u64, probes: u64, hashes: &[u8]) -> Write<'_> {
     Write::Built(Build {
@@ -122,8 +122,8 @@ fn refused_lists() {
 /// and, with 10 bits and 7 probes, the crate's.
 #[test]
 fn random_builds() {
-    let seed = seed();
-    let mut random = Random(seed);
+    let seed = Seed::fixed();
+    let mut random = seed.random(0);
     let mut answers = [0; 11];
     for round in 0..10_000 {
         let count = random.below(20);
@@ -140,7 +140,7 @@ fn random_builds() {
         let room = random.below(4 * wanted + 2);
         match compare_write(built(bits, probes, &hashes), room) {
             Ok([first, ..]) => answers[first as usize] += 1,
-            Err(disagreement) => panic!("COMPARE_SEED={seed}, round {round}: {disagreement}"),
+            Err(disagreement) => panic!("round {round}: {disagreement}"),
         }
     }
     assert!(

@@ -2,7 +2,7 @@
 
 use crate::{random_filter, with_field};
 use compare::filters::compare_question;
-use compare::inputs::{seed, Random};
+use compare::inputs::Seed;
 use compare::model::filter::Filter;
 use compare::model::have::HAVE_WORDS;
 
@@ -176,8 +176,8 @@ fn refused_lists_and_hashes() {
 /// Random haves with some words changed, against the model.
 #[test]
 fn random_haves_damaged() {
-    let seed = seed();
-    let mut random = Random(seed);
+    let seed = Seed::fixed();
+    let mut random = seed.random(0);
     let mut answers = [0; 11];
     for round in 0..20_000 {
         let count = 1 + random.below(3);
@@ -204,7 +204,7 @@ fn random_haves_damaged() {
         let hash = random.bytes(length);
         match compare_question(&s, &haves, &hash) {
             Ok([first, ..]) => answers[first as usize] += 1,
-            Err(disagreement) => panic!("COMPARE_SEED={seed}, round {round}: {disagreement}"),
+            Err(disagreement) => panic!("round {round}: {disagreement}"),
         }
     }
     assert!(

@@ -4,7 +4,7 @@
 use bisquetower::raw;
 use compare::filters::{compare_reads, difference, Difference, Part, Tally};
 use compare::inputs::filter::number_forms_in_filters;
-use compare::inputs::{boundary_values, seed, Random};
+use compare::inputs::{boundary_values, Random, Seed};
 use compare::model::filter::field_size;
 use compare::model::number_bytes;
 use compare::published;
@@ -214,14 +214,11 @@ fn filters_without_entries() {
     }
 }
 
-/// A million random and damaged filters, at places and up to ends anywhere, against
-/// crate and model.
-#[test]
-fn random_and_damaged_filters() {
-    let seed = seed();
-    let mut random = Random(seed);
+/// Compares random and damaged filters, 10,000 a batch.
+fn compare_random(seed: Seed, batches: usize) -> Tally {
+    let mut random = seed.random(0);
     let mut tally = Tally::default();
-    for batch in 0..100 {
+    for batch in 0..batches {
         let inputs: Vec<_> = (0..10_000).map(|_| random.input(Random::filter)).collect();
         let parts: Vec<Part> = inputs
             .iter()
@@ -229,9 +226,23 @@ fn random_and_damaged_filters() {
             .collect();
         match compare_reads(&parts) {
             Ok(seen) => tally.add(&seen),
-            Err(disagreement) => panic!("COMPARE_SEED={seed}, batch {batch}: {disagreement}"),
+            Err(disagreement) => panic!("batch {batch}: {disagreement}"),
         }
     }
+    tally
+}
+
+/// A few of them with another seed each time.
+#[test]
+fn filters_of_a_fresh_seed() {
+    compare_random(Seed::fresh(), 2);
+}
+
+/// A million random and damaged filters, at places and up to ends anywhere, against
+/// crate and model.
+#[test]
+fn random_and_damaged_filters() {
+    let tally = compare_random(Seed::fixed(), 100);
     assert_eq!(tally.total(), 1_000_000);
     for first_word in [0, 1, 3, 4, 5] {
         assert!(tally.answers[first_word] > 10_000, "{tally:?}");

@@ -2,9 +2,9 @@
 
 use crate::{compare_writes, every};
 use bisquetower::raw;
-use compare::inputs::{boundary_values, seed, Random};
+use compare::inputs::{boundary_values, Random, Seed};
 use compare::model::filter::{self, field_size, Filter};
-use compare::{compare_rooms, compare_write, Write};
+use compare::writes::{compare_rooms, compare_write, Write};
 
 /// Written filters of every size of numbers, in every size of buffer, against the
 /// crate's bytes, the model's, and every other byte as it was.
@@ -129,12 +129,12 @@ fn refused_filters() {
 /// bytes and the model's; and what is written is read back.
 #[test]
 fn random_writes() {
-    let seed = seed();
-    let mut random = Random(seed);
+    let seed = Seed::fixed();
+    let mut random = seed.random(0);
     let mut answers = [0; 11];
     let mut out = vec![0; 8_300];
     for round in 0..20_000 {
-        let told = |why| panic!("COMPARE_SEED={seed}, round {round}: {why}");
+        let told = |why| panic!("round {round}: {why}");
         let (entries, bits) = random.entries_and_bits();
         let spoilt = random.one_in(4);
         let size = field_size(entries, bits) as usize;

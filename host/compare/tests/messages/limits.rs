@@ -3,10 +3,10 @@
 
 use crate::{agree, ask, first};
 use compare::inputs::message::{filter_string, message_of_size, Draft};
+use compare::inputs::table::Likeness;
 use compare::inputs::Random;
 use compare::model::message::MESSAGE;
 use compare::model::number_bytes;
-use compare::table_inputs::Likeness;
 
 /// A random message in which every part is there and good.
 fn draft(random: &mut Random) -> Draft {

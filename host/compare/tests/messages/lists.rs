@@ -2,7 +2,7 @@
 //! records.
 
 use compare::inputs::message::{good_messages, Draft};
-use compare::inputs::{seed, Random};
+use compare::inputs::Seed;
 use compare::messages::compare_lists;
 
 /// Compares the answers for lists of these sizes; returns their first two words.
@@ -89,8 +89,8 @@ fn bad_messages_into_no_room() {
 /// Random messages into lists of random sizes, against the model.
 #[test]
 fn random_sizes() {
-    let seed = seed();
-    let mut random = Random(seed);
+    let seed = Seed::fixed();
+    let mut random = seed.random(0);
     let mut seen = [0; 8];
     for round in 0..5_000 {
         let s = random.message();
@@ -99,7 +99,7 @@ fn random_sizes() {
             Ok(answers) => answers
                 .iter()
                 .for_each(|words| seen[words[0] as usize] += 1),
-            Err(disagreement) => panic!("COMPARE_SEED={seed}, round {round}: {disagreement}"),
+            Err(disagreement) => panic!("round {round}: {disagreement}"),
         }
     }
     assert!(

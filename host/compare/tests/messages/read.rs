@@ -5,7 +5,7 @@ use crate::{agree, agree_all, ask};
 use compare::inputs::message::{
     damaged_once, good_messages, prefixes, string, TELLING, TELLING_OF_FILTERS, UP_TO_FILTER,
 };
-use compare::inputs::{seed, Random};
+use compare::inputs::Seed;
 use compare::messages::{compare, Tally};
 use compare::published;
 
@@ -83,19 +83,30 @@ fn every_single_byte_of_good_messages() {
     }
 }
 
-/// A million random messages, against crate and model.
-#[test]
-fn random_messages() {
-    let seed = seed();
-    let mut random = Random(seed);
+/// Compares random messages, 10,000 a batch.
+fn compare_random(seed: Seed, batches: usize) -> Tally {
+    let mut random = seed.random(0);
     let mut tally = Tally::default();
-    for batch in 0..100 {
+    for batch in 0..batches {
         let messages: Vec<Vec<u8>> = (0..10_000).map(|_| random.message()).collect();
         match compare(&messages) {
             Ok(seen) => tally.add(&seen),
-            Err(disagreement) => panic!("COMPARE_SEED={seed}, batch {batch}: {disagreement}"),
+            Err(disagreement) => panic!("batch {batch}: {disagreement}"),
         }
     }
+    tally
+}
+
+/// A few random messages with another seed each time.
+#[test]
+fn messages_of_a_fresh_seed() {
+    compare_random(Seed::fresh(), 2);
+}
+
+/// A million random messages, against crate and model.
+#[test]
+fn random_messages() {
+    let tally = compare_random(Seed::fixed(), 100);
     assert_eq!(tally.total(), 1_000_000);
     assert!(tally.answers[0] > 300_000, "{tally:?}");
     for first_word in 1..=5 {

@@ -1,8 +1,8 @@
 //! Writing: refusals 10, 4, 1 and 7 in their order, with no byte changed.
 
 use compare::inputs::message::OwnParts;
-use compare::inputs::{seed, Random};
-use compare::{compare_rooms, compare_write, Write};
+use compare::inputs::Seed;
+use compare::writes::{compare_rooms, compare_write, Write};
 
 /// A good have over a hundred bytes: two last-sync hashes at 3, and a filter of 20
 /// entries, 10 bits and 7 probes, its field of 25 bytes at 70.
@@ -256,8 +256,8 @@ fn total_size() {
 /// Random messages with some parts changed, against the model.
 #[test]
 fn random_messages_damaged() {
-    let seed = seed();
-    let mut random = Random(seed);
+    let seed = Seed::fixed();
+    let mut random = seed.random(0);
     let mut answers = [0; 11];
     for round in 0..20_000 {
         let mut parts = random.own_parts();
@@ -279,7 +279,7 @@ fn random_messages_damaged() {
         let room = random.below(400);
         match compare_write(Write::Message(parts.parts()), room) {
             Ok([first, ..]) => answers[first as usize] += 1,
-            Err(disagreement) => panic!("COMPARE_SEED={seed}, round {round}: {disagreement}"),
+            Err(disagreement) => panic!("round {round}: {disagreement}"),
         }
     }
     assert!(

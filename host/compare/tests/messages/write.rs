@@ -2,11 +2,13 @@
 //! size, and what is read of them again.
 
 use crate::{agree, ask};
+use bisquetower::message::Message;
 use compare::inputs::message::{good_messages, OwnParts};
-use compare::inputs::{seed, Random};
-use compare::messages::{Chunks, Reading};
+use compare::inputs::Seed;
+use compare::messages::parts::{parts, Chunks};
 use compare::model::message::bytes;
-use compare::{compare_rooms, compare_write, published, Write};
+use compare::published;
+use compare::writes::{compare_rooms, compare_write, Write};
 
 /// Compares a write into room enough; returns the bytes.
 fn written(parts: &OwnParts) -> Vec<u8> {
@@ -24,14 +26,9 @@ fn written(parts: &OwnParts) -> Vec<u8> {
 fn every_size() {
     for s in good_messages() {
         let (words, haves, chunks) = ask(&s);
-        let reading = Reading {
-            s: &s,
-            words,
-            haves: &haves,
-            chunks: &chunks,
-        };
-        let chunks = Chunks::of(&reading);
-        let parts = reading.parts(&chunks);
+        let view = Message::of(&s, words, &haves, &chunks).expect("a good message");
+        let chunks = Chunks::of(&view);
+        let parts = parts(&view, &chunks);
         let wanted = bytes(&parts).unwrap().len();
         let answers = compare_rooms(Write::Message(parts), 0..=wanted + 3);
         let answers = answers.unwrap_or_else(|disagreement| panic!("{disagreement}"));
@@ -98,8 +95,8 @@ fn filters_without_entries_and_hashes_in_any_order() {
 /// Random messages into random buffers, against crate and model.
 #[test]
 fn random_writes() {
-    let seed = seed();
-    let mut random = Random(seed);
+    let seed = Seed::fixed();
+    let mut random = seed.random(0);
     let mut answers = [0; 11];
     for round in 0..20_000 {
         let parts = random.own_parts();
@@ -107,7 +104,7 @@ fn random_writes() {
         let room = random.below(2 * wanted);
         match compare_write(Write::Message(parts.parts()), room) {
             Ok([first, ..]) => answers[first as usize] += 1,
-            Err(disagreement) => panic!("COMPARE_SEED={seed}, round {round}: {disagreement}"),
+            Err(disagreement) => panic!("round {round}: {disagreement}"),
         }
     }
     assert!(answers[0] > 5_000 && answers[7] > 5_000, "{answers:?}");
@@ -118,14 +115,14 @@ fn random_writes() {
 /// default and flags are below 80; otherwise what is read is written as it stands.
 #[test]
 fn round_trips() {
-    let seed = seed();
-    let mut random = Random(seed ^ 1);
+    let seed = Seed::fixed();
+    let mut random = seed.random(1);
     let mut same = 0;
     for round in 0..4_000 {
         let parts = random.own_parts();
         let s = written(&parts);
         let tally = agree(&[&s]);
-        assert_eq!(tally.rewritten, 1, "COMPARE_SEED={seed}, round {round}");
+        assert_eq!(tally.rewritten, 1, "round {round}");
         let read = published::read_message(&s).expect("it was written");
         let records = parts.haves.chunks(7);
         let kept = records
@@ -135,7 +132,7 @@ fn round_trips() {
             assert_eq!(read, published::message(&parts.parts()), "{round}");
             same += 1;
         }
-        assert_eq!(read.encode(), s, "COMPARE_SEED={seed}, round {round}");
+        assert_eq!(read.encode(), s, "round {round}");
     }
     assert!((500..3_900).contains(&same), "{same}");
 }

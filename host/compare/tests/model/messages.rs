@@ -4,7 +4,7 @@
 use compare::inputs::message::{
     damaged_once, good_messages, prefixes, string, TELLING, TELLING_OF_FILTERS, UP_TO_FILTER,
 };
-use compare::inputs::{seed, Random};
+use compare::inputs::Seed;
 use compare::messages::{compare_model, Tally};
 use compare::model::message::read;
 
@@ -75,18 +75,29 @@ fn prefixes_and_single_bytes_of_good_messages() {
     }
 }
 
-#[test]
-fn random_messages() {
-    let seed = seed();
-    let mut random = Random(seed);
+/// Compares random messages, 10,000 a batch.
+fn compare_random(seed: Seed, batches: usize) -> Tally {
+    let mut random = seed.random(0);
     let mut tally = Tally::default();
-    for batch in 0..20 {
+    for batch in 0..batches {
         let messages: Vec<Vec<u8>> = (0..10_000).map(|_| random.message()).collect();
         match compare_model(&messages) {
             Ok(seen) => tally.add(&seen),
-            Err(disagreement) => panic!("COMPARE_SEED={seed}, batch {batch}: {disagreement}"),
+            Err(disagreement) => panic!("batch {batch}: {disagreement}"),
         }
     }
+    tally
+}
+
+/// A few random messages with another seed each time.
+#[test]
+fn messages_of_a_fresh_seed() {
+    compare_random(Seed::fresh(), 2);
+}
+
+#[test]
+fn random_messages() {
+    let tally = compare_random(Seed::fixed(), 20);
     assert!(tally.answers[0] > 60_000, "{tally:?}");
     for first_word in 1..=5 {
         assert!(tally.answers[first_word] > 500, "{tally:?}");

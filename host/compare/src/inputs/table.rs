@@ -2,7 +2,7 @@
 //! which a record is bad.
 
 use crate::inputs::Random;
-use crate::table_model::{Hash, DEPENDENCIES, HASH, ROW, WAITING_ROW};
+use crate::model::table::{Hash, DEPENDENCIES, HASH, ROW, WAITING_ROW};
 use std::collections::{BTreeSet, HashSet};
 
 /// A change and the rows it depends on.

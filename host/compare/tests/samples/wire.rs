@@ -1,30 +1,16 @@
-//! The stored sample of the crate's answers: that it is the one that is made
-//! from the crate, and that the library answers it so.
+//! Numbers, prefixed strings and hash lists.
 
 use bisquetower::raw::{self, Read};
-use compare::vectors::{decode, encode, sample, Record};
-use std::path::Path;
-
-/// The sample's bytes, from where the program that replays them has them.
-fn stored() -> Vec<u8> {
-    let path = Path::new(env!("CARGO_MANIFEST_DIR")).join("../../crates/replay/stdin");
-    std::fs::read(path).expect("the sample is read")
-}
-
-/// The stored sample against the one that is made from the crate now.
-#[test]
-fn the_stored_sample_is_the_crates() {
-    assert!(
-        stored() == encode(&sample()),
-        "run the program `vectors` to write it anew"
-    );
-}
+use compare::samples::path;
+use compare::samples::wire::{decode, encode, sample, Record, FILE};
+use compare::wire::READERS;
 
 /// The library's answers against the stored ones: all words where the crate
 /// answered, the refusal's number where it refused.
 #[test]
 fn the_library_answers_the_stored_sample() {
-    let records = decode(&stored()).expect("the sample is made of records");
+    let bytes = std::fs::read(path(FILE)).expect("the sample is read");
+    let records = decode(&bytes).expect("the sample is made of records");
     let reads: Vec<Read> = records.iter().map(Record::read).collect();
     for (record, answer) in records.iter().zip(raw::read_many(&reads)) {
         let known = if record.answer[0] == 0 { 4 } else { 1 };
@@ -39,7 +25,7 @@ fn the_sample_is_small_and_varied() {
     let records = sample();
     assert_eq!(decode(&encode(&records)).as_ref(), Some(&records));
     assert!(encode(&records).len() < 120_000);
-    for reader in compare::READERS {
+    for reader in READERS {
         for first_word in [0, 1, 3] {
             let like = |r: &&Record| r.reader == reader && r.answer[0] == first_word;
             assert!(

@@ -1,5 +1,5 @@
-//! A fixed sample of the crate's answers, as bytes: records one after the other,
-//! with no header.
+//! Numbers, prefixed strings and hash lists: what the crate reads, as bytes; records
+//! one after the other, with no header.
 //!
 //! ```text
 //!   kind     1 byte    1 number, 2 filter number, 3 prefixed string, 4 hash list
@@ -14,9 +14,13 @@
 
 use crate::inputs::{boundary_values, overlong, Random};
 use crate::model::{number_bytes, prefixed_bytes};
-use crate::{difference, published, READERS};
+use crate::published;
+use crate::wire::{difference, READERS};
 use bisquetower::raw::{Read, Reader};
 use std::collections::HashSet;
+
+/// From the repository's root on.
+pub const FILE: &str = "crates/replay/stdin";
 
 /// One record.
 #[derive(Clone, Debug, PartialEq, Eq)]

@@ -1,0 +1,133 @@
+//! What is missing, through as many waiting rows as there may be.
+
+use crate::{agree, answer, check_waiting, missing, with_record, Bytes, MISSING, ROOM};
+use compare::inputs::table::{table_bytes, waiting_bytes, Likeness, Shape, WaitingRow};
+use compare::inputs::Random;
+use compare::model::table::{Hash, HASH, HASHES, ROWS, WAITING_ROW, WAITING_ROWS};
+use compare::tables::Rooms;
+
+/// What is missing through chains, cycles and trees of waiting rows, up to 1,024
+/// of them, in the table's order, against it and mixed.
+#[test]
+fn missing_through_many_waiting_rows() {
+    let mut random = Random(19);
+    for count in [1, 2, 64, WAITING_ROWS] {
+        let all = random.hashes(count + 3, Likeness::Spread);
+        let (own, ends) = all.split_at(count);
+        let rows = random.rows(4, Shape::Deep, Likeness::Spread);
+        let table = table_bytes(&rows);
+        let mut mixed: Vec<usize> = (0..count).collect();
+        for k in 1..count {
+            mixed.swap(k, random.below(k + 1));
+        }
+        let forward: Vec<usize> = (0..count).collect();
+        let back: Vec<usize> = (0..count).rev().collect();
+        for order in [forward, back, mixed] {
+            for last in [ends[0], own[order[0]], rows[3].hash] {
+                let mut chain: Vec<Vec<Hash>> = vec![Vec::new(); count];
+                for two in order.windows(2) {
+                    chain[two[0]] = vec![rows[0].hash, own[two[1]], own[two[0]]];
+                }
+                chain[order[count - 1]] = vec![last, ends[1], ends[1]];
+                let waiting = chain.into_iter().zip(own).map(|(dependencies, &hash)| {
+                    let row = WaitingRow { hash, dependencies };
+                    row.bytes()
+                });
+                let waiting: Bytes = waiting.flatten().collect();
+                let far = order[count - 1];
+                let lists = [own[order[0]].to_vec(), [own[far], ends[2]].concat()];
+                for hashes in &lists {
+                    let tally = agree(&[(missing(&table, &waiting, hashes), Rooms::Enough)]);
+                    assert_eq!(tally.of(MISSING, 0), 2);
+                }
+            }
+        }
+    }
+}
+
+/// Both tables at their largest: one good, one whose last waiting row is held by
+/// the last row, and what is missing from every waiting row and from every row.
+#[test]
+fn both_tables_at_their_largest() {
+    let mut random = Random(22);
+    let all = random.hashes(ROWS + WAITING_ROWS + 100, Likeness::Spread);
+    let (held, others) = all.split_at(ROWS);
+    let (own, _) = others.split_at(WAITING_ROWS);
+    let table = table_bytes(&random.rows_of(held, Shape::Any));
+    let rows = random.waiting_rows(own, &all);
+    let waiting = waiting_bytes(&rows);
+    assert_eq!(answer(check_waiting(&table, &waiting), 0), [0, 1_024]);
+    for list in [own.concat(), held.concat(), own[0].to_vec()] {
+        agree(&[(missing(&table, &waiting, &list), Rooms::Enough)]);
+    }
+    let mut last = rows[WAITING_ROWS - 1].clone();
+    for taken in [held[ROWS - 1], own[WAITING_ROWS - 2], own[0]] {
+        last.hash = taken;
+        let bad = with_record(&waiting, WAITING_ROWS - 1, &last.bytes());
+        assert_eq!(answer(check_waiting(&table, &bad), 0), [9, 1_023]);
+    }
+}
+
+/// Waiting rows that ask so many different unknown hashes, one of them each or
+/// fifteen, and each again and again.
+fn asking(own: &[Hash], unknown: &[Hash], each: usize, repeats: usize) -> Bytes {
+    let mut rows: Vec<WaitingRow> = Vec::new();
+    let mut asked = unknown.iter().cycle().take(unknown.len() * repeats);
+    for &hash in own {
+        let dependencies: Vec<Hash> = asked.by_ref().take(each).copied().collect();
+        rows.push(WaitingRow { hash, dependencies });
+    }
+    assert!(asked.next().is_none(), "every hash is asked for");
+    waiting_bytes(&rows)
+}
+
+/// Exactly 1,024 and 1,025 missing hashes: passed, under waiting rows, and both;
+/// a hash that is asked for twice counts once.
+#[test]
+fn missing_around_its_limit() {
+    let mut random = Random(20);
+    let all = random.hashes(3_000, Likeness::Spread);
+    let (own, unknown) = all.split_at(WAITING_ROWS);
+    let answer_of = |waiting: &[u8], hashes: &[u8]| {
+        let rooms = Rooms::Around;
+        let tally = agree(&[(missing(&[], waiting, hashes), rooms)]);
+        [0, 4, 7].map(|word| tally.of(MISSING, word) > 0)
+    };
+    let good = [true, false, true];
+    let refused = [false, true, false];
+    let passed = unknown[..HASHES].concat();
+    assert_eq!(answer_of(&[], &passed), good);
+    // 69 rows of fifteen: 1,024 of them, then 1,025.
+    let asked = own[..69].concat();
+    let waiting = asking(&own[..69], &unknown[..1_024], 15, 1);
+    assert_eq!(answer_of(&waiting, &asked), good);
+    let waiting = asking(&own[..69], &unknown[..1_025], 15, 1);
+    assert_eq!(answer_of(&waiting, &asked), refused);
+    // 1,024 waiting rows with one each; the last one with one more.
+    let all_own = own.concat();
+    let waiting = asking(own, &unknown[..1_024], 1, 1);
+    let call = missing(&[], &waiting, &all_own);
+    agree(&[(call, Rooms::Enough)]);
+    let last = WAITING_ROW * (WAITING_ROWS - 1);
+    let mut more = waiting.clone();
+    more[last + HASH] = 2;
+    more[last + 3 * HASH..][..HASH].copy_from_slice(&unknown[1_024]);
+    let call = missing(&[], &more, &all_own);
+    assert_eq!(answer(call, ROOM), [4, 0]);
+    // 1,023 passed ones, and one waiting that asks one more, two more, or again.
+    let both = [&unknown[..1_023], &own[..1]].concat().concat();
+    let waiting = |asked: &[Hash]| {
+        let row = WaitingRow {
+            hash: own[0],
+            dependencies: asked.to_vec(),
+        };
+        waiting_bytes(&[row])
+    };
+    assert_eq!(answer_of(&waiting(&unknown[1_023..1_024]), &both), good);
+    assert_eq!(answer_of(&waiting(&unknown[1_023..1_025]), &both), refused);
+    assert_eq!(answer_of(&waiting(&unknown[1_009..1_024]), &both), good);
+    // 15,360 entries of 1,024 hashes.
+    let waiting = asking(own, &unknown[..1_024], 15, 15);
+    let call = missing(&[], &waiting, &all_own);
+    agree(&[(call, Rooms::Enough)]);
+}

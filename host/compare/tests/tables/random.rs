@@ -1,0 +1,130 @@
+//! Random tables and lists, good and damaged, through all five calls.
+
+use crate::{
+    beyond, check, check_waiting, heads, missing, with_record, Bytes, BEYOND, CHECK_TABLE,
+    CHECK_WAITING, HEADS, MISSING,
+};
+use compare::inputs::table::{
+    row_faults, table_bytes, waiting_bytes, waiting_faults, LIKENESSES, SHAPES,
+};
+use compare::inputs::{Random, Seed};
+use compare::model::table::HASH;
+use compare::tables::{compare, Rooms, Tally, NAMES};
+
+/// What the random tests lend.
+struct Lent {
+    table: Bytes,
+    waiting: Bytes,
+    hashes: Bytes,
+    before: usize,
+}
+
+/// Tables and a list over a few hashes, so that they meet; each now and then
+/// damaged.
+fn lent(random: &mut Random, most: usize) -> Lent {
+    let (held, waits, unknown) = (random.below(most), random.below(8), random.below(8));
+    let likeness = LIKENESSES[random.below(4)];
+    let mut all = random.hashes(held + waits + unknown, likeness);
+    if random.one_in(8) && !all.is_empty() {
+        let zero = random.below(all.len());
+        all[zero] = [0; HASH];
+    }
+    let shape = SHAPES[random.below(SHAPES.len())];
+    let rows = random.rows_of(&all[..held], shape);
+    let waiting = random.waiting_rows(&all[held..held + waits], &all);
+    let mut lent = Lent {
+        table: table_bytes(&rows),
+        waiting: waiting_bytes(&waiting),
+        hashes: Vec::new(),
+        before: random.below(held + 2),
+    };
+    if !all.is_empty() {
+        for _ in 0..random.below(8) {
+            lent.hashes.extend(all[random.below(all.len())]);
+        }
+    }
+    if random.one_in(6) && held > 0 {
+        let row = random.below(held);
+        let faults = row_faults(&rows, row);
+        let (_, record) = &faults[random.below(faults.len())];
+        lent.table = with_record(&lent.table, row, record);
+    }
+    if random.one_in(6) && waits > 0 {
+        let row = random.below(waits);
+        let faults = waiting_faults(&rows, &waiting, row);
+        let (_, record) = &faults[random.below(faults.len())];
+        lent.waiting = with_record(&lent.waiting, row, record);
+    }
+    for bytes in [&mut lent.table, &mut lent.waiting, &mut lent.hashes] {
+        if random.one_in(12) {
+            random.damage(bytes);
+        }
+    }
+    lent
+}
+
+fn compare_random(seed: Seed, rounds: usize, batch: usize, most: usize) -> Tally {
+    let mut random = seed.random(most as u64);
+    let mut tally = Tally::default();
+    for round in 0..rounds {
+        let all: Vec<Lent> = (0..batch).map(|_| lent(&mut random, most)).collect();
+        let mut calls = Vec::new();
+        for one in &all {
+            let (table, waiting, hashes) = (&one.table, &one.waiting, &one.hashes);
+            calls.extend([
+                (check(table), Rooms::Enough),
+                (check_waiting(table, waiting), Rooms::Enough),
+            ]);
+            let writing = [
+                heads(table, one.before),
+                beyond(table, hashes),
+                missing(table, waiting, hashes),
+            ];
+            calls.extend(writing.map(|call| {
+                let rooms = match random.below(3) {
+                    0 => Rooms::One(random.below(HASH * most)),
+                    _ => Rooms::Enough,
+                };
+                (call, rooms)
+            }));
+        }
+        match compare(&calls) {
+            Ok(seen) => tally.add(&seen),
+            Err(disagreement) => panic!("round {round}: {disagreement}"),
+        }
+    }
+    tally
+}
+
+/// Random small tables, good and damaged, through all five calls.
+#[test]
+fn random_small_tables() {
+    let tally = compare_random(Seed::fixed(), 20, 1_000, 12);
+    let seen: [(usize, &[usize]); 5] = [
+        (CHECK_TABLE, &[0, 6]),
+        (CHECK_WAITING, &[0, 6, 9]),
+        (HEADS, &[0, 6, 7, 11]),
+        (BEYOND, &[0, 1, 6, 7]),
+        (MISSING, &[0, 1, 6, 7, 9]),
+    ];
+    for (kind, words) in seen {
+        for &word in words {
+            let name = NAMES[kind];
+            assert!(tally.of(kind, word) > 500, "{name}, {word}: {tally:?}");
+        }
+    }
+}
+
+/// Random tables of up to 100 rows.
+#[test]
+fn random_tables() {
+    let tally = compare_random(Seed::fixed(), 10, 60, 100);
+    assert!((0..NAMES.len()).all(|kind| tally.of(kind, 0) > 200 && tally.of(kind, 6) > 50));
+}
+
+/// A few of both with another seed each time.
+#[test]
+fn random_tables_of_a_fresh_seed() {
+    compare_random(Seed::fresh(), 1, 1_000, 12);
+    compare_random(Seed::fresh(), 1, 60, 100);
+}

@@ -1,0 +1,117 @@
+//! Arguments that are wrong at once: the order of their refusals.
+
+use crate::{
+    answer, beyond, check, check_waiting, diamond, heads, list, missing, waiting, with_record,
+    Bytes, First, ROOM,
+};
+use compare::model::table::{HASH, HASHES, ROW, ROWS, WAITING_ROW, WAITING_ROWS};
+
+/// Something to lend, and the refusal that it brings, if any.
+type Faulty = (Bytes, Option<First>);
+
+/// The refusal that comes first, or the answer.
+fn first(faults: &[Option<First>], good: First) -> First {
+    faults.iter().flatten().next().copied().unwrap_or(good)
+}
+
+/// Buffers too short for so many bytes, and one that isn't.
+fn rooms_around(wanted: usize) -> [(usize, Option<First>); 3] {
+    let short = Some([7, wanted as u64]);
+    [(0, short), (wanted - 1, short), (wanted, None)]
+}
+
+/// The diamond, good and bad: a hash twice, a partial record, too long. The long
+/// one has bad rows too.
+fn faulty_tables() -> [Faulty; 4] {
+    let good = diamond();
+    let twice = with_record(&good, 2, &good[..ROW]);
+    let long = vec![0xff; ROW * ROWS + 1];
+    [
+        (good.clone(), None),
+        (twice, Some([6, 2])),
+        (good[..200].to_vec(), Some([6, 3])),
+        (long, Some([4, 0])),
+    ]
+}
+
+/// A row with fifteen unknown hashes under it and a row on that one; and the ways
+/// in which such a table is bad.
+fn faulty_waitings() -> [Faulty; 4] {
+    let fifteen: Vec<u16> = (4_001..=4_015).collect();
+    let good = waiting(&[(2_000, &fifteen), (1_999, &[2_000])]);
+    let twice = waiting(&[(2_000, &fifteen), (2_000, &[])]);
+    let long = vec![0xff; WAITING_ROW * WAITING_ROWS + 1];
+    [
+        (good.clone(), None),
+        (twice, Some([9, 1])),
+        (good[..600].to_vec(), Some([9, 1])),
+        (long, Some([4, 0])),
+    ]
+}
+
+/// The waiting hash and unknown ones after it: how many are missing is one less,
+/// and the fifteen.
+fn faulty_lists() -> [(Faulty, u64); 7] {
+    let many = list(&(2_000..3_025).collect::<Vec<u16>>());
+    let part = |length: usize, fault| (many[..length].to_vec(), fault);
+    [
+        (part(HASH, None), 15),
+        (part(HASH - 1, Some([1, 0])), 0),
+        (part(HASH * HASHES - 1, Some([1, 32_736])), 0),
+        (part(HASH * HASHES + 1, Some([4, 0])), 0),
+        (part(HASH * 1_010, None), 1_024),
+        (part(HASH * 1_011, None), 1_025),
+        (part(HASH * HASHES, None), 1_038),
+    ]
+}
+
+/// Arguments of heads that are wrong at once: 4 or 6, then 11, then 7.
+#[test]
+fn refusals_of_heads_in_their_order() {
+    for (table, table_fault) in faulty_tables() {
+        let expected = first(&[table_fault], [0, 4]);
+        assert_eq!(answer(check(&table), 0), expected);
+        for (before, before_fault) in [(3, None), (5, Some([11, 0]))] {
+            for (room, short) in rooms_around(64) {
+                let expected = first(&[table_fault, before_fault, short], [0, 64]);
+                assert_eq!(answer(heads(&table, before), room), expected);
+            }
+        }
+    }
+}
+
+/// Arguments of beyond that are wrong at once: 4 or 6, then the list's 4 or 1,
+/// then 7.
+#[test]
+fn refusals_of_beyond_in_their_order() {
+    for (table, table_fault) in faulty_tables() {
+        for ((hashes, list_fault), _) in faulty_lists() {
+            for (room, short) in rooms_around(128) {
+                let expected = first(&[table_fault, list_fault, short], [0, 128]);
+                assert_eq!(answer(beyond(&table, &hashes), room), expected);
+            }
+        }
+    }
+}
+
+/// Arguments of missing that are wrong at once: 4 or 6, then 4 or 9, then the
+/// list's 4 or 1, then 4 for what is missing, then 7.
+#[test]
+fn refusals_of_missing_in_their_order() {
+    for (table, table_fault) in faulty_tables() {
+        for (waiting, waiting_fault) in faulty_waitings() {
+            let expected = first(&[table_fault, waiting_fault], [0, 2]);
+            assert_eq!(answer(check_waiting(&table, &waiting), 0), expected);
+            for ((hashes, list_fault), count) in faulty_lists() {
+                let many = (count > HASHES as u64).then_some([4, 0]);
+                let wanted = HASH as u64 * count;
+                for (room, short) in [(0, Some([7, wanted])), (ROOM, None)] {
+                    let faults = [table_fault, waiting_fault, list_fault, many, short];
+                    let expected = first(&faults, [0, wanted]);
+                    let call = missing(&table, &waiting, &hashes);
+                    assert_eq!(answer(call, room), expected);
+                }
+            }
+        }
+    }
+}
