@@ -1,6 +1,6 @@
 # `make run` shows the library at work; `make test` proves and tests all of it; `make bench` measures. Each does its own
 # set-up. docs/WORKING.md has what is useful while something is changed.
-.PHONY: run test lib bench check edit tools
+.PHONY: run test lib bench check edit samples stack tools
 
 run: lib
 	@cd host && cargo run --offline --quiet --release --package bisquetower --example sample
@@ -18,6 +18,14 @@ lib: tools
 
 tools:
 	@bash .ci/need rt cargo
+
+# The stored samples of the crate's answers, written anew.
+samples: lib
+	@cd host && cargo run --offline --quiet --release --package compare --bin samples -- write
+
+# Bytes of stack that each exported call takes, beside what docs/ABI.md promises.
+stack: lib
+	@cd host && cargo run --offline --quiet --release --package compare --bin stack
 
 # One crate and what it is built on: make check CRATE=wire.
 check:

@@ -12,6 +12,8 @@
 mod calls;
 #[path = "build/exported.rs"]
 mod exported;
+#[path = "build/kit.rs"]
+mod kit;
 
 use calls::Way;
 use std::env;
@@ -83,11 +85,7 @@ fn emulate(source: &Path, library: &Path) -> Result<(), String> {
     println!("cargo::rerun-if-changed={}", source.display());
     println!("cargo::rerun-if-env-changed=PATH");
     println!("cargo::rerun-if-env-changed=RATTLE_HOME");
-    let tools = kit().ok_or("`rt` isn't on the PATH")?;
-    let tools = tools
-        .join("on")
-        .join(env::consts::ARCH)
-        .join("toolchain/bin");
+    let tools = kit::tools().ok_or("`rt` isn't on the PATH")?;
     let folder = PathBuf::from(variable("OUT_DIR"));
     let caller = folder.join("caller");
     // Neither a C library nor its headers are there for x86-64.
@@ -122,19 +120,6 @@ fn emulate(source: &Path, library: &Path) -> Result<(), String> {
     println!("cargo::rustc-env=CALLER={}", caller.display());
     println!("cargo::rustc-env=EMULATOR={}", emulator.display());
     Ok(())
-}
-
-/// The kit's folder, by the same two ways as `rt` finds it.
-fn kit() -> Option<PathBuf> {
-    if let Some(home) = env::var_os("RATTLE_HOME") {
-        return Some(home.into());
-    }
-    let folders = env::var_os("PATH")?;
-    let rt = env::split_paths(&folders)
-        .map(|folder| folder.join("rt"))
-        .find(|rt| rt.is_file())?;
-    let home = rt.canonicalize().ok()?;
-    Some(home.parent()?.parent()?.to_path_buf())
 }
 
 fn variable(name: &str) -> String {

@@ -36,14 +36,13 @@ pub fn rust_text(functions: &[Function], way: Way) -> String {
             format!("    fn {}({parameters});\n", f.name)
         });
         text += &format!("extern \"C\" {{\n{}}}\n", lines.collect::<String>());
-    } else {
-        let names = functions.iter().map(|f| format!("    {:?},\n", f.name));
-        text += "/// The calls' names, by number.\n";
-        text += &format!(
-            "pub(super) const NAMES: &[&str] = &[\n{}];\n",
-            names.collect::<String>()
-        );
     }
+    let names = functions.iter().map(|f| format!("    {:?},\n", f.name));
+    text += "\n/// The names of the exported functions.\n";
+    text += &format!(
+        "pub const NAMES: &[&str] = &[\n{}];\n",
+        names.collect::<String>()
+    );
     text += "\nimpl<'a> Batch<'a> {\n";
     for (number, function) in functions.iter().enumerate() {
         text += &method(function, number, way);

@@ -25,7 +25,7 @@ mod calls {
     include!(concat!(env!("OUT_DIR"), "/calls.rs"));
 }
 
-pub use batch::Batch;
+pub use batch::{on_stack, Batch};
 pub use calls::*;
 
 /// Whether the library is linked into this program, so that the time a call

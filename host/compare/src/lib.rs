@@ -29,6 +29,7 @@ pub mod model;
 pub mod published;
 pub mod samples;
 pub mod selections;
+pub mod stack;
 pub mod states;
 pub mod tables;
 pub mod wire;

@@ -1,7 +1,7 @@
 // Calls the proved library for a host that runs on another processor than the library's.
 //
-// Standard input carries batches. A batch is two words, the length of its requests in bytes and what fresh words hold
-// before a call; then the requests. A request is two words, the call's number and above it, from bit 32, how many
+// Standard input carries batches. A batch is three words: the length of its requests in bytes, what fresh words hold
+// before a call, and how many bytes of stack a call has, 0 for the program's own; then the requests. A request is two words, the call's number and above it, from bit 32, how many
 // arguments it has; the arguments' kinds, two bits each, lowest first; then a word for each argument, and what stands in
 // the memory of those that are read or written, each up to a whole word.
 //
@@ -11,8 +11,9 @@
 //     fresh      the same, and nothing stands there yet: a length of whole words
 //
 // Once a batch is read whole, standard output gets for each request the memory of its written and fresh arguments, each
-// up to a whole word, and in the end one word, how many requests there were: so the host waits even for calls that write
-// nothing. Words are 64 bits, little-endian. The end of the input ends the program.
+// up to a whole word, and in the end two words: how many requests there were, so that the host waits even for calls that
+// write nothing, and how many bytes of their stack the calls used, 0 for the program's own. Words are 64 bits,
+// little-endian. The end of the input ends the program.
 //
 // There is no C library here: this is built for a processor whose headers the host needn't have.
 
@@ -38,7 +39,7 @@ enum { CALLS = sizeof calls / sizeof *calls, ARGUMENTS = 32 };
 enum kind { NUMBER, READ, WRITTEN, FRESH };
 
 // How the program ends when something is wrong; of WROTE_OUTSIDE the call's number is added.
-enum end { DONE, BAD_BATCH, BAD_PIPE, WROTE_OUTSIDE = 16 };
+enum end { DONE, BAD_BATCH, BAD_PIPE, BAD_STACK, WROTE_OUTSIDE = 16 };
 
 // GUARD is in words.
 enum { WORD = 8, ROOM = (64 << 20) / WORD, GUARD = 8, GUARD_BYTE = 0xa5 };
@@ -88,7 +89,7 @@ static void copy(u64 *to, const u64 *from, u64 count) {
     for (u64 i = 0; i < count; i++) to[i] = from[i];
 }
 
-// What a compiler may ask of a C library even where there is none; libsync.a is compiled with calls of memset.
+// What a compiler may ask of a C library even where there is none; docs/ABI.md says what libsync.a asks for.
 void *memset(void *start, int byte, u64 length) {
     u8 *to = start;
     for (u64 i = 0; i < length; i++) to[i] = (u8)byte;
@@ -127,15 +128,47 @@ static int guarded(struct buffer b) {
 // Six arguments go in registers, and putting none on the stack is the faster call.
 typedef void short_function(u64, u64, u64, u64, u64, u64);
 
-static void call(function *f, const u64 *a, u64 count) {
+// Not static: on_stack names it.
+void call(function *f, const u64 *a, u64 count) {
     if (count <= 6) return ((short_function *)(u64)f)(a[0], a[1], a[2], a[3], a[4], a[5]);
     f(a[0], a[1], a[2], a[3], a[4], a[5], a[6], a[7], a[8], a[9], a[10], a[11], a[12], a[13], a[14], a[15],
       a[16], a[17], a[18], a[19], a[20], a[21], a[22], a[23], a[24], a[25], a[26], a[27], a[28], a[29], a[30], a[31]);
 }
 
+// A stack for calls that are to have so many bytes and no more: below them is memory that can't be touched, so that one
+// byte too many ends the program. The guard is as long as a page of any machine that emulates this one.
+enum { STACK_ROOM = 4 << 20, STACK_GUARD = 64 << 10, STACK_ALIGNMENT = 16 };
+
+static const u64 paint_word = 0x5ac5ac5ac5ac5ac5;
+
+static u8 stack[STACK_GUARD + STACK_ROOM] __attribute__((aligned(STACK_GUARD)));
+
+void on_stack(u64 *top, function *f, const u64 *arguments, u64 count);
+
+// `call` with another stack, which is aligned as a C function expects it before its return address is put there.
+__asm__("on_stack:\n"
+        "\tpush %rbp\n\tmov %rsp, %rbp\n"
+        "\tmov %rdi, %rsp\n\tmov %rsi, %rdi\n\tmov %rdx, %rsi\n\tmov %rcx, %rdx\n"
+        "\tcall call\n"
+        "\tmov %rbp, %rsp\n\tpop %rbp\n\tret\n");
+
+static void guard_stack(void) {
+    if (system_call(10, (long)stack, STACK_GUARD, 0) != 0) finish(BAD_STACK);
+}
+
+// Makes the call on a stack of so many bytes, painted before; returns how many of them it used.
+static u64 call_on(u64 bytes, function *f, const u64 *arguments, u64 count) {
+    if (STACK_ROOM < bytes || bytes % STACK_ALIGNMENT != 0) finish(BAD_STACK);
+    u64 *low = (u64 *)(stack + STACK_GUARD), *top = low + bytes / WORD, *at = low;
+    fill(low, paint_word, bytes / WORD);
+    on_stack(top, f, arguments, count);
+    while (at < top && *at == paint_word) at++;
+    return (u64)(top - at) * WORD;
+}
+
 // One request. Memory that is written is lent between guards, so that a byte written outside of it is seen; memory that
 // is read is lent where it stands. Returns the place after the request.
-static u64 *serve(u64 *request, const u64 *end, u64 unwritten, u64 *used) {
+static u64 *serve(u64 *request, const u64 *end, u64 unwritten, u64 stack_bytes, u64 *used, u64 *deepest) {
     static struct buffer buffers[ARGUMENTS];
     if (end - request < 2) finish(BAD_BATCH);
     u64 which = *request & 0xffffffff, count = *request >> 32, written = 0;
@@ -160,7 +193,12 @@ static u64 *serve(u64 *request, const u64 *end, u64 unwritten, u64 *used) {
         }
         at += standing;
     }
-    call(calls[which], arguments, count);
+    if (stack_bytes == 0) {
+        call(calls[which], arguments, count);
+    } else {
+        u64 deep = call_on(stack_bytes, calls[which], arguments, count);
+        if (*deepest < deep) *deepest = deep;
+    }
     struct buffer front = {lent, 0};
     if (!guarded(front)) finish(WROTE_OUTSIDE + which);
     for (u64 k = 0; k < written; k++) {
@@ -175,16 +213,17 @@ static u64 *serve(u64 *request, const u64 *end, u64 unwritten, u64 *used) {
 
 void run(void) {
     fill(lent, guard_word, GUARD);
+    guard_stack();
     for (;;) {
-        u64 header[2];
+        u64 header[3], tail[2] = {0, 0};
         receive(header, sizeof header, 1);
-        u64 words = header[0] / WORD, used = 0, served = 0;
+        u64 words = header[0] / WORD, used = 0;
         if (ROOM < words || header[0] % WORD != 0) finish(BAD_BATCH);
         receive(requests, header[0], 0);
         const u64 *end = requests + words;
-        for (u64 *at = requests; at < end; served++) at = serve(at, end, header[1], &used);
+        for (u64 *at = requests; at < end; tail[0]++) at = serve(at, end, header[1], header[2], &used, &tail[1]);
         send(answers, used * WORD);
-        send(&served, WORD);
+        send(tail, sizeof tail);
     }
 }
 

@@ -4,7 +4,7 @@
 
 use super::calls::NAMES;
 use super::UNWRITTEN;
-use std::cell::RefCell;
+use std::cell::{Cell, RefCell};
 use std::io::{Read as _, Write as _};
 use std::process::{Child, ChildStdin, ChildStdout, Command, Stdio};
 
@@ -74,6 +74,33 @@ const WROTE_OUTSIDE: usize = 16;
 thread_local! {
     // One program a thread, so that threads don't wait for each other.
     static CALLER: RefCell<Caller> = RefCell::new(Caller::start());
+    /// How many bytes of stack a call has, 0 for the program's own, and how many of
+    /// them were used.
+    static STACK: Cell<Stack> = const { Cell::new(Stack { bytes: 0, used: 0 }) };
+}
+
+#[derive(Clone, Copy)]
+struct Stack {
+    bytes: usize,
+    used: usize,
+}
+
+/// Has each call that `calls` makes on this thread run on a stack of just so many
+/// bytes, up to 4 MiB. Tells, where that can be known, how many were used.
+pub fn on_stack<T: Send>(bytes: usize, calls: impl FnOnce() -> T + Send) -> (T, Option<usize>) {
+    /// The stack that was there before, even after a panic.
+    struct Before(Stack);
+    impl Drop for Before {
+        fn drop(&mut self) {
+            STACK.set(self.0);
+        }
+    }
+    let before = Before(STACK.get());
+    STACK.set(Stack { bytes, used: 0 });
+    let made = calls();
+    let used = STACK.get().used;
+    drop(before);
+    (made, Some(used))
 }
 
 /// Many calls. One exchange with the emulator serves them all; where the library
@@ -178,15 +205,20 @@ impl<'a> Batch<'a> {
     }
 
     fn exchange(&mut self) {
+        let mut stack = STACK.get();
         CALLER.with_borrow_mut(|caller| {
-            let mut left = caller.exchange(&self.requests, self.coming + WORD);
+            let mut left = caller.exchange(&self.requests, stack.bytes, self.coming + 2 * WORD);
             for out in self.outs.drain(..) {
                 let (mine, others) = left.split_at(out.size().next_multiple_of(WORD));
                 out.take(mine);
                 left = others;
             }
-            assert_eq!(left, self.calls.to_le_bytes(), "every call was made");
+            let (calls, used) = left.split_at(WORD);
+            assert_eq!(calls, self.calls.to_le_bytes(), "every call was made");
+            let used = u64::from_le_bytes(used.try_into().expect("eight bytes"));
+            stack.used = stack.used.max(used as usize);
         });
+        STACK.set(stack);
         self.requests.clear();
         self.coming = 0;
         self.calls = 0;
@@ -221,9 +253,9 @@ impl Caller {
 
     /// The program answers a batch once it has all of it, so neither side waits
     /// on a full pipe that the other doesn't empty.
-    fn exchange(&mut self, batch: &[u8], answer_length: usize) -> &[u8] {
+    fn exchange(&mut self, batch: &[u8], stack: usize, answer_length: usize) -> &[u8] {
         self.answer.resize(answer_length, 0);
-        if let Err(error) = self.try_exchange(batch) {
+        if let Err(error) = self.try_exchange(batch, stack) {
             drop(self.input.take());
             let end = self.program.wait().ok().and_then(|end| end.code());
             let end = end.and_then(|end| usize::try_from(end).ok());
@@ -236,10 +268,11 @@ impl Caller {
         &self.answer
     }
 
-    fn try_exchange(&mut self, batch: &[u8]) -> std::io::Result<()> {
+    fn try_exchange(&mut self, batch: &[u8], stack: usize) -> std::io::Result<()> {
         let input = self.input.as_mut().expect("open until the drop");
-        input.write_all(&(batch.len() as u64).to_le_bytes())?;
-        input.write_all(&UNWRITTEN.to_le_bytes())?;
+        for word in [batch.len() as u64, UNWRITTEN, stack as u64] {
+            input.write_all(&word.to_le_bytes())?;
+        }
         input.write_all(batch)?;
         self.output.read_exact(&mut self.answer)
     }

@@ -1,10 +1,4 @@
 //! The exported functions, called as they are.
-//!
-//! Why the calls in calls.rs are sound. Their declarations are made from the
-//! library's own source. A slice's pointer is never null, not even that of no
-//! bytes, and the slice's length goes with it. What is written is borrowed
-//! mutably, so it overlaps nothing. No call keeps a pointer, and every number is
-//! allowed as an argument.
 
 use std::marker::PhantomData;
 
@@ -23,4 +17,21 @@ impl Batch<'_> {
     /// Gives back what was lent to the calls, written.
     #[inline]
     pub fn run(self) {}
+}
+
+/// What a thread takes of its stack before and beside the calls that it makes.
+const THREAD: usize = 16 << 10;
+
+/// Makes calls on a thread that has a stack of so many bytes for each of them. Tells,
+/// where that can be known, how many were used.
+pub fn on_stack<T: Send>(bytes: usize, calls: impl FnOnce() -> T + Send) -> (T, Option<usize>) {
+    std::thread::scope(|scope| {
+        let thread = std::thread::Builder::new().stack_size(bytes + THREAD);
+        let made = thread
+            .spawn_scoped(scope, calls)
+            .expect("a thread starts")
+            .join();
+        let made = made.unwrap_or_else(|why| std::panic::resume_unwind(why));
+        (made, None)
+    })
 }

@@ -260,6 +260,11 @@ fn settled_readings() {
     assert_eq!(read(&[]), [0, 0, 10, 7, 0, 0, 0, 0]);
     assert_eq!(raw::read_filter(&[9, 9], 2, 2), [0, 0, 10, 7, 2, 0, 2, 0]);
     assert_eq!(raw::read_filter(&[9, 9], 5, 9), [0, 0, 10, 7, 5, 0, 5, 0]);
+    // One that starts past the slice's end has a place that no have may have.
+    let have = |place| [0, 0, 0, 10, 7, place, 0];
+    let hash = [9; 32];
+    assert_eq!(raw::filters_contain(&[9, 9], &have(2), &hash), [0; 4]);
+    assert_eq!(raw::filters_contain(&[9, 9], &have(5), &hash)[0], 10);
     // A missing number is cut at the place where it would start.
     assert_eq!(read(&[1]), refused(1, 1));
     assert_eq!(read(&[1, 0]), refused(1, 2));

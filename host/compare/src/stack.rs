@@ -1,0 +1,302 @@
+//! How much stack each exported call takes: inputs that lead it as deep as it goes,
+//! and what docs/ABI.md promises.
+
+use crate::inputs::message::{filter_string, Draft};
+use crate::inputs::table::{table_bytes, waiting_bytes, Likeness, Shape, WaitingRow};
+use crate::inputs::Random;
+use crate::messages::parts::Chunks;
+use crate::model::message::CHUNKS;
+use crate::model::table::{Hash, DEPENDENCIES, HASH, HASHES, ROWS, WAITING_ROWS};
+use bisquetower::message::{Message, CHUNK_WORDS, HAVES, HAVE_WORDS};
+use bisquetower::raw;
+use std::collections::BTreeMap;
+
+/// A call on inputs of its own, whatever it answers.
+pub type Call = Box<dyn Fn() -> Vec<u64> + Send + Sync>;
+
+/// A call's name, and one that goes deep.
+pub type Deep = (&'static str, Call);
+
+fn deep<A: Into<Vec<u64>>>(
+    name: &'static str,
+    call: impl Fn() -> A + Send + Sync + 'static,
+) -> Deep {
+    (name, Box::new(move || call().into()))
+}
+
+/// Calls of every exported function, each at its largest and at some refusals.
+pub fn calls() -> Vec<Deep> {
+    let mut random = Random(27);
+    let mut calls = wire(&mut random);
+    calls.extend(filters(&mut random));
+    calls.extend(tables(&mut random));
+    calls.extend(states(&mut random));
+    calls.extend(messages(&mut random));
+    calls
+}
+
+fn wire(random: &mut Random) -> Vec<Deep> {
+    let longest = [&[0xff; 9][..], &[1]].concat();
+    let list = [&[0x80, 0x08][..], &random.bytes(HASH * HASHES)].concat();
+    let hashes = list[2..].to_vec();
+    let (string, long) = (list.clone(), list.clone());
+    let cut = list[..list.len() - 1].to_vec();
+    let filter = longest.clone();
+    vec![
+        deep("bt_limits", || {
+            let mut limits = [0; 12];
+            raw::limits(&mut limits);
+            limits
+        }),
+        deep("bt_read_number", move || raw::read_number(&longest, 0, 10)),
+        deep("bt_read_filter_number", move || {
+            raw::read_filter_number(&filter, 0, 10)
+        }),
+        deep("bt_read_prefixed", move || {
+            raw::read_prefixed(&string, 0, string.len())
+        }),
+        deep("bt_read_hashes", move || {
+            raw::read_hashes(&list, 0, list.len())
+        }),
+        deep("bt_read_hashes", move || {
+            raw::read_hashes(&cut, 0, cut.len())
+        }),
+        deep("bt_write_number", || {
+            raw::write_number(&mut [0; 10], u64::MAX)
+        }),
+        deep("bt_write_prefixed", move || {
+            raw::write_prefixed(&mut vec![0; long.len() + 3], &long)
+        }),
+        deep("bt_write_hashes", move || {
+            raw::write_hashes(&mut vec![0; hashes.len() + 2], &hashes)
+        }),
+    ]
+}
+
+fn filters(random: &mut Random) -> Vec<Deep> {
+    let hashes = random.bytes(HASH * HASHES);
+    let string = filter_string(1_024, 64, 64);
+    let field = random.bytes(8_192);
+    let bad = filter_string(1, 0, 64);
+    // Each filter says yes up to its last probe, and no there.
+    let haves = [0, 0, 65_536, 1, 64, 0, 8_192].repeat(HAVES);
+    let hash = random.bytes(HASH);
+    let (full, mut nearly) = (vec![0xff; 8_192], vec![0xff; 8_192]);
+    nearly[8_191] = 0;
+    let (more, other) = (haves.clone(), hash.clone());
+    vec![
+        deep("bt_read_filter", move || {
+            raw::read_filter(&string, 0, string.len())
+        }),
+        deep("bt_read_filter", move || {
+            raw::read_filter(&bad, 0, bad.len())
+        }),
+        deep("bt_write_filter", move || {
+            raw::write_filter(&mut vec![0; 9_000], 65_536, 1, 64, &field)
+        }),
+        deep("bt_build_filter", move || {
+            raw::build_filter(&mut vec![0; 8_192], 64, 64, &hashes)
+        }),
+        deep("bt_filters_contain", move || {
+            raw::filters_contain(&full, &haves, &hash)
+        }),
+        deep("bt_filters_contain", move || {
+            raw::filters_contain(&nearly, &more, &other)
+        }),
+    ]
+}
+
+/// As many waiting rows as there may be, each on the next and on others before or
+/// after it: the last one is on an unknown hash.
+fn chains(random: &mut Random) -> Vec<(Vec<u8>, Vec<u8>)> {
+    let own = random.hashes(WAITING_ROWS + 1, Likeness::Spread);
+    let chain = |others_before: usize, others_after: usize| {
+        let rows = own.windows(2).map(|two| WaitingRow {
+            hash: two[0],
+            dependencies: [
+                vec![two[0]; others_before],
+                vec![two[1]],
+                vec![own[WAITING_ROWS]; others_after],
+            ]
+            .concat(),
+        });
+        waiting_bytes(&rows.collect::<Vec<_>>())
+    };
+    let others = DEPENDENCIES - 1;
+    let first = own[0].to_vec();
+    vec![
+        (chain(0, 0), first.clone()),
+        (chain(others, 0), first.clone()),
+        (chain(0, others), first),
+        (chain(0, others), own[..HASHES].concat()),
+    ]
+}
+
+fn tables(random: &mut Random) -> Vec<Deep> {
+    let mut deep_calls = Vec::new();
+    for shape in [Shape::Wide, Shape::Deep, Shape::Full, Shape::Any] {
+        let rows = random.rows(ROWS, shape, Likeness::Descending);
+        let hashes: Vec<Hash> = rows.iter().map(|row| row.hash).collect();
+        let own = random.hashes(WAITING_ROWS, Likeness::Spread);
+        let waiting = waiting_bytes(&random.waiting_rows(&own, &own));
+        let [first, second, third, fourth] = [(); 4].map(|()| table_bytes(&rows));
+        let list = hashes.concat();
+        deep_calls.extend([
+            deep("bt_check_table", move || raw::check_table(&first)),
+            deep("bt_check_waiting", move || {
+                raw::check_waiting(&second, &waiting)
+            }),
+            deep("bt_heads", move || {
+                raw::heads(&third, ROWS, &mut vec![0; HASH * ROWS])
+            }),
+            deep("bt_beyond", move || {
+                raw::beyond(&fourth, &list, &mut vec![0; HASH * ROWS])
+            }),
+        ]);
+        let table = table_bytes(&rows);
+        let field = random.bytes(8_192);
+        let s = [field, hashes.concat()].concat();
+        let haves = [8_192, 1, 65_536, 1, 64, 0, 8_192].repeat(HAVES);
+        let need = hashes.concat();
+        deep_calls.push(deep("bt_hashes_to_send", move || {
+            raw::hashes_to_send(&table, &s, &haves, &need, &mut vec![0; 2 * HASH * ROWS])
+        }));
+    }
+    let table = table_bytes(&random.rows(ROWS, Shape::Any, Likeness::Spread));
+    for (waiting, list) in chains(random) {
+        for table in [Vec::new(), table.clone()] {
+            let (waiting, list) = (waiting.clone(), list.clone());
+            deep_calls.push(deep("bt_missing", move || {
+                raw::missing(&table, &waiting, &list, &mut vec![0; HASH * HASHES])
+            }));
+        }
+    }
+    let unknown = random.bytes(HASH * HASHES);
+    deep_calls.push(deep("bt_missing", move || {
+        raw::missing(&[], &[], &unknown, &mut vec![0; HASH * HASHES])
+    }));
+    deep_calls
+}
+
+fn states(random: &mut Random) -> Vec<Deep> {
+    let hashes = random.hashes(HASHES, Likeness::Ascending).concat();
+    let state = [&[0x43, 0x80, 0x08][..], &hashes].concat();
+    let shared = hashes.clone();
+    let session = [
+        1_024, 1_024, 1, 1_024, 1, 1_024, 1, 16, 1_024, 1, 1, 1, 1, 1, 1, 1,
+    ];
+    let haves = [0, 1_024, 65_536, 1, 64, 0, 8_192].repeat(HAVES);
+    let set = |on| {
+        move || {
+            let mut session = session;
+            raw::set_read_only(&mut session, on);
+            session
+        }
+    };
+    vec![
+        deep("bt_fresh", || {
+            let mut session = [0; 16];
+            raw::fresh(&mut session);
+            session
+        }),
+        deep("bt_fresh_read_only", || {
+            let mut session = [0; 16];
+            raw::fresh_read_only(&mut session);
+            session
+        }),
+        deep("bt_set_read_only", set(0)),
+        deep("bt_set_read_only", set(1)),
+        deep("bt_check_session", move || {
+            let h = &hashes;
+            raw::check_session(&session, h, h, h, h, &haves, h, h)
+        }),
+        deep("bt_write_state", move || {
+            raw::write_state(&mut vec![0; HASH * HASHES + 3], &shared, HASHES)
+        }),
+        deep("bt_read_state", move || {
+            raw::read_state(&state, &mut vec![0; HASH * HASHES], &mut [0; 16])
+        }),
+    ]
+}
+
+/// A message in which every list is as long as it may be.
+fn message(random: &mut Random) -> Vec<u8> {
+    let hashes = random.hashes(HASHES, Likeness::Spread);
+    let have = (hashes.clone(), filter_string(65_536, 1, 64));
+    let draft = Draft {
+        first: 0x43,
+        heads: hashes.clone(),
+        need: hashes,
+        haves: vec![have; HAVES],
+        chunks: vec![vec![7; 300]; CHUNKS as usize],
+        flags: Some(vec![0x02, 0x84]),
+        ..Draft::new()
+    };
+    draft.bytes()
+}
+
+fn messages(random: &mut Random) -> Vec<Deep> {
+    let s = message(random);
+    let lists = || {
+        (
+            vec![0; HAVE_WORDS * HAVES],
+            vec![0; CHUNK_WORDS * CHUNKS as usize],
+        )
+    };
+    let read = s.clone();
+    let (mut haves, mut chunks) = lists();
+    let view = Message::read(&read, &mut haves, &mut chunks).expect("a good message");
+    let own = Chunks::of(&view);
+    let [heads, need] = [view.heads(), view.need()].map(<[u8]>::to_vec);
+    let haves = view.have_words().to_vec();
+    let write = move || {
+        let out = &mut vec![0; s.len()];
+        let Chunks { bytes, lengths } = &own;
+        raw::write_message(out, 2, &heads, &need, &s, &haves, bytes, lengths, 4)
+    };
+    vec![
+        deep("bt_read_message", move || {
+            let (mut haves, mut chunks) = lists();
+            raw::read_message(&read, &mut haves, &mut chunks)
+        }),
+        deep("bt_write_message", write),
+    ]
+}
+
+/// The page on which the promises stand.
+const PAGE: &str = include_str!("../../../docs/ABI.md");
+
+/// Bytes of stack that docs/ABI.md promises to be enough, by call: the rows of its
+/// table under "Stack", a size in KiB and names.
+pub fn promised() -> BTreeMap<&'static str, usize> {
+    let (_, section) = PAGE.split_once("\n## Stack\n").expect("a section");
+    let (section, _) = section.split_once("\n## ").unwrap_or((section, ""));
+    let rows = section.lines().filter_map(|line| {
+        let row = line.strip_prefix("| ")?.strip_suffix(" |")?;
+        let (size, names) = row.split_once(" | ")?;
+        Some((size.strip_suffix(" KiB")?.parse::<usize>().ok()?, names))
+    });
+    let mut promised = BTreeMap::new();
+    for (size, names) in rows {
+        for name in names.split(", ").map(|name| name.trim_matches('`')) {
+            let before = promised.insert(name, size << 10);
+            assert_eq!(before, None, "{name} is promised two sizes");
+        }
+    }
+    promised
+}
+
+/// More than any call takes.
+const ENOUGH: usize = 4 << 20;
+
+/// Bytes of stack that each call takes; none where that can't be known, because the
+/// library isn't emulated.
+pub fn taken() -> Option<BTreeMap<&'static str, usize>> {
+    let mut taken = BTreeMap::new();
+    for (name, call) in calls() {
+        let (_, used) = raw::on_stack(ENOUGH, call);
+        let most: &mut usize = taken.entry(name).or_default();
+        *most = used?.max(*most);
+    }
+    Some(taken)
+}
