@@ -152,7 +152,10 @@ __asm__("on_stack:\n"
         "\tcall call\n"
         "\tmov %rbp, %rsp\n\tpop %rbp\n\tret\n");
 
+// A call that dies leaves no file behind.
 static void guard_stack(void) {
+    static const u64 no_core[2];
+    system_call(160, 4, (long)no_core, 0);
     if (system_call(10, (long)stack, STACK_GUARD, 0) != 0) finish(BAD_STACK);
 }
 
