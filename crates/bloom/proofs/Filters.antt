@@ -3,7 +3,7 @@
 use Prim.Native.Nat.{ℕ, _+_, _≤_, _<_}
 use mathlib.Core.Bool.{true}
 use mathlib.Core.List.{List, [], _++_, append-assoc}
-use mathlib.Core.Path.{_≡_, refl, sym, _∙_, ap}
+use mathlib.Core.Path.{_≡_, refl, sym, _∙_, ap, ap₂}
 use native.Mathlib.Omega.{arith}
 use borrow.Author.Tests.{ltb-true, ltb-false, eqb-true, eqb-false, lt-ltb, le-ltb, eq-eqb, ne-eqb}
 use lib.Dec.{ltb, eqb}
@@ -23,14 +23,16 @@ use Rattle.wire.proofs.Item.{left-is}
 use Rattle.wire.proofs.Meaning.{Inside, number-inside, number-most, number-written}
 use Rattle.wire.proofs.Number.{put-joined}
 use Rattle.bloom.specs.Filter.{Filter, filterOf4, fieldSize, filterRules, filterBytes, defaultBits, defaultProbes}
+use Rattle.bloom.specs.Have.{numbersOf}
 use Rattle.bloom.specs.Read.{fieldAt, numbersAt, filterAt}
+use Rattle.bloom.specs.declared.have.FilterNumbers.{FilterNumbers}
 use Rattle.bloom.specs.declared.parse.Parsed.the-variants.{Filter as Read, Refused}
 use Rattle.bloom.proofs.Rules.{capacity-none, ruled, rules, rules-none, full-of}
 
 -- ---- the cases of reading
 
 module _ (s : List ℕ) (at end n b p place : ℕ) where
-  pub field-none : n ≡ 0 → fieldAt s at end n b p place ≡ Read 0 b p place 0 place
+  pub field-none : n ≡ 0 → fieldAt s at end n b p place ≡ Read (numbersOf 0 b p place 0) place
   unfolding fieldAt
   field-none h = rw (eq-eqb _ _ h)
 
@@ -55,7 +57,7 @@ module _ (s : List ℕ) (at end n b p place : ℕ) where
           field-cut h = rw (ne-eqb _ _ some, ne-eqb _ _ bits, le-ltb _ _ few, le-ltb _ _ small, lt-ltb _ _ h)
 
           pub field-read : fieldSize n b ≤ leftAt s place end
-              → fieldAt s at end n b p place ≡ Read n b p place (fieldSize n b) (place + fieldSize n b)
+              → fieldAt s at end n b p place ≡ Read (numbersOf n b p place (fieldSize n b)) (place + fieldSize n b)
           unfolding fieldAt
           field-read h = rw (ne-eqb _ _ some, ne-eqb _ _ bits, le-ltb _ _ few, le-ltb _ _ small, le-ltb _ _ h)
 
@@ -78,7 +80,7 @@ module _ (s : List ℕ) (at end : ℕ) where
       unfolding numbersAt afterNumber
       numbers-read p place e = rw (first, second, e)
 
-  pub filter-default : leftAt s at end ≡ 0 → filterAt s at end ≡ Read 0 defaultBits defaultProbes at 0 at
+  pub filter-default : leftAt s at end ≡ 0 → filterAt s at end ≡ Read (numbersOf 0 defaultBits defaultProbes at 0) at
   unfolding filterAt
   filter-default h = rw (eq-eqb _ _ h)
 
@@ -89,39 +91,30 @@ module _ (s : List ℕ) (at end : ℕ) where
 -- ---- what stands behind a filter that was read
 
 -- The field: what was read is what it was handed, its size is the one that the numbers give, and the bytes were there.
-record FieldRead (s : List ℕ) (end n b p place : ℕ) (n′ b′ p′ field size next : ℕ) : Type 0 where
-  entries : n ≡ n′
-  bits : b ≡ b′
-  probes : p ≡ p′
-  start : place ≡ field
-  whole : next ≡ field + size
-  sized : size ≡ fieldSize n b
-  there : size ≤ leftAt s place end
+record FieldRead (s : List ℕ) (end n b p place : ℕ) (f : FilterNumbers) (next : ℕ) : Type 0 where
+  is : numbersOf n b p place (fieldSize n b) ≡ f
+  whole : next ≡ place + fieldSize n b
+  there : fieldSize n b ≤ leftAt s place end
   someBits : 0 < n → 0 < b
   fewProbes : 0 < n → p ≤ sizes .probes
-  small : size ≤ sizes .field
+  small : fieldSize n b ≤ sizes .field
 
-never : {A : Type 0} (r : Refusal) (n b p field size next : ℕ) → Refused r ≡ Read n b p field size next → A
-never r n b p field size next e = absurd (let z : _≡_ {A = ℕ} 0 1 = cc in omega arith)
+never : {A : Type 0} (r : Refusal) (f : FilterNumbers) (next : ℕ) → Refused r ≡ Read f next → A
+never r f next e = absurd (let z : _≡_ {A = ℕ} 0 1 = cc in omega arith)
 
-field-apart : (s : List ℕ) (at end n b p place n′ b′ p′ field size next : ℕ) → fieldAt s at end n b p place ≡ Read n′ b′ p′ field size next
-    → FieldRead s end n b p place n′ b′ p′ field size next
-field-apart s at end n b p place n′ b′ p′ field size next e =
+field-apart : (s : List ℕ) (at end n b p place : ℕ) (f : FilterNumbers) (next : ℕ) → fieldAt s at end n b p place ≡ Read f next
+    → FieldRead s end n b p place f next
+field-apart s at end n b p place f next e =
     split (eqb n 0)
     (λ t0.
     let none : n ≡ 0 = eqb-true _ _ t0 in
-    let q : Read 0 b p place 0 place ≡ Read n′ b′ p′ field size next = sym (field-none s at end n b p place none) ∙ e in
-    let l : 0 ≡ size = cc in
-    let f : place ≡ field = cc in
+    let q : Read (numbersOf 0 b p place 0) place ≡ Read f next = sym (field-none s at end n b p place none) ∙ e in
+    let same : numbersOf 0 b p place 0 ≡ f = cc in
     let x : place ≡ next = cc in
     let c : fieldSize n b ≡ 0 = rw none (capacity-none b) in
     record {
-      entries = cc;
-      bits = cc;
-      probes = cc;
-      start = f;
+      is = ap₂ (λ (k l : ℕ). numbersOf k b p place l) none c ∙ same;
       whole = omega arith;
-      sized = omega arith;
       there = omega arith;
       someBits = λ h. absurd (omega arith);
       fewProbes = λ h. absurd (omega arith);
@@ -130,38 +123,32 @@ field-apart s at end n b p place n′ b′ p′ field size next e =
     (λ t0.
     let some = eqb-false _ _ t0 in
     split (eqb b 0)
-    (λ t1. never _ _ _ _ _ _ _ (sym (field-no-bits s at end n b p place some (eqb-true _ _ t1)) ∙ e))
+    (λ t1. never _ _ _ (sym (field-no-bits s at end n b p place some (eqb-true _ _ t1)) ∙ e))
     (λ t1.
     let bits = eqb-false _ _ t1 in
     split (ltb (sizes .probes) p)
-    (λ t2. never _ _ _ _ _ _ _ (sym (field-probes s at end n b p place some bits (ltb-true _ _ t2)) ∙ e))
+    (λ t2. never _ _ _ (sym (field-probes s at end n b p place some bits (ltb-true _ _ t2)) ∙ e))
     (λ t2.
     let few = ltb-false _ _ t2 in
     split (ltb (sizes .field) (fieldSize n b))
-    (λ t3. never _ _ _ _ _ _ _ (sym (field-large s at end n b p place some bits few (ltb-true _ _ t3)) ∙ e))
+    (λ t3. never _ _ _ (sym (field-large s at end n b p place some bits few (ltb-true _ _ t3)) ∙ e))
     (λ t3.
     let small = ltb-false _ _ t3 in
     split (ltb (leftAt s place end) (fieldSize n b))
-    (λ t4. never _ _ _ _ _ _ _ (sym (field-cut s at end n b p place some bits few small (ltb-true _ _ t4)) ∙ e))
+    (λ t4. never _ _ _ (sym (field-cut s at end n b p place some bits few small (ltb-true _ _ t4)) ∙ e))
     (λ t4.
     let fits = ltb-false _ _ t4 in
-    let q : Read n b p place (fieldSize n b) (place + fieldSize n b) ≡ Read n′ b′ p′ field size next =
+    let q : Read (numbersOf n b p place (fieldSize n b)) (place + fieldSize n b) ≡ Read f next =
     sym (field-read s at end n b p place some bits few small fits) ∙ e
     in
-    let l : fieldSize n b ≡ size = cc in
-    let f : place ≡ field = cc in
     let x : place + fieldSize n b ≡ next = cc in
     record {
-      entries = cc;
-      bits = cc;
-      probes = cc;
-      start = f;
+      is = cc;
       whole = omega arith;
-      sized = sym l;
-      there = omega arith;
+      there = fits;
       someBits = λ h. omega arith;
       fewProbes = λ h. few;
-      small = omega arith;
+      small = small;
     })))))
 
 -- The three numbers, one after the other.
@@ -172,67 +159,78 @@ record NumbersRead (s : List ℕ) (at end n b p place : ℕ) : Type 0 where
   second : numberAt mostFilter s i end ≡ Value b j
   third : numberAt mostFilter s j end ≡ Value p place
 
-module _ (s : List ℕ) (at end n b p field size next : ℕ) where
-  numbers-apart : numbersAt s at end ≡ Read n b p field size next
-      → NumbersRead s at end n b p field × FieldRead s end n b p field n b p field size next
+-- Both, of a filter.
+record FilterRead (s : List ℕ) (at end : ℕ) (f : FilterNumbers) (next : ℕ) : Type 0 where
+  numbers : NumbersRead s at end (f .entries) (f .bits) (f .probes) (f .place)
+  field : FieldRead s end (f .entries) (f .bits) (f .probes) (f .place) f next
+  sized : f .size ≡ fieldSize (f .entries) (f .bits)
+
+module _ (s : List ℕ) (at end : ℕ) (f : FilterNumbers) (next : ℕ) where
+  numbers-apart : numbersAt s at end ≡ Read f next → FilterRead s at end f next
   numbers-apart e = one (numberAt mostFilter s at end) refl
     where
-      three : (n₁ i b₁ j : ℕ)
-          → numberAt mostFilter s at end ≡ Value n₁ i
-          → numberAt mostFilter s i end ≡ Value b₁ j
+      three : (n i b j : ℕ)
+          → numberAt mostFilter s at end ≡ Value n i
+          → numberAt mostFilter s i end ≡ Value b j
           → (x : Number) → numberAt mostFilter s j end ≡ x
-          → NumbersRead s at end n b p field × FieldRead s end n b p field n b p field size next
-      three n₁ i b₁ j f g (Value p₁ place) h =
-          let r = field-apart s at end n₁ b₁ p₁ place n b p field size next (sym (numbers-read s at end n₁ i f b₁ j g p₁ place h) ∙ e) in
-          let en = r .entries in
-          let eb = r .bits in
-          let ep = r .probes in
-          let ef = r .start in
-          (record { i = i; j = j; first = cc; second = cc; third = cc }, rw (en, eb, ep, ef) at r)
-      three n₁ i b₁ j f g (NoValue r) h = never _ _ _ _ _ _ _ (sym (numbers-third s at end n₁ i f b₁ j g r h) ∙ e)
+          → FilterRead s at end f next
+      three n i b j k g (Value p place) h =
+          let r = field-apart s at end n b p place f next (sym (numbers-read s at end n i k b j g p place h) ∙ e) in
+          let en : n ≡ f .entries = ap (λ (x : FilterNumbers). x .entries) (r .is) in
+          let eb : b ≡ f .bits = ap (λ (x : FilterNumbers). x .bits) (r .is) in
+          let ep : p ≡ f .probes = ap (λ (x : FilterNumbers). x .probes) (r .is) in
+          let ef : place ≡ f .place = ap (λ (x : FilterNumbers). x .place) (r .is) in
+          let es : fieldSize n b ≡ f .size = ap (λ (x : FilterNumbers). x .size) (r .is) in
+          record {
+            numbers = record { i = i; j = j; first = rw en at k; second = rw eb at g; third = rw (ep, ef) at h };
+            field = rw (en, eb, ep, ef) at r;
+            sized = sym (rw (en, eb) at es);
+          }
+      three n i b j k g (NoValue r) h = never _ _ _ (sym (numbers-third s at end n i k b j g r h) ∙ e)
 
-      two : (n₁ i : ℕ) → numberAt mostFilter s at end ≡ Value n₁ i → (x : Number) → numberAt mostFilter s i end ≡ x
-          → NumbersRead s at end n b p field × FieldRead s end n b p field n b p field size next
-      two n₁ i f (Value b₁ j) g = three n₁ i b₁ j f g (numberAt mostFilter s j end) refl
-      two n₁ i f (NoValue r) g = never _ _ _ _ _ _ _ (sym (numbers-second s at end n₁ i f r g) ∙ e)
+      two : (n i : ℕ) → numberAt mostFilter s at end ≡ Value n i → (x : Number) → numberAt mostFilter s i end ≡ x → FilterRead s at end f next
+      two n i k (Value b j) g = three n i b j k g (numberAt mostFilter s j end) refl
+      two n i k (NoValue r) g = never _ _ _ (sym (numbers-second s at end n i k r g) ∙ e)
 
-      one : (x : Number) → numberAt mostFilter s at end ≡ x
-          → NumbersRead s at end n b p field × FieldRead s end n b p field n b p field size next
-      one (Value n₁ i) f = two n₁ i f (numberAt mostFilter s i end) refl
-      one (NoValue r) f = never _ _ _ _ _ _ _ (sym (numbers-first s at end r f) ∙ e)
+      one : (x : Number) → numberAt mostFilter s at end ≡ x → FilterRead s at end f next
+      one (Value n i) k = two n i k (numberAt mostFilter s i end) refl
+      one (NoValue r) k = never _ _ _ (sym (numbers-first s at end r k) ∙ e)
 
   -- A filter read from no bytes is the default; any other is three numbers and a field.
-  filter-apart : {A : Type 0} → filterAt s at end ≡ Read n b p field size next
-      → (leftAt s at end ≡ 0 → Read 0 defaultBits defaultProbes at 0 at ≡ Read n b p field size next → A)
-      → (0 < leftAt s at end → NumbersRead s at end n b p field → FieldRead s end n b p field n b p field size next → A)
+  filter-apart : {A : Type 0} → filterAt s at end ≡ Read f next
+      → (leftAt s at end ≡ 0 → numbersOf 0 defaultBits defaultProbes at 0 ≡ f → at ≡ next → A)
+      → (0 < leftAt s at end → FilterRead s at end f next → A)
       → A
   filter-apart e default numbers =
       split (eqb (leftAt s at end) 0)
-      (λ t. let none = eqb-true _ _ t in default none (sym (filter-default s at end none) ∙ e))
+      (λ t.
+      let none = eqb-true _ _ t in
+      let q : Read (numbersOf 0 defaultBits defaultProbes at 0) at ≡ Read f next = sym (filter-default s at end none) ∙ e in
+      let same : numbersOf 0 defaultBits defaultProbes at 0 ≡ f = cc in
+      let x : at ≡ next = cc in
+      default none same x)
       (λ t.
       let some = eqb-false _ _ t in
-      let r = numbers-apart (sym (filter-numbers s at end some) ∙ e) in
-      numbers (omega arith) (r .0) (r .1))
+      numbers (omega arith) (numbers-apart (sym (filter-numbers s at end some) ∙ e)))
 
 -- ---- where a filter ends
 
 -- The field stands up to the next place. A filter ends where its part does, or before; and one that has bytes ends after its place.
-pub record FilterInside (s : List ℕ) (at end field size next : ℕ) : Type 0 where
-  pub whole : next ≡ field + size
-  pub onward : at ≤ field
+pub record FilterInside (s : List ℕ) (at end : ℕ) (f : FilterNumbers) (next : ℕ) : Type 0 where
+  pub whole : next ≡ f .place + f .size
+  pub onward : at ≤ f .place
   pub upTo : at ≤ end → next ≤ end
   pub there : at ≤ length s → next ≤ length s
   pub read : 0 < leftAt s at end → Inside s at end next
-  pub filled : 0 < size → Inside s at end next
+  pub filled : 0 < f .size → Inside s at end next
 
-module _ (s : List ℕ) (at end n b p field size next : ℕ) (e : filterAt s at end ≡ Read n b p field size next) where
-  pub filter-inside : FilterInside s at end field size next
+module _ (s : List ℕ) (at end : ℕ) (f : FilterNumbers) (next : ℕ) (e : filterAt s at end ≡ Read f next) where
+  pub filter-inside : FilterInside s at end f next
   filter-inside =
-      filter-apart s at end n b p field size next e
-      (λ none q.
-      let f : at ≡ field = cc in
-      let l : 0 ≡ size = cc in
-      let x : at ≡ next = cc in
+      filter-apart s at end f next e
+      (λ none same x.
+      let k : at ≡ f .place = ap (λ (y : FilterNumbers). y .place) same in
+      let l : 0 ≡ f .size = ap (λ (y : FilterNumbers). y .size) same in
       record {
         whole = omega arith;
         onward = omega arith;
@@ -241,13 +239,14 @@ module _ (s : List ℕ) (at end n b p field size next : ℕ) (e : filterAt s at 
         read = λ h. absurd (omega arith);
         filled = λ h. absurd (omega arith);
       })
-      (λ some r f.
-      let i1 = number-inside mostFilter s at end n (r .i) (r .first) in
-      let i2 = number-inside mostFilter s (r .i) end b (r .j) (r .second) in
-      let i3 = number-inside mostFilter s (r .j) end p field (r .third) in
-      let l = left-is s field end in
-      let w = f .whole in
-      let t = f .there in
+      (λ some r.
+      let k = r .numbers in
+      let i1 = number-inside mostFilter s at end (f .entries) (k .i) (k .first) in
+      let i2 = number-inside mostFilter s (k .i) end (f .bits) (k .j) (k .second) in
+      let i3 = number-inside mostFilter s (k .j) end (f .probes) (f .place) (k .third) in
+      let l = left-is s (f .place) end in
+      let w : next ≡ f .place + f .size = omega (arith, r .field .whole, r .sized) in
+      let t : f .size ≤ leftAt s (f .place) end = omega (arith, r .field .there, r .sized) in
       let inside : Inside s at end next = record { after = omega arith; upTo = omega arith; there = omega arith } in
       record {
         whole = w;
@@ -260,26 +259,24 @@ module _ (s : List ℕ) (at end n b p field size next : ℕ) (e : filterAt s at 
 
   -- ---- a filter that was read keeps the rules
 
-  pub filter-ruled : Bytes s → filterRules n b p size ≡ true
+  pub filter-ruled : Bytes s → filterRules (f .entries) (f .bits) (f .probes) (f .size) ≡ true
   filter-ruled all =
-      filter-apart s at end n b p field size next e
-      (λ none q.
-      let n0 : 0 ≡ n = cc in
-      let b0 : 10 ≡ b = cc in
-      let p0 : 7 ≡ p = cc in
-      let l0 : 0 ≡ size = cc in
-      rw (← n0, ← b0, ← p0, ← l0) (rules-none 10 7 (omega arith) (omega arith)))
-      (λ some r f.
-      let m1 = number-most mostFilter s at end n (r .i) all (r .first) in
-      let m2 = number-most mostFilter s (r .i) end b (r .j) all (r .second) in
-      let m3 = number-most mostFilter s (r .j) end p field all (r .third) in
-      rules n b p size
+      filter-apart s at end f next e
+      (λ none same x. rw (← same) (rules-none defaultBits defaultProbes (omega arith) (omega arith)))
+      (λ some r.
+      let k = r .numbers in
+      let m1 = number-most mostFilter s at end (f .entries) (k .i) all (k .first) in
+      let m2 = number-most mostFilter s (k .i) end (f .bits) (k .j) all (k .second) in
+      let m3 = number-most mostFilter s (k .j) end (f .probes) (f .place) all (k .third) in
+      let l = r .field in
+      rules (f .entries) (f .bits) (f .probes) (f .size)
       (record {
         entries = m1;
         bits = m2;
         probes = m3;
-        size = f .sized;
-        full = λ h. full-of n b p size h (f .someBits h) (f .fewProbes h) (f .sized) (f .small);
+        size = r .sized;
+        full =
+            λ h. full-of (f .entries) (f .bits) (f .probes) (f .size) h (l .someBits h) (l .fewProbes h) (r .sized) (omega (arith, l .small, r .sized));
       }))
 
 -- ---- the bytes of a filter
@@ -314,7 +311,7 @@ pub filter-written : (s rest : List ℕ) (at end : ℕ) (f : Filter)
     → slice at end s ≡ filterBytes f ++ rest
     → let place = at + length (shortest (f .entries)) + length (shortest (f .bits)) + length (shortest (f .probes)) in
     let next = place + length (f .field) in
-    (filterAt s at end ≡ Read (f .entries) (f .bits) (f .probes) place (length (f .field)) next) × (slice place next s ≡ f .field)
+    (filterAt s at end ≡ Read (numbersOf (f .entries) (f .bits) (f .probes) place (length (f .field))) next) × (slice place next s ≡ f .field)
 unfolding leftAt
 filter-written s rest at end f keeps entries same =
     let n = f .entries in
@@ -344,7 +341,7 @@ filter-written s rest at end f keeps entries same =
     in
     (read ∙ last, slice-parts (length field) place end s field rest room refl (three .1) .0)
 
-pub default-written : (s : List ℕ) (at end : ℕ) → slice at end s ≡ [] → filterAt s at end ≡ Read 0 defaultBits defaultProbes at 0 at
+pub default-written : (s : List ℕ) (at end : ℕ) → slice at end s ≡ [] → filterAt s at end ≡ Read (numbersOf 0 defaultBits defaultProbes at 0) at
 unfolding leftAt
 default-written s at end e = filter-default s at end (ap length e)
 

@@ -49,20 +49,20 @@ module _ (s : List ℕ) (f : FilterNumbers) where
 -- ---- one have
 
 module _ (s haves : List ℕ) (i : ℕ) where
-  pub sync-many : length s / sizes .hash < syncCount haves i → haveGood s haves i ≡ false
+  pub sync-many : (count : ℕ) → count ≡ syncCount haves i → length s / sizes .hash < count → haveGood s haves i ≡ false
   unfolding haveGood
-  sync-many h =
+  sync-many count many h =
       let long : length s < syncPlace haves i + sizes .hash * syncCount haves i = omega arith in
       rw (lt-leb _ _ long)
 
-  pub sync-outside : leb (syncPlace haves i + sizes .hash * syncCount haves i) (length s) ≡ false → haveGood s haves i ≡ false
-  unfolding haveGood
-  sync-outside e = rw e
+  module _ (place count : ℕ) (at : place ≡ syncPlace haves i) (many : count ≡ syncCount haves i) where
+    pub sync-outside : leb (place + sizes .hash * count) (length s) ≡ false → haveGood s haves i ≡ false
+    unfolding haveGood
+    sync-outside e = rw (rw (at, many) at e)
 
-  pub filter-decides : leb (syncPlace haves i + sizes .hash * syncCount haves i) (length s) ≡ true
-      → haveGood s haves i ≡ filterGood s (numbersIn haves i)
-  unfolding haveGood
-  filter-decides e = rw e
+    pub filter-decides : leb (place + sizes .hash * count) (length s) ≡ true → haveGood s haves i ≡ filterGood s (numbersIn haves i)
+    unfolding haveGood
+    filter-decides e = rw (rw (at, many) at e)
 
   -- what a good have has
   pub record HaveParts : Type 0 where
@@ -140,17 +140,20 @@ module _ (haves : List ℕ) where
       let few : haveCount haves ≤ sizes .haves = omega arith in
       rw (d, t, le-leb _ _ few)
 
-  pub counting-fails : (total i : ℕ) → i < total → sizes .hashes < syncCount haves i → counting total i ≡ false
-  unfolding counting syncsFew
-  counting-fails total i l h =
-      let d : total - i ≡ suc (total - (i + 1)) = omega arith in
-      rw (d, lt-leb _ _ h)
+  module _ (total i : ℕ) (here : i < total) (count : ℕ) (is : count ≡ syncCount haves i) where
+    pub counting-fails : sizes .hashes < count → counting total i ≡ false
+    unfolding counting syncsFew
+    counting-fails h =
+        let d : total - i ≡ suc (total - (i + 1)) = omega arith in
+        let many : sizes .hashes < syncCount haves i = omega arith in
+        rw (d, lt-leb _ _ many)
 
-  pub counting-on : (total i : ℕ) → i < total → syncCount haves i ≤ sizes .hashes → counting total i ≡ counting total (i + 1)
-  unfolding counting syncsFew
-  counting-on total i l h =
-      let d : total - i ≡ suc (total - (i + 1)) = omega arith in
-      rw (d, le-leb _ _ h, add-one)
+    pub counting-on : count ≤ sizes .hashes → counting total i ≡ counting total (i + 1)
+    unfolding counting syncsFew
+    counting-on h =
+        let d : total - i ≡ suc (total - (i + 1)) = omega arith in
+        let few : syncCount haves i ≤ sizes .hashes = omega arith in
+        rw (d, le-leb _ _ few, add-one)
 
   pub counting-ends : (total i : ℕ) → total ≤ i → counting total i ≡ true
   unfolding counting syncsFew

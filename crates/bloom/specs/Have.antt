@@ -20,16 +20,20 @@ haveWords = 7
 abbrev pub haveCount : List ℕ → ℕ
 haveCount haves = length haves / haveWords
 
+-- A filter's numbers, in the order of their words.
+abbrev pub numbersOf : ℕ → ℕ → ℕ → ℕ → ℕ → FilterNumbers
+numbersOf entries bits probes place size =
+    record { entries = entries; bits = bits; probes = probes; place = place; size = size }
+
 -- The filter's numbers in record i.
 abbrev pub numbersIn : List ℕ → ℕ → FilterNumbers
 numbersIn haves i =
-    record {
-      entries = getD haves (i * haveWords + 2) 0;
-      bits = getD haves (i * haveWords + 3) 0;
-      probes = getD haves (i * haveWords + 4) 0;
-      place = getD haves (i * haveWords + 5) 0;
-      size = getD haves (i * haveWords + 6) 0;
-    }
+    numbersOf
+    (getD haves (i * haveWords + 2) 0)
+    (getD haves (i * haveWords + 3) 0)
+    (getD haves (i * haveWords + 4) 0)
+    (getD haves (i * haveWords + 5) 0)
+    (getD haves (i * haveWords + 6) 0)
 
 -- The filter that numbers are, its field standing in the lent bytes.
 unfoldable pub filterWith : List ℕ → FilterNumbers → Filter
@@ -84,8 +88,8 @@ unfoldable pub havesGoodFrom : List ℕ → List ℕ → ℕ → ℕ → Bool
 havesGoodFrom s haves i zero = true
 havesGoodFrom s haves i (suc count) = haveGood s haves i && havesGoodFrom s haves (suc i) count
 
--- Refusal 10 for a list of haves that is passed: whole records, each good. Of more than 16 haves the first 16 are looked at; the number
--- itself is refusal 4, which comes later.
+-- Refusal 10 for a list of haves that is passed: whole records, each good. Of more haves than a list may have the first are looked at;
+-- the number itself is refusal 4, which comes later.
 unfoldable pub passedGood : List ℕ → List ℕ → Bool
 passedGood s haves = eqb (length haves % haveWords) 0 && havesGoodFrom s haves 0 (min (haveCount haves) (sizes .haves))
 
@@ -94,7 +98,7 @@ unfoldable pub syncsFew : List ℕ → ℕ → ℕ → Bool
 syncsFew haves i zero = true
 syncsFew haves i (suc count) = leb (syncCount haves i) (sizes .hashes) && syncsFew haves (suc i) count
 
--- Refusal 4 for a list of haves that is passed: at most 16, and no list of last-sync hashes too long.
+-- Refusal 4 for a list of haves that is passed: neither their number nor a list of last-sync hashes passes its size.
 unfoldable pub passedFew : List ℕ → Bool
 passedFew haves = leb (haveCount haves) (sizes .haves) && syncsFew haves 0 (haveCount haves)
 

@@ -10,6 +10,8 @@ use Rattle.rules.specs.declared.refusal.Refusal.the-variants.{Cut, PastSize, No
 use Rattle.wire.specs.Item.{leftAt, afterNumber}
 use Rattle.wire.specs.Number.{numberAt, mostFilter}
 use Rattle.bloom.specs.Filter.{fieldSize, defaultBits, defaultProbes}
+use Rattle.bloom.specs.Have.{numbersOf}
+use Rattle.bloom.specs.declared.have.FilterNumbers.{FilterNumbers}
 use Rattle.bloom.specs.declared.parse.Parsed.{Parsed}
 use Rattle.bloom.specs.declared.parse.Parsed.the-variants.{Filter, Refused}
 
@@ -18,7 +20,7 @@ use Rattle.bloom.specs.declared.parse.Parsed.the-variants.{Filter, Refus
 unfoldable pub fieldAt : List ℕ → ℕ → ℕ → ℕ → ℕ → ℕ → ℕ → Parsed
 fieldAt s at end n b p place =
     cond (eqb n 0)
-    (Filter 0 b p place 0 place)
+    (Filter (numbersOf 0 b p place 0) place)
     (cond (eqb b 0)
     (Refused (NoBits at))
     (cond (ltb (sizes .probes) p)
@@ -27,7 +29,7 @@ fieldAt s at end n b p place =
     (Refused (PastSize at))
     (cond (ltb (leftAt s place end) (fieldSize n b))
     (Refused (Cut place))
-    (Filter n b p place (fieldSize n b) (place + fieldSize n b))))))
+    (Filter (numbersOf n b p place (fieldSize n b)) (place + fieldSize n b))))))
 
 -- The filter at a place that has bytes: n, b, p, and then the field.
 unfoldable pub numbersAt : List ℕ → ℕ → ℕ → Parsed
@@ -41,4 +43,9 @@ numbersAt s at end =
 
 -- The filter at a place: no bytes mean the default.
 unfoldable pub filterAt : List ℕ → ℕ → ℕ → Parsed
-filterAt s at end = cond (eqb (leftAt s at end) 0) (Filter 0 defaultBits defaultProbes at 0 at) (numbersAt s at end)
+filterAt s at end = cond (eqb (leftAt s at end) 0) (Filter (numbersOf 0 defaultBits defaultProbes at 0) at) (numbersAt s at end)
+
+-- What follows a filter that was read, or its refusal passed on.
+unfoldable pub afterFilter : {A : Type 0} → Parsed → (Refusal → A) → (FilterNumbers → ℕ → A) → A
+afterFilter (Filter f next) refused k = k f next
+afterFilter (Refused r) refused k = refused r

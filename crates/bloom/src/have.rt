@@ -6,19 +6,35 @@ use rules::sizes::HAVES;
 ghost use mathlib.Core.Path.{_≡_};
 ghost use Prim.Native.Nat.{_+_, _<_, min};
 ghost use lib.Dec.{leb};
+ghost use Rattle.bloom.specs.Have.{haveCount, syncPlace, syncCount, numbersIn, filterGood, haveGood, passedGood, passedFew};
 ghost use Rattle.rules.specs.Sizes.{sizes};
-ghost use Rattle.bloom.specs.Have.{haveCount, numbersIn, filterGood, haveGood, passedGood, passedFew};
 
 // A record: place and count of the last-sync hashes, then the filter's entries, bits per entry, probes, place and length of its field.
 pub const HAVE_WORDS: usize = 7;
 
-// The filter of a record.
+// A filter as numbers: its entries, bits per entry and probes, and where its field stands and how long it is.
 pub struct FilterNumbers {
     pub entries: u64,
     pub bits: u64,
     pub probes: u64,
     pub place: usize,
     pub size: usize,
+}
+
+// Where the last-sync hashes of record i stand.
+pub fn sync_place(haves: &[u64], i: usize) -> usize
+    requires { ⌜ i < haveCount (now haves) ⌝ }
+    ensures { λ r. ⌜ r ≡ syncPlace (now (haves .entry)) i ⌝ }
+{
+    haves[i * HAVE_WORDS] as usize
+}
+
+// How many last-sync hashes record i has.
+pub fn sync_count(haves: &[u64], i: usize) -> usize
+    requires { ⌜ i < haveCount (now haves) ⌝ }
+    ensures { λ r. ⌜ r ≡ syncCount (now (haves .entry)) i ⌝ }
+{
+    haves[i * HAVE_WORDS + 1] as usize
 }
 
 // The filter of record i.
@@ -63,12 +79,11 @@ pub fn have_good(s: &[u8], haves: &[u64], i: usize) -> bool
     requires { ⌜ i < haveCount (now haves) ⌝ }
     ensures { λ r. ⌜ r ≡ haveGood (now (s .entry)) (now (haves .entry)) i ⌝ }
 {
-    let at = i * HAVE_WORDS;
-    let count = haves[at + 1] as usize;
+    let count = sync_count(haves, i);
     if s.len() / HASH_SIZE < count {
         return false;
     }
-    if !inside(haves[at] as usize, HASH_SIZE * count, s.len()) {
+    if !inside(sync_place(haves, i), HASH_SIZE * count, s.len()) {
         return false;
     }
     filter_good(s, haves, i)
@@ -102,7 +117,7 @@ pub fn passed_few(haves: &[u64]) -> bool
     }
     let mut i = 0;
     while i < total {
-        if (HASHES as u64) < haves[i * HAVE_WORDS + 1] {
+        if HASHES < sync_count(haves, i) {
             return false;
         }
         i += 1;

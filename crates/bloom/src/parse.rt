@@ -1,4 +1,5 @@
 // A filter read.
+use crate::have::FilterNumbers;
 use crate::rule::bits_capacity;
 use rules::refusal::Refusal;
 use rules::sizes::FIELD_SIZE;
@@ -16,16 +17,9 @@ pub const BITS_PER_ENTRY: u64 = 10;
 
 pub const NUM_PROBES: u64 = 7;
 
-// A filter that was read: its numbers, the place and length of its field, and the place where it ended.
+// A filter that was read, and the place where it ended.
 pub enum Parsed {
-    Filter {
-        entries: u64,
-        bits: u64,
-        probes: u64,
-        field: usize,
-        size: usize,
-        next: usize,
-    },
+    Filter { filter: FilterNumbers, next: usize },
     Refused(Refusal),
 }
 
@@ -35,11 +29,13 @@ pub fn parse(s: &[u8], at: usize, end: usize) -> Parsed
 {
     if left(s, at, end) == 0 {
         return Parsed::Filter {
-            entries: 0,
-            bits: BITS_PER_ENTRY,
-            probes: NUM_PROBES,
-            field: at,
-            size: 0,
+            filter: FilterNumbers {
+                entries: 0,
+                bits: BITS_PER_ENTRY,
+                probes: NUM_PROBES,
+                place: at,
+                size: 0,
+            },
             next: at,
         };
     }
@@ -93,11 +89,13 @@ fn parse_field(
 {
     if entries == 0 {
         return Parsed::Filter {
-            entries: 0,
-            bits,
-            probes,
-            field: place,
-            size: 0,
+            filter: FilterNumbers {
+                entries: 0,
+                bits,
+                probes,
+                place,
+                size: 0,
+            },
             next: place,
         };
     }
@@ -114,12 +112,15 @@ fn parse_field(
     if left(s, place, end) < size {
         return Parsed::Refused(Refusal::Cut(place));
     }
+    let next = place + size;
     Parsed::Filter {
-        entries,
-        bits,
-        probes,
-        field: place,
-        size,
-        next: place + size,
+        filter: FilterNumbers {
+            entries,
+            bits,
+            probes,
+            place,
+            size,
+        },
+        next,
     }
 }

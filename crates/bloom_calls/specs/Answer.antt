@@ -9,7 +9,7 @@ use Rattle.probe.specs.declared.contains.Contained.the-variants.{Yes, No, Refus
 use Rattle.words.specs.Answer.{refusalWords}
 
 abbrev pub filterWords : Parsed → List ℕ
-filterWords (Filter n b p field size next) = 0 ∷ n ∷ b ∷ p ∷ field ∷ size ∷ next ∷ 0 ∷ []
+filterWords (Filter f next) = 0 ∷ f .entries ∷ f .bits ∷ f .probes ∷ f .place ∷ f .size ∷ next ∷ 0 ∷ []
 filterWords (NoFilter r) = numberOf r ∷ valueOf r ∷ 0 ∷ 0 ∷ 0 ∷ 0 ∷ 0 ∷ 0 ∷ []
 
 abbrev pub containedWords : Contained → List ℕ

@@ -9,20 +9,13 @@ pub fn filter_words(f: Parsed) -> [u64; 8]
     ensures { λ w. ⌜ w ≡ filterWords f ⌝ }
 {
     match f {
-        Parsed::Filter {
-            entries,
-            bits,
-            probes,
-            field,
-            size,
-            next,
-        } => [
+        Parsed::Filter { filter, next } => [
             0,
-            entries,
-            bits,
-            probes,
-            field as u64,
-            size as u64,
+            filter.entries,
+            filter.bits,
+            filter.probes,
+            filter.place as u64,
+            filter.size as u64,
             next as u64,
             0,
         ],

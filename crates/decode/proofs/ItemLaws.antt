@@ -8,56 +8,54 @@ use native.Mathlib.Numerals.{add-one}
 use native.Mathlib.Omega.{arith}
 use lib.ListN.{length, length-append}
 use lib.Seq.{sets, length-sets}
-use Rattle.bloom.specs.Read.{filterAt}
+use Rattle.bloom.specs.Read.{filterAt, afterFilter}
 use Rattle.bloom.specs.Have.{haveWords}
+use Rattle.bloom.specs.declared.have.FilterNumbers.{FilterNumbers}
 use Rattle.bloom.specs.declared.parse.Parsed.{Parsed}
 use Rattle.bloom.specs.declared.parse.Parsed.the-variants.{Filter, Refused as NoFilter}
 use Rattle.rules.specs.Sizes.{sizes}
 use Rattle.rules.specs.declared.refusal.Refusal.{Refusal}
 use Rattle.rules.proofs.Outputs.{sets-append}
-use Rattle.wire.specs.Item.{afterNumber, countAt, prefixedAt, hashListAt}
+use Rattle.wire.specs.Item.{run, afterNumber, afterPart, afterListed, countAt, prefixedAt, hashListAt}
 use Rattle.wire.proofs.Item.{prefixed-inside}
 use Rattle.wire.specs.declared.leb128.Number.{Number}
 use Rattle.wire.specs.declared.leb128.Number.the-variants.{Value, Refused as NoCount}
-use Rattle.wire.specs.declared.parse.HashList.{HashList}
-use Rattle.wire.specs.declared.parse.HashList.the-variants.{Hashes, Refused as NoHashes}
+use Rattle.wire.specs.declared.parse.Listed.{Listed}
+use Rattle.wire.specs.declared.parse.Listed.the-variants.{Items, Refused as NotListed}
 use Rattle.wire.specs.declared.parse.Prefixed.{Prefixed}
 use Rattle.wire.specs.declared.parse.Prefixed.the-variants.{Part, Refused as NoPart}
-use Rattle.decode.specs.Items.{afterHashes, afterPart, afterFilter, haveAt, Item, item, stopped, afterItem, haveWordsOf, haveItem, chunkWords, chunkItem, manyAt, list, noList, afterList, listFrom, listAt, havesAt, chunksAt, listedOf, wordsOf, AllRead}
+use Rattle.wire.specs.declared.parse.Run.{Run}
+use Rattle.decode.specs.Items.{haveAt, haveWordList, Item, item, stopped, afterItem, haveWordsOf, haveItem, chunkWords, chunkItem, manyAt, list, noList, afterList, listFrom, listAt, havesAt, chunksAt, listedOf, wordsOf, AllRead}
 use Rattle.decode.specs.declared.items.HaveRead.the-variants.{Have, Refused as NoHave}
-use Rattle.decode.specs.declared.items.Listed.{Listed}
-use Rattle.decode.specs.declared.items.Listed.the-variants.{Items, Refused as NotListed}
 
 -- ---- one have
 
 module _ (s : List ℕ) (at : ℕ) where
-  pub have-no-list : (r : Refusal) → hashListAt s at (length s) ≡ NoHashes r → haveAt s at ≡ NoHave r
-  unfolding haveAt afterHashes
+  pub have-no-list : (r : Refusal) → hashListAt s at (length s) ≡ NotListed r → haveAt s at ≡ NoHave r
+  unfolding haveAt afterListed
   have-no-list r e = rw e
 
-  module _ (start count i : ℕ) (syncs : hashListAt s at (length s) ≡ Hashes start count i) where
+  module _ (sync : Run) (i : ℕ) (syncs : hashListAt s at (length s) ≡ Items sync i) where
     pub have-no-part : (r : Refusal) → prefixedAt s i (length s) ≡ NoPart r → haveAt s at ≡ NoHave r
-    unfolding haveAt afterHashes afterPart
+    unfolding haveAt afterListed afterPart
     have-no-part r e = rw (syncs, e)
 
     module _ (from end : ℕ) (part : prefixedAt s i (length s) ≡ Part from end) where
       pub have-no-filter : (r : Refusal) → filterAt s from end ≡ NoFilter r → haveAt s at ≡ NoHave r
-      unfolding haveAt afterHashes afterPart afterFilter
+      unfolding haveAt afterListed afterPart afterFilter
       have-no-filter r e = rw (syncs, part, e)
 
-      pub have-read : (n b p field size next : ℕ) → filterAt s from end ≡ Filter n b p field size next
-          → haveAt s at ≡ Have start count n b p field size end
-      unfolding haveAt afterHashes afterPart afterFilter
-      have-read n b p field size next e = rw (syncs, part, e)
+      pub have-read : (f : FilterNumbers) (next : ℕ) → filterAt s from end ≡ Filter f next → haveAt s at ≡ Have sync f end
+      unfolding haveAt afterListed afterPart afterFilter
+      have-read f next e = rw (syncs, part, e)
 
   pub have-stopped : (r : Refusal) → haveAt s at ≡ NoHave r → haveItem s at ≡ stopped r
   unfolding haveItem haveWordsOf
   have-stopped r e = rw e
 
-  pub have-item : (start count n b p field size next : ℕ) → haveAt s at ≡ Have start count n b p field size next
-      → haveItem s at ≡ item (start ∷ count ∷ n ∷ b ∷ p ∷ field ∷ size ∷ []) next
+  pub have-item : (sync : Run) (f : FilterNumbers) (next : ℕ) → haveAt s at ≡ Have sync f next → haveItem s at ≡ item (haveWordList sync f) next
   unfolding haveItem haveWordsOf
-  have-item start count n b p field size next e = rw e
+  have-item sync f next e = rw e
 
   -- ---- one chunk
 
@@ -95,14 +93,14 @@ module _ (one : ℕ → Item) (left next : ℕ) where
 
 -- what a list is told to be while `left` of its items are still to come
 unfoldable pub passing : (ℕ → Item) → ℕ → ℕ → ℕ → ℕ → Listed
-passing one start count left next = listedOf (listFrom start count (manyAt one left next))
+passing one start count left next = listedOf (listFrom (run start count) (manyAt one left next))
 
 module _ (one : ℕ → Item) (start count : ℕ) where
-  pub passing-starts : passing one start count (count - 0) start ≡ listedOf (listFrom start count (manyAt one count start))
+  pub passing-starts : passing one start count (count - 0) start ≡ listedOf (listFrom (run start count) (manyAt one count start))
   unfolding passing
   passing-starts = let e : count - 0 ≡ count = omega arith in rw e
 
-  pub passing-ends : (k next : ℕ) → count ≤ k → passing one start count (count - k) next ≡ Items start count next
+  pub passing-ends : (k next : ℕ) → count ≤ k → passing one start count (count - k) next ≡ Items (run start count) next
   unfolding passing listedOf listFrom manyAt afterItem afterList
   passing-ends k next h = let e : count - k ≡ 0 = omega arith in rw e
 
@@ -121,8 +119,8 @@ module _ (one : ℕ → Item) (start count : ℕ) where
         rw d (go (manyAt one (count - (k + 1)) after) refl)
       where
         go : (i : Item) → manyAt one (count - (k + 1)) after ≡ i
-            → listedOf (listFrom start count (manyAt one (suc (count - (k + 1))) next))
-            ≡ listedOf (listFrom start count (manyAt one (count - (k + 1)) after))
+            → listedOf (listFrom (run start count) (manyAt one (suc (count - (k + 1))) next))
+            ≡ listedOf (listFrom (run start count) (manyAt one (count - (k + 1)) after))
         go (item more end) q = rw (many-read one (count - (k + 1)) next words after e more end q, q)
         go (stopped r) q = rw (many-later one (count - (k + 1)) next words after e r q, q)
 
@@ -222,7 +220,7 @@ module _ (limit : ℕ) (one : ℕ → Item) (s : List ℕ) (at : ℕ) where
   list-refused r e = rw e
 
   pub list-read : (count start : ℕ) → countAt limit s at (length s) ≡ Value count start
-      → listAt limit one s at ≡ listFrom start count (manyAt one count start)
+      → listAt limit one s at ≡ listFrom (run start count) (manyAt one count start)
   unfolding listAt afterNumber
   list-read count start e = rw e
 
@@ -232,7 +230,7 @@ module _ (s : List ℕ) (at : ℕ) where
   haves-refused r e = rw (list-refused (sizes .haves) (haveItem s) s at r e)
 
   pub haves-listed : (count start : ℕ) → countAt (sizes .haves) s at (length s) ≡ Value count start
-      → listedOf (havesAt s at) ≡ listedOf (listFrom start count (manyAt (haveItem s) count start))
+      → listedOf (havesAt s at) ≡ listedOf (listFrom (run start count) (manyAt (haveItem s) count start))
   unfolding havesAt
   haves-listed count start e = rw (list-read (sizes .haves) (haveItem s) s at count start e)
 
@@ -241,7 +239,7 @@ module _ (s : List ℕ) (at : ℕ) where
   chunks-refused r e = rw (list-refused (sizes .chunks) (chunkItem s) s at r e)
 
   pub chunks-listed : (count start : ℕ) → countAt (sizes .chunks) s at (length s) ≡ Value count start
-      → listedOf (chunksAt s at) ≡ listedOf (listFrom start count (manyAt (chunkItem s) count start))
+      → listedOf (chunksAt s at) ≡ listedOf (listFrom (run start count) (manyAt (chunkItem s) count start))
   unfolding chunksAt
   chunks-listed count start e = rw (list-read (sizes .chunks) (chunkItem s) s at count start e)
 
@@ -296,56 +294,46 @@ module _ (one : ℕ → Item) (bound : ℕ) (below : (at : ℕ) (words : List �
 -- a have and a chunk, from their words
 module _ (s : List ℕ) (at : ℕ) (words : List ℕ) (next : ℕ) where
   pub record HaveBehind : Type 0 where
-    pub start : ℕ
-    pub count : ℕ
+    pub sync : Run
     pub i : ℕ
     pub from : ℕ
-    pub n : ℕ
-    pub b : ℕ
-    pub p : ℕ
-    pub field : ℕ
-    pub size : ℕ
+    pub numbers : FilterNumbers
     pub past : ℕ
-    pub syncs : hashListAt s at (length s) ≡ Hashes start count i
+    pub syncs : hashListAt s at (length s) ≡ Items sync i
     pub part : prefixedAt s i (length s) ≡ Part from next
-    pub filter : filterAt s from next ≡ Filter n b p field size past
-    pub are : words ≡ start ∷ count ∷ n ∷ b ∷ p ∷ field ∷ size ∷ []
+    pub filter : filterAt s from next ≡ Filter numbers past
+    pub are : words ≡ haveWordList sync numbers
 
   pub have-behind : haveItem s at ≡ item words next → HaveBehind
   have-behind e = syncs (hashListAt s at (length s)) refl
     where
-      filter : (start count i from end : ℕ) → hashListAt s at (length s) ≡ Hashes start count i → prefixedAt s i (length s) ≡ Part from end
+      filter : (sync : Run) (i from end : ℕ) → hashListAt s at (length s) ≡ Items sync i → prefixedAt s i (length s) ≡ Part from end
           → (x : Parsed) → filterAt s from end ≡ x → HaveBehind
-      filter start count i from end f g (Filter n b p field size past) h =
-          let read = have-item s at start count n b p field size end (have-read s at start count i f from end g n b p field size past h) in
-          let same : item (start ∷ count ∷ n ∷ b ∷ p ∷ field ∷ size ∷ []) end ≡ item words next = sym read ∙ e in
+      filter sync i from end f g (Filter numbers past) h =
+          let read = have-item s at sync numbers end (have-read s at sync i f from end g numbers past h) in
+          let same : item (haveWordList sync numbers) end ≡ item words next = sym read ∙ e in
           let l : end ≡ next = cc in
           record {
-            start = start;
-            count = count;
+            sync = sync;
             i = i;
             from = from;
-            n = n;
-            b = b;
-            p = p;
-            field = field;
-            size = size;
+            numbers = numbers;
             past = past;
             syncs = f;
             part = rw l at g;
             filter = rw l at h;
             are = cc;
           }
-      filter start count i from end f g (NoFilter r) h =
-          not-item r words next (sym (have-stopped s at r (have-no-filter s at start count i f from end g r h)) ∙ e)
+      filter sync i from end f g (NoFilter r) h =
+          not-item r words next (sym (have-stopped s at r (have-no-filter s at sync i f from end g r h)) ∙ e)
 
-      part : (start count i : ℕ) → hashListAt s at (length s) ≡ Hashes start count i → (x : Prefixed) → prefixedAt s i (length s) ≡ x → HaveBehind
-      part start count i f (Part from end) g = filter start count i from end f g (filterAt s from end) refl
-      part start count i f (NoPart r) g = not-item r words next (sym (have-stopped s at r (have-no-part s at start count i f r g)) ∙ e)
+      part : (sync : Run) (i : ℕ) → hashListAt s at (length s) ≡ Items sync i → (x : Prefixed) → prefixedAt s i (length s) ≡ x → HaveBehind
+      part sync i f (Part from end) g = filter sync i from end f g (filterAt s from end) refl
+      part sync i f (NoPart r) g = not-item r words next (sym (have-stopped s at r (have-no-part s at sync i f r g)) ∙ e)
 
-      syncs : (x : HashList) → hashListAt s at (length s) ≡ x → HaveBehind
-      syncs (Hashes start count i) f = part start count i f (prefixedAt s i (length s)) refl
-      syncs (NoHashes r) f = not-item r words next (sym (have-stopped s at r (have-no-list s at r f)) ∙ e)
+      syncs : (x : Listed) → hashListAt s at (length s) ≡ x → HaveBehind
+      syncs (Items sync i) f = part sync i f (prefixedAt s i (length s)) refl
+      syncs (NotListed r) f = not-item r words next (sym (have-stopped s at r (have-no-list s at r f)) ∙ e)
 
   pub record ChunkBehind : Type 0 where
     pub start : ℕ
@@ -380,28 +368,31 @@ chunk-below s at words next e =
     prefixed-inside s at (length s) (b .start) next (b .part) .there
 
 -- a list
-module _ (limit : ℕ) (one : ℕ → Item) (s : List ℕ) (at start count : ℕ) (words : List ℕ) (next : ℕ) where
+module _ (limit : ℕ) (one : ℕ → Item) (s : List ℕ) (at : ℕ) (items : Run) (words : List ℕ) (next : ℕ) where
   pub record ListBehind : Type 0 where
-    pub number : countAt limit s at (length s) ≡ Value count start
-    pub items : manyAt one count start ≡ item words next
+    pub number : countAt limit s at (length s) ≡ Value (items .count) (items .start)
+    pub each : manyAt one (items .count) (items .start) ≡ item words next
 
-  pub list-behind : listAt limit one s at ≡ list start count words next → ListBehind
+  pub list-behind : listAt limit one s at ≡ list items words next → ListBehind
   unfolding listFrom afterItem
   list-behind e = number (countAt limit s at (length s)) refl
     where
-      items : (many from : ℕ) → countAt limit s at (length s) ≡ Value many from → (i : Item) → manyAt one many from ≡ i → ListBehind
-      items many from q (item w end) d =
-          let same : list from many w end ≡ list start count words next = sym (list-read limit one s at many from q ∙ ap (listFrom from many) d) ∙ e in
-          let a : from ≡ start = cc in
-          let b : many ≡ count = cc in
+      each : (many from : ℕ) → countAt limit s at (length s) ≡ Value many from → (i : Item) → manyAt one many from ≡ i → ListBehind
+      each many from q (item w end) d =
+          let same : list (run from many) w end ≡ list items words next =
+          sym (list-read limit one s at many from q ∙ ap (listFrom (run from many)) d) ∙ e
+          in
+          let r : run from many ≡ items = cc in
+          let a : from ≡ items .start = ap (λ (x : Run). x .start) r in
+          let b : many ≡ items .count = ap (λ (x : Run). x .count) r in
           let i : item w end ≡ item words next = cc in
-          record { number = rw (a, b) at q; items = (rw (a, b) at d) ∙ i }
-      items many from q (stopped r) d =
-          let same : noList r ≡ list start count words next = sym (list-read limit one s at many from q ∙ ap (listFrom from many) d) ∙ e in
+          record { number = rw (a, b) at q; each = (rw (a, b) at d) ∙ i }
+      each many from q (stopped r) d =
+          let same : noList r ≡ list items words next = sym (list-read limit one s at many from q ∙ ap (listFrom (run from many)) d) ∙ e in
           absurd (let z : _≡_ {A = ℕ} 0 1 = cc in omega arith)
 
       number : (x : Number) → countAt limit s at (length s) ≡ x → ListBehind
-      number (Value many from) q = items many from q (manyAt one many from) refl
+      number (Value many from) q = each many from q (manyAt one many from) refl
       number (NoCount r) q =
-          let same : noList r ≡ list start count words next = sym (list-refused limit one s at r q) ∙ e in
+          let same : noList r ≡ list items words next = sym (list-refused limit one s at r q) ∙ e in
           absurd (let z : _≡_ {A = ℕ} 0 1 = cc in omega arith)

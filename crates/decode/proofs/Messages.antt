@@ -12,6 +12,7 @@ use lib.ListN.{length, getD, length-append}
 use lib.Seq.{slice, getD-append-add, getD-append-seam}
 use Rattle.bloom.specs.Filter.{filterRules}
 use Rattle.bloom.specs.Have.{haveWords, haveCount, filterGood, haveGood, havesGoodFrom, passedGood, syncsFew, passedFew}
+use Rattle.bloom.specs.declared.have.FilterNumbers.{FilterNumbers}
 use Rattle.bloom.proofs.Filters.{filter-inside, filter-ruled}
 use Rattle.message.specs.Flags.{addFlags, flagsIn, flagsOf}
 use Rattle.message.specs.Message.{typeOf}
@@ -27,12 +28,13 @@ use Rattle.rules.specs.declared.refusal.Refusal.the-variants.{Cut, WrongType, P
 use Rattle.rules.proofs.Cases.{split}
 use Rattle.rules.proofs.Hash.{bytes-head, bytes-tail, bytes-slice}
 use Rattle.wire.specs.Item.{prefixedAt, hashListAt}
-use Rattle.wire.specs.declared.parse.HashList.{HashList}
-use Rattle.wire.specs.declared.parse.HashList.the-variants.{Hashes, Refused as NoHashes}
+use Rattle.wire.specs.declared.parse.Listed.{Listed}
+use Rattle.wire.specs.declared.parse.Listed.the-variants.{Items, Refused as NotListed}
 use Rattle.wire.specs.declared.parse.Prefixed.{Prefixed}
 use Rattle.wire.specs.declared.parse.Prefixed.the-variants.{Part, Refused as NoPart}
+use Rattle.wire.specs.declared.parse.Run.{Run}
 use Rattle.wire.proofs.Item.{prefixed-inside, hash-list-inside}
-use Rattle.decode.specs.Items.{haveItem, chunkItem, item, manyAt, chunkWords}
+use Rattle.decode.specs.Items.{haveWordList, haveItem, chunkItem, item, manyAt, chunkWords}
 use Rattle.decode.specs.Read.{read, refused, headsAt, openingAt, sectionAt, messageAt, DecodedInto}
 use Rattle.decode.specs.declared.opening.Opening.the-variants.{Heads, Refused as NotOpened}
 use Rattle.decode.specs.declared.parse.Decoded.{Decoded}
@@ -80,50 +82,50 @@ module _ (s : List ℕ) where
 
 -- ---- what stands behind the first stage and the last
 
-not-heads : {A : Type 0} (r : Refusal) (v : MessageVersion) (start count next : ℕ) → NotOpened r ≡ Heads v start count next → A
-not-heads r v start count next e = absurd (let z : _≡_ {A = ℕ} 0 1 = cc in omega arith)
+not-heads : {A : Type 0} (r : Refusal) (v : MessageVersion) (heads : Run) (next : ℕ) → NotOpened r ≡ Heads v heads next → A
+not-heads r v heads next e = absurd (let z : _≡_ {A = ℕ} 0 1 = cc in omega arith)
 
-module _ (s : List ℕ) (version : MessageVersion) (start count next : ℕ) where
+module _ (s : List ℕ) (version : MessageVersion) (heads : Run) (next : ℕ) where
   pub record OpeningBehind : Type 0 where
     pub small : length s ≤ sizes .message
     pub some : 0 < length s
     pub type : getD s 0 0 ≡ typeOf version
-    pub heads : hashListAt s 1 (length s) ≡ Hashes start count next
+    pub list : hashListAt s 1 (length s) ≡ Items heads next
 
-  heads-behind : (v : MessageVersion) → headsAt s v ≡ Heads version start count next
-      → (v ≡ version) × (hashListAt s 1 (length s) ≡ Hashes start count next)
+  heads-behind : (v : MessageVersion) → headsAt s v ≡ Heads version heads next
+      → (v ≡ version) × (hashListAt s 1 (length s) ≡ Items heads next)
   heads-behind v e = go (hashListAt s 1 (length s)) refl
     where
-      go : (x : HashList) → hashListAt s 1 (length s) ≡ x → (v ≡ version) × (hashListAt s 1 (length s) ≡ Hashes start count next)
-      go (Hashes a b c) q =
-          let same : Heads v a b c ≡ Heads version start count next = sym (heads-read s v a b c q) ∙ e in
-          let w : Hashes a b c ≡ Hashes start count next = cc in
+      go : (x : Listed) → hashListAt s 1 (length s) ≡ x → (v ≡ version) × (hashListAt s 1 (length s) ≡ Items heads next)
+      go (Items a b) q =
+          let same : Heads v a b ≡ Heads version heads next = sym (heads-read s v a b q) ∙ e in
+          let w : Items a b ≡ Items heads next = cc in
           (cc, q ∙ w)
-      go (NoHashes r) q = not-heads r version start count next (sym (heads-refused s v r q) ∙ e)
+      go (NotListed r) q = not-heads r version heads next (sym (heads-refused s v r q) ∙ e)
 
-  pub opening-behind : openingAt s ≡ Heads version start count next → OpeningBehind
+  pub opening-behind : openingAt s ≡ Heads version heads next → OpeningBehind
   opening-behind e =
       split (ltb (sizes .message) (length s))
-      (λ t. not-heads _ _ _ _ _ (sym (opening-long s (ltb-true _ _ t)) ∙ e))
+      (λ t. not-heads _ _ _ _ (sym (opening-long s (ltb-true _ _ t)) ∙ e))
       (λ t.
       let small = ltb-false _ _ t in
       split (eqb (length s) 0)
-      (λ u. not-heads _ _ _ _ _ (sym (opening-empty s small (eqb-true _ _ u)) ∙ e))
+      (λ u. not-heads _ _ _ _ (sym (opening-empty s small (eqb-true _ _ u)) ∙ e))
       (λ u.
       let some = eqb-false _ _ u in
       split (eqb (getD s 0 0) (typeOf V1))
       (λ v.
       let is = eqb-true _ _ v in
       let h = heads-behind V1 (sym (opening-first s small some is) ∙ e) in
-      record { small = small; some = omega arith; type = is ∙ ap typeOf (h .0); heads = h .1 })
+      record { small = small; some = omega arith; type = is ∙ ap typeOf (h .0); list = h .1 })
       (λ v.
       let other = eqb-false _ _ v in
       split (eqb (getD s 0 0) (typeOf V2))
       (λ w.
       let is = eqb-true _ _ w in
       let h = heads-behind V2 (sym (opening-second s small some other is) ∙ e) in
-      record { small = small; some = omega arith; type = is ∙ ap typeOf (h .0); heads = h .1 })
-      (λ w. not-heads _ _ _ _ _ (sym (opening-other s small some other (eqb-false _ _ w)) ∙ e)))))
+      record { small = small; some = omega arith; type = is ∙ ap typeOf (h .0); list = h .1 })
+      (λ w. not-heads _ _ _ _ (sym (opening-other s small some other (eqb-false _ _ w)) ∙ e)))))
 
 not-sectioned : {A : Type 0} (r : Refusal) (flags : Section) (next : ℕ) → NoSection r ≡ Sectioned flags next → A
 not-sectioned r flags next e = absurd (let z : _≡_ {A = ℕ} 0 1 = cc in omega arith)
@@ -163,11 +165,11 @@ pub record MessageWords (s : List ℕ) (p : Places) (haves chunks : List ℕ) : 
 pub message-words : (s : List ℕ) (p : Places) (haves chunks : List ℕ) → messageAt s ≡ read p haves chunks → MessageWords s p haves chunks
 message-words s p haves chunks e =
     let b = message-means s p haves chunks e in
-    let o = opening-behind s (p .version) (p .heads .start) (p .heads .count) (b .atNeed) (b .opening) in
-    let l = hash-list-inside s 1 (length s) (p .heads .start) (p .heads .count) (b .atNeed) (o .heads) in
-    let n = hash-list-inside s (b .atNeed) (length s) (p .need .start) (p .need .count) (b .atHaves) (b .need) in
-    let h = haves-behind s (b .atHaves) (p .haves .start) (p .haves .count) haves (b .atChunks) (b .haveList) in
-    let c = chunks-behind s (b .atChunks) (p .chunks .start) (p .chunks .count) chunks (b .atSection) (b .chunkList) in
+    let o = opening-behind s (p .version) (p .heads) (b .atNeed) (b .opening) in
+    let l = hash-list-inside s 1 (length s) (p .heads) (b .atNeed) (o .list) in
+    let n = hash-list-inside s (b .atNeed) (length s) (p .need) (b .atHaves) (b .need) in
+    let h = haves-behind s (b .atHaves) (p .haves) haves (b .atChunks) (b .haveList) in
+    let c = chunks-behind s (b .atChunks) (p .chunks) chunks (b .atSection) (b .chunkList) in
     record {
       small = o .small;
       fewHeads = l .small;
@@ -191,17 +193,19 @@ message-words s p haves chunks e =
 -- ---- haves
 
 -- the words of record i, behind those of the records before it
-module _ (before more : List ℕ) (i x y n b p f z : ℕ) (long : length before ≡ i * haveWords) where
+module _ (before more : List ℕ) (i : ℕ) (sync : Run) (f : FilterNumbers) (long : length before ≡ i * haveWords) where
   abbrev pub records : List ℕ
-  records = before ++ (x ∷ y ∷ n ∷ b ∷ p ∷ f ∷ z ∷ more)
+  records = before ++ (haveWordList sync f ++ more)
 
-  pub first-word : getD records (i * haveWords) 0 ≡ x
-  first-word = rw (← long) (getD-append-seam before x (y ∷ n ∷ b ∷ p ∷ f ∷ z ∷ more) 0)
+  pub first-word : getD records (i * haveWords) 0 ≡ sync .start
+  first-word = rw (← long) (getD-append-seam before (sync .start) (sync .count ∷ f .entries ∷ f .bits ∷ f .probes ∷ f .place ∷ f .size ∷ more) 0)
 
-  pub word : (j : ℕ) → getD records (i * haveWords + j) 0 ≡ getD (x ∷ y ∷ n ∷ b ∷ p ∷ f ∷ z ∷ more) j 0
-  word j = rw (← long) (getD-append-add before (x ∷ y ∷ n ∷ b ∷ p ∷ f ∷ z ∷ more) j 0)
+  pub word : (j : ℕ) → getD records (i * haveWords + j) 0 ≡ getD (haveWordList sync f ++ more) j 0
+  word j = rw (← long) (getD-append-add before (haveWordList sync f ++ more) j 0)
 
-  one-good : (s : List ℕ) → x + sizes .hash * y ≤ length s → filterRules n b p z ≡ true → f + z ≤ length s → haveGood s records i ≡ true
+  one-good : (s : List ℕ) → sync .start + sizes .hash * sync .count ≤ length s → filterRules (f .entries) (f .bits) (f .probes) (f .size) ≡ true
+      → f .place + f .size ≤ length s
+      → haveGood s records i ≡ true
   unfolding haveGood filterGood
   one-good s there rules inside =
       rw (first-word, word 1, word 2, word 3, word 4, word 5, word 6, le-leb _ _ there, rules, le-leb _ _ inside)
@@ -215,19 +219,20 @@ module _ (s : List ℕ) (all : Bytes s) where
   records-good (suc count) i at before words next long e =
       let m = many-behind (haveItem s) at words next count e in
       let h = have-behind s at (m .first) (m .after) (m .is) in
-      let l = hash-list-inside s at (length s) (h .start) (h .count) (h .i) (h .syncs) in
+      let sync = h .sync in
+      let f = h .numbers in
+      let l = hash-list-inside s at (length s) sync (h .i) (h .syncs) in
       let q = prefixed-inside s (h .i) (length s) (h .from) (m .after) (h .part) in
-      let f = filter-inside s (h .from) (m .after) (h .n) (h .b) (h .p) (h .field) (h .size) (h .past) (h .filter) in
-      let r = filter-ruled s (h .from) (m .after) (h .n) (h .b) (h .p) (h .field) (h .size) (h .past) (h .filter) all in
-      let there : h .start + sizes .hash * h .count ≤ length s = omega arith in
-      let there2 : h .field + h .size ≤ length s = omega (arith, f .there (omega arith), f .whole) in
-      let w = h .are in
-      let first : List ℕ = h .start ∷ h .count ∷ h .n ∷ h .b ∷ h .p ∷ h .field ∷ h .size ∷ [] in
-      let is : before ++ (first ++ m .more) ≡ before ++ words = ap (λ (v : List ℕ). before ++ v) (ap (λ (v : List ℕ). v ++ m .more) (sym w) ∙ m .are) in
-      let good = one-good before (m .more) i (h .start) (h .count) (h .n) (h .b) (h .p) (h .field) (h .size) long s there r there2 in
-      let few : getD (before ++ (first ++ m .more)) (i * haveWords + 1) 0 ≡ h .count =
-      word before (m .more) i (h .start) (h .count) (h .n) (h .b) (h .p) (h .field) (h .size) long 1
+      let k = filter-inside s (h .from) (m .after) f (h .past) (h .filter) in
+      let r = filter-ruled s (h .from) (m .after) f (h .past) (h .filter) all in
+      let there : sync .start + sizes .hash * sync .count ≤ length s = omega arith in
+      let there2 : f .place + f .size ≤ length s = omega (arith, k .there (omega arith), k .whole) in
+      let first : List ℕ = haveWordList sync f in
+      let is : before ++ (first ++ m .more) ≡ before ++ words =
+      ap (λ (v : List ℕ). before ++ v) (ap (λ (v : List ℕ). v ++ m .more) (sym (h .are)) ∙ m .are)
       in
+      let good = one-good before (m .more) i sync f long s there r there2 in
+      let few : getD (before ++ (first ++ m .more)) (i * haveWords + 1) 0 ≡ sync .count = word before (m .more) i sync f long 1 in
       let longer : length (before ++ first) ≡ suc i * haveWords = rw (length-append before first, long) (omega arith) in
       let again = records-good count (suc i) (m .after) (before ++ first) (m .more) next longer (m .rest) in
       let again2 = rw (append-assoc before first (m .more)) at again in
@@ -238,8 +243,8 @@ pub haves-good : (s : List ℕ) → Bytes s → (p : Places) (haves chunks : Lis
 unfolding passedGood passedFew
 haves-good s all p haves chunks e =
     let b = message-means s p haves chunks e in
-    let h = haves-behind s (b .atHaves) (p .haves .start) (p .haves .count) haves (b .atChunks) (b .haveList) in
-    let g = records-good s all (p .haves .count) 0 (p .haves .start) [] haves (b .atChunks) refl (h .items) in
+    let h = haves-behind s (b .atHaves) (p .haves) haves (b .atChunks) (b .haveList) in
+    let g = records-good s all (p .haves .count) 0 (p .haves .start) [] haves (b .atChunks) refl (h .each) in
     let whole : length haves % haveWords ≡ 0 = omega (arith, h .long) in
     let many : haveCount haves ≡ p .haves .count = omega (arith, h .long) in
     let few : p .haves .count ≤ sizes .haves = h .few in
@@ -269,8 +274,8 @@ pub chunks-good : (s : List ℕ) (p : Places) (haves chunks : List ℕ) → mess
     → (i : ℕ) → i < p .chunks .count → getD chunks (i * chunkWords) 0 + getD chunks (i * chunkWords + 1) 0 ≤ length s
 chunks-good s p haves chunks e i h =
     let b = message-means s p haves chunks e in
-    let c = chunks-behind s (b .atChunks) (p .chunks .start) (p .chunks .count) chunks (b .atSection) (b .chunkList) in
-    chunks-inside s (p .chunks .count) (p .chunks .start) chunks (b .atSection) (c .items) i h
+    let c = chunks-behind s (b .atChunks) (p .chunks) chunks (b .atSection) (b .chunkList) in
+    chunks-inside s (p .chunks .count) (p .chunks .start) chunks (b .atSection) (c .each) i h
 
 -- ---- flags
 

@@ -17,14 +17,13 @@ use Rattle.message.specs.declared.version.MessageVersion.the-variants.{V1, V2}
 use Rattle.rules.specs.Sizes.{sizes}
 use Rattle.rules.specs.declared.refusal.Refusal.{Refusal}
 use Rattle.rules.specs.declared.refusal.Refusal.the-variants.{Cut, WrongType, PastSize, NoRoom}
-use Rattle.wire.specs.Item.{prefixedAt, hashListAt}
+use Rattle.wire.specs.Item.{afterPart, afterListed, prefixedAt, hashListAt}
 use Rattle.wire.proofs.Item.{count-inside}
-use Rattle.wire.specs.declared.parse.HashList.{HashList}
-use Rattle.wire.specs.declared.parse.HashList.the-variants.{Hashes, Refused as NoHashes}
+use Rattle.wire.specs.declared.parse.Listed.{Listed}
+use Rattle.wire.specs.declared.parse.Listed.the-variants.{Items, Refused as NotListed}
 use Rattle.wire.specs.declared.parse.Prefixed.the-variants.{Part, Refused as NoPart}
+use Rattle.wire.specs.declared.parse.Run.{Run}
 use Rattle.decode.specs.Items.{
-  afterHashes,
-  afterPart,
   haveItem,
   chunkItem,
   manyAt,
@@ -47,7 +46,6 @@ use Rattle.decode.specs.Read.{
   Reading,
   read,
   refused,
-  run,
   headsAt,
   openingAt,
   sectionAt,
@@ -62,7 +60,6 @@ use Rattle.decode.specs.Read.{
   chunksInto,
   DecodedInto,
 }
-use Rattle.decode.specs.declared.items.Listed.the-variants.{Items, Refused as NotListed}
 use Rattle.decode.specs.declared.opening.Opening.{Opening}
 use Rattle.decode.specs.declared.opening.Opening.the-variants.{Heads, Refused as NotOpened}
 use Rattle.decode.specs.declared.parse.Decoded.{Decoded}
@@ -70,19 +67,18 @@ use Rattle.decode.specs.declared.parse.Decoded.the-variants.{Message as 
 use Rattle.decode.specs.declared.parse.Flagged.{Flagged}
 use Rattle.decode.specs.declared.parse.Flagged.the-variants.{Section as Sectioned, Refused as NoSection}
 use Rattle.decode.specs.declared.parse.Places.{Places}
-use Rattle.decode.specs.declared.parse.Run.{Run}
 use Rattle.decode.proofs.ItemLaws.{list-behind, many-sized, many-below, have-sized, chunk-sized, have-below, chunk-below}
 
 -- ---- the first stage
 
 module _ (s : List ℕ) (version : MessageVersion) where
-  pub heads-refused : (r : Refusal) → hashListAt s 1 (length s) ≡ NoHashes r → headsAt s version ≡ NotOpened r
-  unfolding headsAt afterHashes
+  pub heads-refused : (r : Refusal) → hashListAt s 1 (length s) ≡ NotListed r → headsAt s version ≡ NotOpened r
+  unfolding headsAt afterListed
   heads-refused r e = rw e
 
-  pub heads-read : (start count next : ℕ) → hashListAt s 1 (length s) ≡ Hashes start count next → headsAt s version ≡ Heads version start count next
-  unfolding headsAt afterHashes
-  heads-read start count next e = rw e
+  pub heads-read : (heads : Run) (next : ℕ) → hashListAt s 1 (length s) ≡ Items heads next → headsAt s version ≡ Heads version heads next
+  unfolding headsAt afterListed
+  heads-read heads next e = rw e
 
 module _ (s : List ℕ) where
   pub opening-long : sizes .message < length s → openingAt s ≡ NotOpened (PastSize 0)
@@ -130,14 +126,14 @@ module _ (s : List ℕ) (at : ℕ) where
 
 pub listed-refused : (l : ItemList) (r : Refusal) → listedOf l ≡ NotListed r → l ≡ noList r
 unfolding listedOf afterList
-listed-refused (list start count words next) r e = absurd (let z : _≡_ {A = ℕ} 0 1 = cc in omega arith)
+listed-refused (list items words next) r e = absurd (let z : _≡_ {A = ℕ} 0 1 = cc in omega arith)
 listed-refused (noList q) r e = cc
 
-pub listed-items : (l : ItemList) (start count next : ℕ) → listedOf l ≡ Items start count next
-    → record { words : List ℕ; is : l ≡ list start count words next }
+pub listed-items : (l : ItemList) (items : Run) (next : ℕ) → listedOf l ≡ Items items next
+    → record { words : List ℕ; is : l ≡ list items words next }
 unfolding listedOf afterList
-listed-items (list start₁ count₁ words next₁) start count next e = record { words = words; is = cc }
-listed-items (noList q) start count next e = absurd (let z : _≡_ {A = ℕ} 0 1 = cc in omega arith)
+listed-items (list items₁ words next₁) items next e = record { words = words; is = cc }
+listed-items (noList q) items next e = absurd (let z : _≡_ {A = ℕ} 0 1 = cc in omega arith)
 
 -- ---- the stages after the first
 
@@ -146,19 +142,19 @@ module _ (s : List ℕ) (version : MessageVersion) (heads need : Run) (at : ℕ)
   unfolding listsAt afterList decodedOf
   lists-no-haves r e = rw (listed-refused (havesAt s at) r e)
 
-  module _ (start count i : ℕ) (haves : listedOf (havesAt s at) ≡ Items start count i) where
+  module _ (haves : Run) (i : ℕ) (have-list : listedOf (havesAt s at) ≡ Items haves i) where
     pub lists-no-chunks : (r : Refusal) → listedOf (chunksAt s i) ≡ NotListed r → decodedOf (listsAt s version heads need at) ≡ Refused r
     unfolding listsAt afterList decodedOf
     lists-no-chunks r e =
-        let h = listed-items (havesAt s at) start count i haves in
+        let h = listed-items (havesAt s at) haves i have-list in
         rw (h .is, listed-refused (chunksAt s i) r e)
 
-    module _ (from many j : ℕ) (chunks : listedOf (chunksAt s i) ≡ Items from many j) where
+    module _ (chunks : Run) (j : ℕ) (chunk-list : listedOf (chunksAt s i) ≡ Items chunks j) where
       pub lists-no-section : (r : Refusal) → sectionAt s j ≡ NoSection r → decodedOf (listsAt s version heads need at) ≡ Refused r
       unfolding listsAt afterList afterSection decodedOf
       lists-no-section r e =
-          let h = listed-items (havesAt s at) start count i haves in
-          let c = listed-items (chunksAt s i) from many j chunks in
+          let h = listed-items (havesAt s at) haves i have-list in
+          let c = listed-items (chunksAt s i) chunks j chunk-list in
           rw (h .is, c .is, e)
 
       pub lists-read : (flags : Section) (next : ℕ) → sectionAt s j ≡ Sectioned flags next
@@ -168,53 +164,53 @@ module _ (s : List ℕ) (version : MessageVersion) (heads need : Run) (at : ℕ)
             version = version;
             heads = heads;
             need = need;
-            haves = run start count;
-            chunks = run from many;
+            haves = haves;
+            chunks = chunks;
             flags = flags;
             next = next;
           })
       unfolding listsAt afterList afterSection decodedOf
       lists-read flags next e =
-          let h = listed-items (havesAt s at) start count i haves in
-          let c = listed-items (chunksAt s i) from many j chunks in
+          let h = listed-items (havesAt s at) haves i have-list in
+          let c = listed-items (chunksAt s i) chunks j chunk-list in
           rw (h .is, c .is, e)
 
 module _ (s : List ℕ) (version : MessageVersion) (heads : Run) (at : ℕ) where
-  pub need-refused : (r : Refusal) → hashListAt s at (length s) ≡ NoHashes r → needAt s version heads at ≡ refused r
-  unfolding needAt afterHashes
+  pub need-refused : (r : Refusal) → hashListAt s at (length s) ≡ NotListed r → needAt s version heads at ≡ refused r
+  unfolding needAt afterListed
   need-refused r e = rw e
 
-  pub need-read : (start count next : ℕ) → hashListAt s at (length s) ≡ Hashes start count next
-      → needAt s version heads at ≡ listsAt s version heads (run start count) next
-  unfolding needAt afterHashes
-  need-read start count next e = rw e
+  pub need-read : (need : Run) (next : ℕ) → hashListAt s at (length s) ≡ Items need next
+      → needAt s version heads at ≡ listsAt s version heads need next
+  unfolding needAt afterListed
+  need-read need next e = rw e
 
   -- the same in places alone
-  pub need-gone : (r : Refusal) → hashListAt s at (length s) ≡ NoHashes r → decodedOf (needAt s version heads at) ≡ Refused r
+  pub need-gone : (r : Refusal) → hashListAt s at (length s) ≡ NotListed r → decodedOf (needAt s version heads at) ≡ Refused r
   unfolding decodedOf
   need-gone r e = rw (need-refused r e)
 
-  pub need-lists : (start count next : ℕ) → hashListAt s at (length s) ≡ Hashes start count next
-      → decodedOf (needAt s version heads at) ≡ decodedOf (listsAt s version heads (run start count) next)
-  need-lists start count next e = ap decodedOf (need-read start count next e)
+  pub need-lists : (need : Run) (next : ℕ) → hashListAt s at (length s) ≡ Items need next
+      → decodedOf (needAt s version heads at) ≡ decodedOf (listsAt s version heads need next)
+  need-lists need next e = ap decodedOf (need-read need next e)
 
 module _ (s : List ℕ) where
   pub message-refused : (r : Refusal) → openingAt s ≡ NotOpened r → messageAt s ≡ refused r
   unfolding messageAt afterOpening
   message-refused r e = rw e
 
-  pub message-opened : (version : MessageVersion) (start count next : ℕ) → openingAt s ≡ Heads version start count next
-      → messageAt s ≡ needAt s version (run start count) next
+  pub message-opened : (version : MessageVersion) (heads : Run) (next : ℕ) → openingAt s ≡ Heads version heads next
+      → messageAt s ≡ needAt s version heads next
   unfolding messageAt afterOpening
-  message-opened version start count next e = rw e
+  message-opened version heads next e = rw e
 
   pub message-gone : (r : Refusal) → openingAt s ≡ NotOpened r → decodedOf (messageAt s) ≡ Refused r
   unfolding decodedOf
   message-gone r e = rw (message-refused r e)
 
-  pub message-need : (version : MessageVersion) (start count next : ℕ) → openingAt s ≡ Heads version start count next
-      → decodedOf (messageAt s) ≡ decodedOf (needAt s version (run start count) next)
-  message-need version start count next e = ap decodedOf (message-opened version start count next e)
+  pub message-need : (version : MessageVersion) (heads : Run) (next : ℕ) → openingAt s ≡ Heads version heads next
+      → decodedOf (messageAt s) ≡ decodedOf (needAt s version heads next)
+  message-need version heads next e = ap decodedOf (message-opened version heads next e)
 
 -- ---- what a message that was read means
 
@@ -231,14 +227,14 @@ module _ (s : List ℕ) (p : Places) (haves chunks : List ℕ) where
       (subst (λ (w : List ℕ). MessageMeans s q haves w) c (subst (λ (w : List ℕ). MessageMeans s q w cw) b m))
 
   pub message-means : messageAt s ≡ read p haves chunks → MessageMeans s p haves chunks
-  unfolding messageAt needAt listsAt afterOpening afterHashes afterList afterSection
+  unfolding messageAt needAt listsAt afterOpening afterListed afterList afterSection
   message-means e = opened (openingAt s) refl
     where
       sectioned : (version : MessageVersion) (heads need hs cs : Run) (i j k l : ℕ) (hw cw : List ℕ)
-          → openingAt s ≡ Heads version (heads .start) (heads .count) i
-          → hashListAt s i (length s) ≡ Hashes (need .start) (need .count) j
-          → havesAt s j ≡ list (hs .start) (hs .count) hw k
-          → chunksAt s k ≡ list (cs .start) (cs .count) cw l
+          → openingAt s ≡ Heads version heads i
+          → hashListAt s i (length s) ≡ Items need j
+          → havesAt s j ≡ list hs hw k
+          → chunksAt s k ≡ list cs cw l
           → (x : Flagged) → sectionAt s l ≡ x → MessageMeans s p haves chunks
       sectioned version heads need hs cs i j k l hw cw o n h c (Sectioned flags next) f =
           let q : Places = record { version = version; heads = heads; need = need; haves = hs; chunks = cs; flags = flags; next = next } in
@@ -260,76 +256,76 @@ module _ (s : List ℕ) (p : Places) (haves chunks : List ℕ) where
           not-read r p haves chunks (sym is ∙ e)
 
       chunked : (version : MessageVersion) (heads need hs : Run) (i j k : ℕ) (hw : List ℕ)
-          → openingAt s ≡ Heads version (heads .start) (heads .count) i
-          → hashListAt s i (length s) ≡ Hashes (need .start) (need .count) j
-          → havesAt s j ≡ list (hs .start) (hs .count) hw k
+          → openingAt s ≡ Heads version heads i
+          → hashListAt s i (length s) ≡ Items need j
+          → havesAt s j ≡ list hs hw k
           → (x : ItemList) → chunksAt s k ≡ x → MessageMeans s p haves chunks
-      chunked version heads need hs i j k hw o n h (list start count cw l) c =
-          sectioned version heads need hs (run start count) i j k l hw cw o n h c (sectionAt s l) refl
+      chunked version heads need hs i j k hw o n h (list cs cw l) c =
+          sectioned version heads need hs cs i j k l hw cw o n h c (sectionAt s l) refl
       chunked version heads need hs i j k hw o n h (noList r) c =
           let is : messageAt s ≡ refused r = rw (o, n, h, c) in
           not-read r p haves chunks (sym is ∙ e)
 
       haved : (version : MessageVersion) (heads need : Run) (i j : ℕ)
-          → openingAt s ≡ Heads version (heads .start) (heads .count) i
-          → hashListAt s i (length s) ≡ Hashes (need .start) (need .count) j
+          → openingAt s ≡ Heads version heads i
+          → hashListAt s i (length s) ≡ Items need j
           → (x : ItemList) → havesAt s j ≡ x → MessageMeans s p haves chunks
-      haved version heads need i j o n (list start count hw k) h =
-          chunked version heads need (run start count) i j k hw o n h (chunksAt s k) refl
+      haved version heads need i j o n (list hs hw k) h =
+          chunked version heads need hs i j k hw o n h (chunksAt s k) refl
       haved version heads need i j o n (noList r) h =
           let is : messageAt s ≡ refused r = rw (o, n, h) in
           not-read r p haves chunks (sym is ∙ e)
 
-      needed : (version : MessageVersion) (heads : Run) (i : ℕ) → openingAt s ≡ Heads version (heads .start) (heads .count) i
-          → (x : HashList) → hashListAt s i (length s) ≡ x → MessageMeans s p haves chunks
-      needed version heads i o (Hashes start count j) n = haved version heads (run start count) i j o n (havesAt s j) refl
-      needed version heads i o (NoHashes r) n =
+      needed : (version : MessageVersion) (heads : Run) (i : ℕ) → openingAt s ≡ Heads version heads i
+          → (x : Listed) → hashListAt s i (length s) ≡ x → MessageMeans s p haves chunks
+      needed version heads i o (Items need j) n = haved version heads need i j o n (havesAt s j) refl
+      needed version heads i o (NotListed r) n =
           let is : messageAt s ≡ refused r = rw (o, n) in
           not-read r p haves chunks (sym is ∙ e)
 
       opened : (x : Opening) → openingAt s ≡ x → MessageMeans s p haves chunks
-      opened (Heads version start count i) o = needed version (run start count) i o (hashListAt s i (length s)) refl
+      opened (Heads version heads i) o = needed version heads i o (hashListAt s i (length s)) refl
       opened (NotOpened r) o =
           let is : messageAt s ≡ refused r = rw o in
           not-read r p haves chunks (sym is ∙ e)
 
 -- ---- how many words there are
 
-module _ (s : List ℕ) (at start count : ℕ) (words : List ℕ) (next : ℕ) where
+module _ (s : List ℕ) (at : ℕ) (items : Run) (words : List ℕ) (next : ℕ) where
   pub record ItemsBehind (limit size : ℕ) (one : ℕ → Item) : Type 0 where
-    pub few : count ≤ limit
-    pub after : at < start
-    pub there : start ≤ length s
-    pub items : manyAt one count start ≡ item words next
-    pub long : length words ≡ size * count
+    pub few : items .count ≤ limit
+    pub after : at < items .start
+    pub there : items .start ≤ length s
+    pub each : manyAt one (items .count) (items .start) ≡ item words next
+    pub long : length words ≡ size * items .count
     pub upTo : next ≤ length s
 
-  pub haves-behind : havesAt s at ≡ list start count words next → ItemsBehind (sizes .haves) haveWords (haveItem s)
+  pub haves-behind : havesAt s at ≡ list items words next → ItemsBehind (sizes .haves) haveWords (haveItem s)
   unfolding havesAt
   haves-behind e =
-      let b = list-behind (sizes .haves) (haveItem s) s at start count words next e in
-      let c = count-inside (sizes .haves) s at (length s) count start (b .number) in
+      let b = list-behind (sizes .haves) (haveItem s) s at items words next e in
+      let c = count-inside (sizes .haves) s at (length s) (items .count) (items .start) (b .number) in
       record {
         few = c .small;
         after = c .after;
         there = c .there;
-        items = b .items;
-        long = many-sized (haveItem s) haveWords (have-sized s) count start words next (b .items);
-        upTo = many-below (haveItem s) (length s) (have-below s) count start words next (c .there) (b .items);
+        each = b .each;
+        long = many-sized (haveItem s) haveWords (have-sized s) (items .count) (items .start) words next (b .each);
+        upTo = many-below (haveItem s) (length s) (have-below s) (items .count) (items .start) words next (c .there) (b .each);
       }
 
-  pub chunks-behind : chunksAt s at ≡ list start count words next → ItemsBehind (sizes .chunks) chunkWords (chunkItem s)
+  pub chunks-behind : chunksAt s at ≡ list items words next → ItemsBehind (sizes .chunks) chunkWords (chunkItem s)
   unfolding chunksAt
   chunks-behind e =
-      let b = list-behind (sizes .chunks) (chunkItem s) s at start count words next e in
-      let c = count-inside (sizes .chunks) s at (length s) count start (b .number) in
+      let b = list-behind (sizes .chunks) (chunkItem s) s at items words next e in
+      let c = count-inside (sizes .chunks) s at (length s) (items .count) (items .start) (b .number) in
       record {
         few = c .small;
         after = c .after;
         there = c .there;
-        items = b .items;
-        long = many-sized (chunkItem s) chunkWords (chunk-sized s) count start words next (b .items);
-        upTo = many-below (chunkItem s) (length s) (chunk-below s) count start words next (c .there) (b .items);
+        each = b .each;
+        long = many-sized (chunkItem s) chunkWords (chunk-sized s) (items .count) (items .start) words next (b .each);
+        upTo = many-below (chunkItem s) (length s) (chunk-below s) (items .count) (items .start) words next (c .there) (b .each);
       }
 
 -- ---- what the call leaves
@@ -362,11 +358,11 @@ module _ (s : List ℕ) (p : Places) (is : decodedOf (messageAt s) ≡ Placed p)
   stages : MessageMeans s p (words .haves) (words .chunks)
   stages = message-means s p (words .haves) (words .chunks) (words .is)
 
-  have-words : ItemsBehind s (stages .atHaves) (p .haves .start) (p .haves .count) (words .haves) (stages .atChunks) (sizes .haves) haveWords (haveItem s)
-  have-words = haves-behind s (stages .atHaves) (p .haves .start) (p .haves .count) (words .haves) (stages .atChunks) (stages .haveList)
+  have-words : ItemsBehind s (stages .atHaves) (p .haves) (words .haves) (stages .atChunks) (sizes .haves) haveWords (haveItem s)
+  have-words = haves-behind s (stages .atHaves) (p .haves) (words .haves) (stages .atChunks) (stages .haveList)
 
-  chunk-words : ItemsBehind s (stages .atChunks) (p .chunks .start) (p .chunks .count) (words .chunks) (stages .atSection) (sizes .chunks) chunkWords (chunkItem s)
-  chunk-words = chunks-behind s (stages .atChunks) (p .chunks .start) (p .chunks .count) (words .chunks) (stages .atSection) (stages .chunkList)
+  chunk-words : ItemsBehind s (stages .atChunks) (p .chunks) (words .chunks) (stages .atSection) (sizes .chunks) chunkWords (chunkItem s)
+  chunk-words = chunks-behind s (stages .atChunks) (p .chunks) (words .chunks) (stages .atSection) (stages .chunkList)
 
   pub few-haves : p .haves .count ≤ sizes .haves
   few-haves = have-words .few
@@ -376,11 +372,11 @@ module _ (s : List ℕ) (p : Places) (is : decodedOf (messageAt s) ≡ Placed p)
 
   pub haves-read : (room : ℕ) → haveWords * p .haves .count ≤ room → AllRead (manyAt (haveItem s) (p .haves .count) (p .haves .start)) room
   haves-read room h =
-      record { words = words .haves; next = stages .atChunks; is = have-words .items; fits = omega (arith, have-words .long) }
+      record { words = words .haves; next = stages .atChunks; is = have-words .each; fits = omega (arith, have-words .long) }
 
   pub chunks-read : (room : ℕ) → chunkWords * p .chunks .count ≤ room → AllRead (manyAt (chunkItem s) (p .chunks .count) (p .chunks .start)) room
   chunks-read room h =
-      record { words = words .chunks; next = stages .atSection; is = chunk-words .items; fits = omega (arith, chunk-words .long) }
+      record { words = words .chunks; next = stages .atSection; is = chunk-words .each; fits = omega (arith, chunk-words .long) }
 
   module _ (haves₀ chunks₀ : List ℕ) where
     pub haves-short : length haves₀ < haveWords * p .haves .count
@@ -415,11 +411,11 @@ module _ (s : List ℕ) (p : Places) (is : decodedOf (messageAt s) ≡ Placed p)
             let room : length (words .chunks) ≤ length chunks₀ = omega (arith, chunk-words .long) in
             let f = le-ltb _ _ fits in
             let g = le-ltb _ _ room in
-            let x : haves₁ ≡ sets haves₀ 0 (words .haves) = rw (have-words .items) at a in
-            let y : chunks₁ ≡ sets chunks₀ 0 (words .chunks) = rw (chunk-words .items) at b in
+            let x : haves₁ ≡ sets haves₀ 0 (words .haves) = rw (have-words .each) at a in
+            let y : chunks₁ ≡ sets chunks₀ 0 (words .chunks) = rw (chunk-words .each) at b in
             record { answer = rw (words .is, f, g); haves = rw (words .is, f, g) x; chunks = rw (words .is, f, g) y }
 
 -- The stages make the message.
 pub means-read : (s : List ℕ) (p : Places) (haves chunks : List ℕ) → MessageMeans s p haves chunks → messageAt s ≡ read p haves chunks
-unfolding messageAt needAt listsAt afterOpening afterHashes afterList afterSection
+unfolding messageAt needAt listsAt afterOpening afterListed afterList afterSection
 means-read s p haves chunks b = rw (b .opening, b .need, b .haveList, b .chunkList, b .section)

@@ -11,7 +11,8 @@ use lib.Bits.{or-zero-l}
 use lib.ListN.{length, getD, length-append}
 use lib.Seq.{slice, length-slice, take-length}
 use Rattle.bloom.specs.Filter.{Filter, filterOf4, filterRules, filterBytes, defaultBits, defaultProbes}
-use Rattle.bloom.specs.Have.{Have, haveWords, haveCount, filterWith, haveIn, havesFrom, havesOf}
+use Rattle.bloom.specs.Have.{Have, haveWords, haveCount, numbersOf, filterWith, haveIn, havesFrom, havesOf}
+use Rattle.bloom.specs.declared.have.FilterNumbers.{FilterNumbers}
 use Rattle.bloom.specs.declared.parse.Parsed.the-variants.{Filter as Read}
 use Rattle.bloom.specs.Read.{filterAt}
 use Rattle.bloom.proofs.Filters.{no-bytes, filter-written, default-written}
@@ -25,16 +26,17 @@ use Rattle.message.specs.declared.version.MessageVersion.the-variants.{V1, V2}
 use Rattle.rules.specs.Hash.{AreHashes, hashesAt}
 use Rattle.rules.specs.Sizes.{sizes}
 use Rattle.rules.proofs.Hash.{slice-parts}
-use Rattle.wire.specs.Item.{prefixedAt, hashListAt, prefixedBytes, hashListBytes}
+use Rattle.wire.specs.Item.{run, prefixedAt, hashListAt, prefixedBytes, hashListBytes}
 use Rattle.wire.specs.Number.{shortest, most64}
-use Rattle.wire.specs.declared.parse.HashList.the-variants.{Hashes}
+use Rattle.wire.specs.declared.parse.Listed.the-variants.{Items}
 use Rattle.wire.specs.declared.parse.Prefixed.the-variants.{Part}
+use Rattle.wire.specs.declared.parse.Run.{Run}
 use Rattle.wire.proofs.Item.{count-checks, prefixed-inside, prefixed-written, hash-list-inside, hash-list-written}
 use Rattle.wire.proofs.Meaning.{number-inside, number-written}
 use Rattle.wire.proofs.Number.{slice-past, shortest-one}
-use Rattle.decode.specs.Items.{Item, item, afterItem, haveItem, chunkItem, manyAt, list, listFrom, listAt, havesAt, chunksAt, chunksOf}
+use Rattle.decode.specs.Items.{Item, item, afterItem, haveWordList, haveItem, chunkItem, manyAt, list, listFrom, listAt, havesAt, chunksAt, chunksOf}
 use Rattle.decode.specs.Means.{MessageMeans}
-use Rattle.decode.specs.Read.{read, run, headsAt, openingAt, sectionAt, messageAt, messageOf}
+use Rattle.decode.specs.Read.{read, headsAt, openingAt, sectionAt, messageAt, messageOf}
 use Rattle.decode.specs.declared.parse.Flagged.the-variants.{Section as Sectioned}
 use Rattle.decode.specs.declared.parse.Places.{Places}
 use Rattle.decode.proofs.ItemLaws.{have-read, have-item, chunk-item, many-read, many-sized, have-sized, have-below, chunk-below, list-read}
@@ -107,7 +109,7 @@ module _ {A : Type 0} (bytes : A → List ℕ) (s : List ℕ) (one : ℕ → Ite
 record ListWritten {A : Type 0} (limit : ℕ) (bytes : A → List ℕ) (s : List ℕ) (one : ℕ → Item) (Says : List ℕ → A → Type 0) (at : ℕ) (xs : List A) : Type 0 where
   start : ℕ
   words : List ℕ
-  is : listAt limit one s at ≡ list start (length xs) words (at + length (counted bytes xs))
+  is : listAt limit one s at ≡ list (run start (length xs)) words (at + length (counted bytes xs))
   says : SayAll Says words xs
   items : manyAt one (length xs) start ≡ item words (at + length (counted bytes xs))
   there : at + length (counted bytes xs) ≤ length s
@@ -138,7 +140,7 @@ module _ {A : Type 0} (limit : ℕ) (bytes : A → List ℕ) (s : List ℕ) (one
       record {
         start = start;
         words = m .words;
-        is = list-read limit one s at n start count ∙ ap (listFrom start n) items;
+        is = list-read limit one s at n start count ∙ ap (listFrom (run start n)) items;
         says = m .says;
         items = items;
         there = omega (arith, inside .there);
@@ -192,80 +194,60 @@ have-of syncs filter = record { lastSync = syncs; filter = filter }
 
 -- what a have's words say
 record HaveSays (s : List ℕ) (words : List ℕ) (h : Have) : Type 0 where
-  start : ℕ
-  count : ℕ
-  n : ℕ
-  b : ℕ
-  p : ℕ
-  field : ℕ
-  size : ℕ
-  are : words ≡ start ∷ count ∷ n ∷ b ∷ p ∷ field ∷ size ∷ []
-  syncs : hashesAt s start count ≡ h .lastSync
-  filter : filterOf4 n b p (slice field (field + size) s) ≡ h .filter
+  sync : Run
+  numbers : FilterNumbers
+  are : words ≡ haveWordList sync numbers
+  syncs : hashesAt s (sync .start) (sync .count) ≡ h .lastSync
+  filter : filterWith s numbers ≡ h .filter
 
 -- a filter in its part
 record FilterWritten (s : List ℕ) (from end : ℕ) (f : Filter) : Type 0 where
-  n : ℕ
-  b : ℕ
-  p : ℕ
-  field : ℕ
-  size : ℕ
+  numbers : FilterNumbers
   next : ℕ
-  is : filterAt s from end ≡ Read n b p field size next
-  says : filterOf4 n b p (slice field (field + size) s) ≡ f
+  is : filterAt s from end ≡ Read numbers next
+  says : filterWith s numbers ≡ f
 
 filter-back : (s : List ℕ) (from end : ℕ) (f : Filter) → filterRules (f .entries) (f .bits) (f .probes) (length (f .field)) ≡ true → SaidFilter f
     → slice from end s ≡ filterBytes f
     → FilterWritten s from end f
+unfolding filterWith
 filter-back s from end f rules (entries h) same =
     let w = filter-written s [] from end f rules h (same ∙ sym (append-nil (filterBytes f))) in
+    let place : ℕ = from + length (shortest (f .entries)) + length (shortest (f .bits)) + length (shortest (f .probes)) in
     record {
-      n = f .entries;
-      b = f .bits;
-      p = f .probes;
-      field = from + length (shortest (f .entries)) + length (shortest (f .bits)) + length (shortest (f .probes));
-      size = length (f .field);
-      next = from + length (shortest (f .entries)) + length (shortest (f .bits)) + length (shortest (f .probes)) + length (f .field);
+      numbers = numbersOf (f .entries) (f .bits) (f .probes) place (length (f .field));
+      next = place + length (f .field);
       is = w .0;
       says = ap (filterOf4 (f .entries) (f .bits) (f .probes)) (w .1);
     }
 filter-back s from end f rules (default e) same =
     let none : filterBytes f ≡ [] = ap filterBytes e ∙ no-bytes 0 defaultBits defaultProbes [] refl in
     record {
-      n = 0;
-      b = defaultBits;
-      p = defaultProbes;
-      field = from;
-      size = 0;
+      numbers = numbersOf 0 defaultBits defaultProbes from 0;
       next = from;
       is = default-written s from end (same ∙ none);
       says = ap (filterOf4 0 defaultBits defaultProbes) (slice-past s from (from + 0) (omega arith)) ∙ sym e;
     }
 
 -- a hash list, a prefixed string and the filter in it are a have
-have-joined : (s : List ℕ) (h : Have) (at start count i from end : ℕ)
-    → hashListAt s at (length s) ≡ Hashes start count i
-    → hashesAt s start count ≡ h .lastSync
+have-joined : (s : List ℕ) (h : Have) (at : ℕ) (sync : Run) (i from end : ℕ)
+    → hashListAt s at (length s) ≡ Items sync i
+    → hashesAt s (sync .start) (sync .count) ≡ h .lastSync
     → prefixedAt s i (length s) ≡ Part from end
     → end ≡ at + length (haveBytes h)
     → FilterWritten s from end (h .filter)
     → OneWritten haveBytes (haveItem s) (HaveSays s) at h
-have-joined s h at start count i from end syncs are part e f =
-    let words : List ℕ = start ∷ count ∷ f .n ∷ f .b ∷ f .p ∷ f .field ∷ f .size ∷ [] in
-    let read = have-read s at start count i syncs from end part (f .n) (f .b) (f .p) (f .field) (f .size) (f .next) (f .is) in
-    let is : haveItem s at ≡ item words end = have-item s at start count (f .n) (f .b) (f .p) (f .field) (f .size) end read in
+have-joined s h at sync i from end syncs are part e f =
+    let words : List ℕ = haveWordList sync (f .numbers) in
+    let read = have-read s at sync i syncs from end part (f .numbers) (f .next) (f .is) in
+    let is : haveItem s at ≡ item words end = have-item s at sync (f .numbers) end read in
     record {
       words = words;
       is = rw e at is;
       says =
           record {
-            start = start;
-            count = count;
-            n = f .n;
-            b = f .b;
-            p = f .p;
-            field = f .field;
-            size = f .size;
+            sync = sync;
+            numbers = f .numbers;
             are = refl;
             syncs = are;
             filter = f .says;
@@ -290,32 +272,32 @@ have-written s small h good at rest same =
     let fb : List ℕ = filterBytes (h .filter) in
     let first : slice at (length s) s ≡ hl ++ (prefixedBytes fb ++ rest) = same ∙ append-assoc hl (prefixedBytes fb) rest in
     let l = hash-list-written s (h .lastSync) (prefixedBytes fb ++ rest) at (length s) (good .0 .lastSync .are) (good .0 .lastSync .few) first in
-    let start : ℕ = at + length (shortest (length (h .lastSync))) in
+    let sync : Run = run (at + length (shortest (length (h .lastSync)))) (length (h .lastSync)) in
     let i : ℕ = at + length hl in
-    let inside = hash-list-inside s at (length s) start (length (h .lastSync)) i (l .0) in
+    let inside = hash-list-inside s at (length s) sync i (l .0) in
     let second = onward s hl (prefixedBytes fb ++ rest) at (inside .there) first in
     let long : length (prefixedBytes fb) ≤ length s = no-longer s (prefixedBytes fb) rest i second in
     let q = prefixed-written s fb rest i (length s) (omega (arith, prefixed-longer fb)) second in
     let from : ℕ = i + length (shortest (length fb)) in
     let end : ℕ = i + length (prefixedBytes fb) in
-    have-joined s h at start (length (h .lastSync)) i from end (l .0) (l .1) (q .0) (omega (arith, length-append hl (prefixedBytes fb)))
+    have-joined s h at sync i from end (l .0) (l .1) (q .0) (omega (arith, length-append hl (prefixedBytes fb)))
     (filter-back s from end (h .filter) (good .0 .filter) (good .1) (q .1))
 
 haves-said : (s : List ℕ) (hs : List Have) (i : ℕ) (before words : List ℕ) → length before ≡ i * haveWords → SayAll (HaveSays s) words hs
     → havesFrom s (before ++ words) i (length hs) ≡ hs
-unfolding SayAll havesFrom haveIn filterWith
+unfolding SayAll havesFrom haveIn
 haves-said s [] i before words long e = refl
 haves-said s (h ∷ hs) i before words long e =
     let c = e .3 in
     let more : List ℕ = e .1 in
-    let first : List ℕ = c .start ∷ c .count ∷ c .n ∷ c .b ∷ c .p ∷ c .field ∷ c .size ∷ [] in
+    let first : List ℕ = haveWordList (c .sync) (c .numbers) in
     let is : words ≡ first ++ more = sym (e .2) ∙ ap (λ (w : List ℕ). w ++ more) (c .are) in
     let longer : length (before ++ first) ≡ suc i * haveWords = rw (length-append before first, long) (omega arith) in
     let again : havesFrom s (before ++ (first ++ more)) (suc i) (length hs) ≡ hs =
     rw (append-assoc before first more) at (haves-said s hs (suc i) (before ++ first) more longer (e .4))
     in
-    let at = word before more i (c .start) (c .count) (c .n) (c .b) (c .p) (c .field) (c .size) long in
-    let zero = first-word before more i (c .start) (c .count) (c .n) (c .b) (c .p) (c .field) (c .size) long in
+    let at = word before more i (c .sync) (c .numbers) long in
+    let zero = first-word before more i (c .sync) (c .numbers) long in
     rw (is, zero, at 1, at 2, at 3, at 4, at 5, at 6, c .syncs, again) (ap (λ (f : Filter). have-of (h .lastSync) f ∷ hs) (c .filter))
 
 -- ---- the flags section
@@ -383,14 +365,14 @@ message-there-and-back s m e sound said =
     let type : getD s 0 0 ≡ typeOf (m .version) = rw is in
     let s1 : slice 1 (length s) s ≡ b1 = rw is (tail-of (typeOf (m .version)) b1) in
     let h = hash-list-written s (m .heads) b2 1 (length s) (sound .heads .are) (sound .heads .few) s1 in
-    let hstart : ℕ = 1 + length (shortest (length (m .heads))) in
+    let heads : Run = run (1 + length (shortest (length (m .heads)))) (length (m .heads)) in
     let i : ℕ = 1 + length (hashListBytes (m .heads)) in
-    let ih = hash-list-inside s 1 (length s) hstart (length (m .heads)) i (h .0) in
+    let ih = hash-list-inside s 1 (length s) heads i (h .0) in
     let s2 = onward s (hashListBytes (m .heads)) b2 1 (ih .there) s1 in
     let n = hash-list-written s (m .need) b3 i (length s) (sound .need .are) (sound .need .few) s2 in
-    let nstart : ℕ = i + length (shortest (length (m .need))) in
+    let need : Run = run (i + length (shortest (length (m .need)))) (length (m .need)) in
     let j : ℕ = i + length (hashListBytes (m .need)) in
-    let inn = hash-list-inside s i (length s) nstart (length (m .need)) j (n .0) in
+    let inn = hash-list-inside s i (length s) need j (n .0) in
     let s3 = onward s (hashListBytes (m .need)) b3 i (inn .there) s2 in
     let hv =
     list-written (sizes .haves) haveBytes s (haveItem s) GoodHave (HaveSays s) (have-below s) (have-written s small) (omega arith)
@@ -408,8 +390,8 @@ message-there-and-back s m e sound said =
     let p : Places =
     record {
       version = m .version;
-      heads = run hstart (length (m .heads));
-      need = run nstart (length (m .need));
+      heads = heads;
+      need = need;
       haves = run (hv .start) (length (m .haves));
       chunks = run (ch .start) (length (m .chunks));
       flags = m .flags;
@@ -422,7 +404,7 @@ message-there-and-back s m e sound said =
       atHaves = j;
       atChunks = k;
       atSection = l;
-      opening = opened-as s small some (m .version) type ∙ heads-read s (m .version) hstart (length (m .heads)) i (h .0);
+      opening = opened-as s small some (m .version) type ∙ heads-read s (m .version) heads i (h .0);
       need = n .0;
       haveList = hv .is;
       chunkList = ch .is;
@@ -437,9 +419,9 @@ message-there-and-back s m e sound said =
       is = means-read s p (hv .words) (ch .words) behind;
       says =
           same-message (m .version) (m .flags)
-          (hashesAt s hstart (length (m .heads)))
+          (hashesAt s (heads .start) (heads .count))
           (m .heads)
-          (hashesAt s nstart (length (m .need)))
+          (hashesAt s (need .start) (need .count))
           (m .need)
           (havesOf s (hv .words))
           (m .haves)

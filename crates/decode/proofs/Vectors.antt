@@ -5,7 +5,7 @@ use mathlib.Core.List.{List, [], _∷_}
 use mathlib.Core.Path.{_≡_, refl}
 use Rattle.bloom.specs.Filter.{fieldSize}
 use Rattle.bloom.specs.Have.{havesFrom, havesOf}
-use Rattle.bloom.specs.Read.{fieldAt, numbersAt, filterAt}
+use Rattle.bloom.specs.Read.{fieldAt, numbersAt, filterAt, afterFilter}
 use Rattle.message.specs.Flags.{flagsOf, addFlags, flagsIn}
 use Rattle.message.specs.Message.{Message}
 use Rattle.message.specs.declared.flags.Section.{Section}
@@ -13,12 +13,9 @@ use Rattle.message.specs.declared.flags.Section.the-variants.{Absent, Present}
 use Rattle.message.specs.declared.version.MessageVersion.the-variants.{V1}
 use Rattle.rules.specs.Hash.{hashesAt}
 use Rattle.rules.specs.declared.refusal.Refusal.the-variants.{Cut, WrongType, BadNumber, PastSize}
-use Rattle.wire.specs.Item.{leftAt, afterNumber, countAt, prefixedAt, hashListAt}
+use Rattle.wire.specs.Item.{run, leftAt, afterNumber, afterPart, afterListed, countAt, prefixedAt, hashListAt}
 use Rattle.wire.specs.Number.{goOn, find, answerAt, numberAt}
 use Rattle.decode.specs.Items.{
-  afterHashes,
-  afterPart,
-  afterFilter,
   haveAt,
   afterItem,
   haveWordsOf,
@@ -32,7 +29,7 @@ use Rattle.decode.specs.Items.{
   chunksAt,
   chunksOf,
 }
-use Rattle.decode.specs.Read.{read, refused, run, headsAt, openingAt, sectionAt, afterOpening, afterSection, listsAt, needAt, messageAt, messageOf}
+use Rattle.decode.specs.Read.{read, refused, headsAt, openingAt, sectionAt, afterOpening, afterSection, listsAt, needAt, messageAt, messageOf}
 use Rattle.decode.specs.declared.parse.Places.{Places}
 
 -- the places of a message of nothing but flags, up to `next`
@@ -68,7 +65,7 @@ unfolding
     countAt
     prefixedAt
     hashListAt
-    afterHashes
+    afterListed
     afterPart
     afterItem
     haveItem
@@ -118,7 +115,7 @@ unfolding
     countAt
     prefixedAt
     hashListAt
-    afterHashes
+    afterListed
     afterPart
     afterItem
     haveItem

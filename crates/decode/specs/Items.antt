@@ -5,43 +5,26 @@ use mathlib.Core.List.{List, [], _∷_, _++_}
 use mathlib.Core.Path.{_≡_}
 use lib.ListN.{length}
 use lib.Seq.{slice}
-use Rattle.bloom.specs.Read.{filterAt}
-use Rattle.bloom.specs.declared.parse.Parsed.{Parsed}
-use Rattle.bloom.specs.declared.parse.Parsed.the-variants.{Filter, Refused as NoFilter}
+use Rattle.bloom.specs.Read.{filterAt, afterFilter}
+use Rattle.bloom.specs.declared.have.FilterNumbers.{FilterNumbers}
 use Rattle.rules.specs.Sizes.{sizes}
 use Rattle.rules.specs.declared.refusal.Refusal.{Refusal}
-use Rattle.wire.specs.Item.{afterNumber, countAt, prefixedAt, hashListAt}
-use Rattle.wire.specs.declared.parse.HashList.{HashList}
-use Rattle.wire.specs.declared.parse.HashList.the-variants.{Hashes, Refused as NoHashes}
-use Rattle.wire.specs.declared.parse.Prefixed.{Prefixed}
-use Rattle.wire.specs.declared.parse.Prefixed.the-variants.{Part, Refused as NoPart}
+use Rattle.wire.specs.Item.{run, afterNumber, afterPart, afterListed, countAt, prefixedAt, hashListAt}
+use Rattle.wire.specs.declared.parse.Listed.{Listed}
+use Rattle.wire.specs.declared.parse.Listed.the-variants.{Items, Refused as NotListed}
+use Rattle.wire.specs.declared.parse.Run.{Run}
 use Rattle.decode.specs.declared.items.HaveRead.{HaveRead}
 use Rattle.decode.specs.declared.items.HaveRead.the-variants.{Have, Refused as NoHave}
-use Rattle.decode.specs.declared.items.Listed.{Listed}
-use Rattle.decode.specs.declared.items.Listed.the-variants.{Items, Refused as NotListed}
-
--- What follows a hash list, a prefixed string or a filter that was read, or its refusal passed on.
-unfoldable pub afterHashes : {A : Type 0} → HashList → (Refusal → A) → (ℕ → ℕ → ℕ → A) → A
-afterHashes (Hashes start count next) refused k = k start count next
-afterHashes (NoHashes r) refused k = refused r
-
-unfoldable pub afterPart : {A : Type 0} → Prefixed → (Refusal → A) → (ℕ → ℕ → A) → A
-afterPart (Part start end) refused k = k start end
-afterPart (NoPart r) refused k = refused r
-
-unfoldable pub afterFilter : {A : Type 0} → Parsed → (Refusal → A) → (ℕ → ℕ → ℕ → ℕ → ℕ → A) → A
-afterFilter (Filter n b p field size next) refused k = k n b p field size
-afterFilter (NoFilter r) refused k = refused r
 
 -- The have at a place: a hash list, a prefixed string that is there whole, and the filter inside it.
 unfoldable pub haveAt : List ℕ → ℕ → HaveRead
 haveAt s at =
-    afterHashes (hashListAt s at (length s))
+    afterListed (hashListAt s at (length s))
     NoHave
-    (λ start count i.
+    (λ sync i.
     afterPart (prefixedAt s i (length s))
     NoHave
-    (λ from end. afterFilter (filterAt s from end) NoHave (λ n b p field size. Have start count n b p field size end)))
+    (λ from end. afterFilter (filterAt s from end) NoHave (λ filter ended. Have sync filter end)))
 
 -- An item: its words and the next place, or a refusal. Items one after the other are of the same kind.
 pub data Item : Type 0 where
@@ -53,8 +36,11 @@ afterItem (item words next) refused k = k words next
 afterItem (stopped r) refused k = refused r
 
 -- A have's words: place and count of the last-sync hashes, entries, bits, probes, place and length of the field.
+abbrev pub haveWordList : Run → FilterNumbers → List ℕ
+haveWordList sync f = sync .start ∷ sync .count ∷ f .entries ∷ f .bits ∷ f .probes ∷ f .place ∷ f .size ∷ []
+
 unfoldable pub haveWordsOf : HaveRead → Item
-haveWordsOf (Have start count n b p field size next) = item (start ∷ count ∷ n ∷ b ∷ p ∷ field ∷ size ∷ []) next
+haveWordsOf (Have sync f next) = item (haveWordList sync f) next
 haveWordsOf (NoHave r) = stopped r
 
 unfoldable pub haveItem : List ℕ → ℕ → Item
@@ -73,21 +59,21 @@ manyAt one zero at = item [] at
 manyAt one (suc count) at =
     afterItem (one at) stopped (λ words next. afterItem (manyAt one count next) stopped (λ more end. item (words ++ more) end))
 
--- A list: where its first item stands, how many there are, their words and the next place; or a refusal.
+-- A list: where its items stand, their words and the next place; or a refusal.
 pub data ItemList : Type 0 where
-  list : ℕ → ℕ → List ℕ → ℕ → ItemList
+  list : Run → List ℕ → ℕ → ItemList
   noList : Refusal → ItemList
 
-unfoldable pub afterList : {A : Type 0} → ItemList → (Refusal → A) → (ℕ → ℕ → List ℕ → ℕ → A) → A
-afterList (list start count words next) refused k = k start count words next
+unfoldable pub afterList : {A : Type 0} → ItemList → (Refusal → A) → (Run → List ℕ → ℕ → A) → A
+afterList (list items words next) refused k = k items words next
 afterList (noList r) refused k = refused r
 
-unfoldable pub listFrom : ℕ → ℕ → Item → ItemList
-listFrom start count i = afterItem i noList (λ words next. list start count words next)
+unfoldable pub listFrom : Run → Item → ItemList
+listFrom items i = afterItem i noList (λ words next. list items words next)
 
 -- A count up to its limit, and as many items.
 unfoldable pub listAt : ℕ → (ℕ → Item) → List ℕ → ℕ → ItemList
-listAt limit one s at = afterNumber (countAt limit s at (length s)) noList (λ count start. listFrom start count (manyAt one count start))
+listAt limit one s at = afterNumber (countAt limit s at (length s)) noList (λ count start. listFrom (run start count) (manyAt one count start))
 
 unfoldable pub havesAt : List ℕ → ℕ → ItemList
 havesAt s at = listAt (sizes .haves) (haveItem s) s at
@@ -97,7 +83,7 @@ chunksAt s at = listAt (sizes .chunks) (chunkItem s) s at
 
 -- The same without the words.
 unfoldable pub listedOf : ItemList → Listed
-listedOf l = afterList l NotListed (λ start count words next. Items start count next)
+listedOf l = afterList l NotListed (λ items words next. Items items next)
 
 -- The words of items that were read, for which there is room.
 unfoldable pub wordsOf : Item → List ℕ

@@ -6,7 +6,7 @@ use mathlib.Core.List.{List}
 use mathlib.Core.Path.{_≡_}
 use lib.ListN.{length}
 use Rattle.wire.specs.Item.{hashListAt}
-use Rattle.wire.specs.declared.parse.HashList.the-variants.{Hashes}
+use Rattle.wire.specs.declared.parse.Listed.the-variants.{Items}
 use Rattle.decode.specs.Items.{list, havesAt, chunksAt}
 use Rattle.decode.specs.Read.{openingAt, sectionAt}
 use Rattle.decode.specs.declared.opening.Opening.the-variants.{Heads}
@@ -21,10 +21,10 @@ pub record MessageMeans (s : List ℕ) (p : Places) (haves chunks : List ℕ) : 
   pub atChunks : ℕ
   pub atSection : ℕ
   -- a size that is kept, the first byte and the heads
-  pub opening : openingAt s ≡ Heads (p .version) (p .heads .start) (p .heads .count) atNeed
-  pub need : hashListAt s atNeed (length s) ≡ Hashes (p .need .start) (p .need .count) atHaves
+  pub opening : openingAt s ≡ Heads (p .version) (p .heads) atNeed
+  pub need : hashListAt s atNeed (length s) ≡ Items (p .need) atHaves
   -- each with its count, which keeps its limit
-  pub haveList : havesAt s atHaves ≡ list (p .haves .start) (p .haves .count) haves atChunks
-  pub chunkList : chunksAt s atChunks ≡ list (p .chunks .start) (p .chunks .count) chunks atSection
+  pub haveList : havesAt s atHaves ≡ list (p .haves) haves atChunks
+  pub chunkList : chunksAt s atChunks ≡ list (p .chunks) chunks atSection
   -- absent where no bytes remain; `next` is the first byte that is ignored
   pub section : sectionAt s atSection ≡ Section (p .flags) (p .next)

@@ -18,8 +18,9 @@ use Rattle.rules.specs.Hash.{hashesAt}
 use Rattle.rules.specs.Sizes.{sizes}
 use Rattle.rules.specs.declared.refusal.Refusal.{Refusal}
 use Rattle.rules.specs.declared.refusal.Refusal.the-variants.{Cut, WrongType, PastSize, NoRoom}
-use Rattle.wire.specs.Item.{prefixedAt, hashListAt}
-use Rattle.decode.specs.Items.{afterHashes, afterPart, afterList, havesAt, chunksAt, chunksOf}
+use Rattle.wire.specs.Item.{afterPart, afterListed, prefixedAt, hashListAt}
+use Rattle.wire.specs.declared.parse.Run.{Run}
+use Rattle.decode.specs.Items.{afterList, havesAt, chunksAt, chunksOf}
 use Rattle.decode.specs.declared.opening.Opening.{Opening}
 use Rattle.decode.specs.declared.opening.Opening.the-variants.{Heads, Refused as NotOpened}
 use Rattle.decode.specs.declared.parse.Decoded.{Decoded}
@@ -27,19 +28,15 @@ use Rattle.decode.specs.declared.parse.Decoded.the-variants.{Message as 
 use Rattle.decode.specs.declared.parse.Flagged.{Flagged}
 use Rattle.decode.specs.declared.parse.Flagged.the-variants.{Section as Sectioned, Refused as NoSection}
 use Rattle.decode.specs.declared.parse.Places.{Places}
-use Rattle.decode.specs.declared.parse.Run.{Run}
 
 -- A message that was read: where its parts stand, and the words of its haves and of its chunks; or a refusal.
 pub data Reading : Type 0 where
   read : Places → List ℕ → List ℕ → Reading
   refused : Refusal → Reading
 
-abbrev pub run : ℕ → ℕ → Run
-run start count = record { start = start; count = count }
-
 -- The first stage: 4 for the total size, 1 for no bytes, 2 for another first byte, then the heads.
 unfoldable pub headsAt : List ℕ → MessageVersion → Opening
-headsAt s version = afterHashes (hashListAt s 1 (length s)) NotOpened (λ start count next. Heads version start count next)
+headsAt s version = afterListed (hashListAt s 1 (length s)) NotOpened (λ heads next. Heads version heads next)
 
 unfoldable pub openingAt : List ℕ → Opening
 openingAt s =
@@ -59,8 +56,8 @@ sectionAt s at =
     (afterPart (prefixedAt s at (length s)) NoSection (λ start end. Sectioned (Present (flagsOf (flagsIn (slice start end s)))) end))
 
 -- What follows each stage, or its refusal passed on.
-unfoldable pub afterOpening : Opening → (MessageVersion → ℕ → ℕ → ℕ → Reading) → Reading
-afterOpening (Heads version start count next) k = k version start count next
+unfoldable pub afterOpening : Opening → (MessageVersion → Run → ℕ → Reading) → Reading
+afterOpening (Heads version heads next) k = k version heads next
 afterOpening (NotOpened r) k = refused r
 
 unfoldable pub afterSection : Flagged → (Section → ℕ → Reading) → Reading
@@ -72,10 +69,10 @@ unfoldable pub listsAt : List ℕ → MessageVersion → Run → Run → ℕ →
 listsAt s version heads need at =
     afterList (havesAt s at)
     refused
-    (λ havesStart havesCount havesWords i.
+    (λ haves haveWords i.
     afterList (chunksAt s i)
     refused
-    (λ chunksStart chunksCount chunksWords j.
+    (λ chunks chunkWords j.
     afterSection (sectionAt s j)
     (λ flags next.
     read
@@ -83,22 +80,22 @@ listsAt s version heads need at =
       version = version;
       heads = heads;
       need = need;
-      haves = run havesStart havesCount;
-      chunks = run chunksStart chunksCount;
+      haves = haves;
+      chunks = chunks;
       flags = flags;
       next = next;
     })
-    havesWords
-    chunksWords)))
+    haveWords
+    chunkWords)))
 
 -- The need, and what follows it.
 unfoldable pub needAt : List ℕ → MessageVersion → Run → ℕ → Reading
 needAt s version heads at =
-    afterHashes (hashListAt s at (length s)) refused (λ start count next. listsAt s version heads (run start count) next)
+    afterListed (hashListAt s at (length s)) refused (λ need next. listsAt s version heads need next)
 
 -- The message.
 unfoldable pub messageAt : List ℕ → Reading
-messageAt s = afterOpening (openingAt s) (λ version start count next. needAt s version (run start count) next)
+messageAt s = afterOpening (openingAt s) (λ version heads next. needAt s version heads next)
 
 -- Its places alone.
 unfoldable pub decodedOf : Reading → Decoded
@@ -122,11 +119,14 @@ unfoldable pub chunksInto : Reading → List ℕ → List ℕ
 chunksInto (read places haves chunks) before = sets before 0 chunks
 chunksInto (refused r) before = before
 
--- What the call leaves.
+-- A message read into lent lists, and what the call leaves.
+abbrev pub readWith : List ℕ → List ℕ → List ℕ → Reading
+readWith s haves chunks = roomFor (messageAt s) (length haves) (length chunks)
+
 pub record DecodedInto (s haves₀ haves₁ chunks₀ chunks₁ : List ℕ) (r : Decoded) : Type 0 where
-  pub answer : r ≡ decodedOf (roomFor (messageAt s) (length haves₀) (length chunks₀))
-  pub haves : haves₁ ≡ havesInto (roomFor (messageAt s) (length haves₀) (length chunks₀)) haves₀
-  pub chunks : chunks₁ ≡ chunksInto (roomFor (messageAt s) (length haves₀) (length chunks₀)) chunks₀
+  pub answer : r ≡ decodedOf (readWith s haves₀ chunks₀)
+  pub haves : haves₁ ≡ havesInto (readWith s haves₀ chunks₀) haves₀
+  pub chunks : chunks₁ ≡ chunksInto (readWith s haves₀ chunks₀) chunks₀
 
 -- The message as a value, from its places and words.
 unfoldable pub messageOf : List ℕ → Places → List ℕ → List ℕ → Message

@@ -1,40 +1,28 @@
 // Haves and chunks: one of them, all of them passed over, and all of them as words.
+use bloom::have::FilterNumbers;
 use bloom::have::HAVE_WORDS;
 use bloom::parse::Parsed;
 use rules::refusal::Refusal;
 use rules::sizes::CHUNKS;
 use rules::sizes::HAVES;
 use wire::leb128::Number;
-use wire::parse::HashList;
+use wire::parse::Listed;
 use wire::parse::Prefixed;
+use wire::parse::Run;
 use wire::parse::length_prefix;
 use wire::parse::length_prefixed_bytes;
 use wire::parse::length_prefixed_hashes;
 ghost use mathlib.Core.Path.{_≡_};
 ghost use lib.ListN.{length};
 ghost use lib.Seq.{sets};
+ghost use Rattle.wire.specs.Item.{run};
 ghost use Rattle.decode.specs.Items.{haveAt, haveItem, chunkItem, manyAt, listFrom, listedOf, havesAt, chunksAt, wordsOf, AllRead};
 
-// A have: where its last-sync hashes stand, its filter's numbers, where the field stands, and the next place.
+// A have: where its last-sync hashes stand, its filter, and the next place.
 pub enum HaveRead {
     Have {
-        start: usize,
-        count: usize,
-        entries: u64,
-        bits: u64,
-        probes: u64,
-        field: usize,
-        size: usize,
-        next: usize,
-    },
-    Refused(Refusal),
-}
-
-// A list that was passed over: where its first item stands, how many there are, and the next place.
-pub enum Listed {
-    Items {
-        start: usize,
-        count: usize,
+        sync: Run,
+        filter: FilterNumbers,
         next: usize,
     },
     Refused(Refusal),
@@ -49,27 +37,15 @@ pub fn parse_have(s: &[u8], at: usize) -> HaveRead
 {
     let list = length_prefixed_hashes(s, at, s.len());
     match list {
-        HashList::Hashes { start, count, next } => {
+        Listed::Items { run, next } => {
             let part = length_prefixed_bytes(s, next, s.len());
             match part {
-                Prefixed::Part { start: from, end } => {
-                    let filter = bloom::parse::parse(s, from, end);
-                    match filter {
-                        Parsed::Filter {
-                            entries,
-                            bits,
-                            probes,
-                            field,
-                            size,
-                            next: _,
-                        } => HaveRead::Have {
-                            start,
-                            count,
-                            entries,
-                            bits,
-                            probes,
-                            field,
-                            size,
+                Prefixed::Part { start, end } => {
+                    let parsed = bloom::parse::parse(s, start, end);
+                    match parsed {
+                        Parsed::Filter { filter, next: _ } => HaveRead::Have {
+                            sync: run,
+                            filter,
                             next: end,
                         },
                         Parsed::Refused(r) => HaveRead::Refused(r),
@@ -78,13 +54,13 @@ pub fn parse_have(s: &[u8], at: usize) -> HaveRead
                 Prefixed::Refused(r) => HaveRead::Refused(r),
             }
         }
-        HashList::Refused(r) => HaveRead::Refused(r),
+        Listed::Refused(r) => HaveRead::Refused(r),
     }
 }
 
 // Passes over so many haves.
 fn skip_haves(s: &[u8], start: usize, count: usize) -> Listed
-    ensures { λ r. ⌜ r ≡ listedOf (listFrom start count (manyAt (haveItem (now (s .entry))) count start)) ⌝ }
+    ensures { λ r. ⌜ r ≡ listedOf (listFrom (run start count) (manyAt (haveItem (now (s .entry))) count start)) ⌝ }
 {
     let mut next = start;
     let mut k = 0;
@@ -92,13 +68,8 @@ fn skip_haves(s: &[u8], start: usize, count: usize) -> Listed
         let have = parse_have(s, next);
         match have {
             HaveRead::Have {
-                start: _,
-                count: _,
-                entries: _,
-                bits: _,
-                probes: _,
-                field: _,
-                size: _,
+                sync: _,
+                filter: _,
                 next: after,
             } => {
                 next = after;
@@ -109,12 +80,15 @@ fn skip_haves(s: &[u8], start: usize, count: usize) -> Listed
         }
         k += 1;
     }
-    Listed::Items { start, count, next }
+    Listed::Items {
+        run: Run { start, count },
+        next,
+    }
 }
 
 // Passes over so many chunks.
 fn skip_chunks(s: &[u8], start: usize, count: usize) -> Listed
-    ensures { λ r. ⌜ r ≡ listedOf (listFrom start count (manyAt (chunkItem (now (s .entry))) count start)) ⌝ }
+    ensures { λ r. ⌜ r ≡ listedOf (listFrom (run start count) (manyAt (chunkItem (now (s .entry))) count start)) ⌝ }
 {
     let mut next = start;
     let mut k = 0;
@@ -130,7 +104,10 @@ fn skip_chunks(s: &[u8], start: usize, count: usize) -> Listed
         }
         k += 1;
     }
-    Listed::Items { start, count, next }
+    Listed::Items {
+        run: Run { start, count },
+        next,
+    }
 }
 
 // The haves at a place: their count is tested before any of them.
@@ -166,25 +143,21 @@ pub fn put_haves(s: &[u8], start: usize, count: usize, out: &mut [u64])
         let have = parse_have(s, next);
         match have {
             HaveRead::Have {
-                start: place,
-                count: hashes,
-                entries,
-                bits,
-                probes,
-                field,
-                size,
+                sync,
+                filter,
                 next: after,
             } => {
                 let at = HAVE_WORDS * k;
-                out[at] = place as u64;
-                out[at + 1] = hashes as u64;
-                out[at + 2] = entries;
-                out[at + 3] = bits;
-                out[at + 4] = probes;
-                out[at + 5] = field as u64;
-                out[at + 6] = size as u64;
+                out[at] = sync.start as u64;
+                out[at + 1] = sync.count as u64;
+                out[at + 2] = filter.entries;
+                out[at + 3] = filter.bits;
+                out[at + 4] = filter.probes;
+                out[at + 5] = filter.place as u64;
+                out[at + 6] = filter.size as u64;
                 next = after;
             }
+            // Never: the message is the one that was walked before, and that walk read every have here.
             HaveRead::Refused(_) => {
                 return;
             }
@@ -209,6 +182,7 @@ pub fn put_chunks(s: &[u8], start: usize, count: usize, out: &mut [u64])
                 out[at + 1] = (end - place) as u64;
                 next = end;
             }
+            // Never: the walk before read every chunk here.
             Prefixed::Refused(_) => {
                 return;
             }

@@ -4,7 +4,8 @@ use message::version::MESSAGE_TYPE_SYNC_V2;
 use message::version::MessageVersion;
 use rules::refusal::Refusal;
 use rules::sizes::MESSAGE_SIZE;
-use wire::parse::HashList;
+use wire::parse::Listed;
+use wire::parse::Run;
 use wire::parse::length_prefixed_hashes;
 ghost use mathlib.Core.Path.{_≡_};
 ghost use Rattle.decode.specs.Read.{openingAt, headsAt};
@@ -13,8 +14,7 @@ ghost use Rattle.decode.specs.Read.{openingAt, headsAt};
 pub enum Opening {
     Heads {
         version: MessageVersion,
-        start: usize,
-        count: usize,
+        heads: Run,
         next: usize,
     },
     Refused(Refusal),
@@ -44,12 +44,11 @@ fn parse_heads(s: &[u8], version: MessageVersion) -> Opening
 {
     let list = length_prefixed_hashes(s, 1, s.len());
     match list {
-        HashList::Hashes { start, count, next } => Opening::Heads {
+        Listed::Items { run, next } => Opening::Heads {
             version,
-            start,
-            count,
+            heads: run,
             next,
         },
-        HashList::Refused(r) => Opening::Refused(r),
+        Listed::Refused(r) => Opening::Refused(r),
     }
 }

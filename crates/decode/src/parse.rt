@@ -1,5 +1,4 @@
 // The places of a message's parts, stage by stage.
-use crate::items::Listed;
 use crate::items::parse_chunks;
 use crate::items::parse_haves;
 use crate::opening::Opening;
@@ -8,18 +7,13 @@ use message::flags::MessageFlags;
 use message::flags::Section;
 use message::version::MessageVersion;
 use rules::refusal::Refusal;
-use wire::parse::HashList;
+use wire::parse::Listed;
 use wire::parse::Prefixed;
+use wire::parse::Run;
 use wire::parse::length_prefixed_bytes;
 use wire::parse::length_prefixed_hashes;
 ghost use mathlib.Core.Path.{_≡_};
 ghost use Rattle.decode.specs.Read.{sectionAt, listsAt, needAt, messageAt, decodedOf};
-
-// Where items stand: the place of the first, and how many there are.
-pub struct Run {
-    pub start: usize,
-    pub count: usize,
-}
 
 // Where the parts of a message stand, its flags, and the place after all that was read.
 pub struct Places {
@@ -70,18 +64,16 @@ pub fn parse_section(s: &[u8], at: usize) -> Flagged
 fn parse_lists(s: &[u8], version: MessageVersion, heads: Run, need: Run, at: usize) -> Decoded
     ensures { λ r. ⌜ r ≡ decodedOf (listsAt (now (s .entry)) version heads need at) ⌝ }
 {
-    let haves = parse_haves(s, at);
-    match haves {
+    let have_list = parse_haves(s, at);
+    match have_list {
         Listed::Items {
-            start: haves_start,
-            count: haves_count,
+            run: haves,
             next: at_chunks,
         } => {
-            let chunks = parse_chunks(s, at_chunks);
-            match chunks {
+            let chunk_list = parse_chunks(s, at_chunks);
+            match chunk_list {
                 Listed::Items {
-                    start: chunks_start,
-                    count: chunks_count,
+                    run: chunks,
                     next: at_section,
                 } => {
                     let section = parse_section(s, at_section);
@@ -90,14 +82,8 @@ fn parse_lists(s: &[u8], version: MessageVersion, heads: Run, need: Run, at: usi
                             version,
                             heads,
                             need,
-                            haves: Run {
-                                start: haves_start,
-                                count: haves_count,
-                            },
-                            chunks: Run {
-                                start: chunks_start,
-                                count: chunks_count,
-                            },
+                            haves,
+                            chunks,
                             flags,
                             next,
                         }),
@@ -117,10 +103,8 @@ fn parse_need(s: &[u8], version: MessageVersion, heads: Run, at: usize) -> Decod
 {
     let list = length_prefixed_hashes(s, at, s.len());
     match list {
-        HashList::Hashes { start, count, next } => {
-            parse_lists(s, version, heads, Run { start, count }, next)
-        }
-        HashList::Refused(r) => Decoded::Refused(r),
+        Listed::Items { run, next } => parse_lists(s, version, heads, run, next),
+        Listed::Refused(r) => Decoded::Refused(r),
     }
 }
 
@@ -132,10 +116,9 @@ pub fn parse(s: &[u8]) -> Decoded
     match opening {
         Opening::Heads {
             version,
-            start,
-            count,
+            heads,
             next,
-        } => parse_need(s, version, Run { start, count }, next),
+        } => parse_need(s, version, heads, next),
         Opening::Refused(r) => Decoded::Refused(r),
     }
 }

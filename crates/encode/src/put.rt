@@ -1,6 +1,8 @@
 // The parts of a message put into a buffer that has room for them, one after the other. Each returns the place after what it put.
 use bloom::have::HAVE_WORDS;
 use bloom::have::filter_in;
+use bloom::have::sync_count;
+use bloom::have::sync_place;
 use bloom::to_bytes::filter_size;
 use bloom::to_bytes::put_filter;
 use message::flags::BITFIELD_MARKER;
@@ -58,9 +60,8 @@ fn put_have(out: &mut [u8], at: usize, s: &[u8], haves: &[u64], i: usize) -> usi
     requires { ⌜ (GoodHaves (now s) (now haves) × (i < haveCount (now haves))) × (at + length (haveBytes (haveIn (now s) (now haves) i)) ≤ length (now out)) ⌝ }
     ensures { λ r. ⌜ Put (now (out .entry)) (now (out .exit)) at (haveBytes (haveIn (now (s .entry)) (now (haves .entry)) i)) r ⌝ }
 {
-    let word = i * HAVE_WORDS;
-    let place = haves[word] as usize;
-    let count = haves[word + 1] as usize;
+    let place = sync_place(haves, i);
+    let count = sync_count(haves, i);
     let f = filter_in(haves, i);
     let start = f.place;
     let end = start + f.size;

@@ -3,6 +3,7 @@ use bloom::have::HAVE_WORDS;
 use bloom::have::filter_in;
 use bloom::have::passed_few;
 use bloom::have::passed_good;
+use bloom::have::sync_count;
 use bloom::to_bytes::filter_size;
 use message::flags::Section;
 use rules::passed::Passed;
@@ -59,8 +60,7 @@ fn have_size(s: &[u8], haves: &[u64], i: usize) -> usize
     requires { ⌜ GoodHaves (now s) (now haves) × (i < haveCount (now haves)) ⌝ }
     ensures { λ r. ⌜ r ≡ length (haveBytes (haveIn (now (s .entry)) (now (haves .entry)) i)) ⌝ }
 {
-    let count = haves[i * HAVE_WORDS + 1] as usize;
-    let hashes = hashes_size(count);
+    let hashes = hashes_size(sync_count(haves, i));
     let f = filter_in(haves, i);
     let start = f.place;
     let end = start + f.size;

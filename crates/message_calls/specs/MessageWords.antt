@@ -4,8 +4,7 @@ use mathlib.Core.Bool.{cond}
 use mathlib.Core.List.{List, [], _∷_}
 use mathlib.Core.Path.{_≡_}
 use lib.Dec.{ltb, eqb}
-use lib.ListN.{length}
-use Rattle.decode.specs.Read.{Reading, messageAt, roomFor, decodedOf, havesInto, chunksInto}
+use Rattle.decode.specs.Read.{readWith, decodedOf, havesInto, chunksInto}
 use Rattle.decode.specs.declared.parse.Decoded.{Decoded}
 use Rattle.decode.specs.declared.parse.Decoded.the-variants.{Message, Refused}
 use Rattle.message.specs.Flags.{flagsOf}
@@ -49,9 +48,6 @@ decodedWords (Message p) =
 decodedWords (Refused r) = numberOf r ∷ valueOf r ∷ 0 ∷ 0 ∷ 0 ∷ 0 ∷ 0 ∷ 0 ∷ 0 ∷ 0 ∷ 0 ∷ 0 ∷ []
 
 -- Reading a message: its words, and both lent lists at exit.
-abbrev pub readWith : List ℕ → List ℕ → List ℕ → Reading
-readWith s haves chunks = roomFor (messageAt s) (length haves) (length chunks)
-
 pub record MessageAnswered (s haves₀ haves₁ chunks₀ chunks₁ words : List ℕ) : Type 0 where
   pub answer : words ≡ decodedWords (decodedOf (readWith s haves₀ chunks₀))
   pub haves : haves₁ ≡ havesInto (readWith s haves₀ chunks₀) haves₀

@@ -29,9 +29,9 @@ use Rattle.rules.proofs.Hash.{
   hashes-there-and-back,
 }
 use Rattle.rules.proofs.Outputs.{written-bytes, no-room}
-use Rattle.wire.specs.Item.{hashListBytes, hashListAt}
+use Rattle.wire.specs.Item.{run, hashListBytes, hashListAt}
 use Rattle.wire.specs.Number.{shortest, Put}
-use Rattle.wire.specs.declared.parse.HashList.the-variants.{Hashes, Refused as NoHashes}
+use Rattle.wire.specs.declared.parse.Listed.the-variants.{Items, Refused as NotListed}
 use Rattle.wire.proofs.Item.{HashesInside, hash-list-inside, hash-list-written}
 use Rattle.wire.proofs.Number.{put-then}
 use Rattle.state.specs.Counts.{restoredCounts}
@@ -87,12 +87,12 @@ module _ (s : List ℕ) (count : ℕ) where
 -- ---- reading
 
 module _ (s : List ℕ) where
-  pub state-empty : length s ≡ 0 → stateAt s ≡ NoHashes (Cut 0)
+  pub state-empty : length s ≡ 0 → stateAt s ≡ NotListed (Cut 0)
   unfolding stateAt
   state-empty e = rw (eq-eqb (length s) 0 e)
 
   module _ (some : length s ≡ 0 → ⊥) where
-    pub state-other : (getD s 0 0 ≡ stateType → ⊥) → stateAt s ≡ NoHashes (WrongType (getD s 0 0))
+    pub state-other : (getD s 0 0 ≡ stateType → ⊥) → stateAt s ≡ NotListed (WrongType (getD s 0 0))
     unfolding stateAt
     state-other f = rw (ne-eqb (length s) 0 some, ne-eqb (getD s 0 0) stateType f)
 
@@ -101,22 +101,22 @@ module _ (s : List ℕ) where
     state-list e = rw (ne-eqb (length s) 0 some, eq-eqb (getD s 0 0) stateType e)
 
   -- where the shared heads of a state stand
-  pub state-inside : (start count next : ℕ) → stateAt s ≡ Hashes start count next → HashesInside s 1 (length s) start count next
+  pub state-inside : (start count next : ℕ) → stateAt s ≡ Items (run start count) next → HashesInside s 1 (length s) (run start count) next
   state-inside start count next e =
       split (eqb (length s) 0)
       (λ t. absurd (let z : _≡_ {A = ℕ} 0 1 = cc (state-empty (eqb-true _ _ t)) in omega arith))
       (λ t.
       let some : length s ≡ 0 → ⊥ = eqb-false _ _ t in
       split (eqb (getD s 0 0) stateType)
-      (λ u. hash-list-inside s 1 (length s) start count next (sym (state-list some (eqb-true _ _ u)) ∙ e))
+      (λ u. hash-list-inside s 1 (length s) (run start count) next (sym (state-list some (eqb-true _ _ u)) ∙ e))
       (λ u. absurd (let z : _≡_ {A = ℕ} 0 1 = cc (state-other some (eqb-false _ _ u)) in omega arith)))
 
 module _ (s before : List ℕ) where
-  pub load-refused : (r : Refusal) → stateAt s ≡ NoHashes r → Restored s before before (Refused r)
+  pub load-refused : (r : Refusal) → stateAt s ≡ NotListed r → Restored s before before (Refused r)
   unfolding loadedWith loadedInto
   load-refused r e = record { answer = rw e; content = rw e }
 
-  module _ (start count next : ℕ) (is : stateAt s ≡ Hashes start count next) where
+  module _ (start count next : ℕ) (is : stateAt s ≡ Items (run start count) next) where
     pub load-short : length before < sizes .hash * count → Restored s before before (Refused (NoRoom (sizes .hash * count)))
     unfolding loadedWith loadedInto
     load-short h = record { answer = rw (is, lt-ltb _ _ h); content = rw (is, lt-ltb _ _ h) }
@@ -143,7 +143,7 @@ state-out : (s : List ℕ) (count : ℕ) → listGood s count ≡ true → state
 unfolding stateOutput
 state-out s count e = rw e
 
-loaded : (before s after : List ℕ) (start count next : ℕ) (r : Loaded) → sizes .hash * count ≤ length before → stateAt s ≡ Hashes start count next
+loaded : (before s after : List ℕ) (start count next : ℕ) (r : Loaded) → sizes .hash * count ≤ length before → stateAt s ≡ Items (run start count) next
     → Restored s before after r
     → (r ≡ Session (restoredCounts count)) × (after ≡ sets before 0 (slice start next s))
 unfolding loadedWith loadedInto
@@ -159,7 +159,7 @@ restored-once w v = (w .answer ∙ sym (v .answer), w .content ∙ sym (v .conte
 pub state-written-read : (s rest : List ℕ) (count : ℕ) → listGood s count ≡ true → AreHashes (hashesAt s 0 count)
     → let t = stateType ∷ (hashListBytes (hashesAt s 0 count) ++ rest) in
     let start = 1 + length (shortest count) in
-    (stateAt t ≡ Hashes start count (1 + length (hashListBytes (hashesAt s 0 count)))) × (hashesAt t start count ≡ hashesAt s 0 count)
+    (stateAt t ≡ Items (run start count) (1 + length (hashListBytes (hashesAt s 0 count)))) × (hashesAt t start count ≡ hashesAt s 0 count)
 state-written-read s rest count good are =
     let hs : List ℕ = hashesAt s 0 count in
     let t : List ℕ = stateType ∷ (hashListBytes hs ++ rest) in
@@ -258,6 +258,6 @@ saved-and-loaded s before saved shared after count w r good are room wide v l =
     let many : length hs ≡ count = length-hashes-at s 0 count in
     let start : ℕ = 1 + length (shortest count) in
     let next : ℕ = 1 + length (hashListBytes hs) in
-    let read : stateAt saved ≡ Hashes start count next = rw is (state-written-read s rest count good are .0) in
+    let read : stateAt saved ≡ Items (run start count) next = rw is (state-written-read s rest count good are .0) in
     let ends : next ≡ start + sizes .hash * count = state-inside saved start count next read .whole in
     loads shared saved after start count next r wide read l hs are many (rw is (heads-stand hs rest count next many ends))

@@ -13,8 +13,8 @@ use Rattle.rules.specs.Output.{Output}
 use Rattle.rules.specs.Sizes.{sizes}
 use Rattle.rules.specs.declared.refusal.Refusal.the-variants.{Cut, WrongType, NoRoom, BadSession}
 use Rattle.wire.specs.Item.{hashListBytes, hashListAt}
-use Rattle.wire.specs.declared.parse.HashList.{HashList}
-use Rattle.wire.specs.declared.parse.HashList.the-variants.{Hashes, Refused as NoHashes}
+use Rattle.wire.specs.declared.parse.Listed.{Listed}
+use Rattle.wire.specs.declared.parse.Listed.the-variants.{Items, Refused as NotListed}
 use Rattle.state.specs.Counts.{restoredCounts}
 use Rattle.saved.specs.declared.saved.Loaded.{Loaded}
 use Rattle.saved.specs.declared.saved.Loaded.the-variants.{Session, Refused}
@@ -29,22 +29,22 @@ stateOutput s count =
     cond (not (listGood s count)) (Output.refuse BadSession) (Output.bytes (stateType ∷ hashListBytes (hashesAt s 0 count)))
 
 -- A saved state as it is read: 1 where it is empty, 2 for another first byte, then the list's refusals.
-unfoldable pub stateAt : List ℕ → HashList
+unfoldable pub stateAt : List ℕ → Listed
 stateAt s =
     cond (eqb (length s) 0)
-    (NoHashes (Cut 0))
-    (cond (not (eqb (getD s 0 0) stateType)) (NoHashes (WrongType (getD s 0 0))) (hashListAt s 1 (length s)))
+    (NotListed (Cut 0))
+    (cond (not (eqb (getD s 0 0) stateType)) (NotListed (WrongType (getD s 0 0))) (hashListAt s 1 (length s)))
 
 -- The session that is read, with 7 where the buffer for its shared heads is too short; and that buffer at exit.
-unfoldable pub loadedWith : HashList → ℕ → Loaded
-loadedWith (NoHashes r) room = Refused r
-loadedWith (Hashes start count next) room =
-    cond (ltb room (sizes .hash * count)) (Refused (NoRoom (sizes .hash * count))) (Session (restoredCounts count))
+unfoldable pub loadedWith : Listed → ℕ → Loaded
+loadedWith (NotListed r) room = Refused r
+loadedWith (Items heads next) room =
+    cond (ltb room (sizes .hash * heads .count)) (Refused (NoRoom (sizes .hash * heads .count))) (Session (restoredCounts (heads .count)))
 
-unfoldable pub loadedInto : HashList → List ℕ → List ℕ → List ℕ
-loadedInto (NoHashes r) s before = before
-loadedInto (Hashes start count next) s before =
-    cond (ltb (length before) (sizes .hash * count)) before (sets before 0 (slice start next s))
+unfoldable pub loadedInto : Listed → List ℕ → List ℕ → List ℕ
+loadedInto (NotListed r) s before = before
+loadedInto (Items heads next) s before =
+    cond (ltb (length before) (sizes .hash * heads .count)) before (sets before 0 (slice (heads .start) next s))
 
 pub record Restored (s before after : List ℕ) (r : Loaded) : Type 0 where
   pub answer : r ≡ loadedWith (stateAt s) (length before)

@@ -7,7 +7,7 @@ use rules::sizes::HASH_SIZE;
 use state::session::Session;
 use wire::leb128::put_unsigned;
 use wire::leb128::unsigned_size;
-use wire::parse::HashList;
+use wire::parse::Listed;
 use wire::parse::length_prefixed_hashes;
 ghost use mathlib.Core.Path.{_≡_};
 ghost use Rattle.rules.specs.Output.{Written};
@@ -40,15 +40,15 @@ pub enum Loaded {
 }
 
 // Where the shared heads of a saved state stand.
-pub fn parse(s: &[u8]) -> HashList
+pub fn parse(s: &[u8]) -> Listed
     ensures { λ r. ⌜ r ≡ stateAt (now (s .entry)) ⌝ }
 {
     if s.len() == 0 {
-        return HashList::Refused(Refusal::Cut(0));
+        return Listed::Refused(Refusal::Cut(0));
     }
     let record_type = s[0];
     if record_type != SYNC_STATE_TYPE {
-        return HashList::Refused(Refusal::WrongType(record_type));
+        return Listed::Refused(Refusal::WrongType(record_type));
     }
     length_prefixed_hashes(s, 1, s.len())
 }
@@ -59,7 +59,9 @@ pub fn decode(s: &[u8], shared: &mut [u8]) -> Loaded
 {
     let list = parse(s);
     match list {
-        HashList::Hashes { start, count, next } => {
+        Listed::Items { run, next } => {
+            let start = run.start;
+            let count = run.count;
             let size = HASH_SIZE * count;
             if shared.len() < size {
                 return Loaded::Refused(Refusal::NoRoom(size));
@@ -68,6 +70,6 @@ pub fn decode(s: &[u8], shared: &mut [u8]) -> Loaded
             let session = Session::restored(count);
             Loaded::Session(session)
         }
-        HashList::Refused(r) => Loaded::Refused(r),
+        Listed::Refused(r) => Loaded::Refused(r),
     }
 }

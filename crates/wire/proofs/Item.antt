@@ -16,12 +16,13 @@ use Rattle.rules.specs.declared.refusal.Refusal.{Refusal}
 use Rattle.rules.specs.declared.refusal.Refusal.the-variants.{Cut, PastSize}
 use Rattle.rules.proofs.Cases.{split}
 use Rattle.rules.proofs.Hash.{slice-append, slice-parts, length-hashes-at, length-hashes-bytes, hashes-at-bytes, hashes-there-and-back}
-use Rattle.wire.specs.Item.{leftAt, afterNumber, countAt, prefixedAt, hashListAt, prefixedBytes, hashListBytes}
+use Rattle.wire.specs.Item.{run, leftAt, afterNumber, countAt, prefixedAt, hashListAt, prefixedBytes, hashListBytes}
 use Rattle.wire.specs.Number.{shortest, numberAt, most64}
 use Rattle.wire.specs.declared.leb128.Number.{Number}
 use Rattle.wire.specs.declared.leb128.Number.the-variants.{Value, Refused}
-use Rattle.wire.specs.declared.parse.HashList.the-variants.{Hashes, Refused as NoHashes}
+use Rattle.wire.specs.declared.parse.Listed.the-variants.{Items, Refused as NotListed}
 use Rattle.wire.specs.declared.parse.Prefixed.the-variants.{Part, Refused as NoPart}
+use Rattle.wire.specs.declared.parse.Run.{Run}
 use Rattle.wire.proofs.Meaning.{number-inside, number-written, written-number}
 
 pub left-is : (s : List ℕ) (at end : ℕ) → leftAt s at end ≡ min end (length s) - at
@@ -77,10 +78,10 @@ prefixed-checks s at end = checks _ _ _ _ _
 pub hash-list-checks : (s : List ℕ) (at end : ℕ)
     → Checks
     (countAt (sizes .hashes) s at end)
-    NoHashes
+    NotListed
     (λ start. leftAt s start end / sizes .hash)
     (λ start. Cut (start + sizes .hash * (leftAt s start end / sizes .hash)))
-    (λ count start. Hashes start count (start + sizes .hash * count))
+    (λ count start. Items (run start count) (start + sizes .hash * count))
     (hashListAt s at end)
 unfolding hashListAt
 hash-list-checks s at end = checks _ _ _ _ _
@@ -175,37 +176,44 @@ prefixed-written s t rest at end small same =
 
 -- ---- hash lists
 
-pub record HashesInside (s : List ℕ) (at end start count next : ℕ) : Type 0 where
-  pub small : count ≤ sizes .hashes
-  pub after : at < start
-  pub whole : next ≡ start + sizes .hash * count
+pub record HashesInside (s : List ℕ) (at end : ℕ) (hashes : Run) (next : ℕ) : Type 0 where
+  pub small : hashes .count ≤ sizes .hashes
+  pub after : at < hashes .start
+  pub whole : next ≡ hashes .start + sizes .hash * hashes .count
   pub upTo : next ≤ end
   pub there : next ≤ length s
 
-module _ (s : List ℕ) (at end start count next : ℕ) where
-  hash-list-count : hashListAt s at end ≡ Hashes start count next
-      → (countAt (sizes .hashes) s at end ≡ Value count start) × (count ≤ leftAt s start end / sizes .hash) × (next ≡ start + sizes .hash * count)
+module _ (s : List ℕ) (at end : ℕ) (hashes : Run) (next : ℕ) where
+  hash-list-count : hashListAt s at end ≡ Items hashes next
+      → (countAt (sizes .hashes) s at end ≡ Value (hashes .count) (hashes .start))
+      × (hashes .count ≤ leftAt s (hashes .start) end / sizes .hash)
+      × (next ≡ hashes .start + sizes .hash * hashes .count)
   hash-list-count e =
-      let p = hash-list-checks s at end .apart (Hashes start count next) (λ r d. let z : _≡_ {A = ℕ} 0 1 = cc in omega arith) e in
-      let first : p .0 ≡ count = cc in
-      let second : p .1 ≡ start = cc in
-      (rw (first, second) at (p .2), rw (first, second) at (p .3), cc)
+      let p = hash-list-checks s at end .apart (Items hashes next) (λ r d. let z : _≡_ {A = ℕ} 0 1 = cc in omega arith) e in
+      let same : run (p .1) (p .0) ≡ hashes = cc in
+      let first : p .0 ≡ hashes .count = ap (λ (r : Run). r .count) same in
+      let second : p .1 ≡ hashes .start = ap (λ (r : Run). r .start) same in
+      let third : p .1 + sizes .hash * p .0 ≡ next = cc in
+      (rw (first, second) at (p .2), rw (first, second) at (p .3), omega arith)
 
-  pub hash-list-inside : hashListAt s at end ≡ Hashes start count next → HashesInside s at end start count next
+  pub hash-list-inside : hashListAt s at end ≡ Items hashes next → HashesInside s at end hashes next
   hash-list-inside e =
       let p = hash-list-count e in
-      omega (arith, count-inside (sizes .hashes) s at end count start (p .0), left-is s start end)
+      omega (arith, count-inside (sizes .hashes) s at end (hashes .count) (hashes .start) (p .0), left-is s (hashes .start) end)
 
-  pub written-hash-list : Bytes s → hashListAt s at end ≡ Hashes start count next → slice at next s ≡ hashListBytes (hashesAt s start count)
+  pub written-hash-list : Bytes s → hashListAt s at end ≡ Items hashes next
+      → slice at next s ≡ hashListBytes (hashesAt s (hashes .start) (hashes .count))
   unfolding hashListBytes
   written-hash-list all e =
+      let start : ℕ = hashes .start in
+      let count : ℕ = hashes .count in
       let inside = hash-list-inside e in
       let number = count-number (sizes .hashes) s at end count start (hash-list-count e .0) .0 in
-      let hashes = rw (← inside .whole) at (hashes-at-bytes s start count all (omega arith)) in
-      rw (length-hashes-at s start count, hashes) (after-read s at end count start next all number (omega arith))
+      let bytes = rw (← inside .whole) at (hashes-at-bytes s start count all (omega arith)) in
+      rw (length-hashes-at s start count, bytes) (after-read s at end count start next all number (omega arith))
 
 pub hash-list-written : (s hs rest : List ℕ) (at end : ℕ) → AreHashes hs → length hs ≤ sizes .hashes → slice at end s ≡ hashListBytes hs ++ rest
-    → (hashListAt s at end ≡ Hashes (at + length (shortest (length hs))) (length hs) (at + length (hashListBytes hs)))
+    → (hashListAt s at end ≡ Items (run (at + length (shortest (length hs))) (length hs)) (at + length (hashListBytes hs)))
     × (hashesAt s (at + length (shortest (length hs))) (length hs) ≡ hs)
 unfolding hashListBytes
 hash-list-written s hs rest at end are small same =

@@ -15,19 +15,32 @@ use Rattle.rules.specs.declared.refusal.Refusal.the-variants.{Cut, PastSize}
 use Rattle.wire.specs.Number.{shortest, numberAt, most64}
 use Rattle.wire.specs.declared.leb128.Number.{Number}
 use Rattle.wire.specs.declared.leb128.Number.the-variants.{Value, Refused}
-use Rattle.wire.specs.declared.parse.HashList.{HashList}
-use Rattle.wire.specs.declared.parse.HashList.the-variants.{Hashes, Refused as NoHashes}
+use Rattle.wire.specs.declared.parse.Listed.{Listed}
+use Rattle.wire.specs.declared.parse.Listed.the-variants.{Items, Refused as NotListed}
 use Rattle.wire.specs.declared.parse.Prefixed.{Prefixed}
 use Rattle.wire.specs.declared.parse.Prefixed.the-variants.{Part, Refused as NoPart}
+use Rattle.wire.specs.declared.parse.Run.{Run}
 
 -- How many bytes stand from a place up to `end`.
 unfoldable pub leftAt : List ℕ → ℕ → ℕ → ℕ
 leftAt s at end = length (slice at end s)
 
--- What follows a number that was read, or its refusal passed on.
+-- Items from a place on.
+abbrev pub run : ℕ → ℕ → Run
+run start count = record { start = start; count = count }
+
+-- What follows a number, a prefixed string or a list that was read, or its refusal passed on.
 unfoldable pub afterNumber : {A : Type 0} → Number → (Refusal → A) → (ℕ → ℕ → A) → A
 afterNumber (Value n next) refused k = k n next
 afterNumber (Refused r) refused k = refused r
+
+unfoldable pub afterPart : {A : Type 0} → Prefixed → (Refusal → A) → (ℕ → ℕ → A) → A
+afterPart (Part start end) refused k = k start end
+afterPart (NoPart r) refused k = refused r
+
+unfoldable pub afterListed : {A : Type 0} → Listed → (Refusal → A) → (Run → ℕ → A) → A
+afterListed (Items items next) refused k = k items next
+afterListed (NotListed r) refused k = refused r
 
 -- A count: a number, and 4 with its place if it passes its limit.
 unfoldable pub countAt : ℕ → List ℕ → ℕ → ℕ → Number
@@ -44,14 +57,14 @@ prefixedAt s at end =
     (λ n start. cond (ltb (leftAt s start end) n) (NoPart (Cut at)) (Part start (start + n)))
 
 -- A hash list: a count, and as many hashes; 1 with the place of the first hash that isn't whole.
-unfoldable pub hashListAt : List ℕ → ℕ → ℕ → HashList
+unfoldable pub hashListAt : List ℕ → ℕ → ℕ → Listed
 hashListAt s at end =
     afterNumber (countAt (sizes .hashes) s at end)
-    NoHashes
+    NotListed
     (λ count start.
     cond (ltb (leftAt s start end / sizes .hash) count)
-    (NoHashes (Cut (start + sizes .hash * (leftAt s start end / sizes .hash))))
-    (Hashes start count (start + sizes .hash * count)))
+    (NotListed (Cut (start + sizes .hash * (leftAt s start end / sizes .hash))))
+    (Items (run start count) (start + sizes .hash * count)))
 
 -- A prefixed string as bytes: its length, its bytes.
 unfoldable pub prefixedBytes : List ℕ → List ℕ

@@ -2,7 +2,7 @@
 //
 //     number            seven bits a byte, lowest first, 80 (hexadecimal) added to each byte but the last
 //     prefixed string   number (its length), bytes
-//     hash list         number (its count), hashes of 32 bytes
+//     hash list         number (its count), hashes
 //
 // A reader takes a slice, the place where an item starts and the place where its part of the slice ends. It answers an enum:
 // where the item stands and the next place, or the refusal. Any numbers are places; a part that isn't there has no bytes.

@@ -14,13 +14,15 @@ pub enum Prefixed {
     Refused(Refusal),
 }
 
-// A hash list: `count` hashes stand from `start` on, up to the next place.
-pub enum HashList {
-    Hashes {
-        start: usize,
-        count: usize,
-        next: usize,
-    },
+// Where items stand: the place of the first, and how many there are.
+pub struct Run {
+    pub start: usize,
+    pub count: usize,
+}
+
+// A list after its count, of hashes or of larger items: where they stand, and the next place.
+pub enum Listed {
+    Items { run: Run, next: usize },
     Refused(Refusal),
 }
 
@@ -68,7 +70,7 @@ pub fn length_prefixed_bytes(s: &[u8], at: usize, end: usize) -> Prefixed
 }
 
 // The hash list at a place. Its hashes are not walked: how many stand there whole follows from the bytes that are left.
-pub fn length_prefixed_hashes(s: &[u8], at: usize, end: usize) -> HashList
+pub fn length_prefixed_hashes(s: &[u8], at: usize, end: usize) -> Listed
     ensures { λ r. ⌜ r ≡ hashListAt (now (s .entry)) at end ⌝ }
 {
     let n = length_prefix(s, at, end, HASHES as u64);
@@ -76,15 +78,16 @@ pub fn length_prefixed_hashes(s: &[u8], at: usize, end: usize) -> HashList
         Number::Value { value, next } => {
             let whole = left(s, next, end) / HASH_SIZE;
             if (whole as u64) < value {
-                return HashList::Refused(Refusal::Cut(next + HASH_SIZE * whole));
+                let cut = next + HASH_SIZE * whole;
+                return Listed::Refused(Refusal::Cut(cut));
             }
             let count = value as usize;
-            HashList::Hashes {
-                start: next,
-                count,
-                next: next + HASH_SIZE * count,
+            let after = next + HASH_SIZE * count;
+            Listed::Items {
+                run: Run { start: next, count },
+                next: after,
             }
         }
-        Number::Refused(r) => HashList::Refused(r),
+        Number::Refused(r) => Listed::Refused(r),
     }
 }

@@ -5,8 +5,8 @@ use Rattle.wire.specs.declared.leb128.Number.{Number}
 use Rattle.wire.specs.declared.leb128.Number.the-variants.{Value, Refused as NoNumber}
 use Rattle.wire.specs.declared.parse.Prefixed.{Prefixed}
 use Rattle.wire.specs.declared.parse.Prefixed.the-variants.{Part, Refused as NoPart}
-use Rattle.wire.specs.declared.parse.HashList.{HashList}
-use Rattle.wire.specs.declared.parse.HashList.the-variants.{Hashes, Refused as NoHashes}
+use Rattle.wire.specs.declared.parse.Listed.{Listed}
+use Rattle.wire.specs.declared.parse.Listed.the-variants.{Items, Refused as NotListed}
 use Rattle.words.specs.Answer.{refusalWords}
 
 abbrev pub numberWords : Number → List ℕ
@@ -17,6 +17,6 @@ abbrev pub prefixedWords : Prefixed → List ℕ
 prefixedWords (Part start end) = 0 ∷ start ∷ end ∷ 0 ∷ []
 prefixedWords (NoPart r) = refusalWords r
 
-abbrev pub hashListWords : HashList → List ℕ
-hashListWords (Hashes start count next) = 0 ∷ start ∷ count ∷ next ∷ []
-hashListWords (NoHashes r) = refusalWords r
+abbrev pub hashListWords : Listed → List ℕ
+hashListWords (Items hashes next) = 0 ∷ hashes .start ∷ hashes .count ∷ next ∷ []
+hashListWords (NotListed r) = refusalWords r

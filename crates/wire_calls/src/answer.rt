@@ -1,6 +1,6 @@
 // An answer as words.
 use wire::leb128::Number;
-use wire::parse::HashList;
+use wire::parse::Listed;
 use wire::parse::Prefixed;
 use words::answer::refusal_words;
 ghost use mathlib.Core.Path.{_≡_};
@@ -24,11 +24,11 @@ pub fn prefixed_words(p: Prefixed) -> [u64; 4]
     }
 }
 
-pub fn hash_list_words(h: HashList) -> [u64; 4]
+pub fn hash_list_words(h: Listed) -> [u64; 4]
     ensures { λ w. ⌜ w ≡ hashListWords h ⌝ }
 {
     match h {
-        HashList::Hashes { start, count, next } => [0, start as u64, count as u64, next as u64],
-        HashList::Refused(r) => refusal_words(r),
+        Listed::Items { run, next } => [0, run.start as u64, run.count as u64, next as u64],
+        Listed::Refused(r) => refusal_words(r),
     }
 }

@@ -20,22 +20,13 @@ returns c = sym (too-many _ (c .if1 .taken))
 loop-holds : tie.Need-loop-holds Inv-loop μ-loop
 loop-holds c = record { upto = omega arith; rest = counting-starts _ _ refl (c .if1 .left) }
 
-mul-if2 : tie.Need-mul-if2 Inv-loop μ-loop
-mul-if2 c = search needs
-
-add-if2 : tie.Need-add-if2 Inv-loop μ-loop
-add-if2 c = search needs
-
-mul-if2-2 : tie.Need-mul-if2-2 Inv-loop μ-loop
-mul-if2-2 c = search needs
-
-shared-slice-read-if2 : tie.Need-shared-slice-read-if2 Inv-loop μ-loop
-shared-slice-read-if2 c = search needs
+sync-count-requires : tie.Need-sync-count-requires Inv-loop μ-loop
+sync-count-requires c κs = search needs
 
 returns-2 : tie.Need-returns-2 Inv-loop μ-loop
 returns-2 c =
     let t = c .before in
-    sym (counting-fails _ _ _ (t .before .loop-test .taken) (c .if2 .taken)) ∙ t .before .before .loop .inv .rest
+    sym (counting-fails _ _ _ (t .before .loop-test .taken) _ (t .sync-count .ensures) (c .if2 .taken)) ∙ t .before .before .loop .inv .rest
 
 add-i : tie.Need-add-i Inv-loop μ-loop
 add-i c = search needs
@@ -48,7 +39,7 @@ loop-again c =
     let t = c .before in
     record {
       upto = omega (arith, t .before .loop-test .taken);
-      rest = sym (counting-on _ _ _ (t .before .loop-test .taken) (c .if2 .left)) ∙ t .before .before .loop .inv .rest;
+      rest = sym (counting-on _ _ _ (t .before .loop-test .taken) _ (t .sync-count .ensures) (c .if2 .left)) ∙ t .before .before .loop .inv .rest;
     }
 
 returns-3 : tie.Need-returns-3 Inv-loop μ-loop
@@ -62,10 +53,7 @@ passed-few-spec =
     μ-loop
     returns
     loop-holds
-    mul-if2
-    add-if2
-    mul-if2-2
-    shared-slice-read-if2
+    sync-count-requires
     returns-2
     add-i
     loop-less

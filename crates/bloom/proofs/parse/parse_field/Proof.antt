@@ -41,8 +41,8 @@ returns-5 c =
     (rw (k .bits-capacity .ensures) at (l .before .if4 .left))
     (rw (l .left .ensures, k .bits-capacity .ensures) at (c .if5 .taken)))
 
-add-t14 : tie.Need-add-t14
-add-t14 c =
+add-next : tie.Need-add-next
+add-next c =
     let l = c .before in
     let start = l .before .before .before .before .before .before .before in
     let a = start .args in
@@ -70,5 +70,5 @@ parse-field-spec =
     returns-4
     left-requires
     returns-5
-    add-t14
+    add-next
     returns-6)

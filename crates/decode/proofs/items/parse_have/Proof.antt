@@ -20,11 +20,11 @@ enum-known-part c = search needs
 parse-requires : tie.Need-parse-requires
 parse-requires c κs = search needs
 
-enum-known-filter : tie.Need-enum-known-filter
-enum-known-filter c = search needs
+enum-known-parsed : tie.Need-enum-known-parsed
+enum-known-parsed c = search needs
 
-enum-known-filter-2 : tie.Need-enum-known-filter-2
-enum-known-filter-2 c = search needs
+enum-known-parsed-2 : tie.Need-enum-known-parsed-2
+enum-known-parsed-2 c = search needs
 
 enum-known-part-2 : tie.Need-enum-known-part-2
 enum-known-part-2 c = search needs
@@ -38,12 +38,12 @@ returns c =
     let p = f .before .before .before .before in
     let l = p .before .before .before .before in
     sym
-    (have-read _ _ _ _ _
+    (have-read _ _ _ _
     (sym (l .before .before .length-prefixed-hashes .ensures) ∙ l .list .given .1)
     _ _
     (sym (p .before .before .length-prefixed-bytes .ensures) ∙ p .part .given .1)
-    _ _ _ _ _ _
-    (sym (f .before .before .parse .ensures) ∙ f .filter .given .1))
+    _ _
+    (sym (f .before .before .parse .ensures) ∙ f .parsed .given .1))
 
 returns-2 : tie.Need-returns-2
 returns-2 c =
@@ -51,19 +51,19 @@ returns-2 c =
     let p = f .before .before .before .before in
     let l = p .before .before .before .before in
     sym
-    (have-no-filter _ _ _ _ _
+    (have-no-filter _ _ _ _
     (sym (l .before .before .length-prefixed-hashes .ensures) ∙ l .list .given .1)
     _ _
     (sym (p .before .before .length-prefixed-bytes .ensures) ∙ p .part .given .1)
     _
-    (sym (f .before .before .parse .ensures) ∙ f .filter2 .given .1))
+    (sym (f .before .before .parse .ensures) ∙ f .parsed2 .given .1))
 
 returns-3 : tie.Need-returns-3
 returns-3 c =
     let p = c .before in
     let l = p .before .before .before .before in
     sym
-    (have-no-part _ _ _ _ _
+    (have-no-part _ _ _ _
     (sym (l .before .before .length-prefixed-hashes .ensures) ∙ l .list .given .1)
     _
     (sym (p .before .before .length-prefixed-bytes .ensures) ∙ p .part2 .given .1))
@@ -82,8 +82,8 @@ parse-have-spec =
     length-prefixed-bytes-requires
     enum-known-part
     parse-requires
-    enum-known-filter
-    enum-known-filter-2
+    enum-known-parsed
+    enum-known-parsed-2
     enum-known-part-2
     enum-known-list-2
     returns

@@ -26,7 +26,7 @@ abbrev μ-loop : tie.MeasureT-loop
 
 -- an answer by its tag
 told-refused : (x : HaveRead) → tagOf (declared enum) x ≡ 1 → (r : Refusal) × (x ≡ NoHave r)
-told-refused (Have start count n b p field size next) e = absurd (omega arith)
+told-refused (Have sync f next) e = absurd (omega arith)
 told-refused (NoHave r) e = (r, refl)
 
 -- seven words one after the other
@@ -43,13 +43,13 @@ seven-put out i a b c d e f g =
     rw (i1, i2, i3, i4, i5, i6)
 
 -- there is room for the item's words
-here : (c : tie.After-known-told Inv-loop μ-loop) → let l = c .before .before .before .before .before in 7 * l .loop .k + 7 ≤ length (l .loop .out)
+here : (c : tie.After-known-told Inv-loop μ-loop) → let l = c .before .before .before .before .before in haveWords * l .loop .k + haveWords ≤ length (l .loop .out)
 here c =
     let i = c .before in
     let t = i .before .before in
     let l = t .before in
     putting-fits _ _ _ _ _ _ _ _ (l .before .loop .inv) (l .loop-test .taken) _ _
-    (have-item _ _ _ _ _ _ _ _ _ _ (sym (t .parse-have .ensures) ∙ i .have .given .1))
+    (have-item _ _ _ _ _ (sym (t .parse-have .ensures) ∙ i .have .given .1))
     refl
     (omega arith)
 
@@ -149,19 +149,20 @@ loop-again c =
     let i = c .before in
     let t = i .before .before in
     let l = t .before in
-    let w = i .have .given .0 in
+    let sync = i .have .given .0 .0 in
+    let f = i .have .given .0 .1 .0 in
     putting-on _ _ _ _ _ _ _ _ (l .before .loop .inv) (l .loop-test .taken) _ _
-    (have-item _ _ _ _ _ _ _ _ _ _ (sym (t .parse-have .ensures) ∙ i .have .given .1))
+    (have-item _ _ _ _ _ (sym (t .parse-have .ensures) ∙ i .have .given .1))
     refl
     _
-    (seven-put (l .before .loop .out) (7 * l .before .loop .k)
-    (w .0)
-    (w .1 .0)
-    (w .1 .1 .0)
-    (w .1 .1 .1 .0)
-    (w .1 .1 .1 .1 .0)
-    (w .1 .1 .1 .1 .1 .0)
-    (w .1 .1 .1 .1 .1 .1 .0))
+    (seven-put (l .before .loop .out) (haveWords * l .before .loop .k)
+    (sync .start)
+    (sync .count)
+    (f .entries)
+    (f .bits)
+    (f .probes)
+    (f .place)
+    (f .size))
 
 same-length-2 : tie.Need-same-length-2 Inv-loop μ-loop
 same-length-2 c = search needs

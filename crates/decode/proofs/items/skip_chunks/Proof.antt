@@ -3,6 +3,7 @@ use Prim.Native.Nat.{_-_, _≤_}
 use borrow.Author.Needs.{needs}
 use mathlib.Core.Path.{_≡_, sym, _∙_}
 use native.Mathlib.Omega.{arith}
+use Rattle.wire.specs.Item.{run}
 use Rattle.decode.specs.Items.{chunkItem, manyAt, listFrom, listedOf}
 use Rattle.decode.proofs.ItemLaws.{chunk-stopped, chunk-item, passing, passing-starts, passing-ends, passing-stops, passing-on}
 use Rattle.decode.proofs.items.skip_chunks.Statement.{statement}
@@ -12,7 +13,7 @@ abbrev Inv-loop : tie.InvT-loop
 Inv-loop s start count next₀ k₀ next k =
     record {
       upto : k ≤ count;
-      rest : passing (chunkItem s) start count (count - k) next ≡ listedOf (listFrom start count (manyAt (chunkItem s) count start));
+      rest : passing (chunkItem s) start count (count - k) next ≡ listedOf (listFrom (run start count) (manyAt (chunkItem s) count start));
     }
 
 abbrev μ-loop : tie.MeasureT-loop

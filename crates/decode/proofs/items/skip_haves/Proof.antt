@@ -3,6 +3,7 @@ use Prim.Native.Nat.{_-_, _≤_}
 use borrow.Author.Needs.{needs}
 use mathlib.Core.Path.{_≡_, sym, _∙_}
 use native.Mathlib.Omega.{arith}
+use Rattle.wire.specs.Item.{run}
 use Rattle.decode.specs.Items.{haveItem, manyAt, listFrom, listedOf}
 use Rattle.decode.proofs.ItemLaws.{have-stopped, have-item, passing, passing-starts, passing-ends, passing-stops, passing-on}
 use Rattle.decode.proofs.items.skip_haves.Statement.{statement}
@@ -12,7 +13,7 @@ abbrev Inv-loop : tie.InvT-loop
 Inv-loop s start count next₀ k₀ next k =
     record {
       upto : k ≤ count;
-      rest : passing (haveItem s) start count (count - k) next ≡ listedOf (listFrom start count (manyAt (haveItem s) count start));
+      rest : passing (haveItem s) start count (count - k) next ≡ listedOf (listFrom (run start count) (manyAt (haveItem s) count start));
     }
 
 abbrev μ-loop : tie.MeasureT-loop
@@ -55,7 +56,7 @@ loop-again c =
       rest =
           sym
           (passing-on _ _ _ _ _ (l .loop-test .taken) _ _
-          (have-item _ _ _ _ _ _ _ _ _ _ (sym (t .parse-have .ensures) ∙ i .have .given .1)))
+          (have-item _ _ _ _ _ (sym (t .parse-have .ensures) ∙ i .have .given .1)))
           ∙ l .before .loop .inv .rest;
     }
 

@@ -17,7 +17,7 @@ enum-known-list-2 c = search needs
 returns : tie.Need-returns
 returns c =
     let l = c .before in
-    sym (heads-read _ _ _ _ _ (sym (l .before .before .length-prefixed-hashes .ensures) ∙ l .list .given .1))
+    sym (heads-read _ _ _ _ (sym (l .before .before .length-prefixed-hashes .ensures) ∙ l .list .given .1))
 
 returns-2 : tie.Need-returns-2
 returns-2 c =

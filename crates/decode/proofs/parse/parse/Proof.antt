@@ -21,7 +21,7 @@ returns : tie.Need-returns
 returns c =
     let o = c .before .before in
     c .parse-need .ensures
-    ∙ sym (message-need _ _ _ _ _ (sym (o .before .before .parse-opening .ensures) ∙ o .opening .given .1))
+    ∙ sym (message-need _ _ _ _ (sym (o .before .before .parse-opening .ensures) ∙ o .opening .given .1))
 
 returns-2 : tie.Need-returns-2
 returns-2 c =

@@ -21,7 +21,7 @@ returns : tie.Need-returns
 returns c =
     let l = c .before .before in
     rw
-    (need-lists _ _ _ _ _ _ _ (sym (l .before .before .length-prefixed-hashes .ensures) ∙ l .list .given .1))
+    (need-lists _ _ _ _ _ _ (sym (l .before .before .length-prefixed-hashes .ensures) ∙ l .list .given .1))
     (c .parse-lists .ensures)
 
 returns-2 : tie.Need-returns-2

@@ -2,29 +2,21 @@
 -- after the other are the have put at once. Assumes nothing.
 use native.Mathlib.Omega.{arith}
 use denote.Ref.{now}
+use Rattle.bloom.specs.Have.{syncPlace, syncCount}
+use Rattle.rules.specs.Hash.{hashesAt}
+use Rattle.wire.specs.Item.{hashListBytes}
+use Rattle.wire.specs.Number.{Put}
 use Rattle.encode.proofs.SizeLaws.{HaveFits, have-fits, have-room}
 use Rattle.encode.proofs.PutLaws.{put-have-parts}
 use borrow.Author.Needs.{needs}
 use Rattle.encode.proofs.put.put_have.Statement.{statement}
 use Rattle.encode.proofs.put.put_have.Tie as tie
 
-mul-word : tie.Need-mul-word
-mul-word c = search needs
+sync-place-requires : tie.Need-sync-place-requires
+sync-place-requires c κs = search needs
 
-mul-place : tie.Need-mul-place
-mul-place c = search needs
-
-shared-slice-read-place : tie.Need-shared-slice-read-place
-shared-slice-read-place c = search needs
-
-add-count : tie.Need-add-count
-add-count c = search needs
-
-mul-count : tie.Need-mul-count
-mul-count c = search needs
-
-shared-slice-read-count : tie.Need-shared-slice-read-count
-shared-slice-read-count c = search needs
+sync-count-requires : tie.Need-sync-count-requires
+sync-count-requires c κs = search needs
 
 filter-in-requires : tie.Need-filter-in-requires
 filter-in-requires c κs = search needs
@@ -42,7 +34,23 @@ put-hashes-requires : tie.Need-put-hashes-requires
 put-hashes-requires c κs =
     let f = c .before .before in
     let s = f .before .before .before .before .before .before in
+    let n = f .before in
+    rw (n .before .sync-place .ensures, n .sync-count .ensures)
     (fits f .sync, omega (arith, have-room _ _ _ _ (f .filter-in .ensures) _ _ (s .pre .1)))
+
+-- the last-sync hashes as they are put
+hashes-put : (c : tie.After-put-hashes)
+    → let f = c .before .before .before in
+    let a = f .before .before .before .before .before .before .args in
+    Put
+    (now (a .out))
+    (c .put-hashes .last .0)
+    (a .at)
+    (hashListBytes (hashesAt (now (a .s)) (syncPlace (now (a .haves)) (a .i)) (syncCount (now (a .haves)) (a .i))))
+    (c .put-hashes .result)
+hashes-put c =
+    let n = c .before .before .before .before in
+    rw (n .before .sync-place .ensures, n .sync-count .ensures) at (c .put-hashes .ensures)
 
 sub-put-prefixed-filter : tie.Need-sub-put-prefixed-filter
 sub-put-prefixed-filter c = search needs
@@ -60,7 +68,7 @@ put-prefixed-filter-requires c κs =
     let h = c .before .before .before .before in
     let f = h .before .before .before in
     let s = f .before .before .before .before .before .before in
-    omega (arith, have-room _ _ _ _ (f .filter-in .ensures) _ _ (s .pre .1), h .put-hashes .ensures .place, h .put-hashes .kept .0)
+    omega (arith, have-room _ _ _ _ (f .filter-in .ensures) _ _ (s .pre .1), hashes-put h .place, h .put-hashes .kept .0)
 
 same-length : tie.Need-same-length
 same-length c = search needs
@@ -70,18 +78,14 @@ returns c =
     let p = c .before .before in
     let h = p .before .before .before .before .before in
     let f = h .before .before .before in
-    put-have-parts _ _ _ _ (f .filter-in .ensures) _ _ _ _ _ _ (h .put-hashes .ensures) (p .put-prefixed-filter .ensures)
+    put-have-parts _ _ _ _ (f .filter-in .ensures) _ _ _ _ _ _ (hashes-put h) (p .put-prefixed-filter .ensures)
 
 pub put-have-spec : {M : Type 1} → statement M
 put-have-spec =
     tie.close
     (tie.spec
-    mul-word
-    mul-place
-    shared-slice-read-place
-    add-count
-    mul-count
-    shared-slice-read-count
+    sync-place-requires
+    sync-count-requires
     filter-in-requires
     add-end
     put-hashes-requires

@@ -11,20 +11,13 @@ use borrow.Author.Needs.{needs}
 use Rattle.encode.proofs.size.have_size.Statement.{statement}
 use Rattle.encode.proofs.size.have_size.Tie as tie
 
-mul-count : tie.Need-mul-count
-mul-count c = search needs
-
-add-count : tie.Need-add-count
-add-count c = search needs
-
-mul-count-2 : tie.Need-mul-count-2
-mul-count-2 c = search needs
-
-shared-slice-read-count : tie.Need-shared-slice-read-count
-shared-slice-read-count c = search needs
+sync-count-requires : tie.Need-sync-count-requires
+sync-count-requires c κs = search needs
 
 hashes-size-requires : tie.Need-hashes-size-requires
-hashes-size-requires c κs = let s = c .before .before .before in have-fits _ _ _ _ refl (s .pre .0) (s .pre .1) .few
+hashes-size-requires c κs =
+    let s = c .before .before .before in
+    rw (c .sync-count .ensures) (have-fits _ _ _ _ refl (s .pre .0) (s .pre .1) .few)
 
 filter-in-requires : tie.Need-filter-in-requires
 filter-in-requires c κs = search needs
@@ -53,7 +46,10 @@ sum : (c : tie.After-prefixed-filter-size)
     → let f = c .before .before .before in
     let a = f .before .before .before .before .before .args in
     f .before .hashes-size .result + c .prefixed-filter-size .result ≡ length (haveBytes (haveIn (now (a .s)) (now (a .haves)) (a .i)))
-sum c = let f = c .before .before .before in have-long _ _ _ _ _ _ (f .filter-in .ensures) (f .before .hashes-size .ensures) (c .prefixed-filter-size .ensures)
+sum c =
+    let f = c .before .before .before in
+    let h = f .before in
+    have-long _ _ _ _ _ _ (f .filter-in .ensures) (rw (h .before .sync-count .ensures) at (h .hashes-size .ensures)) (c .prefixed-filter-size .ensures)
 
 add-result : tie.Need-add-result
 add-result c = let s = c .before .before .before .before .before .before .before .before in omega (arith, sum c, have-small _ _ _ (s .pre .0) (s .pre .1))
@@ -65,10 +61,7 @@ pub have-size-spec : {M : Type 1} → statement M
 have-size-spec =
     tie.close
     (tie.spec
-    mul-count
-    add-count
-    mul-count-2
-    shared-slice-read-count
+    sync-count-requires
     hashes-size-requires
     filter-in-requires
     add-end

@@ -6,7 +6,7 @@ use borrow.Author.Needs.{needs}
 use lib.ListN.{length}
 use Rattle.saved.specs.Saved.{stateAt}
 use Rattle.saved.proofs.SavedLaws.{state-inside, load-refused, load-short, part-long, load-session}
-use Rattle.wire.specs.declared.parse.HashList.the-variants.{Hashes}
+use Rattle.wire.specs.declared.parse.Listed.the-variants.{Items}
 use Rattle.wire.proofs.Item.{HashesInside}
 use Rattle.saved.proofs.saved.decode.Statement.{statement}
 use Rattle.saved.proofs.saved.decode.Tie as tie
@@ -20,13 +20,13 @@ enum-known-list c = search needs
 -- what stands in the state, as the match found it
 found : (c : tie.After-list)
     → let g = c .list .given .0 in
-    stateAt (now (c .before .before .before .before .before .args .s)) ≡ Hashes (g .0) (g .1 .0) (g .1 .1 .0)
+    stateAt (now (c .before .before .before .before .before .args .s)) ≡ Items (g .0) (g .1 .0)
 found c = sym (c .before .before .parse .ensures) ∙ c .list .given .1
 
 where-list : (c : tie.After-list)
     → let g = c .list .given .0 in
     let s = now (c .before .before .before .before .before .args .s) in
-    HashesInside s 1 (length s) (g .0) (g .1 .0) (g .1 .1 .0)
+    HashesInside s 1 (length s) (g .0) (g .1 .0)
 where-list c = state-inside _ _ _ _ (found c)
 
 mul-size : tie.Need-mul-size

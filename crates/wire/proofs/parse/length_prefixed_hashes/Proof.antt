@@ -16,11 +16,11 @@ enum-known-n c = search needs
 left-requires : tie.Need-left-requires
 left-requires c κs = search needs
 
-mul-t15 : tie.Need-mul-t15
-mul-t15 c = search needs
+mul-cut : tie.Need-mul-cut
+mul-cut c = search needs
 
-add-t16 : tie.Need-add-t16
-add-t16 c =
+add-cut : tie.Need-add-cut
+add-cut c =
     let a = c .before .before .before .before .before .before .before .args in
     omega (arith, left-is (now (a .s)) (c .before .before .before .n .given .0 .1 .0) (a .end), c .before .left .ensures)
 
@@ -30,11 +30,11 @@ returns c =
     rw (c .before .left .ensures)
     (sym (hash-list-checks _ _ _ .past _ _ (sym (m .before .before .length-prefix .ensures) ∙ m .n .given .1) (rw (c .before .left .ensures) at (c .if1 .taken))))
 
-mul-t12 : tie.Need-mul-t12
-mul-t12 c = search needs
+mul-after : tie.Need-mul-after
+mul-after c = search needs
 
-add-t18 : tie.Need-add-t18
-add-t18 c =
+add-after : tie.Need-add-after
+add-after c =
     let a = c .before .before .before .before .before .before .before .args in
     omega (arith, left-is (now (a .s)) (c .before .before .before .n .given .0 .1 .0) (a .end), c .before .left .ensures)
 
@@ -58,11 +58,11 @@ length-prefixed-hashes-spec =
     length-prefix-requires
     enum-known-n
     left-requires
-    mul-t15
-    add-t16
+    mul-cut
+    add-cut
     returns
-    mul-t12
-    add-t18
+    mul-after
+    add-after
     enum-known-n-2
     returns-2
     returns-3)
