@@ -1,5 +1,5 @@
--- The struct that code keeps of a session: its flags and the counts of its lists. What its functions return, each the same as a value of
--- Session (ValueLaws).
+-- The struct that code keeps of a session: its flags and the counts of its lists. What its functions return; with the lent lists each is the
+-- session of the same name in Session (ValueLaws).
 use Prim.Native.Nat.{ℕ}
 use mathlib.Core.Bool.{Bool, true, false, cond}
 use Rattle.state.specs.declared.session.Heard.{Heard}
@@ -25,9 +25,11 @@ heardOnly have =
       «needs_reset» = false;
     }
 
+-- Nothing was said yet.
 abbrev pub freshCounts : Session
 freshCounts = heardOnly Nothing
 
+-- The same of a unit that takes no changes.
 abbrev pub freshReadOnlyCounts : Session
 freshReadOnlyCounts =
     record {
@@ -46,6 +48,7 @@ freshReadOnlyCounts =
       «needs_reset» = false;
     }
 
+-- So many shared heads were saved; their haves are present and none.
 abbrev pub restoredCounts : ℕ → Session
 restoredCounts shared =
     record {
@@ -64,6 +67,7 @@ restoredCounts shared =
       «needs_reset» = false;
     }
 
+-- Read-only from off to on.
 abbrev pub switchedOnCounts : Session → Session
 switchedOnCounts s =
     record {
@@ -82,6 +86,7 @@ switchedOnCounts s =
       «needs_reset» = s .«needs_reset»;
     }
 
+-- Read-only from on to off: the lists are gone, so their buffers are free.
 abbrev pub switchedOffCounts : Session → Session
 switchedOffCounts s =
     record {
@@ -100,6 +105,7 @@ switchedOffCounts s =
       «needs_reset» = true;
     }
 
+-- Setting read-only to what it is changes nothing.
 unfoldable pub setReadOnlyCounts : Session → Bool → Session
 setReadOnlyCounts s on =
     cond on (cond (s .«read_only») s (switchedOnCounts s)) (cond (s .«read_only») (switchedOffCounts s) s)
