@@ -18,12 +18,11 @@ use Rattle.rules.specs.Sizes.{sizes}
 use Rattle.rules.specs.declared.refusal.Refusal.{Refusal}
 use Rattle.rules.specs.declared.refusal.Refusal.the-variants.{Cut, WrongType, PastSize, NoRoom}
 use Rattle.wire.specs.Item.{afterPart, afterListed, prefixedAt, hashListAt}
-use Rattle.wire.proofs.Item.{count-inside}
 use Rattle.wire.specs.declared.parse.Listed.{Listed}
 use Rattle.wire.specs.declared.parse.Listed.the-variants.{Items, Refused as NotListed}
 use Rattle.wire.specs.declared.parse.Prefixed.the-variants.{Part, Refused as NoPart}
 use Rattle.wire.specs.declared.parse.Run.{Run}
-use Rattle.decode.specs.Items.{
+use Rattle.items.specs.Items.{
   haveItem,
   chunkItem,
   manyAt,
@@ -67,7 +66,7 @@ use Rattle.decode.specs.declared.parse.Decoded.the-variants.{Message as 
 use Rattle.decode.specs.declared.parse.Flagged.{Flagged}
 use Rattle.decode.specs.declared.parse.Flagged.the-variants.{Section as Sectioned, Refused as NoSection}
 use Rattle.decode.specs.declared.parse.Places.{Places}
-use Rattle.decode.proofs.ItemLaws.{list-behind, many-sized, many-below, have-sized, chunk-sized, have-below, chunk-below}
+use Rattle.items.proofs.ItemLaws.{listed-refused, listed-items, ItemsBehind, haves-behind, chunks-behind}
 
 -- ---- the first stage
 
@@ -121,19 +120,6 @@ module _ (s : List ℕ) (at : ℕ) where
         → sectionAt s at ≡ Sectioned (Present m) end
     unfolding sectionAt afterPart
     section-read start end m e f = rw (lt-leb _ _ more, e, f)
-
--- ---- lists without their words
-
-pub listed-refused : (l : ItemList) (r : Refusal) → listedOf l ≡ NotListed r → l ≡ noList r
-unfolding listedOf afterList
-listed-refused (list items words next) r e = absurd (let z : _≡_ {A = ℕ} 0 1 = cc in omega arith)
-listed-refused (noList q) r e = cc
-
-pub listed-items : (l : ItemList) (items : Run) (next : ℕ) → listedOf l ≡ Items items next
-    → record { words : List ℕ; is : l ≡ list items words next }
-unfolding listedOf afterList
-listed-items (list items₁ words next₁) items next e = record { words = words; is = cc }
-listed-items (noList q) items next e = absurd (let z : _≡_ {A = ℕ} 0 1 = cc in omega arith)
 
 -- ---- the stages after the first
 
@@ -288,45 +274,6 @@ module _ (s : List ℕ) (p : Places) (haves chunks : List ℕ) where
       opened (NotOpened r) o =
           let is : messageAt s ≡ refused r = rw o in
           not-read r p haves chunks (sym is ∙ e)
-
--- ---- how many words there are
-
-module _ (s : List ℕ) (at : ℕ) (items : Run) (words : List ℕ) (next : ℕ) where
-  pub record ItemsBehind (limit size : ℕ) (one : ℕ → Item) : Type 0 where
-    pub few : items .count ≤ limit
-    pub after : at < items .start
-    pub there : items .start ≤ length s
-    pub each : manyAt one (items .count) (items .start) ≡ item words next
-    pub long : length words ≡ size * items .count
-    pub upTo : next ≤ length s
-
-  pub haves-behind : havesAt s at ≡ list items words next → ItemsBehind (sizes .haves) haveWords (haveItem s)
-  unfolding havesAt
-  haves-behind e =
-      let b = list-behind (sizes .haves) (haveItem s) s at items words next e in
-      let c = count-inside (sizes .haves) s at (length s) (items .count) (items .start) (b .number) in
-      record {
-        few = c .small;
-        after = c .after;
-        there = c .there;
-        each = b .each;
-        long = many-sized (haveItem s) haveWords (have-sized s) (items .count) (items .start) words next (b .each);
-        upTo = many-below (haveItem s) (length s) (have-below s) (items .count) (items .start) words next (c .there) (b .each);
-      }
-
-  pub chunks-behind : chunksAt s at ≡ list items words next → ItemsBehind (sizes .chunks) chunkWords (chunkItem s)
-  unfolding chunksAt
-  chunks-behind e =
-      let b = list-behind (sizes .chunks) (chunkItem s) s at items words next e in
-      let c = count-inside (sizes .chunks) s at (length s) (items .count) (items .start) (b .number) in
-      record {
-        few = c .small;
-        after = c .after;
-        there = c .there;
-        each = b .each;
-        long = many-sized (chunkItem s) chunkWords (chunk-sized s) (items .count) (items .start) words next (b .each);
-        upTo = many-below (chunkItem s) (length s) (chunk-below s) (items .count) (items .start) words next (c .there) (b .each);
-      }
 
 -- ---- what the call leaves
 

@@ -15,7 +15,7 @@ use Rattle.rules.specs.Hash.{hashesAt}
 use Rattle.rules.specs.declared.refusal.Refusal.the-variants.{Cut, WrongType, BadNumber, PastSize}
 use Rattle.wire.specs.Item.{run, leftAt, afterNumber, afterPart, afterListed, countAt, prefixedAt, hashListAt}
 use Rattle.wire.specs.Number.{goOn, find, answerAt, numberAt}
-use Rattle.decode.specs.Items.{
+use Rattle.items.specs.Items.{
   haveAt,
   afterItem,
   haveWordsOf,

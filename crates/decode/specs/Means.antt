@@ -7,7 +7,7 @@ use mathlib.Core.Path.{_≡_}
 use lib.ListN.{length}
 use Rattle.wire.specs.Item.{hashListAt}
 use Rattle.wire.specs.declared.parse.Listed.the-variants.{Items}
-use Rattle.decode.specs.Items.{list, havesAt, chunksAt}
+use Rattle.items.specs.Items.{list, havesAt, chunksAt}
 use Rattle.decode.specs.Read.{openingAt, sectionAt}
 use Rattle.decode.specs.declared.opening.Opening.the-variants.{Heads}
 use Rattle.decode.specs.declared.parse.Flagged.the-variants.{Section}

@@ -20,7 +20,7 @@ use Rattle.rules.specs.declared.refusal.Refusal.{Refusal}
 use Rattle.rules.specs.declared.refusal.Refusal.the-variants.{Cut, WrongType, PastSize, NoRoom}
 use Rattle.wire.specs.Item.{afterPart, afterListed, prefixedAt, hashListAt}
 use Rattle.wire.specs.declared.parse.Run.{Run}
-use Rattle.decode.specs.Items.{afterList, havesAt, chunksAt, chunksOf}
+use Rattle.items.specs.Items.{afterList, havesAt, chunksAt, chunksOf}
 use Rattle.decode.specs.declared.opening.Opening.{Opening}
 use Rattle.decode.specs.declared.opening.Opening.the-variants.{Heads, Refused as NotOpened}
 use Rattle.decode.specs.declared.parse.Decoded.{Decoded}

@@ -1,10 +1,10 @@
 // A message read into lent lists.
-use crate::items::CHUNK_WORDS;
-use crate::items::put_chunks;
-use crate::items::put_haves;
 use crate::parse::Decoded;
 use crate::parse::parse;
 use bloom::have::HAVE_WORDS;
+use items::chunks::CHUNK_WORDS;
+use items::chunks::put_chunks;
+use items::haves::put_haves;
 use rules::refusal::Refusal;
 ghost use Rattle.decode.specs.Read.{DecodedInto};
 

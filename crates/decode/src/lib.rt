@@ -3,6 +3,5 @@
 // Nothing is copied: what is handed back are places and counts in the caller's message. Haves and chunks go as words into lists that the caller
 // lends, seven a have and two a chunk. A message is walked whole before the first word is written, so a refusal leaves both lists as they were.
 pub mod decode;
-pub mod items;
 pub mod opening;
 pub mod parse;

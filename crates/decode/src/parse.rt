@@ -1,8 +1,8 @@
 // The places of a message's parts, stage by stage.
-use crate::items::parse_chunks;
-use crate::items::parse_haves;
 use crate::opening::Opening;
 use crate::opening::parse_opening;
+use items::chunks::parse_chunks;
+use items::haves::parse_haves;
 use message::flags::MessageFlags;
 use message::flags::Section;
 use message::version::MessageVersion;

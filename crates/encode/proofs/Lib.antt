@@ -1,6 +1,4 @@
 -- Laws that the crates above cite.
 pub mod PutLaws
 pub mod RoundTrip
-pub mod SizeLaws
 pub mod SoundLaws
-pub mod WriteLaws

@@ -20,9 +20,9 @@ use Rattle.rules.specs.Sizes.{sizes}
 use Rattle.wire.specs.Item.{prefixedBytes, hashListBytes}
 use Rattle.wire.specs.Number.{shortest, Put}
 use Rattle.wire.proofs.Number.{put-then, put-joined}
-use Rattle.encode.specs.Size.{total}
-use Rattle.encode.specs.Write.{chunksFrom}
-use Rattle.encode.proofs.SizeLaws.{part-is, part-long, hash-list-is, have-is, haves-next, haves-end, haves-long, chunks-long, counted-is}
+use Rattle.size.specs.Size.{total}
+use Rattle.size.specs.Write.{chunksFrom}
+use Rattle.size.proofs.SizeLaws.{part-is, part-long, hash-list-is, have-is, haves-next, haves-end, haves-long, chunks-long, counted-is}
 
 -- ---- one part after the other
 

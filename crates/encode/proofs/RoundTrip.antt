@@ -7,9 +7,9 @@ use Rattle.decode.proofs.RoundTrip.{ReadBack, message-there-and-back}
 use Rattle.message.specs.Sound.{SaidMessage}
 use Rattle.rules.specs.Hash.{Bytes}
 use Rattle.rules.specs.Output.{Output}
-use Rattle.encode.specs.Write.{Parts, messageOf, messageOutput}
+use Rattle.size.specs.Write.{Parts, messageOf, messageOutput}
 use Rattle.encode.proofs.SoundLaws.{written-sound}
-use Rattle.encode.proofs.WriteLaws.{message-written}
+use Rattle.size.proofs.WriteLaws.{message-written}
 
 pub written-and-read : (p : Parts) (l : List ℕ)
     → Bytes (p .heads) → Bytes (p .need) → Bytes (p .bytes)

@@ -11,10 +11,10 @@ use Rattle.rules.proofs.Hash.{length-hashes-at, hashes-are-hashes}
 use Rattle.rules.proofs.PassedLaws.{passed-is}
 use Rattle.bloom.specs.Have.{haveCount, haveIn, havesFrom, havesOf, syncPlace, syncCount, numbersIn, filterWith}
 use Rattle.message.specs.Sound.{Each, SoundHashes, SoundHave, SoundMessage}
-use Rattle.encode.specs.Size.{GoodHaves}
-use Rattle.encode.specs.Write.{Parts, messageOf, messageOutput}
-use Rattle.encode.proofs.SizeLaws.{part-long, have-fits, haves-long, haves-few, chunks-long}
-use Rattle.encode.proofs.WriteLaws.{message-written}
+use Rattle.size.specs.Size.{GoodHaves}
+use Rattle.size.specs.Write.{Parts, messageOf, messageOutput}
+use Rattle.size.proofs.SizeLaws.{part-long, have-fits, haves-long, haves-few, chunks-long}
+use Rattle.size.proofs.WriteLaws.{message-written}
 
 sound-hashes : (s : List ℕ) (place count : ℕ) → Bytes s → count ≤ sizes .hashes → SoundHashes (hashesAt s place count)
 sound-hashes s place count all few =

@@ -1,12 +1,12 @@
 // A message written.
 use crate::put::put_message;
-use crate::size::Size;
-use crate::size::message_size;
 use message::flags::Section;
 use message::version::MessageVersion;
 use rules::output::Write;
 use rules::refusal::Refusal;
-ghost use Rattle.encode.specs.Write.{partsOf, messageOutput};
+use size::size::Size;
+use size::size::message_size;
+ghost use Rattle.size.specs.Write.{partsOf, messageOutput};
 ghost use Rattle.rules.specs.Output.{Written};
 
 // Writes a message from its parts; order and repeats are kept.

@@ -4,4 +4,3 @@
 // haves as the words of their records over one buffer, chunks as their bytes one after the other and their lengths.
 pub mod encode;
 pub mod put;
-pub mod size;

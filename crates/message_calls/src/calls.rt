@@ -3,7 +3,7 @@ use crate::message_words::decoded_words;
 use crate::message_words::section_of;
 use crate::message_words::version_of;
 use words::answer::write_words;
-ghost use Rattle.encode.specs.Write.{partsOf, messageOutput};
+ghost use Rattle.size.specs.Write.{partsOf, messageOutput};
 ghost use Rattle.words.specs.Answer.{Answered};
 ghost use Rattle.message_calls.specs.MessageWords.{versionOf, sectionOf, MessageAnswered};
 

@@ -2,7 +2,7 @@
 -- Assumes nothing.
 use mathlib.Core.Path.{sym, _∙_}
 use native.Mathlib.Omega.{arith}
-use Rattle.encode.proofs.WriteLaws.{ready, written-short, written-all, written-refused}
+use Rattle.size.proofs.WriteLaws.{ready, written-short, written-all, written-refused}
 use borrow.Author.Needs.{needs}
 use Rattle.encode.proofs.encode.encode.Statement.{statement}
 use Rattle.encode.proofs.encode.encode.Tie as tie

@@ -2,7 +2,7 @@
 use mathlib.Core.Path.{refl}
 use native.Mathlib.Omega.{arith}
 use denote.Ref.{now}
-use Rattle.encode.proofs.SizeLaws.{prefixed-long}
+use Rattle.size.proofs.SizeLaws.{prefixed-long}
 use Rattle.encode.proofs.PutLaws.{put-prefixed, put-bytes}
 use borrow.Author.Needs.{needs}
 use Rattle.encode.proofs.put.put_chunk.Statement.{statement}

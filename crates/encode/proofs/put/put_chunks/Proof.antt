@@ -4,7 +4,7 @@ use mathlib.Core.Path.{_≡_, _∙_}
 use native.Mathlib.Omega.{arith}
 use denote.Ref.{now}
 use lib.ListN.{length, getD, drop}
-use Rattle.encode.specs.Size.{total}
+use Rattle.size.specs.Size.{total}
 use Rattle.encode.proofs.PutLaws.{Putting, putting-starts, next-on, counted-long, counted-put, chunksLeft, chunks-left, chunks-room, chunks-none, chunks-counted, chunks-total}
 use borrow.Author.Needs.{needs}
 use Rattle.encode.proofs.put.put_chunks.Statement.{statement}

@@ -1,7 +1,7 @@
 -- `encode::put::put_hashes` meets its contract: hashes that stand in bytes are just these bytes. Assumes nothing.
 use native.Mathlib.Omega.{arith}
 use denote.Ref.{now}
-use Rattle.encode.proofs.SizeLaws.{hash-list-long, hash-list-room}
+use Rattle.size.proofs.SizeLaws.{hash-list-long, hash-list-room}
 use Rattle.encode.proofs.PutLaws.{put-hash-list}
 use borrow.Author.Needs.{needs}
 use Rattle.encode.proofs.put.put_hashes.Statement.{statement}

@@ -6,7 +6,7 @@ use Rattle.bloom.specs.Have.{syncPlace, syncCount}
 use Rattle.rules.specs.Hash.{hashesAt}
 use Rattle.wire.specs.Item.{hashListBytes}
 use Rattle.wire.specs.Number.{Put}
-use Rattle.encode.proofs.SizeLaws.{HaveFits, have-fits, have-room}
+use Rattle.size.proofs.SizeLaws.{HaveFits, have-fits, have-room}
 use Rattle.encode.proofs.PutLaws.{put-have-parts}
 use borrow.Author.Needs.{needs}
 use Rattle.encode.proofs.put.put_have.Statement.{statement}

@@ -1,6 +1,6 @@
 -- `encode::put::put_prefixed_filter` meets its contract: the size and the filter put after it are the prefixed filter put at once. Assumes nothing.
 use native.Mathlib.Omega.{arith}
-use Rattle.encode.proofs.SizeLaws.{prefixed-room}
+use Rattle.size.proofs.SizeLaws.{prefixed-room}
 use Rattle.encode.proofs.PutLaws.{put-prefixed}
 use borrow.Author.Needs.{needs}
 use Rattle.encode.proofs.put.put_prefixed_filter.Statement.{statement}

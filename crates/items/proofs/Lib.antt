@@ -1,0 +1,4 @@
+-- Laws that the crates above cite.
+pub mod ItemLaws
+pub mod RoundTrip
+pub mod Words

@@ -1,0 +1,128 @@
+// Haves: one of them, all of them passed over, and all of them as words.
+use bloom::have::FilterNumbers;
+use bloom::have::HAVE_WORDS;
+use bloom::parse::Parsed;
+use rules::refusal::Refusal;
+use rules::sizes::HAVES;
+use wire::leb128::Number;
+use wire::parse::Listed;
+use wire::parse::Prefixed;
+use wire::parse::Run;
+use wire::parse::length_prefix;
+use wire::parse::length_prefixed_bytes;
+use wire::parse::length_prefixed_hashes;
+ghost use mathlib.Core.Path.{_≡_};
+ghost use lib.ListN.{length};
+ghost use lib.Seq.{sets};
+ghost use Rattle.wire.specs.Item.{run};
+ghost use Rattle.items.specs.Items.{haveAt, haveItem, manyAt, listFrom, listedOf, havesAt, wordsOf, AllRead};
+
+// A have: where its last-sync hashes stand, its filter, and the next place.
+pub enum HaveRead {
+    Have {
+        sync: Run,
+        filter: FilterNumbers,
+        next: usize,
+    },
+    Refused(Refusal),
+}
+
+// The have at a place: its hash list, then its filter string, which is there whole before the filter is looked for in it.
+pub fn parse_have(s: &[u8], at: usize) -> HaveRead
+    ensures { λ r. ⌜ r ≡ haveAt (now (s .entry)) at ⌝ }
+{
+    let list = length_prefixed_hashes(s, at, s.len());
+    match list {
+        Listed::Items { run, next } => {
+            let part = length_prefixed_bytes(s, next, s.len());
+            match part {
+                Prefixed::Part { start, end } => {
+                    let parsed = bloom::parse::parse(s, start, end);
+                    match parsed {
+                        Parsed::Filter { filter, next: _ } => HaveRead::Have {
+                            sync: run,
+                            filter,
+                            next: end,
+                        },
+                        Parsed::Refused(r) => HaveRead::Refused(r),
+                    }
+                }
+                Prefixed::Refused(r) => HaveRead::Refused(r),
+            }
+        }
+        Listed::Refused(r) => HaveRead::Refused(r),
+    }
+}
+
+// Passes over so many haves.
+fn skip_haves(s: &[u8], start: usize, count: usize) -> Listed
+    ensures { λ r. ⌜ r ≡ listedOf (listFrom (run start count) (manyAt (haveItem (now (s .entry))) count start)) ⌝ }
+{
+    let mut next = start;
+    let mut k = 0;
+    while k < count {
+        let have = parse_have(s, next);
+        match have {
+            HaveRead::Have {
+                sync: _,
+                filter: _,
+                next: after,
+            } => {
+                next = after;
+            }
+            HaveRead::Refused(r) => {
+                return Listed::Refused(r);
+            }
+        }
+        k += 1;
+    }
+    Listed::Items {
+        run: Run { start, count },
+        next,
+    }
+}
+
+// The haves at a place: their count is tested before any of them.
+pub fn parse_haves(s: &[u8], at: usize) -> Listed
+    ensures { λ r. ⌜ r ≡ listedOf (havesAt (now (s .entry)) at) ⌝ }
+{
+    let n = length_prefix(s, at, s.len(), HAVES as u64);
+    match n {
+        Number::Value { value, next } => skip_haves(s, next, value as usize),
+        Number::Refused(r) => Listed::Refused(r),
+    }
+}
+
+// Puts the words of so many haves, which were passed over before, at the start of the list.
+pub fn put_haves(s: &[u8], start: usize, count: usize, out: &mut [u64])
+    requires { ⌜ AllRead (manyAt (haveItem (now s)) count start) (length (now out)) ⌝ }
+    ensures { λ _. ⌜ now (out .exit) ≡ sets (now (out .entry)) 0 (wordsOf (manyAt (haveItem (now (s .entry))) count start)) ⌝ }
+{
+    let mut next = start;
+    let mut k = 0;
+    while k < count {
+        let have = parse_have(s, next);
+        match have {
+            HaveRead::Have {
+                sync,
+                filter,
+                next: after,
+            } => {
+                let at = HAVE_WORDS * k;
+                out[at] = sync.start as u64;
+                out[at + 1] = sync.count as u64;
+                out[at + 2] = filter.entries;
+                out[at + 3] = filter.bits;
+                out[at + 4] = filter.probes;
+                out[at + 5] = filter.place as u64;
+                out[at + 6] = filter.size as u64;
+                next = after;
+            }
+            // Never: the message is the one that was walked before, and that walk read every have here.
+            HaveRead::Refused(_) => {
+                return;
+            }
+        }
+        k += 1;
+    }
+}
