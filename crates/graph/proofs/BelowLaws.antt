@@ -1,21 +1,24 @@
 -- Rows, what is below a list and the rows beyond it, by hash: a good table's row numbers and its hashes tell each other, so what holds of row
 -- numbers (ReachLaws) holds of hashes.
-use Prim.Native.Nat.{ℕ, zero, suc, _+_, _<_}
+use Prim.Native.Nat.{ℕ, zero, suc, _≤_, _<_}
 use mathlib.Core.Bool.{Bool, true, false, not, _&&_, _||_}
 use mathlib.Core.List.{List, [], _∷_, map}
 use mathlib.Core.Path.{_≡_, refl, sym, ap, subst, _∙_}
-use native.Mathlib.Nat.{not-suc-le-zero, add-zero, zero-add}
+use native.Mathlib.Nat.{not-suc-le-zero}
 use native.Mathlib.Omega.{arith}
 use borrow.Author.Tests.{eqb-true, eq-eqb, not-true}
 use lib.Dec.{eqb}
 use lib.ListN.{length, getD, List·getD-eq-default}
 use Rattle.rules.specs.Order.{member}
 use Rattle.rules.specs.Reach.{someBelow}
-use Rattle.rules.proofs.Cases.{split, both, true-false, same-truth, either, or-left, or-right, and-true}
+use Rattle.rules.proofs.Cases.{split, both, true-false, either, or-left, or-right}
 use Rattle.rules.proofs.OrderLaws.{member-none}
 use Rattle.rules.proofs.ReachLaws.{reach-equation, reach-base, reach-closed, reach-least}
-use Rattle.tables.specs.Table.{Row, noRow, rows, hashOf, depsOf, GoodTable, placeIn, place, held, deps, rowsFrom, rowsWhere, belowRow, below, beyond}
+use Rattle.rules.specs.Hash.{AreHashes}
+use Rattle.tables.specs.Table.{Row, noRow, rows, hashOf, depsOf, GoodTable, placeIn, place, held, deps}
 use Rattle.tables.proofs.TableLaws.{length-rows, place-of-row, held-row, row-of-held, hash-of-held, place-of-stranger}
+use Rattle.graph.specs.Graph.{belowRow, below, beyond}
+use Rattle.graph.proofs.PickLaws.{rows-where, rows-most, chosen-hashes}
 
 -- ---- members of a list that a function gives
 
@@ -89,52 +92,6 @@ module _ (t : List Row) (good : GoodTable t) where
 
     pub row-induction : (h : ℕ) → held t h ≡ true → P h
     row-induction h e = from-first (suc (place t h)) h (omega arith) e
-
--- ---- rows chosen by number
-
-where-out : (t : List Row) (p : ℕ → Bool) (i h : ℕ) → member h (rowsFrom i t p) ≡ true
-    → record { k : ℕ; less : k < length t; is : getD (rows t) k 0 ≡ h; chosen : p (i + k) ≡ true }
-unfolding rowsFrom rows member
-where-out [] p i h m = absurd (true-false false m refl)
-where-out (r ∷ rs) p i h m =
-    let rest : member h (rowsFrom (suc i) rs p) ≡ true → record { k : ℕ; less : k < suc (length rs); is : getD (r .hash ∷ rows rs) k 0 ≡ h; chosen : p (i + k) ≡ true } =
-    λ e.
-    let w = where-out rs p (suc i) h e in
-    let q : i + suc (w .k) ≡ suc i + w .k = omega arith in
-    record { k = suc (w .k); less = omega (arith, w .less); is = w .is; chosen = rw q (w .chosen) }
-    in
-    split (p i)
-    (λ e.
-    let both′ : (eqb h (r .hash) || member h (rowsFrom (suc i) rs p)) ≡ true = rw e at m in
-    either (eqb h (r .hash)) (member h (rowsFrom (suc i) rs p)) both′
-    (λ q. record { k = 0; less = omega arith; is = sym (eqb-true h (r .hash) q); chosen = rw add-zero e })
-    rest)
-    (λ e. rest (rw e at m))
-
-where-in : (t : List Row) (p : ℕ → Bool) (i k : ℕ) → k < length t → p (i + k) ≡ true → member (getD (rows t) k 0) (rowsFrom i t p) ≡ true
-unfolding rowsFrom rows member
-where-in [] p i k h e = absurd (not-suc-le-zero h)
-where-in (r ∷ rs) p i zero h e =
-    let q : p i ≡ true = rw add-zero at e in
-    rw q (or-left (eqb (r .hash) (r .hash)) _ (eq-eqb (r .hash) (r .hash) refl))
-where-in (r ∷ rs) p i (suc k) h e =
-    let q : i + suc k ≡ suc i + k = omega arith in
-    let rest = where-in rs p (suc i) k (omega arith) (rw q at e) in
-    split (p i) (λ d. rw d (or-right (eqb (getD (rows rs) k 0) (r .hash)) _ rest)) (λ d. rw d rest)
-
-pub rows-where : (t : List Row) → GoodTable t → (p : ℕ → Bool) (h : ℕ) → member h (rowsWhere t p) ≡ (held t h && p (place t h))
-unfolding rowsWhere hashOf
-rows-where t good p h =
-    same-truth (member h (rowsFrom 0 t p)) (held t h && p (place t h))
-    (λ m.
-    let w = where-out t p 0 h m in
-    let at : place t h ≡ w .k = ap (place t) (sym (w .is)) ∙ place-of-row t good (w .k) (w .less) in
-    let chosen : p (w .k) ≡ true = rw zero-add at (w .chosen) in
-    and-true (held t h) (p (place t h)) (rw (w .is) at (held-row t (w .k) (w .less))) (rw at chosen))
-    (λ e.
-    let b = both (held t h) (p (place t h)) e in
-    let less = row-of-held t h (b .0) in
-    rw (hash-of-held t h (b .0)) at (where-in t p 0 (place t h) less (rw zero-add (b .1))))
 
 -- ---- below
 
@@ -221,3 +178,12 @@ module _ (t : List Row) (good : GoodTable t) (l : List ℕ) where
       split (below t l h)
       (λ e. absurd (true-false (below t l g) (below-deps h g e m) (beyond-not-below g b)))
       (λ e. not-below-beyond h (only-rows t good h g m) e)
+
+-- hashes of rows being hashes, so are those beyond, and no more than the rows
+pub beyond-hashes : (t : List Row) (l : List ℕ) → AreHashes (rows t) → AreHashes (beyond t l)
+unfolding beyond
+beyond-hashes t l a = chosen-hashes t (λ i. not (belowRow t l i)) a
+
+pub beyond-few : (t : List Row) (l : List ℕ) → length (beyond t l) ≤ length t
+unfolding beyond
+beyond-few t l = rows-most t (λ i. not (belowRow t l i))

@@ -1,10 +1,8 @@
 -- What the public calls write, one law for each way through the tests.
 use Prim.Native.Nat.{ℕ, _≤_, _<_}
 use mathlib.Core.List.{List}
-use mathlib.Core.Path.{_≡_, sym, _∙_}
-use native.Mathlib.Omega.{arith}
+use mathlib.Core.Path.{_≡_}
 use borrow.Author.Tests.{lt-ltb, le-ltb}
-use lib.ListN.{length}
 use Rattle.rules.specs.Hash.{hashesAt, hashesBytes}
 use Rattle.rules.specs.Output.{Output}
 use Rattle.rules.specs.Passed.{passedHashes}
@@ -15,10 +13,10 @@ use Rattle.rules.specs.declared.refusal.Refusal.the-variants.{BadRowsBefore}
 use Rattle.rules.proofs.PassedLaws.{after-refused, after-hashes}
 use Rattle.tables.specs.Bytes.{rowsAt, tableChecked}
 use Rattle.tables.specs.Calls.{afterCheck}
-use Rattle.tables.specs.Table.{heads, beyond}
 use Rattle.tables.specs.declared.check.Checked.the-variants.{Good, Refused}
 use Rattle.tables.proofs.TableLaws.{table-good, take-rows-at}
 use Rattle.graph.specs.Calls.{beyondOutput, headsOutput}
+use Rattle.graph.specs.Graph.{heads, beyond}
 
 -- ---- the rows beyond a list
 

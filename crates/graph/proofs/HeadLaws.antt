@@ -1,6 +1,6 @@
 -- Heads by hash: each is a row, they ascend, no row depends on one, and every row is reached from them over dependencies.
 use Prim.Native.Nat.{ℕ, zero, suc, _-_, _≤_, _<_}
-use mathlib.Core.Bool.{true, false, not, _&&_}
+use mathlib.Core.Bool.{Bool, true, false, not, _&&_}
 use mathlib.Core.List.{List}
 use mathlib.Core.Path.{_≡_, sym, ap, subst, _∙_}
 use native.Mathlib.Omega.{arith}
@@ -8,15 +8,32 @@ use borrow.Author.Tests.{not-true}
 use lib.ListN.{length}
 use Rattle.rules.specs.Order.{member, ascends, ascend}
 use Rattle.rules.proofs.Cases.{split, both, true-false}
-use Rattle.rules.proofs.OrderLaws.{ascend-ascends, ascend-members}
+use Rattle.rules.proofs.KeepLaws.{hashes-inside}
+use Rattle.rules.proofs.OrderLaws.{ascend-ascends, ascend-members, ascend-most}
 use Rattle.rules.proofs.ReachLaws.{some-below, some-witness}
-use Rattle.tables.specs.Table.{Row, hashOf, depsOf, GoodTable, place, held, deps, rowsWhere, needed, heads, below}
+use Rattle.rules.specs.Hash.{AreHashes}
+use Rattle.tables.specs.Table.{Row, rows, hashOf, depsOf, GoodTable, place, held, deps, rowsWhere}
 use Rattle.tables.proofs.TableLaws.{place-of-row, held-row, row-of-held, hash-of-held}
-use Rattle.graph.proofs.BelowLaws.{dependency, deps-of-hash, rows-where, below-known, below-deps}
+use Rattle.graph.specs.Graph.{needed, heads, below}
+use Rattle.graph.proofs.BelowLaws.{dependency, deps-of-hash, below-known, below-deps}
+use Rattle.graph.proofs.PickLaws.{rows-where, rows-member, rows-most}
 
 pub heads-ascend : (t : List Row) → ascends (heads t) ≡ true
 unfolding heads
 heads-ascend t = ascend-ascends (rowsWhere t (λ i. not (needed t i)))
+
+-- hashes of rows being hashes, so are the heads, and no more than the rows
+pub heads-hashes : (t : List Row) → AreHashes (rows t) → AreHashes (heads t)
+unfolding heads
+heads-hashes t a =
+    let p : ℕ → Bool = λ i. not (needed t i) in
+    hashes-inside (ascend (rowsWhere t p)) (rows t) a (λ h m. rows-member t p h (sym (ascend-members h (rowsWhere t p)) ∙ m))
+
+pub heads-few : (t : List Row) → length (heads t) ≤ length t
+unfolding heads
+heads-few t =
+    let p : ℕ → Bool = λ i. not (needed t i) in
+    omega (arith, ascend-most (rowsWhere t p), rows-most t p)
 
 module _ (t : List Row) (good : GoodTable t) where
   pub head-is : (h : ℕ) → member h (heads t) ≡ (held t h && not (needed t (place t h)))

@@ -1,8 +1,11 @@
 -- Laws that the crates above cite.
 pub mod BelowLaws
-pub mod BeyondLaws
 pub mod CallLaws
 pub mod CollectLaws
+pub mod GraphMarks
 pub mod HeadLaws
 pub mod MarkLaws
+pub mod MarkedRows
+pub mod PickLaws
+pub mod PutLaws
 pub mod Vectors

@@ -2,27 +2,30 @@
 -- which marks it leaves: those there were, and those that the pass means. In a downward pass a row's mark is final when the pass comes to it,
 -- since only rows after it can name it; so what the pass leaves satisfies the equation of what is reached, and that is the only such set.
 use Prim.Native.Nat.{ℕ, zero, suc, _+_, _-_, _*_, _≤_, _<_}
-use mathlib.Core.Bool.{Bool, true, false, _||_, _&&_}
+use mathlib.Core.Bool.{Bool, true, false, not, _||_, _&&_}
 use mathlib.Core.List.{List, [], _∷_}
 use mathlib.Core.Path.{_≡_, refl, sym, ap, _∙_}
 use native.Mathlib.Nat.{not-suc-le-zero}
+use native.Mathlib.Numerals.{add-one}
 use native.Mathlib.Omega.{arith}
 use borrow.Author.Tests.{eqb-true, eqb-false, eq-eqb, ne-eqb, ltb-true, ltb-false, lt-ltb, le-ltb}
 use lib.Dec.{ltb, eqb}
-use lib.ListN.{length, getD, set, replicate, length-set, length-replicate, getD-replicate}
-use lib.Seq.{getD-set-same, getD-set-other}
+use lib.ListN.{length, getD, set, drop, replicate, length-set, getD-replicate, drop-of-length-le}
+use lib.Seq.{drop-cons, getD-set-same, getD-set-other}
 use Rattle.rules.specs.Hash.{hashAt, hashesAt}
 use Rattle.rules.specs.Order.{member, Once}
 use Rattle.rules.specs.Reach.{someBelow, reach}
 use Rattle.rules.specs.Sizes.{sizes}
-use Rattle.tables.specs.Bytes.{twoAt, twosAt, usedOf, rowSize, countAt, usedAt, rowsAt, GoodRows}
-use Rattle.tables.specs.Table.{Row, rows, hashOf, depsOf, placeIn, needed}
+use Rattle.tables.specs.Bytes.{twoAt, countAt, usedAt, rowsAt, GoodRows}
+use Rattle.tables.specs.Table.{Row, rows, hashOf, depsOf, placeIn}
 use Rattle.rules.proofs.KeepLaws.{once-index}
 use Rattle.tables.proofs.GoodLaws.{good-down}
-use Rattle.tables.proofs.TableLaws.{at-place, place-first, length-rows, length-rows-at, deps-of-row, hash-of-row}
-use Rattle.rules.proofs.Cases.{split, both, same-truth, or-left, or-right}
-use Rattle.rules.proofs.ReachLaws.{some-witness, reach-unique}
-use Rattle.graph.specs.Marks.{Marks, markAll, markRow, markHash}
+use Rattle.tables.proofs.TableLaws.{at-place, place-first, length-rows, length-rows-at, deps-of-row, numberAt, length-used, used-index}
+use Rattle.rules.proofs.Cases.{split, both, and-false, same-truth, or-right}
+use Rattle.rules.proofs.OrderLaws.{index-member}
+use Rattle.rules.proofs.ReachLaws.{below-suc, some-witness, reach-unique}
+use Rattle.graph.specs.Graph.{needed}
+use Rattle.graph.specs.Marks.{Marks, Blank, markAll, markRow, markHash}
 
 -- ---- Booleans
 
@@ -37,6 +40,75 @@ or-false false = refl
 or-again : (x y : Bool) → (x || (x && y)) ≡ x
 or-again true y = refl
 or-again false y = refl
+
+-- ---- marks that are made anew
+
+pub blank : (n size : ℕ) → n ≤ size → Blank n (replicate size false)
+blank n size h = record { each = λ i l. getD-replicate size i false false (omega arith) }
+
+-- marks added to none
+pub blank-or : (n : ℕ) (m r : List Bool) (p : ℕ → Bool) → Blank n m → Marks n r (λ i. getD m i false || p i) → Marks n r p
+blank-or n m r p b w = record { each = λ i h. w .each i h ∙ rw (b .each i h) }
+
+-- ---- marks turned one after the other: those before the i-th are, the others are as they were
+
+pub record Turned (f : ℕ → Bool → Bool) (i : ℕ) (old new : List Bool) : Type 0 where
+  pub done : (k : ℕ) → k < i → getD new k false ≡ f k (getD old k false)
+  pub rest : (k : ℕ) → i ≤ k → getD new k false ≡ getD old k false
+
+module _ (f : ℕ → Bool → Bool) where
+  pub turn-start : (m : List Bool) → Turned f 0 m m
+  turn-start m = record { done = λ k h. absurd (not-suc-le-zero h); rest = λ k h. refl }
+
+  module _ (i : ℕ) (old new : List Bool) (w : Turned f i old new) where
+    pub turn-set : (b : Bool) → i < length new → b ≡ f i (getD new i false) → Turned f (i + 1) old (set new i b)
+    turn-set b h e =
+        record {
+          done =
+              λ k l.
+              below-suc (λ j. getD (set new i b) j false ≡ f j (getD old j false)) i
+              (λ j q. let d : j ≡ i → ⊥ = λ z. omega arith in getD-set-other new i j b false d ∙ w .done j q)
+              (getD-set-same new i b false h ∙ e ∙ ap (f i) (w .rest i (omega arith)))
+              k
+              (omega arith);
+          rest = λ k l. let d : k ≡ i → ⊥ = λ z. omega arith in getD-set-other new i k b false d ∙ w .rest k (omega arith);
+        }
+
+    pub turn-same : getD new i false ≡ f i (getD new i false) → Turned f (i + 1) old new
+    turn-same e =
+        record {
+          done =
+              λ k l.
+              below-suc (λ j. getD new j false ≡ f j (getD old j false)) i (w .done)
+              (e ∙ ap (f i) (w .rest i (omega arith)))
+              k
+              (omega arith);
+          rest = λ k l. w .rest k (omega arith);
+        }
+
+    pub turn-done : (n : ℕ) → n ≤ i → Marks n new (λ k. f k (getD old k false))
+    turn-done n h = record { each = λ k l. w .done k (omega arith) }
+
+-- marks taken off where others are set
+pub off : List Bool → ℕ → Bool → Bool
+off others k b = b && not (getD others k false)
+
+module _ (others : List Bool) (i : ℕ) (old new : List Bool) (w : Turned (off others) i old new) where
+  pub mark-stays : getD others i false ≡ false → Turned (off others) (i + 1) old new
+  unfolding off
+  mark-stays e = turn-same (off others) i old new w (rw e (sym (and-with (getD new i false))))
+    where
+      and-with : (x : Bool) → (x && true) ≡ x
+      and-with true = refl
+      and-with false = refl
+
+  pub mark-goes : i < length new → getD others i false ≡ true → Turned (off others) (i + 1) old (set new i false)
+  unfolding off
+  mark-goes h e = turn-set (off others) i old new w false h (rw e (sym (and-false (getD new i false))))
+
+  pub off-done : (n : ℕ) → n ≤ i → Marks n new (λ k. getD old k false && not (getD others k false))
+  unfolding off
+  off-done n h = turn-done (off others) i old new w n h
 
 -- ---- one mark, and the marks of a list
 
@@ -72,6 +144,14 @@ module _ (deps : ℕ → List ℕ) where
   mark-row : (j : ℕ) (m : List Bool) (i : ℕ) → i < length m → getD (markRow deps j m) i false ≡ (getD m i false || (getD m j false && member i (deps j)))
   unfolding markRow
   mark-row j m i h = split (getD m j false) (λ e. rw e (mark-all m (deps j) i h)) (λ e. rw e (sym (or-false (getD m i false))))
+
+  pub row-unmarked : (i : ℕ) (m : List Bool) → getD m i false ≡ false → m ≡ markRow deps i m
+  unfolding markRow
+  row-unmarked i m e = rw e
+
+  pub row-marked : (i : ℕ) (m r : List Bool) → getD m i false ≡ true → r ≡ markAll m (deps i) → r ≡ markRow deps i m
+  unfolding markRow
+  row-marked i m r e q = rw e q
 
   -- from the last row to the first
   pub markDown : ℕ → List Bool → List Bool
@@ -124,46 +204,34 @@ module _ (deps : ℕ → List ℕ) where
         (λ j l. mark-down all m (omega arith) f j (omega arith))
         i h
 
--- ---- a row's numbers in bytes, marked one after the other
+-- ---- a row's numbers, marked one after the other
 
-member-twos : (s : List ℕ) (at count j : ℕ) → j < count → member (twoAt s (at + 2 * j)) (twosAt s at count) ≡ true
-unfolding member twosAt
-member-twos s at zero j h = absurd (not-suc-le-zero h)
-member-twos s at (suc count) zero h =
-    let e : at + 2 * 0 ≡ at = omega arith in
-    rw e (or-left (eqb (twoAt s at) (twoAt s at)) _ (eq-eqb (twoAt s at) (twoAt s at) refl))
-member-twos s at (suc count) (suc j) h =
-    let e : at + 2 * suc j ≡ at + 2 + 2 * j = omega arith in
-    rw e (or-right (eqb (twoAt s (at + 2 + 2 * j)) (twoAt s at)) _ (member-twos s (at + 2) count j (omega arith)))
+module _ (s : List ℕ) (i count : ℕ) (c : count ≡ countAt s i) where
+  numbers-many : length (usedAt s i) ≡ count
+  numbers-many = length-used s i ∙ sym c
 
-module _ (s : List ℕ) (i count : ℕ) where
-  abbrev numbers : ℕ
-  numbers = i * rowSize + sizes .hash + 2
+  module _ (j k : ℕ) (inside : j < count) (read : k ≡ twoAt s (numberAt i j)) where
+    pub number-is : getD (usedAt s i) j 0 ≡ k
+    number-is = used-index s i j (omega arith) ∙ sym read
 
-  pub number-member : (j k : ℕ) → count ≡ countAt s i → j < count → k ≡ twoAt s (numbers + 2 * j) → member k (usedAt s i) ≡ true
-  unfolding usedOf
-  number-member j k c h e = rw (e, ← c) (member-twos s numbers count j h)
+    pub number-member : member k (usedAt s i) ≡ true
+    number-member = rw number-is at (index-member (usedAt s i) j (omega (arith, numbers-many)))
 
-  pub numbers-start : (m : List Bool) → count ≡ countAt s i → markAll m (twosAt s (numbers + 2 * 0) (count - 0)) ≡ markAll m (usedAt s i)
-  unfolding usedOf
-  numbers-start m c =
-      let a : numbers + 2 * 0 ≡ numbers = omega arith in
-      let b : count - 0 ≡ count = omega arith in
-      rw (a, b, c)
+    -- the numbers from the j-th on
+    pub numbers-more : drop j (usedAt s i) ≡ k ∷ drop (j + 1) (usedAt s i)
+    numbers-more = rw (add-one j) (drop-cons (usedAt s i) j 0 (omega (arith, numbers-many)) ∙ rw number-is)
 
-  pub numbers-on : (m : List Bool) (j k : ℕ) → j < count → k ≡ twoAt s (numbers + 2 * j)
-      → markAll m (twosAt s (numbers + 2 * j) (count - j)) ≡ markAll (set m k true) (twosAt s (numbers + 2 * (j + 1)) (count - (j + 1)))
-  unfolding markAll twosAt
-  numbers-on m j k h e =
-      let c : count - j ≡ suc (count - (j + 1)) = omega arith in
-      let a : numbers + 2 * (j + 1) ≡ numbers + 2 * j + 2 = omega arith in
-      rw (c, a, e)
+  pub numbers-none : (j : ℕ) → count ≤ j → drop j (usedAt s i) ≡ []
+  numbers-none j h = drop-of-length-le (usedAt s i) {i = j} (omega (arith, numbers-many))
 
-  pub numbers-done : (m : List Bool) (j : ℕ) → count ≤ j → markAll m (twosAt s (numbers + 2 * j) (count - j)) ≡ m
-  unfolding markAll twosAt
-  numbers-done m j h =
-      let c : count - j ≡ 0 = omega arith in
-      rw c
+  pub numbers-on : (m : List Bool) (j k : ℕ) → j < count → k ≡ twoAt s (numberAt i j)
+      → markAll m (drop j (usedAt s i)) ≡ markAll (set m k true) (drop (j + 1) (usedAt s i))
+  unfolding markAll
+  numbers-on m j k h e = rw (numbers-more j k h e)
+
+  pub numbers-done : (m : List Bool) (j : ℕ) → count ≤ j → markAll m (drop j (usedAt s i)) ≡ m
+  unfolding markAll
+  numbers-done m j h = rw (numbers-none j h)
 
 -- ---- the passes in terms of the rows of a table
 
@@ -209,17 +277,9 @@ module _ (s : List ℕ) (n : ℕ) where
         → Marks n r (reach n (λ k. getD m k false) (λ k j. member j (depsOf t k)))
     below-marked m r f e = record { each = λ i h. rw e (marks-reach (depsOf t) n down-rows m f i h) }
 
-    pub needed-marked : (r : List Bool) → r ≡ markNeeded (depsOf t) n (replicate (sizes .rows) false) → Marks n r (needed t)
-    unfolding needed
-    needed-marked r e =
-        record {
-          each =
-              λ i h.
-              let most : i < sizes .rows = omega (arith, g .few) in
-              let inside : i < length (replicate (sizes .rows) false) = rw length-replicate most in
-              rw (e, length-rows-at s 0 n)
-              (mark-needed (depsOf t) n (replicate (sizes .rows) false) i inside ∙ rw (getD-replicate (sizes .rows) i false false most));
-        }
+  pub needed-marked : (m r : List Bool) → n ≤ length m → r ≡ markNeeded (depsOf t) n m → Marks n r (λ i. getD m i false || needed t i)
+  unfolding needed
+  needed-marked m r f e = record { each = λ i h. rw (e, length-rows-at s 0 n) (mark-needed (depsOf t) n m i (omega arith)) }
 
 -- ---- marks of a list's hashes
 

@@ -3,7 +3,8 @@ use mathlib.Core.List.{List, [], _∷_}
 use mathlib.Core.Path.{_≡_, refl}
 use Rattle.rules.specs.Order.{member, insertOnce, ascend}
 use Rattle.rules.specs.Reach.{someBelow, reachIn, reach}
-use Rattle.tables.specs.Table.{Row, rows, hashOf, depsOf, rowsFrom, rowsWhere, needed, heads, belowRow, beyond}
+use Rattle.tables.specs.Table.{Row, rows, hashOf, depsOf, rowsFrom, rowsWhere}
+use Rattle.graph.specs.Graph.{needed, heads, belowRow, beyond}
 
 abbrev four : List Row
 four =

@@ -11,7 +11,7 @@ use Rattle.rules.specs.Passed.{passedHashes, afterPassed}
 use Rattle.rules.specs.declared.refusal.Refusal.the-variants.{BadRowsBefore}
 use Rattle.tables.specs.Bytes.{tableOf, tableChecked}
 use Rattle.tables.specs.Calls.{afterCheck}
-use Rattle.tables.specs.Table.{heads, beyond}
+use Rattle.graph.specs.Graph.{heads, beyond}
 
 -- The heads of the first rows of a table: 11 where there aren't so many.
 unfoldable pub headsOutput : List ℕ → ℕ → Output

@@ -1,5 +1,5 @@
--- Marks of rows, one for each row of a change table.
-use Prim.Native.Nat.{ℕ, _<_}
+-- What internal contracts speak of: marks, one for each row of a change table or for each hash of a list. No rule of 01 stands here.
+use Prim.Native.Nat.{ℕ, zero, suc, _<_}
 use mathlib.Core.Bool.{Bool, true, false, cond}
 use mathlib.Core.List.{List, [], _∷_}
 use mathlib.Core.Path.{_≡_}
@@ -10,6 +10,24 @@ use Rattle.tables.specs.Table.{placeIn}
 -- The first n marks are these.
 pub record Marks (n : ℕ) (r : List Bool) (p : ℕ → Bool) : Type 0 where
   pub each : (i : ℕ) → i < n → getD r i false ≡ p i
+
+-- No mark of the first n is set.
+abbrev pub Blank : ℕ → List Bool → Type 0
+Blank n r = Marks n r (λ i. false)
+
+-- How many of the first n marks are set.
+unfoldable pub marked : ℕ → List Bool → ℕ
+marked zero m = 0
+marked (suc n) m = cond (getD m n false) (suc (marked n m)) (marked n m)
+
+-- The numbers of a list whose places are some of p, in its order; places are counted from i.
+unfoldable pub pickFrom : ℕ → List ℕ → (ℕ → Bool) → List ℕ
+pickFrom i [] p = []
+pickFrom i (x ∷ xs) p = cond (p i) (x ∷ pickFrom (suc i) xs p) (pickFrom (suc i) xs p)
+
+-- The numbers of a list whose marks are set.
+unfoldable pub picked : List ℕ → List Bool → List ℕ
+picked l m = pickFrom 0 l (λ i. getD m i false)
 
 -- Marks set along a list of row numbers.
 unfoldable pub markAll : List Bool → List ℕ → List Bool

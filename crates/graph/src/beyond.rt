@@ -1,7 +1,9 @@
 // Rows beyond a list: neither in it nor ancestors of what it has, in table order.
+use crate::marked::count_marked;
+use crate::marked::put_marked;
+use crate::marks::flip;
 use crate::marks::mark_below;
 use crate::marks::mark_list;
-use rules::hashes::put_hash;
 use rules::output::Write;
 use rules::passed::Passed;
 use rules::passed::passed_hashes;
@@ -10,64 +12,23 @@ use rules::sizes::HASH_SIZE;
 use rules::sizes::ROWS;
 use tables::check::Checked;
 use tables::check::check_table;
-use tables::row::ROW_SIZE;
-ghost use mathlib.Core.Bool.{false, not};
-ghost use mathlib.Core.Path.{_≡_};
 ghost use Prim.Native.Nat.{_+_, _*_, _≤_};
-ghost use lib.ListN.{length, getD};
-ghost use lib.Seq.{sets};
+ghost use lib.ListN.{length};
 ghost use Rattle.rules.specs.Hash.{hashesAt, hashesBytes};
 ghost use Rattle.rules.specs.Output.{Written, Output};
 ghost use Rattle.rules.specs.Sizes.{sizes};
-ghost use Rattle.tables.specs.Bytes.{rowSize, rowsAt, GoodRows};
-ghost use Rattle.tables.specs.Table.{rowsWhere, belowRow, beyond};
+ghost use Rattle.tables.specs.Bytes.{rowsAt, GoodRows};
 ghost use Rattle.graph.specs.Calls.{beyondOutput};
-ghost use Rattle.graph.specs.Marks.{Marks};
-
-// How many of the first n rows aren't marked.
-pub fn count_unmarked(table: &[u8], n: usize, marks: [bool; ROWS]) -> usize
-    requires { ⌜ n ≤ sizes .rows ⌝ }
-    ensures { λ r. ⌜ r ≡ length (rowsWhere (rowsAt (now (table .entry)) 0 n) (λ i. not (getD marks i false))) ⌝ }
-{
-    let mut count = 0;
-    let mut i = 0;
-    while i < n {
-        let k = i;
-        i += 1;
-        if marks[k] {
-            continue;
-        }
-        count += 1;
-    }
-    count
-}
-
-// Copies the hashes of the first n rows that aren't marked to the buffer's start.
-pub fn put_unmarked(table: &[u8], n: usize, marks: [bool; ROWS], out: &mut [u8])
-    requires { ⌜ (n ≤ sizes .rows) × (n * rowSize ≤ length (now table)) × (sizes .hash * length (rowsWhere (rowsAt (now table) 0 n) (λ i. not (getD marks i false))) ≤ length (now out)) ⌝ }
-    ensures { λ _. ⌜ now (out .exit) ≡ sets (now (out .entry)) 0 (hashesBytes (rowsWhere (rowsAt (now (table .entry)) 0 n) (λ i. not (getD marks i false)))) ⌝ }
-{
-    let mut at = 0;
-    let mut i = 0;
-    while i < n {
-        let k = i;
-        i += 1;
-        if marks[k] {
-            continue;
-        }
-        put_hash(out, at, table, k * ROW_SIZE);
-        at += HASH_SIZE;
-    }
-}
+ghost use Rattle.graph.specs.Graph.{belowRow, beyond};
+ghost use Rattle.graph.specs.Marks.{Marks, Blank};
 
 // Marks the rows of a list and all below them.
-pub fn mark_known(table: &[u8], n: usize, l: &[u8], place: usize, count: usize) -> [bool; ROWS]
-    requires { ⌜ GoodRows (now table) n × (place + sizes .hash * count ≤ length (now l)) ⌝ }
-    ensures { λ r. ⌜ Marks n r (belowRow (rowsAt (now (table .entry)) 0 n) (hashesAt (now (l .entry)) place count)) ⌝ }
+pub fn mark_known(table: &[u8], n: usize, l: &[u8], place: usize, count: usize, marks: &mut [bool])
+    requires { ⌜ GoodRows (now table) n × (place + sizes .hash * count ≤ length (now l)) × (n ≤ length (now marks)) × Blank n (now marks) ⌝ }
+    ensures { λ _. ⌜ Marks n (now (marks .exit)) (belowRow (rowsAt (now (table .entry)) 0 n) (hashesAt (now (l .entry)) place count)) ⌝ }
 {
-    let none = [false; ROWS];
-    let listed = mark_list(table, n, l, place, count, none);
-    mark_below(table, n, listed)
+    mark_list(table, n, l, place, count, marks);
+    mark_below(table, n, marks);
 }
 
 // The rows beyond the first hashes of a list, of a table that has been checked.
@@ -75,12 +36,14 @@ pub fn put_beyond(table: &[u8], n: usize, l: &[u8], count: usize, out: &mut [u8]
     requires { ⌜ GoodRows (now table) n × (sizes .hash * count ≤ length (now l)) ⌝ }
     ensures { λ r. ⌜ Written (Output.bytes (hashesBytes (beyond (rowsAt (now (table .entry)) 0 n) (hashesAt (now (l .entry)) 0 count)))) (now (out .entry)) (now (out .exit)) r ⌝ }
 {
-    let marks = mark_known(table, n, l, 0, count);
-    let size = HASH_SIZE * count_unmarked(table, n, marks);
+    let mut marks = [false; ROWS];
+    mark_known(table, n, l, 0, count, &mut marks);
+    flip(n, &mut marks);
+    let size = HASH_SIZE * count_marked(n, &marks);
     if out.len() < size {
         return Write::Refused(Refusal::NoRoom(size));
     }
-    put_unmarked(table, n, marks, out);
+    put_marked(table, n, &marks, out, 0);
     Write::Wrote(size)
 }
 

@@ -12,8 +12,10 @@ use Rattle.probe.proofs.Vectors.{wordsHash}
 use Rattle.rules.specs.Hash.{bigEndian, bigEndianBytes, hashBytes}
 use Rattle.rules.specs.Order.{member, keep}
 use Rattle.rules.specs.Reach.{someBelow, reachIn, reach}
-use Rattle.tables.specs.Table.{Row, rows, hashOf, depsOf, held, rowsFrom, rowsWhere, belowRow}
-use Rattle.selection.specs.ToSend.{lastSyncs, filters, candidate, missed, inTheS, theS, toSend}
+use Rattle.tables.specs.Table.{Row, rows, hashOf, depsOf, held, rowsFrom, rowsWhere}
+use Rattle.graph.specs.Graph.{belowRow}
+use Rattle.members.specs.Members.{lastSyncs, filters, candidate, missed, inTheS, theS}
+use Rattle.selection.specs.ToSend.{toSend}
 
 abbrev a : ℕ
 a = wordsHash 1 0 0

@@ -1,2 +1,2 @@
-pub mod Members
+pub mod Chosen
 pub mod ToSend

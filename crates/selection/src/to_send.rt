@@ -1,43 +1,27 @@
 // The hashes to send: held needs outside S in the order of the request, then S in table order.
-use crate::answer::put_answer;
-use crate::members::mark_s;
-use bloom::have::HAVE_WORDS;
+use crate::chosen::choose;
+use crate::chosen::put_chosen;
 use bloom::have::passed_few;
 use bloom::have::passed_good;
 use rules::output::Write;
 use rules::passed::Passed;
 use rules::passed::passed_hashes;
 use rules::refusal::Refusal;
+use rules::sizes::HASH_SIZE;
+use rules::sizes::HASHES;
 use rules::sizes::ROWS;
 use tables::check::Checked;
 use tables::check::check_table;
 ghost use mathlib.Core.Bool.{true};
 ghost use mathlib.Core.Path.{_≡_};
-ghost use Prim.Native.Nat.{_+_, _*_, _≤_};
-ghost use lib.ListN.{length};
-ghost use Rattle.bloom.specs.Have.{havesOf, GoodFilters, passedGood};
+ghost use Rattle.bloom.specs.Have.{havesOf, passedGood};
 ghost use Rattle.rules.specs.Hash.{hashesAt, hashesBytes};
 ghost use Rattle.rules.specs.Output.{Written, Output};
-ghost use Rattle.rules.specs.Sizes.{sizes};
-ghost use Rattle.tables.specs.Bytes.{rowsAt, tableChecked, GoodRows};
-ghost use Rattle.tables.specs.Table.{GoodTable};
-ghost use Rattle.tables.specs.declared.check.Checked.the-variants.{Good};
-ghost use Rattle.graph.specs.Marks.{Marks};
-ghost use Rattle.selection.specs.Members.{SyncsInside, answeredRow};
-ghost use Rattle.selection.specs.ToSend.{toSend, toSendOutput};
+ghost use Rattle.tables.specs.Bytes.{rowsAt, GoodRows};
+ghost use Rattle.selection.specs.Chosen.{Choosable};
+ghost use Rattle.selection.specs.ToSend.{toSend, sendNeeds, toSendOutput};
 
-// Marks the rows that are sent without being needed: S, or none where there is no have.
-fn mark_answer(table: &[u8], n: usize, s: &[u8], haves: &[u64]) -> [bool; ROWS]
-    requires { ⌜ GoodRows (now table) n × GoodFilters (now s) (now haves) × SyncsInside (now s) (now haves) ⌝ }
-    ensures { λ r. ⌜ Marks n r (answeredRow (rowsAt (now (table .entry)) 0 n) (havesOf (now (s .entry)) (now (haves .entry)))) ⌝ }
-{
-    if haves.len() < HAVE_WORDS {
-        return [false; ROWS];
-    }
-    mark_s(table, n, s, haves)
-}
-
-// The hashes to send for a table, haves and a need list that have been checked.
+// The hashes to send for a table, haves and a need list that have been checked. No hash was sent before: the first none of any buffer.
 pub fn put_to_send(
     table: &[u8],
     n: usize,
@@ -48,17 +32,36 @@ pub fn put_to_send(
     count: usize,
     out: &mut [u8],
 ) -> Write
-    requires { ⌜ GoodRows (now table) n × GoodTable (rowsAt (now table) 0 n) × GoodFilters (now s) (now haves) × SyncsInside (now s) (now haves) × (place + sizes .hash * count ≤ length (now need)) × (count ≤ sizes .hashes) ⌝ }
+    requires { ⌜ Choosable (now table) n (now s) (now haves) (now need) place count ⌝ }
     ensures { λ r. ⌜ Written (Output.bytes (hashesBytes (toSend (rowsAt (now (table .entry)) 0 n) (havesOf (now (s .entry)) (now (haves .entry))) (hashesAt (now (need .entry)) place count)))) (now (out .entry)) (now (out .exit)) r ⌝ }
 {
-    let marks = mark_answer(table, n, s, haves);
-    put_answer(table, n, need, place, count, &marks, out)
+    let mut marks = [false; ROWS];
+    let mut needs = [false; HASHES];
+    let total = choose(
+        table,
+        n,
+        s,
+        haves,
+        need,
+        place,
+        count,
+        need,
+        0,
+        &mut marks,
+        &mut needs,
+    );
+    let size = HASH_SIZE * total;
+    if out.len() < size {
+        return Write::Refused(Refusal::NoRoom(size));
+    }
+    put_chosen(table, n, &marks, need, place, count, &needs, out);
+    Write::Wrote(size)
 }
 
 // The same where the need list and the sizes of the haves haven't been checked yet.
 fn send_needs(table: &[u8], n: usize, s: &[u8], haves: &[u64], need: &[u8], out: &mut [u8]) -> Write
-    requires { ⌜ (tableChecked (now table) ≡ Good n) × (passedGood (now s) (now haves) ≡ true) ⌝ }
-    ensures { λ r. ⌜ Written (toSendOutput (now (table .entry)) (now (s .entry)) (now (haves .entry)) (now (need .entry))) (now (out .entry)) (now (out .exit)) r ⌝ }
+    requires { ⌜ GoodRows (now table) n × (passedGood (now s) (now haves) ≡ true) ⌝ }
+    ensures { λ r. ⌜ Written (sendNeeds (rowsAt (now (table .entry)) 0 n) (now (s .entry)) (now (haves .entry)) (now (need .entry))) (now (out .entry)) (now (out .exit)) r ⌝ }
 {
     match passed_hashes(need) {
         Passed::Refused(r) => Write::Refused(r),

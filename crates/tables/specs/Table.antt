@@ -1,12 +1,11 @@
--- Change tables as values. 01, Change table: heads, ancestors, rows beyond. What the layers above mean is said of these, not of row bytes.
-use Prim.Native.Nat.{ℕ, zero, suc, _<_}
-use mathlib.Core.Bool.{Bool, true, false, cond, not}
+-- Change tables as values. 01, Change table. What the layers above mean is said of these, not of row bytes.
+use Prim.Native.Nat.{ℕ, suc, _<_}
+use mathlib.Core.Bool.{Bool, true, cond}
 use mathlib.Core.List.{List, [], _∷_, map}
 use mathlib.Core.Path.{_≡_}
-use lib.Dec.{ltb, eqb}
-use lib.ListN.{length, getD, take}
-use Rattle.rules.specs.Order.{member, ascends, ascend, Once}
-use Rattle.rules.specs.Reach.{someBelow, reach}
+use lib.Dec.{eqb}
+use lib.ListN.{length, getD}
+use Rattle.rules.specs.Order.{member, ascends, Once}
 
 -- A change: its hash, and its dependencies by row number. A table is a list of rows.
 pub record Row : Type 0 where
@@ -55,22 +54,3 @@ rowsFrom i (r ∷ rs) p = cond (p i) (r .hash ∷ rowsFrom (suc i) rs p) (rowsFr
 
 unfoldable pub rowsWhere : List Row → (ℕ → Bool) → List ℕ
 rowsWhere t p = rowsFrom 0 t p
-
--- Heads: rows that no row depends on, ascending bytes.
-unfoldable pub needed : List Row → ℕ → Bool
-needed t i = someBelow (length t) (λ k. member i (depsOf t k))
-
-unfoldable pub heads : List Row → List ℕ
-heads t = ascend (rowsWhere t (λ i. not (needed t i)))
-
--- Rows in L and their ancestors, by row number: reached from L's known rows over dependencies. Unknown hashes in L are ignored.
-unfoldable pub belowRow : List Row → List ℕ → ℕ → Bool
-belowRow t l i = reach (length t) (λ k. member (hashOf t k) l) (λ k j. member j (depsOf t k)) i
-
--- The same of a hash.
-unfoldable pub below : List Row → List ℕ → ℕ → Bool
-below t l h = cond (held t h) (belowRow t l (place t h)) false
-
--- Rows beyond L: neither in L nor ancestors of it, in table order.
-unfoldable pub beyond : List Row → List ℕ → List ℕ
-beyond t l = rowsWhere t (λ i. not (belowRow t l i))

@@ -1,5 +1,5 @@
--- `graph::beyond::mark_known` meets its contract: the list's marks, made from none, are the base of what is below it. Assumes nothing.
-use Rattle.graph.proofs.BeyondLaws.{below-list}
+-- `graph::beyond::mark_known` meets its contract: the list's marks, made where none was, are the base of what is below it. Assumes nothing.
+use Rattle.graph.proofs.GraphMarks.{below-known}
 use borrow.Author.Needs.{needs}
 use Rattle.graph.proofs.beyond.mark_known.Statement.{statement}
 use Rattle.graph.proofs.beyond.mark_known.Tie as tie
@@ -10,8 +10,14 @@ mark-list-requires c κs = search needs
 mark-below-requires : tie.Need-mark-below-requires
 mark-below-requires c κs = search needs
 
+same-length : tie.Need-same-length
+same-length c = search needs
+
 returns : tie.Need-returns
-returns c = below-list _ _ _ _ _ (c .before .before .before .before .pre .0 .few) (c .before .mark-list .ensures) (c .mark-below .ensures)
+returns c =
+    let b = c .before .before in
+    let l = b .before .before .before .before in
+    below-known _ _ _ _ _ _ (l .before .before .before .before .before .pre .3) (l .mark-list .ensures) (b .mark-below .ensures)
 
 pub mark-known-spec : {M : Type 1} → statement M
-mark-known-spec = tie.close (tie.spec mark-list-requires mark-below-requires returns)
+mark-known-spec = tie.close (tie.spec mark-list-requires mark-below-requires same-length returns)

@@ -8,10 +8,16 @@ use Rattle.rules.specs.Hash.{hashesAt, hashesBytes}
 use Rattle.rules.specs.Output.{Output, Written, Gathered}
 use Rattle.rules.specs.declared.output.Write.{Write}
 use Rattle.rules.specs.Sizes.{sizes}
-use Rattle.graph.proofs.CollectLaws.{heads-most}
+use Rattle.tables.specs.Bytes.{rowsAt}
+use Rattle.tables.proofs.TableLaws.{length-rows-at}
+use Rattle.graph.specs.Graph.{heads}
+use Rattle.graph.proofs.HeadLaws.{heads-few}
 use borrow.Author.Needs.{needs}
 use Rattle.graph.proofs.heads.put_heads.Statement.{statement}
 use Rattle.graph.proofs.heads.put_heads.Tie as tie
+
+few : (s : List ℕ) (n : ℕ) → length (heads (rowsAt s 0 n)) ≤ n
+few s n = omega (arith, heads-few (rowsAt s 0 n), length-rows-at s 0 n)
 
 room : (n : ℕ) → n ≤ sizes .rows → sizes .hash * n ≤ length {A = ℕ} (replicate (sizes .hash * sizes .rows) 0)
 room n h = rw length-replicate (omega arith)
@@ -42,7 +48,7 @@ slice-aggregate-put-list c = search needs
 put-list-requires : tie.Need-put-list-requires
 put-list-requires c κs =
     let h = c .before .before .before in
-    fits _ _ _ _ (h .before .before .before .before .pre .few) (heads-most _ _) (h .collect-heads .ensures) (h .collect-heads .kept .1 .1 .0)
+    fits _ _ _ _ (h .before .before .before .before .pre .few) (few _ _) (h .collect-heads .ensures) (h .collect-heads .kept .1 .1 .0)
 
 same-length : tie.Need-same-length
 same-length c = search needs

@@ -1,45 +1,46 @@
 -- `graph::marks::mark_deps` meets its contract: the numbers that are left, marked after those that were, are all of them marked. A number of a
 -- good row is below the row's own, so it has a mark. Assumes nothing.
-use Prim.Native.Nat.{_+_, _-_, _*_, _≤_}
-use mathlib.Core.Path.{_≡_, sym, _∙_}
+use Prim.Native.Nat.{_-_, _≤_}
+use mathlib.Core.Path.{_≡_, refl, sym, _∙_}
 use native.Mathlib.Omega.{arith}
-use borrow.Author.Needs.{needs}
-use Rattle.rules.specs.Sizes.{sizes}
+use lib.ListN.{length, drop, length-set}
 use Rattle.tables.proofs.GoodLaws.{good-down}
-use Rattle.tables.specs.Bytes.{rowSize, usedAt, twosAt}
+use Rattle.tables.specs.Bytes.{usedAt}
 use Rattle.graph.specs.Marks.{markAll}
-use Rattle.graph.proofs.MarkLaws.{number-member, numbers-start, numbers-on, numbers-done}
+use Rattle.graph.proofs.MarkLaws.{number-member, numbers-on, numbers-done}
+use borrow.Author.Needs.{needs}
 use Rattle.graph.proofs.marks.mark_deps.Statement.{statement}
 use Rattle.graph.proofs.marks.mark_deps.Tie as tie
 
 abbrev Inv-loop : tie.InvT-loop
-Inv-loop table i next₀ count j₀ next j =
+Inv-loop table i marks₀ count j₀ marks j =
     record {
       upto : j ≤ count;
-      rest : markAll next (twosAt table (i * rowSize + sizes .hash + 2 + 2 * j) (count - j)) ≡ markAll next₀ (usedAt table i);
+      long : length marks ≡ length marks₀;
+      rest : markAll marks (drop j (usedAt table i)) ≡ markAll marks₀ (usedAt table i);
     }
 
 abbrev μ-loop : tie.MeasureT-loop
-μ-loop table i next₀ count j₀ next j = count - j
+μ-loop table i marks₀ count j₀ marks j = count - j
 
 dep-count-requires : tie.Need-dep-count-requires Inv-loop μ-loop
-dep-count-requires c κs = c .before .pre .inside
+dep-count-requires c κs = c .before .before .pre .0 .inside
 
 loop-holds : tie.Need-loop-holds Inv-loop μ-loop
-loop-holds c = record { upto = omega arith; rest = numbers-start _ _ _ _ (c .dep-count .ensures) }
+loop-holds c = record { upto = omega arith; long = refl; rest = refl }
 
 dep-requires : tie.Need-dep-requires Inv-loop μ-loop
 dep-requires c κs =
-    let start = c .before .before .before .before in
-    let few = start .pre .counts (start .args .i) (omega arith) in
-    (start .pre .inside, omega (arith, few, c .loop-test .taken, c .before .before .dep-count .ensures))
+    let start = c .before .before .before .before .before in
+    let few = start .pre .0 .counts (start .args .i) (omega arith) in
+    (start .pre .0 .inside, omega (arith, few, c .loop-test .taken, c .before .before .dep-count .ensures))
 
-array-write-next : tie.Need-array-write-next Inv-loop μ-loop
-array-write-next c =
+slice-write-marks : tie.Need-slice-write-marks Inv-loop μ-loop
+slice-write-marks c =
     let count = c .before .before .before in
-    let start = count .before .before in
-    let in′ = number-member _ _ _ _ _ (count .dep-count .ensures) (c .before .loop-test .taken) (c .dep .ensures) in
-    omega (arith, good-down _ _ (start .pre) (start .args .i) (c .dep .result) (omega arith) in′, start .pre .few)
+    let start = count .before .before .before in
+    let in′ = number-member _ _ _ (count .dep-count .ensures) _ _ (c .before .loop-test .taken) (c .dep .ensures) in
+    omega (arith, good-down _ _ (start .pre .0) (start .args .i) (c .dep .result) (omega arith) in′, start .pre .1, c .before .before .loop .inv .long)
 
 add-j : tie.Need-add-j Inv-loop μ-loop
 add-j c = search needs
@@ -51,12 +52,16 @@ loop-again : tie.Need-loop-again Inv-loop μ-loop
 loop-again c =
     let l = c .before .before in
     record {
-      upto = omega arith;
-      rest = sym (numbers-on _ _ _ _ _ _ (c .before .loop-test .taken) (c .dep .ensures)) ∙ l .loop .inv .rest;
+      upto = omega (arith, c .before .loop-test .taken);
+      long = length-set (l .loop .marks) _ _ ∙ l .loop .inv .long;
+      rest = sym (numbers-on _ _ _ (l .before .dep-count .ensures) _ _ _ (c .before .loop-test .taken) (c .dep .ensures)) ∙ l .loop .inv .rest;
     }
 
+same-length : tie.Need-same-length Inv-loop μ-loop
+same-length c = search needs
+
 returns : tie.Need-returns Inv-loop μ-loop
-returns c = sym (numbers-done _ _ _ _ _ (c .loop-test .left)) ∙ c .before .loop .inv .rest
+returns c = sym (numbers-done _ _ _ (c .before .before .dep-count .ensures) _ _ (c .loop-test .left)) ∙ c .before .loop .inv .rest
 
 pub mark-deps-spec : {M : Type 1} → statement M
 mark-deps-spec =
@@ -67,8 +72,9 @@ mark-deps-spec =
     dep-count-requires
     loop-holds
     dep-requires
-    array-write-next
+    slice-write-marks
     add-j
     loop-less
     loop-again
+    same-length
     returns)

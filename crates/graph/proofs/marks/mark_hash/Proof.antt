@@ -8,14 +8,18 @@ use Rattle.graph.proofs.marks.mark_hash.Tie as tie
 find-row-requires : tie.Need-find-row-requires
 find-row-requires c κs = search needs
 
-array-write-next : tie.Need-array-write-next
-array-write-next c = search needs
-
 returns : tie.Need-returns
-returns c = hash-known _ _ _ _ _ (c .before .find-row .ensures) (c .if1 .taken)
+returns c = hash-unknown _ _ _ _ _ (c .before .find-row .ensures) (c .if1 .taken)
+
+slice-write-marks : tie.Need-slice-write-marks
+slice-write-marks c = search needs
+
+same-length : tie.Need-same-length
+same-length c = search needs
 
 returns-2 : tie.Need-returns-2
-returns-2 c = hash-unknown _ _ _ _ _ (c .before .find-row .ensures) (c .if1 .left)
+returns-2 c = hash-known _ _ _ _ _ (c .before .find-row .ensures) (c .if1 .left)
 
 pub mark-hash-spec : {M : Type 1} → statement M
-mark-hash-spec = tie.close (tie.spec find-row-requires array-write-next returns returns-2)
+mark-hash-spec =
+    tie.close (tie.spec find-row-requires returns slice-write-marks same-length returns-2)

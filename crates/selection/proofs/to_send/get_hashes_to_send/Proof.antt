@@ -1,9 +1,11 @@
--- `selection::to_send::get_hashes_to_send` meets its contract: one law for each answer (SendCalls). Assumes nothing.
-use mathlib.Core.Path.{_≡_, sym, _∙_}
-use borrow.Author.Needs.{needs}
+-- `selection::to_send::get_hashes_to_send` meets its contract: one law for each answer (SendCalls), and the rows of an accepted table are good.
+-- Assumes nothing.
+use mathlib.Core.Path.{sym, _∙_}
 use borrow.Author.Tests.{not-true, not-false}
 use Rattle.rules.proofs.Outputs.{refused}
-use Rattle.selection.proofs.SendCalls.{send-bad, send-table}
+use Rattle.tables.proofs.GoodLaws.{accepted-rows}
+use Rattle.selection.proofs.SendCalls.{send-bad, send-table, send-good}
+use borrow.Author.Needs.{needs}
 use Rattle.selection.proofs.to_send.get_hashes_to_send.Statement.{statement}
 use Rattle.selection.proofs.to_send.get_hashes_to_send.Tie as tie
 
@@ -27,7 +29,7 @@ send-needs-requires c κs =
     let k = c .before .before in
     let t = k .before .before in
     let e = t .before in
-    (sym (t .check-table .ensures) ∙ k .n .given .1, sym (e .before .passed-good .ensures) ∙ not-false _ (e .if1 .left))
+    (accepted-rows _ _ (sym (t .check-table .ensures) ∙ k .n .given .1), sym (e .before .passed-good .ensures) ∙ not-false _ (e .if1 .left))
 
 returns-2 : tie.Need-returns-2
 returns-2 c =
@@ -40,7 +42,12 @@ same-length : tie.Need-same-length
 same-length c = search needs
 
 returns-3 : tie.Need-returns-3
-returns-3 c = search needs
+returns-3 c =
+    let p = c .before .before in
+    let k = p .before .before .before in
+    let t = k .before .before in
+    let e = t .before in
+    rw (send-good _ _ _ _ (sym (e .before .passed-good .ensures) ∙ not-false _ (e .if1 .left)) _ (sym (t .check-table .ensures) ∙ k .n .given .1)) (p .send-needs .ensures)
 
 pub get-hashes-to-send-spec : {M : Type 1} → statement M
 get-hashes-to-send-spec =

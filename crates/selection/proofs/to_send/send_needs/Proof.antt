@@ -2,16 +2,15 @@
 -- nothing.
 use mathlib.Core.Path.{_≡_, sym, _∙_}
 use native.Mathlib.Omega.{arith}
-use borrow.Author.Needs.{needs}
 use borrow.Author.Tests.{not-true, not-false}
 use denote.Ref.{now}
-use Rattle.tables.proofs.GoodLaws.{accepted-rows}
 use Rattle.bloom.proofs.HaveLaws.{passed-haves, good-filters}
 use Rattle.rules.specs.Passed.{passedHashes}
 use Rattle.rules.specs.declared.passed.Passed.the-variants.{Hashes}
 use Rattle.rules.proofs.Outputs.{refused}
 use Rattle.rules.proofs.PassedLaws.{passed-is}
-use Rattle.selection.proofs.SendCalls.{syncs-inside, accepted-good, send-need, send-many, send-written}
+use Rattle.selection.proofs.SendCalls.{syncs-inside, send-need, send-many, send-written}
+use borrow.Author.Needs.{needs}
 use Rattle.selection.proofs.to_send.send_needs.Statement.{statement}
 use Rattle.selection.proofs.to_send.send_needs.Tie as tie
 
@@ -35,24 +34,28 @@ passed-few-requires c κs = search needs
 
 returns : tie.Need-returns
 returns c =
-    let k = c .before .before in
-    let start = k .before .before .before .before .before .before .before .before .before in
-    rw (send-many _ _ _ _ (start .pre .1) _ (start .pre .0) _ (told k) (sym (c .before .passed-few .ensures) ∙ not-true _ (c .if1 .taken))) (refused _ _)
+    let t = c .before .before in
+    rw (send-many _ _ _ _ _ (told t) (sym (c .before .passed-few .ensures) ∙ not-true _ (c .if1 .taken))) (refused _ _)
 
 put-to-send-requires : tie.Need-put-to-send-requires
 put-to-send-requires c κs =
     let e = c .before in
-    let k = e .before .before in
-    let start = k .before .before .before .before .before .before .before .before .before in
+    let t = e .before .before in
+    let start = t .before .before .before .before .before .before .before .before .before in
     let haves = passed-haves _ _ (start .pre .1) (sym (e .before .passed-few .ensures) ∙ not-false _ (e .if1 .left)) in
-    let whole = passed-is _ _ (told k) in
-    (accepted-rows _ _ (start .pre .0), accepted-good _ _ (start .pre .0), good-filters _ _ haves, syncs-inside _ _ haves, omega (arith, whole .whole), whole .few)
+    let whole = passed-is _ _ (told t) in
+    record {
+      rows = start .pre .0;
+      filters = good-filters _ _ haves;
+      syncs = syncs-inside _ _ haves;
+      needs = omega (arith, whole .whole);
+      few = whole .few;
+    }
 
 returns-2 : tie.Need-returns-2
 returns-2 c =
-    let k = c .before .before .before in
-    let start = k .before .before .before .before .before .before in
-    rw (send-need _ _ _ _ (start .pre .1) _ (start .pre .0) _ (sym (k .passed-hashes .ensures) ∙ c .before .r .given .1)) (refused _ _)
+    let p = c .before .before .before in
+    rw (send-need _ _ _ _ _ (sym (p .passed-hashes .ensures) ∙ c .before .r .given .1)) (refused _ _)
 
 same-length : tie.Need-same-length
 same-length c = search needs
@@ -61,10 +64,7 @@ returns-3 : tie.Need-returns-3
 returns-3 c =
     let p = c .before .before in
     let e = p .before .before in
-    let k = e .before .before in
-    let start = k .before .before .before .before .before .before .before .before .before in
-    rw (send-written _ _ _ _ (start .pre .1) _ (start .pre .0) _ (told k) (sym (e .before .passed-few .ensures) ∙ not-false _ (e .if1 .left)))
-    (p .put-to-send .ensures)
+    rw (send-written _ _ _ _ _ (told (e .before .before)) (sym (e .before .passed-few .ensures) ∙ not-false _ (e .if1 .left))) (p .put-to-send .ensures)
 
 pub send-needs-spec : {M : Type 1} → statement M
 send-needs-spec =

@@ -1,0 +1,70 @@
+// The rows that are marked: how many they are, their hashes in table order, and their hashes ascending.
+use rules::hashes::insert_hash;
+use rules::hashes::put_hash;
+use rules::sizes::HASH_SIZE;
+use tables::row::ROW_SIZE;
+ghost use mathlib.Core.Path.{_≡_};
+ghost use Prim.Native.Nat.{_+_, _*_, _≤_};
+ghost use lib.ListN.{length};
+ghost use lib.Seq.{sets};
+ghost use Rattle.rules.specs.Hash.{hashesBytes};
+ghost use Rattle.rules.specs.Order.{ascend};
+ghost use Rattle.rules.specs.Output.{Gathered};
+ghost use Rattle.rules.specs.Sizes.{sizes};
+ghost use Rattle.tables.specs.Bytes.{rowsAt, GoodRows};
+ghost use Rattle.tables.specs.Table.{rows};
+ghost use Rattle.graph.specs.Marks.{marked, picked};
+
+// How many of the first n marks are set.
+pub fn count_marked(n: usize, marks: &[bool]) -> usize
+    requires { ⌜ n ≤ length (now marks) ⌝ }
+    ensures { λ r. ⌜ r ≡ marked n (now (marks .entry)) ⌝ }
+{
+    let mut count = 0;
+    let mut i = 0;
+    while i < n {
+        let k = i;
+        i += 1;
+        if !marks[k] {
+            continue;
+        }
+        count += 1;
+    }
+    count
+}
+
+// Copies the hashes of the first n rows that are marked to a place of the buffer, one behind the other.
+pub fn put_marked(table: &[u8], n: usize, marks: &[bool], out: &mut [u8], place: usize)
+    requires { ⌜ GoodRows (now table) n × (n ≤ length (now marks)) × (place + sizes .hash * marked n (now marks) ≤ length (now out)) ⌝ }
+    ensures { λ _. ⌜ now (out .exit) ≡ sets (now (out .entry)) place (hashesBytes (picked (rows (rowsAt (now (table .entry)) 0 n)) (now (marks .entry)))) ⌝ }
+{
+    let mut at = place;
+    let mut i = 0;
+    while i < n {
+        let k = i;
+        i += 1;
+        if !marks[k] {
+            continue;
+        }
+        put_hash(out, at, table, k * ROW_SIZE);
+        at += HASH_SIZE;
+    }
+}
+
+// Puts the hashes of the first n rows that are marked into a list, ascending, and returns how many they are. From the last row to the first, as
+// `ascend` has them.
+pub fn collect_marked(table: &[u8], n: usize, marks: &[bool], list: &mut [u8]) -> usize
+    requires { ⌜ GoodRows (now table) n × (n ≤ length (now marks)) × (sizes .hash * n ≤ length (now list)) ⌝ }
+    ensures { λ r. ⌜ Gathered (ascend (picked (rows (rowsAt (now (table .entry)) 0 n)) (now (marks .entry)))) (now (list .exit)) r ⌝ }
+{
+    let mut count = 0;
+    let mut i = n;
+    while 0 < i {
+        i -= 1;
+        if !marks[i] {
+            continue;
+        }
+        count = insert_hash(list, count, table, i * ROW_SIZE);
+    }
+    count
+}

@@ -1,0 +1,103 @@
+-- `members::members::mark_syncs` meets its contract: the marks that were, with the lists that are left, are the marks of all lists. Assumes
+-- nothing.
+use Prim.Native.Nat.{ℕ, _-_, _<_}
+use mathlib.Core.Bool.{false, _||_}
+use mathlib.Core.Path.{_≡_, refl, sym, _∙_}
+use native.Mathlib.Omega.{arith}
+use lib.ListN.{length, getD}
+use Rattle.bloom.specs.Have.{havesOf}
+use Rattle.rules.specs.Order.{member}
+use Rattle.tables.specs.Bytes.{rowsAt}
+use Rattle.tables.specs.Table.{hashOf}
+use Rattle.members.specs.Members.{lastSyncs}
+use Rattle.members.proofs.MemberLaws.{syncsFrom, syncs-start, syncs-on, syncs-done}
+use borrow.Author.Needs.{needs}
+use Rattle.members.proofs.members.mark_syncs.Statement.{statement}
+use Rattle.members.proofs.members.mark_syncs.Tie as tie
+
+abbrev Inv-loop : tie.InvT-loop
+Inv-loop table n s haves marks₀ total k₀ marks k =
+    record {
+      long : length marks ≡ length marks₀;
+      rest :
+          (i : ℕ) → i < n
+          → (getD marks i false || member (hashOf (rowsAt table 0 n) i) (syncsFrom s haves total k))
+          ≡ member (hashOf (rowsAt table 0 n) i) (lastSyncs (havesOf s haves));
+    }
+
+abbrev μ-loop : tie.MeasureT-loop
+μ-loop table n s haves marks₀ total k₀ marks k = total - k
+
+loop-holds : tie.Need-loop-holds Inv-loop μ-loop
+loop-holds c = record { long = refl; rest = λ k h. syncs-start _ _ _ refl _ _ (c .before .before .before .before .pre .3 .each k h) }
+
+mul-place : tie.Need-mul-place Inv-loop μ-loop
+mul-place c = search needs
+
+mul-place-2 : tie.Need-mul-place-2 Inv-loop μ-loop
+mul-place-2 c = search needs
+
+shared-slice-read-place : tie.Need-shared-slice-read-place Inv-loop μ-loop
+shared-slice-read-place c = search needs
+
+mul-count : tie.Need-mul-count Inv-loop μ-loop
+mul-count c = search needs
+
+add-count : tie.Need-add-count Inv-loop μ-loop
+add-count c = search needs
+
+mul-count-2 : tie.Need-mul-count-2 Inv-loop μ-loop
+mul-count-2 c = search needs
+
+shared-slice-read-count : tie.Need-shared-slice-read-count Inv-loop μ-loop
+shared-slice-read-count c = search needs
+
+mark-list-requires : tie.Need-mark-list-requires Inv-loop μ-loop
+mark-list-requires c κs =
+    let l = c .before .before .before in
+    let b = l .before in
+    let start = b .before .before .before .before .before in
+    (start .pre .0, start .pre .1 .each (b .loop .k) (l .loop-test .taken), omega (arith, start .pre .2, b .loop .inv .long))
+
+add-k : tie.Need-add-k Inv-loop μ-loop
+add-k c = search needs
+
+loop-less : tie.Need-loop-less Inv-loop μ-loop
+loop-less c = search needs
+
+loop-again : tie.Need-loop-again Inv-loop μ-loop
+loop-again c =
+    let m = c .before .before in
+    let l = m .before .before .before .before in
+    let b = l .before in
+    record {
+      long = m .mark-list .kept .1 .1 .1 .1 .1 .0 ∙ b .loop .inv .long;
+      rest = λ k h. syncs-on _ _ _ _ _ (getD (b .loop .marks) k false) _ (l .loop-test .taken) (m .mark-list .ensures .each k h) ∙ b .loop .inv .rest k h;
+    }
+
+same-length : tie.Need-same-length Inv-loop μ-loop
+same-length c = search needs
+
+returns : tie.Need-returns Inv-loop μ-loop
+returns c = record { each = λ k h. sym (syncs-done _ _ _ _ _ _ (c .loop-test .left)) ∙ c .before .loop .inv .rest k h }
+
+pub mark-syncs-spec : {M : Type 1} → statement M
+mark-syncs-spec =
+    tie.close
+    (tie.spec
+    Inv-loop
+    μ-loop
+    loop-holds
+    mul-place
+    mul-place-2
+    shared-slice-read-place
+    mul-count
+    add-count
+    mul-count-2
+    shared-slice-read-count
+    mark-list-requires
+    add-k
+    loop-less
+    loop-again
+    same-length
+    returns)

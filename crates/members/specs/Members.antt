@@ -1,0 +1,49 @@
+-- S. 01, Hashes to send: "candidates are the rows beyond all haves' last-sync hashes; S is every candidate missed by all filters, plus its direct
+-- and indirect dependents among the candidates".
+use Prim.Native.Nat.{ℕ, _+_, _*_, _≤_, _<_}
+use mathlib.Core.Bool.{Bool, false, not, _&&_, _||_}
+use mathlib.Core.List.{List, [], _∷_, _++_, map}
+use lib.ListN.{length}
+use Rattle.probe.specs.Contains.{anyContains}
+use Rattle.bloom.specs.Filter.{Filter}
+use Rattle.bloom.specs.Have.{Have, haveCount, syncPlace, syncCount}
+use Rattle.rules.specs.Order.{member}
+use Rattle.rules.specs.Reach.{reach}
+use Rattle.rules.specs.Sizes.{sizes}
+use Rattle.tables.specs.Table.{Row, hashOf, depsOf, rowsWhere}
+use Rattle.graph.specs.Graph.{belowRow}
+
+-- The last-sync hashes of all haves, and their filters.
+unfoldable pub lastSyncs : List Have → List ℕ
+lastSyncs [] = []
+lastSyncs (h ∷ hs) = h .lastSync ++ lastSyncs hs
+
+unfoldable pub filters : List Have → List Filter
+filters haves = map (λ (h : Have). h .filter) haves
+
+-- Candidates, by row number: the rows beyond all haves' last-sync hashes.
+unfoldable pub candidate : List Row → List Have → ℕ → Bool
+candidate t haves i = not (belowRow t (lastSyncs haves) i)
+
+-- Candidates that every filter misses.
+unfoldable pub missed : List Row → List Have → ℕ → Bool
+missed t haves i = candidate t haves i && not (anyContains (filters haves) (hashOf t i))
+
+-- S, by row number: the missed ones, and from each member to the candidates that depend on it.
+unfoldable pub inTheS : List Row → List Have → ℕ → Bool
+inTheS t haves i = reach (length t) (missed t haves) (λ k j. candidate t haves j && member k (depsOf t j)) i
+
+-- S in table order.
+unfoldable pub theS : List Row → List Have → List ℕ
+theS t haves = rowsWhere t (inTheS t haves)
+
+-- ---- what internal contracts speak of; no rule of 01 stands here
+
+-- Whether some number of a list is one of p.
+unfoldable pub someOf : (ℕ → Bool) → List ℕ → Bool
+someOf p [] = false
+someOf p (k ∷ ks) = p k || someOf p ks
+
+-- Every have's last-sync hashes stand inside the lent bytes.
+pub record SyncsInside (s haves : List ℕ) : Type 0 where
+  pub each : (i : ℕ) → i < haveCount haves → syncPlace haves i + sizes .hash * syncCount haves i ≤ length s

@@ -1,0 +1,92 @@
+// The members of S, as marks of rows: candidates that every filter misses, and candidates that depend on a member.
+use bloom::have::HAVE_WORDS;
+use graph::marks::mark_below;
+use graph::marks::mark_list;
+use probe::contains::contains_hash;
+use rules::sizes::ROWS;
+use tables::row::ROW_SIZE;
+use tables::row::dep;
+use tables::row::dep_count;
+ghost use mathlib.Core.Bool.{false, not, _&&_, _||_};
+ghost use mathlib.Core.Path.{_≡_};
+ghost use Prim.Native.Nat.{_+_, _*_, _≤_};
+ghost use lib.ListN.{length, getD};
+ghost use Rattle.probe.specs.Contains.{anyContains};
+ghost use Rattle.bloom.specs.Have.{havesOf, filtersOf, GoodFilters};
+ghost use Rattle.rules.specs.Hash.{hashAt};
+ghost use Rattle.rules.specs.Order.{member};
+ghost use Rattle.tables.specs.Bytes.{rowSize, usedAt, rowsAt, GoodRows};
+ghost use Rattle.tables.specs.Table.{hashOf};
+ghost use Rattle.graph.specs.Graph.{belowRow};
+ghost use Rattle.graph.specs.Marks.{Marks, Blank};
+ghost use Rattle.members.specs.Members.{lastSyncs, inTheS, someOf, SyncsInside};
+
+// Marks the rows of all haves' last-sync hashes.
+fn mark_syncs(table: &[u8], n: usize, s: &[u8], haves: &[u64], marks: &mut [bool])
+    requires { ⌜ GoodRows (now table) n × SyncsInside (now s) (now haves) × (n ≤ length (now marks)) × Blank n (now marks) ⌝ }
+    ensures { λ _. ⌜ Marks n (now (marks .exit)) (λ i. member (hashOf (rowsAt (now (table .entry)) 0 n) i) (lastSyncs (havesOf (now (s .entry)) (now (haves .entry))))) ⌝ }
+{
+    let total = haves.len() / HAVE_WORDS;
+    let mut k = 0;
+    while k < total {
+        let place = haves[k * HAVE_WORDS] as usize;
+        let count = haves[k * HAVE_WORDS + 1] as usize;
+        mark_list(table, n, s, place, count, marks);
+        k += 1;
+    }
+}
+
+// Marks the rows below all haves' last-sync hashes: those that aren't candidates.
+fn mark_synced(table: &[u8], n: usize, s: &[u8], haves: &[u64], marks: &mut [bool])
+    requires { ⌜ GoodRows (now table) n × SyncsInside (now s) (now haves) × (n ≤ length (now marks)) × Blank n (now marks) ⌝ }
+    ensures { λ _. ⌜ Marks n (now (marks .exit)) (belowRow (rowsAt (now (table .entry)) 0 n) (lastSyncs (havesOf (now (s .entry)) (now (haves .entry))))) ⌝ }
+{
+    mark_syncs(table, n, s, haves, marks);
+    mark_below(table, n, marks);
+}
+
+// Whether some row that row i depends on is marked.
+fn some_marked(table: &[u8], i: usize, marks: &[bool]) -> bool
+    requires { ⌜ GoodRows (now table) (i + 1) × (i ≤ length (now marks)) ⌝ }
+    ensures { λ r. ⌜ r ≡ someOf (λ k. getD (now (marks .entry)) k false) (usedAt (now (table .entry)) i) ⌝ }
+{
+    let count = dep_count(table, i);
+    let mut j = 0;
+    while j < count {
+        let k = dep(table, i, j);
+        if marks[k] {
+            return true;
+        }
+        j += 1;
+    }
+    false
+}
+
+// Whether row i is a member, where the members before it are marked. Its dependencies are looked at first: that is cheaper than the filters.
+fn joins(table: &[u8], i: usize, s: &[u8], haves: &[u64], synced: bool, members: &[bool]) -> bool
+    requires { ⌜ GoodRows (now table) (i + 1) × (i ≤ length (now members)) × GoodFilters (now s) (now haves) ⌝ }
+    ensures { λ r. ⌜ r ≡ (not synced && (someOf (λ k. getD (now (members .entry)) k false) (usedAt (now (table .entry)) i) || not (anyContains (filtersOf (now (s .entry)) (now (haves .entry))) (hashAt (now (table .entry)) (i * rowSize))))) ⌝ }
+{
+    if synced {
+        return false;
+    }
+    if some_marked(table, i, members) {
+        return true;
+    }
+    !contains_hash(s, haves, table, i * ROW_SIZE)
+}
+
+// Marks the members of S. From the first row to the last, so that the marks of a row's dependencies are final when its turn comes.
+pub fn mark_s(table: &[u8], n: usize, s: &[u8], haves: &[u64], members: &mut [bool])
+    requires { ⌜ GoodRows (now table) n × GoodFilters (now s) (now haves) × SyncsInside (now s) (now haves) × (n ≤ length (now members)) ⌝ }
+    ensures { λ _. ⌜ Marks n (now (members .exit)) (inTheS (rowsAt (now (table .entry)) 0 n) (havesOf (now (s .entry)) (now (haves .entry)))) ⌝ }
+{
+    let mut synced = [false; ROWS];
+    mark_synced(table, n, s, haves, &mut synced);
+    let mut i = 0;
+    while i < n {
+        let here = joins(table, i, s, haves, synced[i], members);
+        members[i] = here;
+        i += 1;
+    }
+}
