@@ -62,6 +62,26 @@ pub fn number_forms() -> Vec<Vec<u8>> {
     forms
 }
 
+/// The numbered string of so many bytes from this alphabet.
+pub fn string(alphabet: &[u8], length: usize, mut number: usize) -> Vec<u8> {
+    let mut string = vec![0; length];
+    for byte in &mut string {
+        *byte = alphabet[number % alphabet.len()];
+        number /= alphabet.len();
+    }
+    string
+}
+
+/// Every string of so many bytes from this alphabet.
+pub fn strings(alphabet: &[u8], length: usize) -> impl Iterator<Item = Vec<u8>> + '_ {
+    let count = alphabet.len().pow(length as u32);
+    (0..count).map(move |number| string(alphabet, length, number))
+}
+
+pub fn every_byte() -> Vec<u8> {
+    (0..=u8::MAX).collect()
+}
+
 /// Up to forty bytes in hexadecimal, then how many there are.
 pub fn shown(bytes: &[u8]) -> String {
     let mut text = String::from("[");

@@ -92,16 +92,6 @@ impl OwnParts {
     }
 }
 
-/// The numbered string of so many bytes from this alphabet.
-pub fn string(alphabet: &[u8], length: usize, mut number: usize) -> Vec<u8> {
-    let mut string = vec![0; length];
-    for byte in &mut string {
-        *byte = alphabet[number % alphabet.len()];
-        number /= alphabet.len();
-    }
-    string
-}
-
 /// Bytes that tell something in a message: counts of none, one and two; first
 /// bytes, of which 42 as a count of haves is too many; a number that goes on; a
 /// flag, which is a number that goes on as well.

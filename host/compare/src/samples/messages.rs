@@ -2,9 +2,9 @@
 //! the message that was read.
 
 use super::{bytes_column, bytes_of, number_of, refusal_columns, refusal_of};
-use crate::inputs::message::{good_messages, string};
+use crate::inputs::message::good_messages;
 use crate::inputs::message::{TELLING, TELLING_OF_FILTERS, UP_TO_FILTER};
-use crate::inputs::{overlong, Random};
+use crate::inputs::{overlong, string, Random};
 use crate::messages::beside::Beside;
 use crate::messages::beside_model;
 use crate::model::{number_bytes, Refused};

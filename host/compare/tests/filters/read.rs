@@ -4,7 +4,7 @@
 use bisquetower::raw;
 use compare::filters::{compare_reads, difference, Difference, Part, Tally};
 use compare::inputs::filter::number_forms_in_filters;
-use compare::inputs::{boundary_values, Random, Seed};
+use compare::inputs::{boundary_values, every_byte, string, strings, Random, Seed};
 use compare::model::filter::field_size;
 use compare::model::number_bytes;
 use compare::published;
@@ -31,16 +31,6 @@ fn within(s: &[u8], before: usize, after: usize) -> (Vec<u8>, usize, usize) {
     let around = [0x80, 0x01, 0x0a, 0x00, 0x07, 0x7f];
     let slice = [&around[..before], s, &around[..after]].concat();
     (slice, before, before + s.len())
-}
-
-/// The numbered string of so many bytes from this alphabet.
-fn string(alphabet: &[u8], length: usize, mut number: usize) -> Vec<u8> {
-    let mut string = vec![0; length];
-    for byte in &mut string {
-        *byte = alphabet[number % alphabet.len()];
-        number /= alphabet.len();
-    }
-    string
 }
 
 /// Compares every string of so many bytes from this alphabet, lent alone and in a
@@ -73,7 +63,7 @@ const TELLING: [u8; 6] = [0x00, 0x01, 0x0a, 0x07, 0x7f, 0x80];
 /// crate and model.
 #[test]
 fn every_string_of_two_bytes() {
-    let every_byte: Vec<u8> = (0..=u8::MAX).collect();
+    let every_byte = every_byte();
     for length in 0..=2 {
         compare_strings(&every_byte, length);
     }
@@ -103,8 +93,7 @@ fn every_string_of_eight_telling_bytes() {
 fn places_and_ends_anywhere() {
     let mut inputs = Vec::new();
     for length in 0..=4 {
-        let count = TELLING.len().pow(length as u32);
-        inputs.extend((0..count).map(|number| string(&TELLING, length, number)));
+        inputs.extend(strings(&TELLING, length));
     }
     inputs.push(vec![9, 1, 10, 7, 0x0b, 0x0f, 1, 2]);
     inputs.push(vec![1, 10, 64, 1, 10, 65, 1, 0, 7]);

@@ -3,9 +3,9 @@
 
 use crate::{agree, agree_all, ask};
 use compare::inputs::message::{
-    damaged_once, good_messages, prefixes, string, TELLING, TELLING_OF_FILTERS, UP_TO_FILTER,
+    damaged_once, good_messages, prefixes, TELLING, TELLING_OF_FILTERS, UP_TO_FILTER,
 };
-use compare::inputs::Seed;
+use compare::inputs::{every_byte, strings, Seed};
 use compare::messages::{compare, Tally};
 use compare::published;
 
@@ -13,8 +13,7 @@ use compare::published;
 fn every_string(before: &[u8], alphabet: &[u8], most: usize) -> Tally {
     let mut tally = Tally::default();
     for length in 0..=most {
-        let count = alphabet.len().pow(length as u32);
-        let strings = (0..count).map(|number| string(alphabet, length, number));
+        let strings = strings(alphabet, length);
         let messages = strings.map(|string| [before, &string].concat());
         tally.add(&agree_all(messages));
     }
@@ -24,7 +23,7 @@ fn every_string(before: &[u8], alphabet: &[u8], most: usize) -> Tally {
 /// Every string of up to two bytes, against crate and model.
 #[test]
 fn every_string_of_two_bytes() {
-    let every_byte: Vec<u8> = (0..=u8::MAX).collect();
+    let every_byte = every_byte();
     let tally = every_string(&[], &every_byte, 2);
     assert_eq!(tally.total(), 1 + 256 + 65_536);
     // No bytes, and a list that is cut or too long after either first byte.

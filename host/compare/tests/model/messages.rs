@@ -2,9 +2,9 @@
 //! refusal, and the same bytes written of what was read.
 
 use compare::inputs::message::{
-    damaged_once, good_messages, prefixes, string, TELLING, TELLING_OF_FILTERS, UP_TO_FILTER,
+    damaged_once, good_messages, prefixes, TELLING, TELLING_OF_FILTERS, UP_TO_FILTER,
 };
-use compare::inputs::Seed;
+use compare::inputs::{every_byte, strings, Seed};
 use compare::messages::{compare_model, Tally};
 use compare::model::message::read;
 
@@ -14,19 +14,17 @@ fn agree<S: AsRef<[u8]>>(messages: &[S]) -> Tally {
 
 /// Every string of so many bytes from this alphabet, after these.
 fn every_string(before: &[u8], alphabet: &[u8], length: usize) -> Tally {
-    let count = alphabet.len().pow(length as u32);
     let mut tally = Tally::default();
-    for number in 0..count {
-        let message = [before, &string(alphabet, length, number)].concat();
-        tally.add(&agree(&[message]));
+    for string in strings(alphabet, length) {
+        tally.add(&agree(&[[before, &string].concat()]));
     }
-    assert_eq!(tally.total(), count as u64);
+    assert_eq!(tally.total(), alphabet.len().pow(length as u32) as u64);
     tally
 }
 
 #[test]
 fn every_string_of_two_bytes() {
-    let every_byte: Vec<u8> = (0..=u8::MAX).collect();
+    let every_byte = every_byte();
     for length in 0..=2 {
         every_string(&[], &every_byte, length);
     }

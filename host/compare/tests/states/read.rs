@@ -1,28 +1,20 @@
 //! Saved states read: every short string, damaged states, counts, rooms.
 
 use crate::{compare_strings, hashes, one, state, TYPE};
-use compare::inputs::number_forms;
+use compare::inputs::{every_byte, number_forms, strings};
 use compare::model::number_bytes;
 use compare::states::Tally;
 
-fn strings(alphabet: &[u8], length: usize) -> Vec<Vec<u8>> {
-    let mut strings = vec![Vec::new()];
-    for _ in 0..length {
-        let longer = strings
-            .iter()
-            .flat_map(|string: &Vec<u8>| alphabet.iter().map(|&b| [&string[..], &[b]].concat()));
-        strings = longer.collect();
-    }
-    strings
+fn all(alphabet: &[u8], length: usize) -> Vec<Vec<u8>> {
+    strings(alphabet, length).collect()
 }
 
 /// Every string of up to two bytes, against crate and model.
 #[test]
 fn every_string_of_two_bytes() {
-    let every: Vec<u8> = (0..=u8::MAX).collect();
     let mut tally = Tally::default();
     for length in 0..=2 {
-        tally.add(&compare_strings(&strings(&every, length), 40));
+        tally.add(&compare_strings(&all(&every_byte(), length), 40));
     }
     assert_eq!(tally.total(), 1 + 256 + 65_536);
     // The empty string, 43 alone, and 43 with 01 to ff.
@@ -37,7 +29,7 @@ fn every_string_of_telling_bytes() {
     let mut tally = Tally::default();
     for length in 0..=5 {
         for room in [0, 33] {
-            tally.add(&compare_strings(&strings(&alphabet, length), room));
+            tally.add(&compare_strings(&all(&alphabet, length), room));
         }
     }
     assert_eq!(tally.total(), 2 * (1 + 7 + 49 + 343 + 2_401 + 16_807));

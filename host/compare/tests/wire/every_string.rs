@@ -2,6 +2,7 @@
 
 use crate::{at, compare_all, whole};
 use bisquetower::raw::{Read, Reader};
+use compare::inputs::{every_byte, strings};
 use compare::wire::{Tally, READERS};
 
 /// Every kind of item at every place up to every end, in and around these bytes.
@@ -17,27 +18,11 @@ fn everywhere(s: &[u8]) -> Vec<Read<'_>> {
     reads
 }
 
-/// Every string of so many bytes from this alphabet.
-fn strings(alphabet: &[u8], length: usize) -> Vec<Vec<u8>> {
-    let mut strings = vec![Vec::new()];
-    for _ in 0..length {
-        let longer = strings
-            .iter()
-            .flat_map(|string: &Vec<u8>| alphabet.iter().map(|&b| [&string[..], &[b]].concat()));
-        strings = longer.collect();
-    }
-    strings
-}
-
-fn every_byte() -> Vec<u8> {
-    (0..=u8::MAX).collect()
-}
-
 /// Compares one kind of item on every string of up to three bytes.
 fn every_string_of_three_bytes(reader: Reader) -> Tally {
     let mut tally = Tally::default();
     for length in 0..=2 {
-        let short = strings(&every_byte(), length);
+        let short: Vec<Vec<u8>> = strings(&every_byte(), length).collect();
         let reads: Vec<Read> = short.iter().map(|s| whole(reader, s)).collect();
         tally.add(&compare_all(&reads));
     }
@@ -88,7 +73,7 @@ fn hash_lists_in_every_string_of_three_bytes() {
 #[test]
 fn places_and_ends_anywhere() {
     let telling = [0x00, 0x01, 0x02, 0x7f, 0x80, 0x81, 0xff];
-    let mut inputs = strings(&every_byte(), 1);
+    let mut inputs: Vec<Vec<u8>> = strings(&every_byte(), 1).collect();
     inputs.extend((0..=4).flat_map(|length| strings(&telling, length)));
     inputs.push([vec![9, 2], vec![5; 64]].concat());
     inputs.push([vec![9, 9, 0x80, 0x80, 0x80], vec![0x80; 12]].concat());
