@@ -71,7 +71,7 @@ rowGoodOf d s i =
 -- The first of so many rows from row i on that isn't good, or the row after them.
 unfoldable pub firstBad : (ℕ → Bool) → ℕ → ℕ → ℕ
 firstBad good i zero = i
-firstBad good i (suc count) = cond (good i) (firstBad good (suc i) count) i
+firstBad good i (suc count) = cond (not (good i)) i (firstBad good (suc i) count)
 
 -- A table of records of `size` bytes, at most `most` of them: 4 for more bytes; then the first bad row, which a partial record at the end is, with
 -- the next number; else its number of rows.
