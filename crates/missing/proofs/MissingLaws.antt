@@ -79,11 +79,28 @@ module _ (t : List Row) (w : List Waiting) where
     asked-for : List ℕ
     asked-for = l ++ asksFrom 0 w (askedRow t w l)
 
-    from : ℕ → Bool
-    from k = member (getD (waiting w) k 0) l && not (held t (getD (waiting w) k 0))
+    -- what is missing from what an asked row asks for is missing from the list, where no hash waits twice
+    module _ (once : Once (waiting w)) where
+      climb : (i : ℕ) → i < length w → (hs : List ℕ) → member (getD (waiting w) i 0) hs ≡ true → not (held t (getD (waiting w) i 0)) ≡ true
+          → (x : ℕ) → Missing t w (asksOf w i) x → Missing t w hs x
+      unfolding asks
+      climb i b hs m n x d =
+          let in-waiting : i < length (waiting w) = rw length-waiting b in
+          let own : placeIn (waiting w) (getD (waiting w) i 0) ≡ i =
+          place-once (waiting w) once i in-waiting
+          in
+          through {h = x} (getD (waiting w) i 0) m (not-true _ n) (member-at (waiting w) i in-waiting) (rw own d)
 
-    to : ℕ → ℕ → Bool
-    to k j = member (getD (waiting w) j 0) (asksOf w k) && not (held t (getD (waiting w) j 0))
+      row-missing : (k : ℕ) → k < length w → askedRow t w l k ≡ true → (x : ℕ) → Missing t w (asksOf w k) x → Missing t w l x
+      unfolding askedRow
+      row-missing k h e =
+          reach-least (length w) _ _
+          (λ i. (x : ℕ) → Missing t w (asksOf w i) x → Missing t w l x)
+          (λ i b q. let a = both (member (getD (waiting w) i 0) l) (not (held t (getD (waiting w) i 0))) q in climb i b l (a .0) (a .1))
+          (λ i j b c f q x d.
+          let a = both (member (getD (waiting w) j 0) (asksOf w i)) (not (held t (getD (waiting w) j 0))) q in
+          f x (climb j c (asksOf w i) (a .0) (a .1) x d))
+          k h e
 
     -- a waiting hash that is asked for has an asked row
     row-asked : (u : ℕ) → member u asked-for ≡ true → held t u ≡ false → member u (waiting w) ≡ true
@@ -149,30 +166,9 @@ module _ (t : List Row) (w : List Waiting) where
 
     -- And back, where no hash waits twice.
     module _ (once : Once (waiting w)) where
-      climb : (i : ℕ) → i < length w → (hs : List ℕ) → member (getD (waiting w) i 0) hs ≡ true → not (held t (getD (waiting w) i 0)) ≡ true
-          → (x : ℕ) → Missing t w (asksOf w i) x → Missing t w hs x
-      unfolding asks
-      climb i b hs m n x d =
-          let in-waiting : i < length (waiting w) = rw length-waiting b in
-          let own : placeIn (waiting w) (getD (waiting w) i 0) ≡ i =
-          place-once (waiting w) once i in-waiting
-          in
-          through {h = x} (getD (waiting w) i 0) m (not-true _ n) (member-at (waiting w) i in-waiting) (rw own d)
-
-      row-missing : (k : ℕ) → k < length w → askedRow t w l k ≡ true → (x : ℕ) → Missing t w (asksOf w k) x → Missing t w l x
-      unfolding askedRow
-      row-missing k h e =
-          reach-least (length w) _ _
-          (λ i. (x : ℕ) → Missing t w (asksOf w i) x → Missing t w l x)
-          (λ i b q. let a = both (member (getD (waiting w) i 0) l) (not (held t (getD (waiting w) i 0))) q in climb i b l (a .0) (a .1))
-          (λ i j b c f q x d.
-          let a = both (member (getD (waiting w) j 0) (asksOf w i)) (not (held t (getD (waiting w) j 0))) q in
-          f x (climb j c (asksOf w i) (a .0) (a .1) x d))
-          k h e
-
       pub member-missing : (x : ℕ) → member x (missing t w l) ≡ true → Missing t w l x
       member-missing x e =
-          missing-among x e (λ p. itself p (missing-unknown x e)) (λ k h q r. row-missing k h q x (itself r (missing-unknown x e)))
+          missing-among x e (λ p. itself p (missing-unknown x e)) (λ k h q r. row-missing once k h q x (itself r (missing-unknown x e)))
 
   -- what holds of a list, and passes to what waiting hashes ask for, holds along the relation
   missing-passes : {l : List ℕ} {x : ℕ} (P : ℕ → Type 0)
