@@ -11,7 +11,7 @@ use bisquetower::message::{Message, CHUNK_WORDS, HAVES, HAVE_WORDS};
 use bisquetower::raw;
 use std::collections::BTreeMap;
 
-/// A call on inputs of its own, whatever it answers.
+/// A call on inputs of its own; its answer's words, or what it wrote if it has none.
 pub type Call = Box<dyn Fn() -> Vec<u64> + Send + Sync>;
 
 /// A call's name, and one that goes deep.
@@ -51,6 +51,9 @@ fn wire(random: &mut Random) -> Vec<Deep> {
         deep("bt_read_number", move || raw::read_number(&longest, 0, 10)),
         deep("bt_read_filter_number", move || {
             raw::read_filter_number(&filter, 0, 10)
+        }),
+        deep("bt_read_filter_number", || {
+            raw::read_filter_number(&[0xff, 0xff, 0xff, 0xff, 0x0f], 0, 5)
         }),
         deep("bt_read_prefixed", move || {
             raw::read_prefixed(&string, 0, string.len())

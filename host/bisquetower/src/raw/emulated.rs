@@ -240,6 +240,8 @@ impl Caller {
             .env_clear()
             .stdin(Stdio::piped())
             .stdout(Stdio::piped())
+            // What it says of a signal, its exit status says too.
+            .stderr(Stdio::null())
             .spawn()
             .expect("the emulator that build.rs found starts");
         let output = program.stdout.take().expect("a pipe");
@@ -257,12 +259,12 @@ impl Caller {
         self.answer.resize(answer_length, 0);
         if let Err(error) = self.try_exchange(batch, stack) {
             drop(self.input.take());
-            let end = self.program.wait().ok().and_then(|end| end.code());
-            let end = end.and_then(|end| usize::try_from(end).ok());
-            let outside = end.and_then(|end| NAMES.get(end.checked_sub(WROTE_OUTSIDE)?));
+            let end = self.program.wait().expect("it was started");
+            let code = end.code().and_then(|code| usize::try_from(code).ok());
+            let outside = code.and_then(|code| NAMES.get(code.checked_sub(WROTE_OUTSIDE)?));
             match outside {
                 Some(name) => panic!("{name} of libsync.a wrote outside its buffers"),
-                None => panic!("the calls of libsync.a broke off: {error}, {end:?}"),
+                None => panic!("the calls of libsync.a broke off: {error}, {end}"),
             }
         }
         &self.answer
