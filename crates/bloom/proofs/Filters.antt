@@ -1,33 +1,44 @@
 -- Filters read and written: one law for each case of the definitions; a filter that was read ends inside its part and keeps the filter rules; and
 -- reading undoes writing. A filter is three numbers and a field, so the laws of numbers and of slices do the work.
-use Prim.Native.Nat.{ℕ, _+_, _≤_, _<_}
+use Prim.Native.Nat.{ℕ, _+_, _-_, _≤_, _<_}
 use mathlib.Core.Bool.{true}
-use mathlib.Core.List.{List, [], _++_, append-assoc}
+use mathlib.Core.List.{List, [], _∷_, _++_, append-assoc}
 use mathlib.Core.Path.{_≡_, refl, sym, _∙_, ap, ap₂}
 use native.Mathlib.Omega.{arith}
 use borrow.Author.Tests.{ltb-true, ltb-false, eqb-true, eqb-false, lt-ltb, le-ltb, eq-eqb, ne-eqb}
 use lib.Dec.{ltb, eqb}
 use lib.ListN.{length, length-append}
-use lib.Seq.{slice, sets}
+use lib.Seq.{slice, sets, length-slice}
 use Rattle.rules.specs.Hash.{Bytes}
 use Rattle.rules.specs.Sizes.{sizes}
 use Rattle.rules.specs.declared.refusal.Refusal.{Refusal}
 use Rattle.rules.specs.declared.refusal.Refusal.the-variants.{Cut, PastSize, NoBits}
 use Rattle.rules.proofs.Cases.{split}
-use Rattle.rules.proofs.Hash.{slice-parts}
+use Rattle.rules.proofs.Hash.{slice-append, slice-parts}
 use Rattle.wire.specs.Item.{leftAt, afterNumber}
 use Rattle.wire.specs.Number.{shortest, numberAt, mostFilter, Put}
 use Rattle.wire.specs.declared.leb128.Number.{Number}
 use Rattle.wire.specs.declared.leb128.Number.the-variants.{Value, Refused as NoValue}
 use Rattle.wire.proofs.Item.{left-is}
-use Rattle.wire.proofs.Meaning.{Inside, number-inside, number-most, number-written}
-use Rattle.wire.proofs.Number.{put-joined}
+use Rattle.wire.proofs.Meaning.{Inside, number-inside, number-most, number-written, written-number}
+use Rattle.wire.proofs.Number.{slice-past, put-joined}
 use Rattle.bloom.specs.Filter.{Filter, filterOf4, fieldSize, filterRules, filterBytes, defaultBits, defaultProbes}
-use Rattle.bloom.specs.Have.{numbersOf}
+use Rattle.bloom.specs.Have.{numbersOf, filterWith}
+use Rattle.bloom.specs.Means.{FilterMeans}
 use Rattle.bloom.specs.Read.{fieldAt, numbersAt, filterAt}
 use Rattle.bloom.specs.declared.have.FilterNumbers.{FilterNumbers}
 use Rattle.bloom.specs.declared.parse.Parsed.the-variants.{Filter as Read, Refused}
 use Rattle.bloom.proofs.Rules.{capacity-none, ruled, rules, rules-none, full-of}
+
+no-elements : (l : List ℕ) → length l ≡ 0 → l ≡ []
+no-elements [] e = refl
+no-elements (x ∷ l) e = absurd (omega arith)
+
+-- a slice in two parts
+pub slice-parted : (s : List ℕ) (a b e : ℕ) → a ≤ b → b ≤ e → slice a e s ≡ slice a b s ++ slice b e s
+slice-parted s a b e h l =
+    let k : a + (b - a) ≡ b = omega arith in
+    sym (rw k at (slice-append (b - a) a e s (omega arith)))
 
 -- ---- the cases of reading
 
@@ -278,6 +289,34 @@ module _ (s : List ℕ) (at end : ℕ) (f : FilterNumbers) (next : ℕ) (e : fil
         full =
             λ h. full-of (f .entries) (f .bits) (f .probes) (f .size) h (l .someBits h) (l .fewProbes h) (r .sized) (omega (arith, l .small, r .sized));
       }))
+
+  -- ---- what its bytes mean
+
+  pub filter-means : Bytes s → at ≤ end → end ≤ length s → FilterMeans (slice at end s) (filterWith s f)
+  unfolding leftAt filterWith
+  filter-means all h l =
+      filter-apart s at end f next e
+      (λ none same x. FilterMeans.none (no-elements _ none) (rw (← same) (ap (filterOf4 0 defaultBits defaultProbes) (slice-past s at (at + 0) (omega arith)))))
+      (λ some r.
+      let k = r .numbers in
+      let inside = filter-inside in
+      let ends = inside .whole in
+      let i1 = number-inside mostFilter s at end (f .entries) (k .i) (k .first) in
+      let i2 = number-inside mostFilter s (k .i) end (f .bits) (k .j) (k .second) in
+      let i3 = number-inside mostFilter s (k .j) end (f .probes) (f .place) (k .third) in
+      let up : next ≤ end = inside .upTo h in
+      let last : f .place + f .size ≤ end = omega arith in
+      let p1 = slice-parted s at (k .i) end (omega arith) (omega arith) in
+      let p2 = slice-parted s (k .i) (k .j) end (omega arith) (omega arith) in
+      let p3 = slice-parted s (k .j) (f .place) end (omega arith) (omega arith) in
+      let p4 = slice-parted s (f .place) (f .place + f .size) end (omega arith) last in
+      let w1 = written-number mostFilter s at end (f .entries) (k .i) all (k .first) in
+      let w2 = written-number mostFilter s (k .i) end (f .bits) (k .j) all (k .second) in
+      let w3 = written-number mostFilter s (k .j) end (f .probes) (f .place) all (k .third) in
+      let long : length (slice (f .place) (f .place + f .size) s) ≡ f .size =
+      length-slice (f .place) (f .place + f .size) s (omega arith) ∙ omega arith
+      in
+      FilterMeans.said (slice (f .place + f .size) end s) (rw (p1, w1, p2, w2, p3, w3, p4)) (rw long (filter-ruled all)))
 
 -- ---- the bytes of a filter
 

@@ -1,3 +1,4 @@
 pub mod Filter
 pub mod Have
+pub mod Means
 pub mod Read

@@ -51,7 +51,7 @@ use Rattle.decode.proofs.ReadLaws.{
   section-refused,
   section-read,
   message-refused,
-  message-means,
+  message-behind,
 }
 
 -- ---- one result
@@ -127,7 +127,7 @@ not-sectioned : {A : Type 0} (r : Refusal) (flags : Section) (next : ℕ) → No
 not-sectioned r flags next e = absurd (let z : _≡_ {A = ℕ} 0 1 = cc in omega arith)
 
 -- A section that was read: there is none and no bytes remain, or it is a prefixed string.
-section-apart : {A : Type 0} (s : List ℕ) (at : ℕ) (flags : Section) (next : ℕ) → sectionAt s at ≡ Sectioned flags next
+pub section-apart : {A : Type 0} (s : List ℕ) (at : ℕ) (flags : Section) (next : ℕ) → sectionAt s at ≡ Sectioned flags next
     → (length s ≤ at → Sectioned Absent at ≡ Sectioned flags next → A)
     → ((start end : ℕ) → at < length s → prefixedAt s at (length s) ≡ Part start end
     → Sectioned (Present (flagsOf (flagsIn (slice start end s)))) end ≡ Sectioned flags next
@@ -160,7 +160,7 @@ pub record MessageWords (s : List ℕ) (p : Places) (haves chunks : List ℕ) : 
 
 pub message-words : (s : List ℕ) (p : Places) (haves chunks : List ℕ) → messageAt s ≡ read p haves chunks → MessageWords s p haves chunks
 message-words s p haves chunks e =
-    let b = message-means s p haves chunks e in
+    let b = message-behind s p haves chunks e in
     let o = opening-behind s (p .version) (p .heads) (b .atNeed) (b .opening) in
     let l = hash-list-inside s 1 (length s) (p .heads) (b .atNeed) (o .list) in
     let n = hash-list-inside s (b .atNeed) (length s) (p .need) (b .atHaves) (b .need) in
@@ -191,13 +191,13 @@ message-words s p haves chunks e =
 pub haves-good : (s : List ℕ) → Bytes s → (p : Places) (haves chunks : List ℕ) → messageAt s ≡ read p haves chunks
     → (passedGood s haves ≡ true) × (passedFew haves ≡ true)
 haves-good s all p haves chunks e =
-    let b = message-means s p haves chunks e in
+    let b = message-behind s p haves chunks e in
     haves-pass s all (b .atHaves) (p .haves) haves (b .atChunks) (b .haveList)
 
 pub chunks-good : (s : List ℕ) (p : Places) (haves chunks : List ℕ) → messageAt s ≡ read p haves chunks
     → (i : ℕ) → i < p .chunks .count → getD chunks (i * chunkWords) 0 + getD chunks (i * chunkWords + 1) 0 ≤ length s
 chunks-good s p haves chunks e i h =
-    let b = message-means s p haves chunks e in
+    let b = message-behind s p haves chunks e in
     let c = chunks-behind s (b .atChunks) (p .chunks) chunks (b .atSection) (b .chunkList) in
     chunks-inside s (p .chunks .count) (p .chunks .start) chunks (b .atSection) (c .each) i h
 
@@ -219,7 +219,7 @@ pub flags-small : (s : List ℕ) → Bytes s → (p : Places) (haves chunks : Li
     → f .0 < 0x80
 unfolding flagsIn
 flags-small s all p haves chunks f e is =
-    let b = message-means s p haves chunks e in
+    let b = message-behind s p haves chunks e in
     section-apart s (b .atSection) (p .flags) (p .next) (b .section)
     (λ past q. absurd (let a : _≡_ {A = Section} Absent (Present f) = cc in let z : _≡_ {A = ℕ} 0 1 = cc in omega arith))
     (λ start end here part q.

@@ -1,4 +1,4 @@
--- A message read: one law for each case of each stage; what a message that was read means, stage by stage; and what the call leaves.
+-- A message read: one law for each case of each stage; what stands behind a message that was read, stage by stage; and what the call leaves.
 use Prim.Native.Nat.{ℕ, _-_, _*_, _≤_, _<_}
 use mathlib.Core.List.{List}
 use mathlib.Core.Path.{_≡_, refl, sym, _∙_, ap, subst}
@@ -40,7 +40,6 @@ use Rattle.items.specs.Items.{
   wordsOf,
   AllRead,
 }
-use Rattle.decode.specs.Means.{MessageMeans}
 use Rattle.decode.specs.Read.{
   Reading,
   read,
@@ -198,34 +197,46 @@ module _ (s : List ℕ) where
       → decodedOf (messageAt s) ≡ decodedOf (needAt s version heads next)
   message-need version heads next e = ap decodedOf (message-opened version heads next e)
 
--- ---- what a message that was read means
+-- ---- what stands behind a message that was read
 
 pub not-read : {A : Type 0} (r : Refusal) (p : Places) (haves chunks : List ℕ) → refused r ≡ read p haves chunks → A
 not-read r p haves chunks e = absurd (let z : _≡_ {A = ℕ} 0 1 = cc in omega arith)
 
+-- The stages, and the places between them.
+pub record MessageBehind (s : List ℕ) (p : Places) (haves chunks : List ℕ) : Type 0 where
+  pub atNeed : ℕ
+  pub atHaves : ℕ
+  pub atChunks : ℕ
+  pub atSection : ℕ
+  pub opening : openingAt s ≡ Heads (p .version) (p .heads) atNeed
+  pub need : hashListAt s atNeed (length s) ≡ Items (p .need) atHaves
+  pub haveList : havesAt s atHaves ≡ list (p .haves) haves atChunks
+  pub chunkList : chunksAt s atChunks ≡ list (p .chunks) chunks atSection
+  pub section : sectionAt s atSection ≡ Sectioned (p .flags) (p .next)
+
 module _ (s : List ℕ) (p : Places) (haves chunks : List ℕ) where
-  same-means : (q : Places) (hw cw : List ℕ) → read q hw cw ≡ read p haves chunks → MessageMeans s q hw cw → MessageMeans s p haves chunks
-  same-means q hw cw e m =
+  same-behind : (q : Places) (hw cw : List ℕ) → read q hw cw ≡ read p haves chunks → MessageBehind s q hw cw → MessageBehind s p haves chunks
+  same-behind q hw cw e m =
       let a : q ≡ p = cc in
       let b : hw ≡ haves = cc in
       let c : cw ≡ chunks = cc in
-      subst (λ (x : Places). MessageMeans s x haves chunks) a
-      (subst (λ (w : List ℕ). MessageMeans s q haves w) c (subst (λ (w : List ℕ). MessageMeans s q w cw) b m))
+      subst (λ (x : Places). MessageBehind s x haves chunks) a
+      (subst (λ (w : List ℕ). MessageBehind s q haves w) c (subst (λ (w : List ℕ). MessageBehind s q w cw) b m))
 
-  pub message-means : messageAt s ≡ read p haves chunks → MessageMeans s p haves chunks
+  pub message-behind : messageAt s ≡ read p haves chunks → MessageBehind s p haves chunks
   unfolding messageAt needAt listsAt afterOpening afterListed afterList afterSection
-  message-means e = opened (openingAt s) refl
+  message-behind e = opened (openingAt s) refl
     where
       sectioned : (version : MessageVersion) (heads need hs cs : Run) (i j k l : ℕ) (hw cw : List ℕ)
           → openingAt s ≡ Heads version heads i
           → hashListAt s i (length s) ≡ Items need j
           → havesAt s j ≡ list hs hw k
           → chunksAt s k ≡ list cs cw l
-          → (x : Flagged) → sectionAt s l ≡ x → MessageMeans s p haves chunks
+          → (x : Flagged) → sectionAt s l ≡ x → MessageBehind s p haves chunks
       sectioned version heads need hs cs i j k l hw cw o n h c (Sectioned flags next) f =
           let q : Places = record { version = version; heads = heads; need = need; haves = hs; chunks = cs; flags = flags; next = next } in
           let is : messageAt s ≡ read q hw cw = rw (o, n, h, c, f) in
-          same-means q hw cw (sym is ∙ e)
+          same-behind q hw cw (sym is ∙ e)
           (record {
             atNeed = i;
             atHaves = j;
@@ -245,7 +256,7 @@ module _ (s : List ℕ) (p : Places) (haves chunks : List ℕ) where
           → openingAt s ≡ Heads version heads i
           → hashListAt s i (length s) ≡ Items need j
           → havesAt s j ≡ list hs hw k
-          → (x : ItemList) → chunksAt s k ≡ x → MessageMeans s p haves chunks
+          → (x : ItemList) → chunksAt s k ≡ x → MessageBehind s p haves chunks
       chunked version heads need hs i j k hw o n h (list cs cw l) c =
           sectioned version heads need hs cs i j k l hw cw o n h c (sectionAt s l) refl
       chunked version heads need hs i j k hw o n h (noList r) c =
@@ -255,7 +266,7 @@ module _ (s : List ℕ) (p : Places) (haves chunks : List ℕ) where
       haved : (version : MessageVersion) (heads need : Run) (i j : ℕ)
           → openingAt s ≡ Heads version heads i
           → hashListAt s i (length s) ≡ Items need j
-          → (x : ItemList) → havesAt s j ≡ x → MessageMeans s p haves chunks
+          → (x : ItemList) → havesAt s j ≡ x → MessageBehind s p haves chunks
       haved version heads need i j o n (list hs hw k) h =
           chunked version heads need hs i j k hw o n h (chunksAt s k) refl
       haved version heads need i j o n (noList r) h =
@@ -263,13 +274,13 @@ module _ (s : List ℕ) (p : Places) (haves chunks : List ℕ) where
           not-read r p haves chunks (sym is ∙ e)
 
       needed : (version : MessageVersion) (heads : Run) (i : ℕ) → openingAt s ≡ Heads version heads i
-          → (x : Listed) → hashListAt s i (length s) ≡ x → MessageMeans s p haves chunks
+          → (x : Listed) → hashListAt s i (length s) ≡ x → MessageBehind s p haves chunks
       needed version heads i o (Items need j) n = haved version heads need i j o n (havesAt s j) refl
       needed version heads i o (NotListed r) n =
           let is : messageAt s ≡ refused r = rw (o, n) in
           not-read r p haves chunks (sym is ∙ e)
 
-      opened : (x : Opening) → openingAt s ≡ x → MessageMeans s p haves chunks
+      opened : (x : Opening) → openingAt s ≡ x → MessageBehind s p haves chunks
       opened (Heads version heads i) o = needed version heads i o (hashListAt s i (length s)) refl
       opened (NotOpened r) o =
           let is : messageAt s ≡ refused r = rw o in
@@ -302,8 +313,8 @@ module _ (s : List ℕ) (p : Places) (is : decodedOf (messageAt s) ≡ Placed p)
   words : record { haves : List ℕ; chunks : List ℕ; is : messageAt s ≡ read p haves chunks }
   words = placed (messageAt s) p is
 
-  stages : MessageMeans s p (words .haves) (words .chunks)
-  stages = message-means s p (words .haves) (words .chunks) (words .is)
+  stages : MessageBehind s p (words .haves) (words .chunks)
+  stages = message-behind s p (words .haves) (words .chunks) (words .is)
 
   have-words : ItemsBehind s (stages .atHaves) (p .haves) (words .haves) (stages .atChunks) (sizes .haves) haveWords (haveItem s)
   have-words = haves-behind s (stages .atHaves) (p .haves) (words .haves) (stages .atChunks) (stages .haveList)
@@ -363,6 +374,6 @@ module _ (s : List ℕ) (p : Places) (is : decodedOf (messageAt s) ≡ Placed p)
             record { answer = rw (words .is, f, g); haves = rw (words .is, f, g) x; chunks = rw (words .is, f, g) y }
 
 -- The stages make the message.
-pub means-read : (s : List ℕ) (p : Places) (haves chunks : List ℕ) → MessageMeans s p haves chunks → messageAt s ≡ read p haves chunks
+pub behind-read : (s : List ℕ) (p : Places) (haves chunks : List ℕ) → MessageBehind s p haves chunks → messageAt s ≡ read p haves chunks
 unfolding messageAt needAt listsAt afterOpening afterListed afterList afterSection
-means-read s p haves chunks b = rw (b .opening, b .need, b .haveList, b .chunkList, b .section)
+behind-read s p haves chunks b = rw (b .opening, b .need, b .haveList, b .chunkList, b .section)

@@ -25,11 +25,10 @@ use Rattle.wire.proofs.Item.{prefixed-inside, prefixed-written, hash-list-insid
 use Rattle.wire.proofs.Number.{shortest-one}
 use Rattle.items.specs.Items.{chunksOf}
 use Rattle.items.proofs.RoundTrip.{onward, haves-written, chunks-written}
-use Rattle.decode.specs.Means.{MessageMeans}
 use Rattle.decode.specs.Read.{read, headsAt, openingAt, sectionAt, messageAt, messageOf}
 use Rattle.decode.specs.declared.parse.Flagged.the-variants.{Section as Sectioned}
 use Rattle.decode.specs.declared.parse.Places.{Places}
-use Rattle.decode.proofs.ReadLaws.{means-read, heads-read, opening-first, opening-second, section-none, section-read}
+use Rattle.decode.proofs.ReadLaws.{MessageBehind, behind-read, heads-read, opening-first, opening-second, section-none, section-read}
 
 -- ---- reading back
 
@@ -127,7 +126,7 @@ message-there-and-back s m e sound said =
       next = sec .next;
     }
     in
-    let behind : MessageMeans s p (hv .words) (ch .words) =
+    let behind : MessageBehind s p (hv .words) (ch .words) =
     record {
       atNeed = i;
       atHaves = j;
@@ -144,7 +143,7 @@ message-there-and-back s m e sound said =
       places = p;
       haves = hv .words;
       chunks = ch .words;
-      is = means-read s p (hv .words) (ch .words) behind;
+      is = behind-read s p (hv .words) (ch .words) behind;
       says =
           same-message (m .version) (m .flags)
           (hashesAt s (heads .start) (heads .count))

@@ -1,30 +1,39 @@
--- What a message that was read means: its parts stand one after the other, each from the place where the one before it ended. 01, Wire: "Message:
--- 42 (V1) or 43 (V2); heads; need; count of haves, ..; count of chunks, each prefixed; if bytes remain, a prefixed flags section. What follows
--- that is ignored." `messageAt` reads exactly the messages that mean something: the laws `message-means` and `means-read`.
-use Prim.Native.Nat.{ℕ}
-use mathlib.Core.List.{List}
+-- What the bytes of a message mean. 01, Wire: "Message: 42 (V1) or 43 (V2); heads; need; count of haves, each a hash list and a prefixed filter; count
+-- of chunks, each prefixed; if bytes remain, a prefixed flags section. What follows that is ignored." What `messageAt` reads means the message that it
+-- says: the law `message-means`. The other way round it reads what is written of a message: `message-there-and-back`.
+use Prim.Native.Nat.{ℕ, _≤_}
+use mathlib.Core.List.{List, [], _∷_, _++_}
 use mathlib.Core.Path.{_≡_}
 use lib.ListN.{length}
-use Rattle.wire.specs.Item.{hashListAt}
-use Rattle.wire.specs.declared.parse.Listed.the-variants.{Items}
-use Rattle.items.specs.Items.{list, havesAt, chunksAt}
-use Rattle.decode.specs.Read.{openingAt, sectionAt}
-use Rattle.decode.specs.declared.opening.Opening.the-variants.{Heads}
-use Rattle.decode.specs.declared.parse.Flagged.the-variants.{Section}
-use Rattle.decode.specs.declared.parse.Places.{Places}
+use Rattle.items.specs.Means.{HavesMean}
+use Rattle.message.specs.Flags.{flagsOf, flagsIn}
+use Rattle.message.specs.Message.{Message, typeOf, counted}
+use Rattle.message.specs.declared.flags.Section.{Section}
+use Rattle.message.specs.declared.flags.Section.the-variants.{Absent, Present}
+use Rattle.rules.specs.Sizes.{sizes}
+use Rattle.wire.specs.Item.{prefixedBytes, hashListBytes}
+use Rattle.wire.specs.Number.{shortest}
 
--- The message s has its parts at the places p, and these words of haves and of chunks.
-pub record MessageMeans (s : List ℕ) (p : Places) (haves chunks : List ℕ) : Type 0 where
-  -- where each part after the first starts, which is where the part before it ends
-  pub atNeed : ℕ
-  pub atHaves : ℕ
-  pub atChunks : ℕ
-  pub atSection : ℕ
-  -- a size that is kept, the first byte and the heads
-  pub opening : openingAt s ≡ Heads (p .version) (p .heads) atNeed
-  pub need : hashListAt s atNeed (length s) ≡ Items (p .need) atHaves
-  -- each with its count, which keeps its limit
-  pub haveList : havesAt s atHaves ≡ list (p .haves) haves atChunks
-  pub chunkList : chunksAt s atChunks ≡ list (p .chunks) chunks atSection
-  -- absent where no bytes remain; `next` is the first byte that is ignored
-  pub section : sectionAt s atSection ≡ Section (p .flags) (p .next)
+-- The bytes after the chunks: no section where there are none, else a section, and what is ignored.
+pub data SectionMeans (bytes : List ℕ) : Section → Type 0 where
+  none : bytes ≡ [] → SectionMeans bytes Absent
+  some : (section ignored : List ℕ) → bytes ≡ prefixedBytes section ++ ignored → SectionMeans bytes (Present (flagsOf (flagsIn section)))
+
+-- The bytes s mean the message m. Numbers stand in their shortest form, so all but two things in s follow from m: the strings of the filters, which
+-- may say more than they need, and what comes after the chunks.
+pub record MessageMeans (s : List ℕ) (m : Message) : Type 0 where
+  pub havesBytes : List ℕ
+  pub sectionBytes : List ℕ
+  pub is : s
+      ≡ typeOf (m .version)
+      ∷ (hashListBytes (m .heads)
+      ++ (hashListBytes (m .need)
+      ++ ((shortest (length (m .haves)) ++ havesBytes) ++ (counted prefixedBytes (m .chunks) ++ sectionBytes))))
+  pub haves : HavesMean havesBytes (m .haves)
+  pub flags : SectionMeans sectionBytes (m .flags)
+  -- 01, Sizes
+  pub small : length s ≤ sizes .message
+  pub fewHeads : length (m .heads) ≤ sizes .hashes
+  pub fewNeed : length (m .need) ≤ sizes .hashes
+  pub fewHaves : length (m .haves) ≤ sizes .haves
+  pub fewChunks : length (m .chunks) ≤ sizes .chunks

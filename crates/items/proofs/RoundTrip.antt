@@ -47,7 +47,7 @@ unfolding prefixedBytes
 prefixed-longer t = omega (arith, length-append (shortest (length t)) t)
 
 -- words that say one value each, one value after the other
-unfoldable SayAll : {A : Type 0} → (List ℕ → A → Type 0) → List ℕ → List A → Type 0
+unfoldable pub SayAll : {A : Type 0} → (List ℕ → A → Type 0) → List ℕ → List A → Type 0
 SayAll Says words [] = words ≡ []
 SayAll Says words (x ∷ xs) = (w : List ℕ) × (ws : List ℕ) × (w ++ ws ≡ words) × Says w x × SayAll Says ws xs
 
@@ -126,7 +126,7 @@ module _ {A : Type 0} (limit : ℕ) (bytes : A → List ℕ) (s : List ℕ) (one
 -- ---- a chunk
 
 -- what a chunk's words say
-unfoldable ChunkSays : List ℕ → List ℕ → List ℕ → Type 0
+unfoldable pub ChunkSays : List ℕ → List ℕ → List ℕ → Type 0
 ChunkSays s words t = (start : ℕ) × (size : ℕ) × (words ≡ start ∷ size ∷ []) × (slice start (start + size) s ≡ t)
 
 -- any bytes are a chunk
@@ -151,7 +151,7 @@ chunk-written s small t any at rest same =
       says = (start, end - start, refl, rw e (w .1));
     }
 
-chunks-said : (s : List ℕ) (ts : List (List ℕ)) (words : List ℕ) → SayAll (ChunkSays s) words ts → chunksOf s words ≡ ts
+pub chunks-said : (s : List ℕ) (ts : List (List ℕ)) (words : List ℕ) → SayAll (ChunkSays s) words ts → chunksOf s words ≡ ts
 unfolding SayAll ChunkSays chunksOf
 chunks-said s [] words e = rw e
 chunks-said s (t ∷ ts) words e =
@@ -170,12 +170,12 @@ abbrev have-of : List ℕ → Filter → Have
 have-of syncs filter = record { lastSync = syncs; filter = filter }
 
 -- what a have's words say
-record HaveSays (s : List ℕ) (words : List ℕ) (h : Have) : Type 0 where
-  sync : Run
-  numbers : FilterNumbers
-  are : words ≡ haveWordList sync numbers
-  syncs : hashesAt s (sync .start) (sync .count) ≡ h .lastSync
-  filter : filterWith s numbers ≡ h .filter
+pub record HaveSays (s : List ℕ) (words : List ℕ) (h : Have) : Type 0 where
+  pub sync : Run
+  pub numbers : FilterNumbers
+  pub are : words ≡ haveWordList sync numbers
+  pub syncs : hashesAt s (sync .start) (sync .count) ≡ h .lastSync
+  pub filter : filterWith s numbers ≡ h .filter
 
 -- a filter in its part
 record FilterWritten (s : List ℕ) (from end : ℕ) (f : Filter) : Type 0 where
@@ -277,7 +277,7 @@ haves-said s (h ∷ hs) i before words long e =
     let zero = first-word before more i (c .sync) (c .numbers) long in
     rw (is, zero, at 1, at 2, at 3, at 4, at 5, at 6, c .syncs, again) (ap (λ (f : Filter). have-of (h .lastSync) f ∷ hs) (c .filter))
 
-haves-back : (s : List ℕ) (hs : List Have) (words : List ℕ) → length words ≡ haveWords * length hs → SayAll (HaveSays s) words hs → havesOf s words ≡ hs
+pub haves-back : (s : List ℕ) (hs : List Have) (words : List ℕ) → length words ≡ haveWords * length hs → SayAll (HaveSays s) words hs → havesOf s words ≡ hs
 unfolding havesOf
 haves-back s hs words long e =
     let many : haveCount words ≡ length hs = omega (arith, long) in

@@ -1,0 +1,17 @@
+-- What the bytes of a filter mean. 01, Wire ("Filter"): "no bytes means entries 0, bits 10, probes 7. Else entries n, bits b, probes p; .. then the
+-- field .. Bytes after the field are ignored." With n = 0 the field is empty, which is one of the filter rules. What `filterAt` reads means its
+-- filter: the law `filter-means`.
+use Prim.Native.Nat.{ℕ}
+use mathlib.Core.Bool.{true}
+use mathlib.Core.List.{List, [], _++_}
+use mathlib.Core.Path.{_≡_}
+use lib.ListN.{length}
+use Rattle.wire.specs.Number.{shortest}
+use Rattle.bloom.specs.Filter.{Filter, filterOf4, filterRules, defaultBits, defaultProbes}
+
+pub data FilterMeans (bytes : List ℕ) (f : Filter) : Type 0 where
+  none : bytes ≡ [] → f ≡ filterOf4 0 defaultBits defaultProbes [] → FilterMeans bytes f
+  said : (ignored : List ℕ)
+      → bytes ≡ shortest (f .entries) ++ (shortest (f .bits) ++ (shortest (f .probes) ++ (f .field ++ ignored)))
+      → filterRules (f .entries) (f .bits) (f .probes) (length (f .field)) ≡ true
+      → FilterMeans bytes f
