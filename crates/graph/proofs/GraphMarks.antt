@@ -55,10 +55,10 @@ module _ (s : List ℕ) (n : ℕ) where
       }
 
   -- the same, the list's rows being marked where none was
-  pub below-known : (l : List ℕ) (m listed r : List Bool) → Blank n m → Marks n listed (λ i. getD m i false || member (hashOf t i) l)
+  pub below-blank : (l : List ℕ) (m listed r : List Bool) → Blank n m → Marks n listed (λ i. getD m i false || member (hashOf t i) l)
       → Marks n r (reach n (λ k. getD listed k false) (λ k j. member j (depsOf t k)))
       → Marks n r (belowRow t l)
-  below-known l m listed r none a b = below-list l listed r (blank-or n m listed (λ i. member (hashOf t i) l) none a) b
+  below-blank l m listed r none a b = below-list l listed r (blank-or n m listed (λ i. member (hashOf t i) l) none a) b
 
   module _ (l : List ℕ) (m r : List Bool) (a : Marks n m (belowRow t l)) (b : Marks n r (λ i. not (getD m i false))) where
     pub picked-beyond : picked (rows t) r ≡ beyond t l

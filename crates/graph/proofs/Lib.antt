@@ -8,4 +8,5 @@ pub mod MarkLaws
 pub mod MarkedRows
 pub mod PickLaws
 pub mod PutLaws
+pub mod TurnLaws
 pub mod Vectors

@@ -2,10 +2,9 @@
 -- which marks it leaves: those there were, and those that the pass means. In a downward pass a row's mark is final when the pass comes to it,
 -- since only rows after it can name it; so what the pass leaves satisfies the equation of what is reached, and that is the only such set.
 use Prim.Native.Nat.{ℕ, zero, suc, _+_, _-_, _*_, _≤_, _<_}
-use mathlib.Core.Bool.{Bool, true, false, not, _||_, _&&_}
+use mathlib.Core.Bool.{Bool, true, false, _||_, _&&_}
 use mathlib.Core.List.{List, [], _∷_}
 use mathlib.Core.Path.{_≡_, refl, sym, ap, _∙_}
-use native.Mathlib.Nat.{not-suc-le-zero}
 use native.Mathlib.Numerals.{add-one}
 use native.Mathlib.Omega.{arith}
 use borrow.Author.Tests.{eqb-true, eqb-false, eq-eqb, ne-eqb, ltb-true, ltb-false, lt-ltb, le-ltb}
@@ -21,9 +20,9 @@ use Rattle.tables.specs.Table.{Row, rows, hashOf, depsOf, placeIn}
 use Rattle.rules.proofs.KeepLaws.{once-index}
 use Rattle.tables.proofs.GoodLaws.{good-down}
 use Rattle.tables.proofs.TableLaws.{at-place, place-first, length-rows, length-rows-at, deps-of-row, numberAt, length-used, used-index}
-use Rattle.rules.proofs.Cases.{split, both, and-false, same-truth, or-right}
+use Rattle.rules.proofs.Cases.{split, both, same-truth, or-right}
 use Rattle.rules.proofs.OrderLaws.{index-member}
-use Rattle.rules.proofs.ReachLaws.{below-suc, some-witness, reach-unique}
+use Rattle.rules.proofs.ReachLaws.{some-witness, reach-unique}
 use Rattle.graph.specs.Graph.{needed}
 use Rattle.graph.specs.Marks.{Marks, Blank, markAll, markRow, markHash}
 
@@ -49,66 +48,6 @@ blank n size h = record { each = λ i l. getD-replicate size i false false (omeg
 -- marks added to none
 pub blank-or : (n : ℕ) (m r : List Bool) (p : ℕ → Bool) → Blank n m → Marks n r (λ i. getD m i false || p i) → Marks n r p
 blank-or n m r p b w = record { each = λ i h. w .each i h ∙ rw (b .each i h) }
-
--- ---- marks turned one after the other: those before the i-th are, the others are as they were
-
-pub record Turned (f : ℕ → Bool → Bool) (i : ℕ) (old new : List Bool) : Type 0 where
-  pub done : (k : ℕ) → k < i → getD new k false ≡ f k (getD old k false)
-  pub rest : (k : ℕ) → i ≤ k → getD new k false ≡ getD old k false
-
-module _ (f : ℕ → Bool → Bool) where
-  pub turn-start : (m : List Bool) → Turned f 0 m m
-  turn-start m = record { done = λ k h. absurd (not-suc-le-zero h); rest = λ k h. refl }
-
-  module _ (i : ℕ) (old new : List Bool) (w : Turned f i old new) where
-    pub turn-set : (b : Bool) → i < length new → b ≡ f i (getD new i false) → Turned f (i + 1) old (set new i b)
-    turn-set b h e =
-        record {
-          done =
-              λ k l.
-              below-suc (λ j. getD (set new i b) j false ≡ f j (getD old j false)) i
-              (λ j q. let d : j ≡ i → ⊥ = λ z. omega arith in getD-set-other new i j b false d ∙ w .done j q)
-              (getD-set-same new i b false h ∙ e ∙ ap (f i) (w .rest i (omega arith)))
-              k
-              (omega arith);
-          rest = λ k l. let d : k ≡ i → ⊥ = λ z. omega arith in getD-set-other new i k b false d ∙ w .rest k (omega arith);
-        }
-
-    pub turn-same : getD new i false ≡ f i (getD new i false) → Turned f (i + 1) old new
-    turn-same e =
-        record {
-          done =
-              λ k l.
-              below-suc (λ j. getD new j false ≡ f j (getD old j false)) i (w .done)
-              (e ∙ ap (f i) (w .rest i (omega arith)))
-              k
-              (omega arith);
-          rest = λ k l. w .rest k (omega arith);
-        }
-
-    pub turn-done : (n : ℕ) → n ≤ i → Marks n new (λ k. f k (getD old k false))
-    turn-done n h = record { each = λ k l. w .done k (omega arith) }
-
--- marks taken off where others are set
-pub off : List Bool → ℕ → Bool → Bool
-off others k b = b && not (getD others k false)
-
-module _ (others : List Bool) (i : ℕ) (old new : List Bool) (w : Turned (off others) i old new) where
-  pub mark-stays : getD others i false ≡ false → Turned (off others) (i + 1) old new
-  unfolding off
-  mark-stays e = turn-same (off others) i old new w (rw e (sym (and-with (getD new i false))))
-    where
-      and-with : (x : Bool) → (x && true) ≡ x
-      and-with true = refl
-      and-with false = refl
-
-  pub mark-goes : i < length new → getD others i false ≡ true → Turned (off others) (i + 1) old (set new i false)
-  unfolding off
-  mark-goes h e = turn-set (off others) i old new w false h (rw e (sym (and-false (getD new i false))))
-
-  pub off-done : (n : ℕ) → n ≤ i → Marks n new (λ k. getD old k false && not (getD others k false))
-  unfolding off
-  off-done n h = turn-done (off others) i old new w n h
 
 -- ---- one mark, and the marks of a list
 

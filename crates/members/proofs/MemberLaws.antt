@@ -24,7 +24,8 @@ use Rattle.tables.proofs.GoodLaws.{good-down}
 use Rattle.tables.proofs.TableLaws.{length-rows-at, deps-of-row, hash-of-row, numberAt}
 use Rattle.graph.specs.Graph.{belowRow}
 use Rattle.graph.specs.Marks.{Marks}
-use Rattle.graph.proofs.MarkLaws.{or-assoc, or-false, numbers-more, numbers-none, Turned, turn-set, turn-done}
+use Rattle.graph.proofs.MarkLaws.{or-assoc, or-false, numbers-more, numbers-none}
+use Rattle.graph.proofs.TurnLaws.{Turned, turn-set, turn-done}
 use Rattle.members.specs.Members.{lastSyncs, filters, candidate, missed, inTheS, someOf}
 
 -- ---- numbers of a list that are some of p

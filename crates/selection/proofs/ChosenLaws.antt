@@ -22,7 +22,8 @@ use Rattle.tables.specs.Table.{Row, GoodTable, rows, hashOf, place, placeIn, he
 use Rattle.tables.proofs.TableLaws.{length-rows-at, row-of-held, hash-of-held, member-of-place, stranger-of-place, place-at-most}
 use Rattle.graph.specs.Marks.{Marks, Blank, marked, picked}
 use Rattle.graph.proofs.GraphMarks.{many-rows, marked-rows}
-use Rattle.graph.proofs.MarkLaws.{blank-or, Turned, turn-set, turn-done}
+use Rattle.graph.proofs.MarkLaws.{blank-or}
+use Rattle.graph.proofs.TurnLaws.{Turned, turn-set, turn-done}
 use Rattle.graph.proofs.PickLaws.{marks-picked, pick-keep, pick-none, keep-pick, rows-picked, rows-where, picked-count, pickLeft, left-all, left-taken, left-passed, left-none}
 use Rattle.members.specs.Members.{inTheS, theS}
 use Rattle.selection.specs.Chosen.{answeredRow, heldUnmarked, chosenBy, Chosen, Choosable}

@@ -1,5 +1,5 @@
 -- `graph::beyond::mark_known` meets its contract: the list's marks, made where none was, are the base of what is below it. Assumes nothing.
-use Rattle.graph.proofs.GraphMarks.{below-known}
+use Rattle.graph.proofs.GraphMarks.{below-blank}
 use borrow.Author.Needs.{needs}
 use Rattle.graph.proofs.beyond.mark_known.Statement.{statement}
 use Rattle.graph.proofs.beyond.mark_known.Tie as tie
@@ -17,7 +17,7 @@ returns : tie.Need-returns
 returns c =
     let b = c .before .before in
     let l = b .before .before .before .before in
-    below-known _ _ _ _ _ _ (l .before .before .before .before .before .pre .3) (l .mark-list .ensures) (b .mark-below .ensures)
+    below-blank _ _ _ _ _ _ (l .before .before .before .before .before .pre .3) (l .mark-list .ensures) (b .mark-below .ensures)
 
 pub mark-known-spec : {M : Type 1} → statement M
 mark-known-spec = tie.close (tie.spec mark-list-requires mark-below-requires same-length returns)

@@ -1,5 +1,6 @@
 -- `graph::heads::heads` meets its contract: one law for each answer (CallLaws), and the first rows of an accepted table are good. Assumes nothing.
 use mathlib.Core.Path.{_≡_, sym, _∙_}
+use native.Mathlib.Omega.{arith}
 use denote.Ref.{now}
 use Rattle.tables.proofs.GoodLaws.{accepted-part}
 use Rattle.rules.proofs.Outputs.{refused}
@@ -29,7 +30,7 @@ returns : tie.Need-returns
 returns c = rw (heads-many _ _ _ (told (c .before)) (c .if1 .taken)) (refused _ _)
 
 put-heads-requires : tie.Need-put-heads-requires
-put-heads-requires c κs = accepted-part _ _ _ (told (c .before .before)) (c .before .if1 .left)
+put-heads-requires c κs = accepted-part _ _ _ (told (c .before .before)) (omega (arith, c .before .if1 .left))
 
 returns-2 : tie.Need-returns-2
 returns-2 c = rw (heads-refused _ _ _ (sym (c .before .before .before .check-table .ensures) ∙ c .before .r .given .1)) (refused _ _)

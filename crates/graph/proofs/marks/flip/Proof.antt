@@ -4,7 +4,7 @@ use mathlib.Core.Bool.{not}
 use mathlib.Core.Path.{_≡_, refl, _∙_}
 use native.Mathlib.Omega.{arith}
 use lib.ListN.{length, length-set}
-use Rattle.graph.proofs.MarkLaws.{Turned, turn-start, turn-set, turn-done}
+use Rattle.graph.proofs.TurnLaws.{Turned, turn-start, turn-set, turn-done}
 use borrow.Author.Needs.{needs}
 use Rattle.graph.proofs.marks.flip.Statement.{statement}
 use Rattle.graph.proofs.marks.flip.Tie as tie

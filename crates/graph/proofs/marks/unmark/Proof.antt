@@ -4,7 +4,7 @@ use mathlib.Core.Path.{_≡_, refl, _∙_}
 use native.Mathlib.Omega.{arith}
 use borrow.Author.Tests.{not-true, not-false}
 use lib.ListN.{length, length-set}
-use Rattle.graph.proofs.MarkLaws.{off, Turned, turn-start, mark-stays, mark-goes, off-done}
+use Rattle.graph.proofs.TurnLaws.{off, Turned, turn-start, mark-stays, mark-goes, off-done}
 use borrow.Author.Needs.{needs}
 use Rattle.graph.proofs.marks.unmark.Statement.{statement}
 use Rattle.graph.proofs.marks.unmark.Tie as tie

@@ -9,7 +9,8 @@ use Rattle.bloom.specs.Have.{havesOf}
 use Rattle.rules.specs.Sizes.{sizes}
 use Rattle.tables.specs.Bytes.{rowsAt}
 use Rattle.tables.proofs.GoodLaws.{good-part}
-use Rattle.graph.proofs.MarkLaws.{blank, Turned, turn-start}
+use Rattle.graph.proofs.MarkLaws.{blank}
+use Rattle.graph.proofs.TurnLaws.{Turned, turn-start}
 use Rattle.members.proofs.MemberLaws.{memberAt, joins-on, joins-done}
 use borrow.Author.Needs.{needs}
 use Rattle.members.proofs.members.mark_s.Statement.{statement}

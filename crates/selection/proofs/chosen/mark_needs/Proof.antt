@@ -3,7 +3,7 @@ use Prim.Native.Nat.{_-_, _≤_}
 use mathlib.Core.Path.{_≡_, refl, _∙_}
 use native.Mathlib.Omega.{arith}
 use lib.ListN.{length, length-set}
-use Rattle.graph.proofs.MarkLaws.{Turned, turn-start}
+use Rattle.graph.proofs.TurnLaws.{Turned, turn-start}
 use Rattle.selection.proofs.ChosenLaws.{asking, asked-on, asked-done}
 use borrow.Author.Needs.{needs}
 use Rattle.selection.proofs.chosen.mark_needs.Statement.{statement}

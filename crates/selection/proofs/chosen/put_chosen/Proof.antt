@@ -1,4 +1,5 @@
 -- `selection::chosen::put_chosen` meets its contract: the rows are put where the needs end. Assumes nothing.
+use native.Mathlib.Omega.{arith}
 use Rattle.selection.proofs.ChosenLaws.{room-first, room-second, both-put}
 use borrow.Author.Needs.{needs}
 use Rattle.selection.proofs.chosen.put_chosen.Statement.{statement}
@@ -13,7 +14,8 @@ put-marked-requires : tie.Need-put-marked-requires
 put-marked-requires c κs =
     let p = c .before .before .before in
     let start = p .before .before .before .before .before .before .before in
-    (start .pre .0, start .pre .1, room-second _ _ _ _ _ _ _ _ _ _ (p .put-needs .ensures .1) (p .put-needs .kept .1 .1 .1 .1 .0) (start .pre .4))
+    let room = room-second _ _ _ _ _ _ _ _ _ _ (p .put-needs .ensures .1) (p .put-needs .kept .1 .1 .1 .1 .0) (start .pre .4) in
+    (start .pre .0, start .pre .1, omega (arith, room))
 
 same-length : tie.Need-same-length
 same-length c = search needs

@@ -29,7 +29,8 @@ choose-requires c κs =
 mul-size : tie.Need-mul-size
 mul-size c =
     let d = c .before .before in
-    omega (arith, chosen-most _ _ _ _ _ _ _ _ _ _ _ (d .before .before .before .before .before .before .before .before .pre) (d .choose .ensures))
+    let start = d .before .before .before .before .before .before .before .before in
+    omega (arith, chosen-most _ _ _ _ _ _ _ _ _ _ _ (start .pre) (d .choose .ensures), start .pre .few)
 
 returns : tie.Need-returns
 returns c = no-room _ _ _ (chosen-size (chosen-all _ _ (c .before .before .before .choose .ensures))) (c .if1 .taken)

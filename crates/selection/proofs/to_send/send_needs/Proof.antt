@@ -9,6 +9,7 @@ use Rattle.rules.specs.Passed.{passedHashes}
 use Rattle.rules.specs.declared.passed.Passed.the-variants.{Hashes}
 use Rattle.rules.proofs.Outputs.{refused}
 use Rattle.rules.proofs.PassedLaws.{passed-is}
+use Rattle.tables.proofs.GoodLaws.{good-part}
 use Rattle.selection.proofs.SendCalls.{syncs-inside, send-need, send-many, send-written}
 use borrow.Author.Needs.{needs}
 use Rattle.selection.proofs.to_send.send_needs.Statement.{statement}
@@ -45,11 +46,11 @@ put-to-send-requires c κs =
     let haves = passed-haves _ _ (start .pre .1) (sym (e .before .passed-few .ensures) ∙ not-false _ (e .if1 .left)) in
     let whole = passed-is _ _ (told t) in
     record {
-      rows = start .pre .0;
+      rows = good-part _ _ _ (start .pre .0) (omega arith);
       filters = good-filters _ _ haves;
       syncs = syncs-inside _ _ haves;
       needs = omega (arith, whole .whole);
-      few = whole .few;
+      few = omega (arith, whole .few);
     }
 
 returns-2 : tie.Need-returns-2
