@@ -16,12 +16,12 @@ use Rattle.rules.specs.declared.refusal.Refusal.the-variants.{Cut, PastSize, No
 use Rattle.rules.proofs.Cases.{split}
 use Rattle.rules.proofs.Hash.{slice-append, slice-parts}
 use Rattle.wire.specs.Item.{leftAt, afterNumber}
-use Rattle.wire.specs.Number.{shortest, numberAt, mostFilter, Put}
-use Rattle.wire.specs.declared.leb128.Number.{Number}
-use Rattle.wire.specs.declared.leb128.Number.the-variants.{Value, Refused as NoValue}
+use Rattle.numbers.specs.Number.{shortest, numberAt, mostFilter, Put}
+use Rattle.numbers.specs.declared.leb128.Number.{Number}
+use Rattle.numbers.specs.declared.leb128.Number.the-variants.{Value, Refused as NoValue}
 use Rattle.wire.proofs.Item.{left-is}
-use Rattle.wire.proofs.Meaning.{Inside, number-inside, number-most, number-written, written-number}
-use Rattle.wire.proofs.Number.{slice-past, put-joined}
+use Rattle.numbers.proofs.Meaning.{Inside, number-inside, number-most, number-written, written-number}
+use Rattle.numbers.proofs.Number.{slice-past, put-joined}
 use Rattle.bloom.specs.Filter.{Filter, filterOf4, fieldSize, filterRules, filterBytes, defaultBits, defaultProbes}
 use Rattle.bloom.specs.Have.{numbersOf, filterWith}
 use Rattle.bloom.specs.Means.{FilterMeans}

@@ -5,7 +5,7 @@ use mathlib.Core.List.{[], _∷_}
 use mathlib.Core.Path.{_≡_, refl}
 use Rattle.rules.specs.declared.refusal.Refusal.the-variants.{PastSize, NoBits}
 use Rattle.wire.specs.Item.{leftAt, afterNumber}
-use Rattle.wire.specs.Number.{goOn, find, answerAt, numberAt}
+use Rattle.numbers.specs.Number.{goOn, find, answerAt, numberAt}
 use Rattle.bloom.specs.Filter.{fieldSize}
 use Rattle.bloom.specs.Have.{numbersOf}
 use Rattle.bloom.specs.Read.{fieldAt, numbersAt, filterAt}

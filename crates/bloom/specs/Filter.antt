@@ -6,8 +6,8 @@ use lib.Dec.{ltb, leb, eqb}
 use lib.ListN.{length}
 use Rattle.rules.specs.Output.{Output}
 use Rattle.rules.specs.Sizes.{sizes}
-use Rattle.rules.specs.declared.refusal.Refusal.the-variants.{BadSession}
-use Rattle.wire.specs.Number.{shortest, mostFilter}
+use Rattle.rules.specs.declared.refusal.Refusal.the-variants.{BadNumbers}
+use Rattle.numbers.specs.Number.{shortest, mostFilter}
 
 -- Entries n, bits per entry b, probes p, and the bit field's bytes.
 pub record Filter : Type 0 where
@@ -46,5 +46,5 @@ filterBytes f =
 unfoldable pub filterOutput : Filter → Output
 filterOutput f =
     cond (not (filterRules (f .entries) (f .bits) (f .probes) (length (f .field))))
-    (Output.refuse BadSession)
+    (Output.refuse BadNumbers)
     (Output.bytes (filterBytes f))

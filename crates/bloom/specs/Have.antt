@@ -1,5 +1,5 @@
--- A have as numbers: seven words a record in a lent list, with places into one lent buffer. 01, "The haves of a message are handed on as one
--- lent list of records (place, counts), first as numbers in arrays".
+-- A have as numbers: seven words a record in a lent list, with places into one lent buffer. 01, Shapes that can't come over: haves are handed on
+-- as lent records of places and counts.
 use Prim.Native.Nat.{ℕ, zero, suc, _+_, _*_, _/_, _%_, _<_, min}
 use mathlib.Core.Bool.{Bool, true, _&&_}
 use mathlib.Core.List.{List, [], _∷_}

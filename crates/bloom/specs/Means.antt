@@ -6,7 +6,7 @@ use mathlib.Core.Bool.{true}
 use mathlib.Core.List.{List, [], _++_}
 use mathlib.Core.Path.{_≡_}
 use lib.ListN.{length}
-use Rattle.wire.specs.Number.{shortest}
+use Rattle.numbers.specs.Number.{shortest}
 use Rattle.bloom.specs.Filter.{Filter, filterOf4, filterRules, defaultBits, defaultProbes}
 
 pub data FilterMeans (bytes : List ℕ) (f : Filter) : Type 0 where

@@ -1,5 +1,5 @@
--- A filter as it is read. 01, Wire ("Filter") and Refusal numbers, 1, 3, 4 and 5: all three numbers first, then for n at least 1 what 01
--- tests, in its order.
+-- A filter as it is read. 01, Wire, Filter, and Refusal numbers, 1, 3, 4 and 5: all three numbers are read first; where there are entries, 5, both
+-- 4s and 1 come in this order.
 use Prim.Native.Nat.{ℕ, _+_}
 use mathlib.Core.Bool.{cond}
 use mathlib.Core.List.{List}
@@ -8,7 +8,7 @@ use Rattle.rules.specs.Sizes.{sizes}
 use Rattle.rules.specs.declared.refusal.Refusal.{Refusal}
 use Rattle.rules.specs.declared.refusal.Refusal.the-variants.{Cut, PastSize, NoBits}
 use Rattle.wire.specs.Item.{leftAt, afterNumber}
-use Rattle.wire.specs.Number.{numberAt, mostFilter}
+use Rattle.numbers.specs.Number.{numberAt, mostFilter}
 use Rattle.bloom.specs.Filter.{fieldSize, defaultBits, defaultProbes}
 use Rattle.bloom.specs.Have.{numbersOf}
 use Rattle.bloom.specs.declared.have.FilterNumbers.{FilterNumbers}

@@ -1,16 +1,16 @@
 // A filter written.
 use crate::rule::filter_rules;
+use numbers::leb128::put_unsigned;
+use numbers::leb128::unsigned_size;
 use rules::output::Write;
 use rules::put::copy_into;
 use rules::refusal::Refusal;
-use wire::leb128::put_unsigned;
-use wire::leb128::unsigned_size;
 ghost use mathlib.Core.Path.{_≡_};
 ghost use Prim.Native.Nat.{_+_, _≤_, _<_, _^_};
 ghost use lib.ListN.{length};
 ghost use Rattle.bloom.specs.Filter.{Filter, filterBytes, filterOutput, filterOf4};
 ghost use Rattle.rules.specs.Output.{Written};
-ghost use Rattle.wire.specs.Number.{Put};
+ghost use Rattle.numbers.specs.Number.{Put};
 
 // How many bytes a filter has when it is written.
 pub fn filter_size(entries: u64, bits: u64, probes: u64, field: &[u8]) -> usize
@@ -49,7 +49,7 @@ pub fn to_bytes(out: &mut [u8], entries: u64, bits: u64, probes: u64, field: &[u
     ensures { λ r. ⌜ Written (filterOutput (filterOf4 entries bits probes (now (field .entry)))) (now (out .entry)) (now (out .exit)) r ⌝ }
 {
     if !filter_rules(entries, bits, probes, field.len() as u64) {
-        return Write::Refused(Refusal::BadSession);
+        return Write::Refused(Refusal::BadNumbers);
     }
     let size = filter_size(entries, bits, probes, field);
     if out.len() < size {

@@ -6,7 +6,7 @@ use Rattle.bloom.specs.declared.parse.Parsed.{Parsed}
 use Rattle.bloom.specs.declared.parse.Parsed.the-variants.{Filter, Refused as NoFilter}
 use Rattle.probe.specs.declared.contains.Contained.{Contained}
 use Rattle.probe.specs.declared.contains.Contained.the-variants.{Yes, No, Refused as NotTested}
-use Rattle.words.specs.Answer.{refusalWords}
+use Rattle.answers.specs.Answer.{refusalWords}
 
 abbrev pub filterWords : Parsed → List ℕ
 filterWords (Filter f next) = 0 ∷ f .entries ∷ f .bits ∷ f .probes ∷ f .place ∷ f .size ∷ next ∷ 0 ∷ []

@@ -1,7 +1,7 @@
 // An answer as words.
+use answers::answer::refusal_words;
 use bloom::parse::Parsed;
 use probe::contains::Contained;
-use words::answer::refusal_words;
 ghost use mathlib.Core.Path.{_≡_};
 ghost use Rattle.bloom_calls.specs.Answer.{filterWords, containedWords};
 

@@ -1,13 +1,13 @@
 // Calls of the crates `bloom` and `probe`.
 use crate::answer::contained_words;
 use crate::answer::filter_words;
-use words::answer::write_words;
+use answers::answer::write_words;
 ghost use mathlib.Core.Path.{_≡_};
 ghost use Rattle.probe.specs.Build.{buildOutput};
 ghost use Rattle.bloom.specs.Filter.{filterOutput, filterOf4};
 ghost use Rattle.bloom.specs.Read.{filterAt};
 ghost use Rattle.probe.specs.Contains.{containedIn};
-ghost use Rattle.words.specs.Answer.{Answered};
+ghost use Rattle.answers.specs.Answer.{Answered};
 ghost use Rattle.bloom_calls.specs.Answer.{filterWords, containedWords};
 
 // The filter at a place: 0, entries, bits, probes, place of the field, its length, next place.

@@ -1,6 +1,7 @@
 -- Laws that the crates above cite.
 pub mod Meaning
 pub mod Messages
+pub mod Promises
 pub mod ReadLaws
 pub mod RoundTrip
 pub mod Vectors

@@ -17,9 +17,9 @@ use Rattle.message.specs.declared.flags.Section.the-variants.{Absent, Present}
 use Rattle.rules.specs.Hash.{Bytes, hashesAt}
 use Rattle.rules.proofs.Hash.{length-hashes-at}
 use Rattle.wire.specs.Item.{prefixedBytes, hashListBytes}
-use Rattle.wire.specs.Number.{shortest}
+use Rattle.numbers.specs.Number.{shortest}
 use Rattle.wire.proofs.Item.{prefixed-inside, written-prefixed, hash-list-inside, written-hash-list}
-use Rattle.wire.proofs.Number.{slice-past, slice-next}
+use Rattle.numbers.proofs.Number.{slice-past, slice-next}
 use Rattle.decode.specs.Means.{SectionMeans, MessageMeans}
 use Rattle.decode.specs.Read.{read, sectionAt, messageAt, messageOf}
 use Rattle.decode.specs.declared.parse.Flagged.the-variants.{Section as Sectioned}

@@ -19,10 +19,10 @@ use Rattle.message.specs.declared.version.MessageVersion.the-variants.{V1, V2}
 use Rattle.rules.specs.Hash.{hashesAt}
 use Rattle.rules.specs.Sizes.{sizes}
 use Rattle.wire.specs.Item.{run, prefixedBytes, hashListBytes}
-use Rattle.wire.specs.Number.{shortest}
+use Rattle.numbers.specs.Number.{shortest}
 use Rattle.wire.specs.declared.parse.Run.{Run}
 use Rattle.wire.proofs.Item.{prefixed-inside, prefixed-written, hash-list-inside, hash-list-written}
-use Rattle.wire.proofs.Number.{shortest-one}
+use Rattle.numbers.proofs.Number.{shortest-one}
 use Rattle.items.specs.Items.{chunksOf}
 use Rattle.items.proofs.RoundTrip.{onward, haves-written, chunks-written}
 use Rattle.decode.specs.Read.{read, headsAt, openingAt, sectionAt, messageAt, messageOf}

@@ -14,7 +14,7 @@ use Rattle.message.specs.declared.version.MessageVersion.the-variants.{V1}
 use Rattle.rules.specs.Hash.{hashesAt}
 use Rattle.rules.specs.declared.refusal.Refusal.the-variants.{Cut, WrongType, BadNumber, PastSize}
 use Rattle.wire.specs.Item.{run, leftAt, afterNumber, afterPart, afterListed, countAt, prefixedAt, hashListAt}
-use Rattle.wire.specs.Number.{goOn, find, answerAt, numberAt}
+use Rattle.numbers.specs.Number.{goOn, find, answerAt, numberAt}
 use Rattle.items.specs.Items.{
   haveAt,
   afterItem,

@@ -1,6 +1,5 @@
--- What the bytes of a message mean. 01, Wire: "Message: 42 (V1) or 43 (V2); heads; need; count of haves, each a hash list and a prefixed filter; count
--- of chunks, each prefixed; if bytes remain, a prefixed flags section. What follows that is ignored." What `messageAt` reads means the message that it
--- says: the law `message-means`. The other way round it reads what is written of a message: `message-there-and-back`.
+-- What a message that was read means. 01, Wire, Message: its parts stand one after the other, each from the place where the one before it ended;
+-- bytes behind a flags section say nothing. `messageAt` reads exactly the messages that mean something: the laws `message-means` and `means-read`.
 use Prim.Native.Nat.{ℕ, _≤_}
 use mathlib.Core.List.{List, [], _∷_, _++_}
 use mathlib.Core.Path.{_≡_}
@@ -12,7 +11,7 @@ use Rattle.message.specs.declared.flags.Section.{Section}
 use Rattle.message.specs.declared.flags.Section.the-variants.{Absent, Present}
 use Rattle.rules.specs.Sizes.{sizes}
 use Rattle.wire.specs.Item.{prefixedBytes, hashListBytes}
-use Rattle.wire.specs.Number.{shortest}
+use Rattle.numbers.specs.Number.{shortest}
 
 -- The bytes after the chunks: no section where there are none, else a section, and what is ignored.
 pub data SectionMeans (bytes : List ℕ) : Section → Type 0 where

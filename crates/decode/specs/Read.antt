@@ -1,5 +1,5 @@
--- A message as it is read. 01, Wire ("Message", "Flags") and Refusal numbers: the total size first, then from the first byte on; "if bytes
--- remain, a prefixed flags section. What follows that is ignored."
+-- A message as it is read. 01, Wire, Message and Flags, and Refusal numbers: the total size first, then byte by byte; what is left after the chunks is a
+-- flags section, and nothing is looked for behind it.
 use Prim.Native.Nat.{ℕ}
 use mathlib.Core.Bool.{cond}
 use mathlib.Core.List.{List}

@@ -18,8 +18,8 @@ use Rattle.message.specs.declared.flags.Section.the-variants.{Absent, Present}
 use Rattle.rules.specs.Hash.{Bytes, hashesAt}
 use Rattle.rules.specs.Sizes.{sizes}
 use Rattle.wire.specs.Item.{prefixedBytes, hashListBytes}
-use Rattle.wire.specs.Number.{shortest, Put}
-use Rattle.wire.proofs.Number.{put-then, put-joined}
+use Rattle.numbers.specs.Number.{shortest, Put}
+use Rattle.numbers.proofs.Number.{put-then, put-joined}
 use Rattle.size.specs.Size.{total}
 use Rattle.size.specs.Write.{chunksFrom}
 use Rattle.size.proofs.SizeLaws.{part-is, part-long, hash-list-is, have-is, haves-next, haves-end, haves-long, chunks-long, counted-is}

@@ -9,9 +9,9 @@ use message::flags::BITFIELD_MARKER;
 use message::flags::LEGACY_V2_BYTE;
 use message::flags::Section;
 use message::version::MessageVersion;
+use numbers::leb128::put_unsigned;
 use rules::put::copy_into;
 use rules::sizes::HASH_SIZE;
-use wire::leb128::put_unsigned;
 ghost use mathlib.Core.Path.{_≡_};
 ghost use Prim.Native.Nat.{_+_, _*_, _≤_, _<_};
 ghost use lib.ListN.{length};
@@ -25,7 +25,7 @@ ghost use Rattle.message.specs.Message.{haveBytes, counted, messageBytes};
 ghost use Rattle.rules.specs.Hash.{hashesAt};
 ghost use Rattle.rules.specs.Sizes.{sizes};
 ghost use Rattle.wire.specs.Item.{prefixedBytes, hashListBytes};
-ghost use Rattle.wire.specs.Number.{Put};
+ghost use Rattle.numbers.specs.Number.{Put};
 
 // A list of so many hashes, which stand in s from a place on.
 fn put_hashes(out: &mut [u8], at: usize, s: &[u8], place: usize, count: usize) -> usize

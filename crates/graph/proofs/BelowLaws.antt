@@ -15,7 +15,7 @@ use Rattle.rules.proofs.Cases.{split, both, true-false, either, or-left, or-rig
 use Rattle.rules.proofs.OrderLaws.{member-none}
 use Rattle.rules.proofs.ReachLaws.{reach-equation, reach-base, reach-closed, reach-least}
 use Rattle.rules.specs.Hash.{AreHashes}
-use Rattle.tables.specs.Table.{Row, noRow, rows, hashOf, depsOf, GoodTable, placeIn, place, held, deps}
+use Rattle.tables.specs.Table.{Row, noRow, rows, hashOf, depsOf, GoodTable, indexIn, rowNumber, held, deps}
 use Rattle.tables.proofs.TableLaws.{length-rows, place-of-row, held-row, row-of-held, hash-of-held, place-of-stranger}
 use Rattle.graph.specs.Graph.{belowRow, below, beyond}
 use Rattle.graph.proofs.PickLaws.{rows-where, rows-most, chosen-hashes}
@@ -42,19 +42,19 @@ map-member f (x ∷ xs) g m =
 -- ---- rows
 
 pub no-deps : (t : List Row) (h : ℕ) → held t h ≡ false → deps t h ≡ []
-unfolding deps depsOf place held
+unfolding deps depsOf rowNumber held
 no-deps t h e =
-    let p : placeIn (rows t) h ≡ length t = place-of-stranger (rows t) h e ∙ length-rows t in
+    let p : indexIn (rows t) h ≡ length t = place-of-stranger (rows t) h e ∙ length-rows t in
     let none : getD t (length t) noRow ≡ noRow = List·getD-eq-default t noRow (omega arith) in
     ap (λ (k : ℕ). map (hashOf t) (getD t k noRow .deps)) p ∙ ap (λ (r : Row). map (hashOf t) (r .deps)) none
 
 -- a dependency is a row before the one that names it
 pub record Dependency (t : List Row) (h g : ℕ) : Type 0 where
   pub row : ℕ
-  pub there : member row (depsOf t (place t h)) ≡ true
+  pub there : member row (depsOf t (rowNumber t h)) ≡ true
   pub is : hashOf t row ≡ g
-  pub less : row < place t h
-  pub inside : place t h < length t
+  pub less : row < rowNumber t h
+  pub inside : rowNumber t h < length t
 
 module _ (t : List Row) (good : GoodTable t) where
   pub only-rows : (h g : ℕ) → member g (deps t h) ≡ true → held t h ≡ true
@@ -64,8 +64,8 @@ module _ (t : List Row) (good : GoodTable t) where
   unfolding deps
   dependency h g m =
       let inside = row-of-held t h (only-rows h g m) in
-      let w = map-member (hashOf t) (depsOf t (place t h)) g m in
-      record { row = w .k; there = w .there; is = w .is; less = good .down (place t h) (w .k) inside (w .there); inside = inside }
+      let w = map-member (hashOf t) (depsOf t (rowNumber t h)) g m in
+      record { row = w .k; there = w .there; is = w .is; less = good .down (rowNumber t h) (w .k) inside (w .there); inside = inside }
 
   pub deps-held : (h g : ℕ) → member g (deps t h) ≡ true → held t g ≡ true
   deps-held h g m =
@@ -80,23 +80,23 @@ module _ (t : List Row) (good : GoodTable t) where
 
   -- what holds of a row if it holds of all that the row depends on holds of every row
   module _ (P : ℕ → Type 0) (step : (h : ℕ) → held t h ≡ true → ((g : ℕ) → member g (deps t h) ≡ true → P g) → P h) where
-    from-first : (n h : ℕ) → place t h < n → held t h ≡ true → P h
+    from-first : (n h : ℕ) → rowNumber t h < n → held t h ≡ true → P h
     from-first zero h l e = absurd (not-suc-le-zero l)
     from-first (suc n) h l e =
         step h e
         (λ g m.
         let d = dependency h g m in
         let less : d .row < length t = omega (arith, d .less, d .inside) in
-        let at : place t g ≡ d .row = ap (place t) (sym (d .is)) ∙ place-of-row t good (d .row) less in
+        let at : rowNumber t g ≡ d .row = ap (rowNumber t) (sym (d .is)) ∙ place-of-row t good (d .row) less in
         from-first n g (omega (arith, d .less)) (deps-held h g m))
 
     pub row-induction : (h : ℕ) → held t h ≡ true → P h
-    row-induction h e = from-first (suc (place t h)) h (omega arith) e
+    row-induction h e = from-first (suc (rowNumber t h)) h (omega arith) e
 
 -- ---- below
 
 module _ (t : List Row) (good : GoodTable t) (l : List ℕ) where
-  pub below-row : (h : ℕ) → held t h ≡ true → below t l h ≡ belowRow t l (place t h)
+  pub below-row : (h : ℕ) → held t h ≡ true → below t l h ≡ belowRow t l (rowNumber t h)
   unfolding below
   below-row h e = rw e
 
@@ -115,7 +115,7 @@ module _ (t : List Row) (good : GoodTable t) (l : List ℕ) where
   unfolding belowRow
   below-known h e m =
       below-row h e
-      ∙ reach-base (length t) (λ k. member (hashOf t k) l) (λ k j. member j (depsOf t k)) (place t h) (row-of-held t h e) (rw (hash-of-held t h e) m)
+      ∙ reach-base (length t) (λ k. member (hashOf t k) l) (λ k j. member j (depsOf t k)) (rowNumber t h) (row-of-held t h e) (rw (hash-of-held t h e) m)
 
   -- dependencies of what is below are below
   pub below-deps : (h g : ℕ) → below t l h ≡ true → member g (deps t h) ≡ true → below t l g ≡ true
@@ -123,10 +123,10 @@ module _ (t : List Row) (good : GoodTable t) (l : List ℕ) where
   below-deps h g b m =
       let d = dependency t good h g m in
       let less : d .row < length t = omega (arith, d .less, d .inside) in
-      let at : place t g ≡ d .row = ap (place t) (sym (d .is)) ∙ place-of-row t good (d .row) less in
+      let at : rowNumber t g ≡ d .row = ap (rowNumber t) (sym (d .is)) ∙ place-of-row t good (d .row) less in
       below-row g (deps-held t good h g m)
       ∙ rw at
-      (reach-closed (length t) (λ k. member (hashOf t k) l) (λ k j. member j (depsOf t k)) (place t h) (d .row) (d .inside) less
+      (reach-closed (length t) (λ k. member (hashOf t k) l) (λ k j. member j (depsOf t k)) (rowNumber t h) (d .row) (d .inside) less
       (sym (below-row h (below-held h b)) ∙ b)
       (d .there))
 
@@ -143,7 +143,7 @@ module _ (t : List Row) (good : GoodTable t) (l : List ℕ) where
       (λ i. P (hashOf t i))
       (λ i f m. base (hashOf t i) (held-row t i f) m)
       (λ k i f u q m. step (hashOf t k) (hashOf t i) (held-row t k f) q (deps-of-hash t good k i f m))
-      (place t h)
+      (rowNumber t h)
       (row-of-held t h e)
       (sym (below-row h e) ∙ b))
 

@@ -12,7 +12,7 @@ use Rattle.rules.proofs.KeepLaws.{hashes-inside}
 use Rattle.rules.proofs.OrderLaws.{ascend-ascends, ascend-members, ascend-most}
 use Rattle.rules.proofs.ReachLaws.{some-below, some-witness}
 use Rattle.rules.specs.Hash.{AreHashes}
-use Rattle.tables.specs.Table.{Row, rows, hashOf, depsOf, GoodTable, place, held, deps, rowsWhere}
+use Rattle.tables.specs.Table.{Row, rows, hashOf, depsOf, GoodTable, rowNumber, held, deps, rowsWhere}
 use Rattle.tables.proofs.TableLaws.{place-of-row, held-row, row-of-held, hash-of-held}
 use Rattle.graph.specs.Graph.{needed, heads, below}
 use Rattle.graph.proofs.BelowLaws.{dependency, deps-of-hash, below-known, below-deps}
@@ -36,15 +36,15 @@ heads-few t =
     omega (arith, ascend-most (rowsWhere t p), rows-most t p)
 
 module _ (t : List Row) (good : GoodTable t) where
-  pub head-is : (h : ℕ) → member h (heads t) ≡ (held t h && not (needed t (place t h)))
+  pub head-is : (h : ℕ) → member h (heads t) ≡ (held t h && not (needed t (rowNumber t h)))
   unfolding heads
   head-is h = ascend-members h (rowsWhere t (λ i. not (needed t i))) ∙ rows-where t good (λ i. not (needed t i)) h
 
   pub head-held : (h : ℕ) → member h (heads t) ≡ true → held t h ≡ true
-  head-held h m = both (held t h) (not (needed t (place t h))) (sym (head-is h) ∙ m) .0
+  head-held h m = both (held t h) (not (needed t (rowNumber t h))) (sym (head-is h) ∙ m) .0
 
-  head-unneeded : (h : ℕ) → member h (heads t) ≡ true → needed t (place t h) ≡ false
-  head-unneeded h m = not-true (needed t (place t h)) (both (held t h) (not (needed t (place t h))) (sym (head-is h) ∙ m) .1)
+  head-unneeded : (h : ℕ) → member h (heads t) ≡ true → needed t (rowNumber t h) ≡ false
+  head-unneeded h m = not-true (needed t (rowNumber t h)) (both (held t h) (not (needed t (rowNumber t h))) (sym (head-is h) ∙ m) .1)
 
   -- no row depends on a head
   pub head-last : (h g : ℕ) → member h (heads t) ≡ true → member h (deps t g) ≡ false
@@ -54,9 +54,9 @@ module _ (t : List Row) (good : GoodTable t) where
       (λ e.
       let d = dependency t good g h e in
       let less : d .row < length t = omega (arith, d .less, d .inside) in
-      let at : d .row ≡ place t h = sym (place-of-row t good (d .row) less) ∙ ap (place t) (d .is) in
-      let named : member (place t h) (depsOf t (place t g)) ≡ true = rw at at (d .there) in
-      absurd (true-false _ (some-below (length t) (λ k. member (place t h) (depsOf t k)) (place t g) (d .inside) named) (head-unneeded h m)))
+      let at : d .row ≡ rowNumber t h = sym (place-of-row t good (d .row) less) ∙ ap (rowNumber t) (d .is) in
+      let named : member (rowNumber t h) (depsOf t (rowNumber t g)) ≡ true = rw at at (d .there) in
+      absurd (true-false _ (some-below (length t) (λ k. member (rowNumber t h) (depsOf t k)) (rowNumber t g) (d .inside) named) (head-unneeded h m)))
       (λ e. e)
 
   -- what holds of the heads and passes to dependencies holds of all rows
@@ -75,7 +75,7 @@ module _ (t : List Row) (good : GoodTable t) where
         (λ e. base (hashOf t i) (head-is (hashOf t i) ∙ rw (held-row t i h, place-of-row t good i h, e)))
 
     pub heads-cover : (h : ℕ) → held t h ≡ true → P h
-    heads-cover h e = subst P (hash-of-held t h e) (from-last (length t) (place t h) (omega arith) (row-of-held t h e))
+    heads-cover h e = subst P (hash-of-held t h e) (from-last (length t) (rowNumber t h) (omega arith) (row-of-held t h e))
 
   -- every row is a head or an ancestor of one
   pub rows-below-heads : (h : ℕ) → held t h ≡ true → below t (heads t) h ≡ true

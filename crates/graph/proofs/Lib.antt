@@ -7,6 +7,7 @@ pub mod HeadLaws
 pub mod MarkLaws
 pub mod MarkedRows
 pub mod PickLaws
+pub mod Promises
 pub mod PutLaws
 pub mod TurnLaws
 pub mod Vectors

@@ -15,8 +15,8 @@ use Rattle.rules.specs.Hash.{hashAt, hashesAt}
 use Rattle.rules.specs.Order.{member, Once}
 use Rattle.rules.specs.Reach.{someBelow, reach}
 use Rattle.rules.specs.Sizes.{sizes}
-use Rattle.tables.specs.Bytes.{twoAt, countAt, usedAt, rowsAt, GoodRows}
-use Rattle.tables.specs.Table.{Row, rows, hashOf, depsOf, placeIn}
+use Rattle.tables.specs.Bytes.{u16At, depCount, usedAt, rowsAt, GoodRows}
+use Rattle.tables.specs.Table.{Row, rows, hashOf, depsOf, indexIn}
 use Rattle.rules.proofs.KeepLaws.{once-index}
 use Rattle.tables.proofs.GoodLaws.{good-down}
 use Rattle.tables.proofs.TableLaws.{at-place, place-first, length-rows, length-rows-at, deps-of-row, numberAt, length-used, used-index}
@@ -145,11 +145,11 @@ module _ (deps : ℕ → List ℕ) where
 
 -- ---- a row's numbers, marked one after the other
 
-module _ (s : List ℕ) (i count : ℕ) (c : count ≡ countAt s i) where
+module _ (s : List ℕ) (i count : ℕ) (c : count ≡ depCount s i) where
   numbers-many : length (usedAt s i) ≡ count
   numbers-many = length-used s i ∙ sym c
 
-  module _ (j k : ℕ) (inside : j < count) (read : k ≡ twoAt s (numberAt i j)) where
+  module _ (j k : ℕ) (inside : j < count) (read : k ≡ u16At s (numberAt i j)) where
     pub number-is : getD (usedAt s i) j 0 ≡ k
     number-is = used-index s i j (omega arith) ∙ sym read
 
@@ -163,7 +163,7 @@ module _ (s : List ℕ) (i count : ℕ) (c : count ≡ countAt s i) where
   pub numbers-none : (j : ℕ) → count ≤ j → drop j (usedAt s i) ≡ []
   numbers-none j h = drop-of-length-le (usedAt s i) {i = j} (omega (arith, numbers-many))
 
-  pub numbers-on : (m : List Bool) (j k : ℕ) → j < count → k ≡ twoAt s (numberAt i j)
+  pub numbers-on : (m : List Bool) (j k : ℕ) → j < count → k ≡ u16At s (numberAt i j)
       → markAll m (drop j (usedAt s i)) ≡ markAll (set m k true) (drop (j + 1) (usedAt s i))
   unfolding markAll
   numbers-on m j k h e = rw (numbers-more j k h e)
@@ -229,24 +229,24 @@ markList hs m (h ∷ l) = markList hs (markHash hs m h) l
 module _ (hs : List ℕ) where
   length-mark-hash : (m : List Bool) (h : ℕ) → length (markHash hs m h) ≡ length m
   unfolding markHash
-  length-mark-hash m h = split (ltb (placeIn hs h) (length hs)) (λ e. rw e (length-set m (placeIn hs h) true)) (λ e. rw e)
+  length-mark-hash m h = split (ltb (indexIn hs h) (length hs)) (λ e. rw e (length-set m (indexIn hs h) true)) (λ e. rw e)
 
   module _ (once : Once hs) where
     mark-hash : (m : List Bool) (h i : ℕ) → length hs ≤ length m → i < length hs → getD (markHash hs m h) i false ≡ (getD m i false || eqb (getD hs i 0) h)
     unfolding markHash
     mark-hash m h i f l =
-        split (ltb (placeIn hs h) (length hs))
+        split (ltb (indexIn hs h) (length hs))
         (λ e.
-        let inside : placeIn hs h < length hs = ltb-true _ _ e in
-        let at : getD hs (placeIn hs h) 0 ≡ h = at-place hs h inside in
-        let same : eqb i (placeIn hs h) ≡ eqb (getD hs i 0) h =
-        same-truth (eqb i (placeIn hs h)) (eqb (getD hs i 0) h)
-        (λ q. eq-eqb (getD hs i 0) h (ap (λ (k : ℕ). getD hs k 0) (eqb-true i (placeIn hs h) q) ∙ at))
-        (λ q. eq-eqb i (placeIn hs h) (once-index hs once i (placeIn hs h) l inside (eqb-true (getD hs i 0) h q ∙ sym at))) in
-        rw e (mark-at m (placeIn hs h) i (omega arith) ∙ rw same))
+        let inside : indexIn hs h < length hs = ltb-true _ _ e in
+        let at : getD hs (indexIn hs h) 0 ≡ h = at-place hs h inside in
+        let same : eqb i (indexIn hs h) ≡ eqb (getD hs i 0) h =
+        same-truth (eqb i (indexIn hs h)) (eqb (getD hs i 0) h)
+        (λ q. eq-eqb (getD hs i 0) h (ap (λ (k : ℕ). getD hs k 0) (eqb-true i (indexIn hs h) q) ∙ at))
+        (λ q. eq-eqb i (indexIn hs h) (once-index hs once i (indexIn hs h) l inside (eqb-true (getD hs i 0) h q ∙ sym at))) in
+        rw e (mark-at m (indexIn hs h) i (omega arith) ∙ rw same))
         (λ e.
         let none : eqb (getD hs i 0) h ≡ false =
-        ne-eqb (getD hs i 0) h (λ q. let p = place-first hs h i l q in omega (arith, ltb-false (placeIn hs h) (length hs) e)) in
+        ne-eqb (getD hs i 0) h (λ q. let p = place-first hs h i l q in omega (arith, ltb-false (indexIn hs h) (length hs) e)) in
         rw (e, none) (sym (or-false (getD m i false))))
 
     mark-list : (m : List Bool) (l : List ℕ) (i : ℕ) → length hs ≤ length m → i < length hs
@@ -264,11 +264,11 @@ module _ (s : List ℕ) (n : ℕ) where
   long : length hs ≡ n
   long = length-rows (rowsAt s 0 n) ∙ length-rows-at s 0 n
 
-  pub hash-known : (m : List Bool) (h row : ℕ) → row ≡ placeIn hs h → row < n → set m row true ≡ markHash hs m h
+  pub hash-known : (m : List Bool) (h row : ℕ) → row ≡ indexIn hs h → row < n → set m row true ≡ markHash hs m h
   unfolding markHash
   hash-known m h row e l = rw (← e, long, lt-ltb row n l)
 
-  pub hash-unknown : (m : List Bool) (h row : ℕ) → row ≡ placeIn hs h → n ≤ row → m ≡ markHash hs m h
+  pub hash-unknown : (m : List Bool) (h row : ℕ) → row ≡ indexIn hs h → n ≤ row → m ≡ markHash hs m h
   unfolding markHash
   hash-unknown m h row e l = rw (← e, long, le-ltb row n l)
 

@@ -18,7 +18,7 @@ use Rattle.rules.proofs.Cases.{split, both, true-false, same-truth, either, or-
 use Rattle.rules.proofs.Hash.{length-hashes-bytes}
 use Rattle.rules.proofs.KeepLaws.{once-none, once-first, once-tail, once-cons, hashes-inside}
 use Rattle.rules.proofs.OrderLaws.{index-member}
-use Rattle.tables.specs.Table.{Row, GoodTable, rows, hashOf, place, held, rowsFrom, rowsWhere}
+use Rattle.tables.specs.Table.{Row, GoodTable, rows, hashOf, rowNumber, held, rowsFrom, rowsWhere}
 use Rattle.tables.proofs.TableLaws.{length-rows, place-of-row, held-row, row-of-held, hash-of-held}
 use Rattle.graph.specs.Marks.{Marks, marked, pickFrom, picked}
 
@@ -232,18 +232,18 @@ rows-once t good p = rw (rows-picked t p) (pick-once (rows t) p 0 (good .once))
 pub chosen-hashes : (t : List Row) (p : ℕ → Bool) → AreHashes (rows t) → AreHashes (rowsWhere t p)
 chosen-hashes t p a = hashes-inside (rowsWhere t p) (rows t) a (rows-member t p)
 
-pub rows-where : (t : List Row) → GoodTable t → (p : ℕ → Bool) (h : ℕ) → member h (rowsWhere t p) ≡ (held t h && p (place t h))
+pub rows-where : (t : List Row) → GoodTable t → (p : ℕ → Bool) (h : ℕ) → member h (rowsWhere t p) ≡ (held t h && p (rowNumber t h))
 unfolding hashOf
 rows-where t good p h =
-    same-truth (member h (rowsWhere t p)) (held t h && p (place t h))
+    same-truth (member h (rowsWhere t p)) (held t h && p (rowNumber t h))
     (λ m.
     let w = pick-out (rows t) p 0 h (rw (rows-picked t p) at m) in
     let less : w .k < length t = omega (arith, w .less, length-rows t) in
-    let at : place t h ≡ w .k = ap (place t) (sym (w .is)) ∙ place-of-row t good (w .k) less in
+    let at : rowNumber t h ≡ w .k = ap (rowNumber t) (sym (w .is)) ∙ place-of-row t good (w .k) less in
     let chosen : p (w .k) ≡ true = rw zero-add at (w .chosen) in
-    and-true (held t h) (p (place t h)) (rw (w .is) at (held-row t (w .k) less)) (rw at chosen))
+    and-true (held t h) (p (rowNumber t h)) (rw (w .is) at (held-row t (w .k) less)) (rw at chosen))
     (λ e.
-    let b = both (held t h) (p (place t h)) e in
+    let b = both (held t h) (p (rowNumber t h)) e in
     let less = row-of-held t h (b .0) in
-    let inside : place t h < length (rows t) = omega (arith, less, length-rows t) in
-    rw (rows-picked t p) (rw (hash-of-held t h (b .0)) at (pick-in (rows t) p 0 (place t h) inside (rw zero-add (b .1)))))
+    let inside : rowNumber t h < length (rows t) = omega (arith, less, length-rows t) in
+    rw (rows-picked t p) (rw (hash-of-held t h (b .0)) at (pick-in (rows t) p 0 (rowNumber t h) inside (rw zero-add (b .1)))))

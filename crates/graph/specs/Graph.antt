@@ -5,7 +5,7 @@ use mathlib.Core.List.{List}
 use lib.ListN.{length}
 use Rattle.rules.specs.Order.{member, ascend}
 use Rattle.rules.specs.Reach.{someBelow, reach}
-use Rattle.tables.specs.Table.{Row, hashOf, depsOf, place, held, rowsWhere}
+use Rattle.tables.specs.Table.{Row, hashOf, depsOf, rowNumber, held, rowsWhere}
 
 -- Heads: rows that no row depends on, ascending bytes.
 unfoldable pub needed : List Row → ℕ → Bool
@@ -20,7 +20,7 @@ belowRow t l i = reach (length t) (λ k. member (hashOf t k) l) (λ k j. member 
 
 -- The same of a hash.
 unfoldable pub below : List Row → List ℕ → ℕ → Bool
-below t l h = cond (held t h) (belowRow t l (place t h)) false
+below t l h = cond (held t h) (belowRow t l (rowNumber t h)) false
 
 -- Rows beyond L: neither in L nor ancestors of it, in table order.
 unfoldable pub beyond : List Row → List ℕ → List ℕ

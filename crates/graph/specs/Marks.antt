@@ -5,7 +5,7 @@ use mathlib.Core.List.{List, [], _∷_}
 use mathlib.Core.Path.{_≡_}
 use lib.Dec.{ltb}
 use lib.ListN.{length, getD, set}
-use Rattle.tables.specs.Table.{placeIn}
+use Rattle.tables.specs.Table.{indexIn}
 
 -- The first n marks are these.
 pub record Marks (n : ℕ) (r : List Bool) (p : ℕ → Bool) : Type 0 where
@@ -40,4 +40,4 @@ markRow deps i m = cond (getD m i false) (markAll m (deps i)) m
 
 -- The mark of a hash's place in a list set, if it has one.
 unfoldable pub markHash : List ℕ → List Bool → ℕ → List Bool
-markHash hs m h = cond (ltb (placeIn hs h) (length hs)) (set m (placeIn hs h) true) m
+markHash hs m h = cond (ltb (indexIn hs h) (length hs)) (set m (indexIn hs h) true) m

@@ -18,8 +18,8 @@ use Rattle.rules.specs.declared.refusal.Refusal.{Refusal}
 use Rattle.rules.proofs.Outputs.{sets-append}
 use Rattle.wire.specs.Item.{run, afterNumber, afterPart, afterListed, countAt, prefixedAt, hashListAt}
 use Rattle.wire.proofs.Item.{count-inside, prefixed-inside}
-use Rattle.wire.specs.declared.leb128.Number.{Number}
-use Rattle.wire.specs.declared.leb128.Number.the-variants.{Value, Refused as NoCount}
+use Rattle.numbers.specs.declared.leb128.Number.{Number}
+use Rattle.numbers.specs.declared.leb128.Number.the-variants.{Value, Refused as NoCount}
 use Rattle.wire.specs.declared.parse.Listed.{Listed}
 use Rattle.wire.specs.declared.parse.Listed.the-variants.{Items, Refused as NotListed}
 use Rattle.wire.specs.declared.parse.Prefixed.{Prefixed}

@@ -12,12 +12,12 @@ use Rattle.rules.specs.Hash.{Bytes, hashesAt}
 use Rattle.rules.specs.Sizes.{sizes}
 use Rattle.rules.proofs.Hash.{length-hashes-at}
 use Rattle.wire.specs.Item.{countAt, prefixedBytes, hashListBytes}
-use Rattle.wire.specs.Number.{shortest, numberAt, most64}
-use Rattle.wire.specs.declared.leb128.Number.the-variants.{Value}
+use Rattle.numbers.specs.Number.{shortest, numberAt, most64}
+use Rattle.numbers.specs.declared.leb128.Number.the-variants.{Value}
 use Rattle.wire.specs.declared.parse.Run.{Run}
 use Rattle.wire.proofs.Item.{count-checks, count-inside, prefixed-inside, written-prefixed, hash-list-inside, written-hash-list}
-use Rattle.wire.proofs.Meaning.{written-number}
-use Rattle.wire.proofs.Number.{slice-past}
+use Rattle.numbers.proofs.Meaning.{written-number}
+use Rattle.numbers.proofs.Number.{slice-past}
 use Rattle.items.specs.Items.{item, haveItem, chunkItem, manyAt, list, havesAt, chunksAt, chunksOf}
 use Rattle.items.specs.Means.{HaveMeans, HavesMean}
 use Rattle.items.proofs.ItemLaws.{many-behind, none-behind, have-behind, chunk-behind, list-behind, many-sized, have-sized}

@@ -19,13 +19,13 @@ use Rattle.rules.specs.Hash.{hashesAt}
 use Rattle.rules.specs.Sizes.{sizes}
 use Rattle.rules.proofs.Hash.{slice-parts}
 use Rattle.wire.specs.Item.{run, prefixedAt, hashListAt, prefixedBytes, hashListBytes}
-use Rattle.wire.specs.Number.{shortest, most64}
+use Rattle.numbers.specs.Number.{shortest, most64}
 use Rattle.wire.specs.declared.parse.Listed.the-variants.{Items}
 use Rattle.wire.specs.declared.parse.Prefixed.the-variants.{Part}
 use Rattle.wire.specs.declared.parse.Run.{Run}
 use Rattle.wire.proofs.Item.{count-checks, prefixed-inside, prefixed-written, hash-list-inside, hash-list-written}
-use Rattle.wire.proofs.Meaning.{number-inside, number-written}
-use Rattle.wire.proofs.Number.{slice-past}
+use Rattle.numbers.proofs.Meaning.{number-inside, number-written}
+use Rattle.numbers.proofs.Number.{slice-past}
 use Rattle.items.specs.Items.{Item, item, afterItem, haveWordList, haveItem, chunkItem, manyAt, list, listFrom, listAt, havesAt, chunksAt, chunksOf}
 use Rattle.items.proofs.ItemLaws.{have-read, have-item, chunk-item, many-read, many-sized, have-sized, have-below, chunk-below, list-read}
 use Rattle.items.proofs.Words.{first-word, word}

@@ -1,6 +1,6 @@
 // Chunks: all of them passed over, and all of them as words.
+use numbers::leb128::Number;
 use rules::sizes::CHUNKS;
-use wire::leb128::Number;
 use wire::parse::Listed;
 use wire::parse::Prefixed;
 use wire::parse::Run;

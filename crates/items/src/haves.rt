@@ -2,9 +2,9 @@
 use bloom::have::FilterNumbers;
 use bloom::have::HAVE_WORDS;
 use bloom::parse::Parsed;
+use numbers::leb128::Number;
 use rules::refusal::Refusal;
 use rules::sizes::HAVES;
-use wire::leb128::Number;
 use wire::parse::Listed;
 use wire::parse::Prefixed;
 use wire::parse::Run;

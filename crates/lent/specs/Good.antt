@@ -1,5 +1,5 @@
--- When a session is bad. 01, Refusal numbers, 10: "bad session (a count passes its size, sent hashes not strictly ascending), or a filter kept
--- .. as numbers breaks the filter rules or its field size". A count passes its size also where the lent buffer is shorter.
+-- When a session is bad. 01, Refusal numbers, 10: a count passes its limit, or what is lent of its list; sent hashes don't ascend; a kept have isn't
+-- one.
 use Prim.Native.Nat.{ℕ, _*_}
 use mathlib.Core.Bool.{Bool, true, _&&_}
 use mathlib.Core.List.{List}

@@ -18,7 +18,7 @@ use Rattle.rules.specs.Reach.{someBelow, reach}
 use Rattle.rules.proofs.Cases.{both, true-false, same-truth, either, or-left, or-right, and-true}
 use Rattle.rules.proofs.OrderLaws.{member-append}
 use Rattle.rules.proofs.ReachLaws.{some-below, some-witness, reach-equation}
-use Rattle.tables.specs.Bytes.{twoAt, rowSize, countAt, usedAt, rowsAt, GoodRows}
+use Rattle.tables.specs.Bytes.{u16At, rowSize, depCount, usedAt, rowsAt, GoodRows}
 use Rattle.tables.specs.Table.{Row, hashOf, depsOf}
 use Rattle.tables.proofs.GoodLaws.{good-down}
 use Rattle.tables.proofs.TableLaws.{length-rows-at, deps-of-row, hash-of-row, numberAt}
@@ -58,12 +58,12 @@ some-of-same p q l f =
 pub numbersFrom : List ℕ → ℕ → (ℕ → Bool) → ℕ → Bool
 numbersFrom s i p j = someOf p (drop j (usedAt s i))
 
-module _ (s : List ℕ) (i count : ℕ) (p : ℕ → Bool) (c : count ≡ countAt s i) where
+module _ (s : List ℕ) (i count : ℕ) (p : ℕ → Bool) (c : count ≡ depCount s i) where
   pub numbers-start : numbersFrom s i p 0 ≡ someOf p (usedAt s i)
   unfolding numbersFrom
   numbers-start = refl
 
-  module _ (j k : ℕ) (inside : j < count) (read : k ≡ twoAt s (numberAt i j)) where
+  module _ (j k : ℕ) (inside : j < count) (read : k ≡ u16At s (numberAt i j)) where
     pub numbers-found : p k ≡ true → numbersFrom s i p j ≡ true
     unfolding numbersFrom someOf
     numbers-found e = rw (numbers-more s i count c j k inside read, e)

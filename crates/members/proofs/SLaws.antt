@@ -13,7 +13,7 @@ use Rattle.rules.specs.Order.{member, Once}
 use Rattle.rules.proofs.Cases.{split, both, true-false, or-left, or-right, and-true}
 use Rattle.rules.proofs.KeepLaws.{no-members}
 use Rattle.rules.proofs.ReachLaws.{reach-least}
-use Rattle.tables.specs.Table.{Row, GoodTable, rows, hashOf, depsOf, place, held, deps}
+use Rattle.tables.specs.Table.{Row, GoodTable, rows, hashOf, depsOf, rowNumber, held, deps}
 use Rattle.tables.proofs.TableLaws.{place-of-row, held-row, row-of-held, hash-of-held}
 use Rattle.graph.specs.Graph.{below}
 use Rattle.graph.proofs.BelowLaws.{below-row, below-deps, dependency, only-rows, deps-of-hash}
@@ -46,15 +46,15 @@ s-few t haves = rows-most t (inTheS t haves)
 
 module _ (t : List Row) (good : GoodTable t) (haves : List Have) where
   -- a row of S: held, and a member by its number
-  pub s-rows : (h : ℕ) → member h (theS t haves) ≡ (held t h && inTheS t haves (place t h))
+  pub s-rows : (h : ℕ) → member h (theS t haves) ≡ (held t h && inTheS t haves (rowNumber t h))
   unfolding theS
   s-rows h = rows-where t good (inTheS t haves) h
 
   pub s-held : (h : ℕ) → member h (theS t haves) ≡ true → held t h ≡ true
-  s-held h m = both (held t h) (inTheS t haves (place t h)) (sym (s-rows h) ∙ m) .0
+  s-held h m = both (held t h) (inTheS t haves (rowNumber t h)) (sym (s-rows h) ∙ m) .0
 
-  pub s-row : (h : ℕ) → member h (theS t haves) ≡ true → inTheS t haves (place t h) ≡ true
-  s-row h m = both (held t h) (inTheS t haves (place t h)) (sym (s-rows h) ∙ m) .1
+  pub s-row : (h : ℕ) → member h (theS t haves) ≡ true → inTheS t haves (rowNumber t h) ≡ true
+  s-row h m = both (held t h) (inTheS t haves (rowNumber t h)) (sym (s-rows h) ∙ m) .1
 
   pub s-once : Once (theS t haves)
   unfolding theS
@@ -66,7 +66,7 @@ module _ (t : List Row) (good : GoodTable t) (haves : List Have) where
   s-equation-of i h = s-equation t haves (good .down) i h
 
   -- candidates by hash: rows beyond all last-sync hashes
-  pub candidate-row : (h : ℕ) → held t h ≡ true → candidate t haves (place t h) ≡ not (below t (lastSyncs haves) h)
+  pub candidate-row : (h : ℕ) → held t h ≡ true → candidate t haves (rowNumber t h) ≡ not (below t (lastSyncs haves) h)
   unfolding candidate
   candidate-row h e = ap not (sym (below-row t good (lastSyncs haves) h e))
 
@@ -77,18 +77,18 @@ module _ (t : List Row) (good : GoodTable t) (haves : List Have) where
   pub s-beyond : (h : ℕ) → member h (theS t haves) ≡ true → below t (lastSyncs haves) h ≡ false
   s-beyond h m =
       not-true (below t (lastSyncs haves) h)
-      (sym (candidate-row h (s-held h m)) ∙ s-candidate-row (place t h) (row-of-held t h (s-held h m)) (s-row h m))
+      (sym (candidate-row h (s-held h m)) ∙ s-candidate-row (rowNumber t h) (row-of-held t h (s-held h m)) (s-row h m))
 
   -- a candidate that every filter misses is a member
   pub s-missed : (h : ℕ) → held t h ≡ true → below t (lastSyncs haves) h ≡ false → anyContains (filters haves) h ≡ false
       → member h (theS t haves) ≡ true
   s-missed h e b f =
       let less = row-of-held t h e in
-      let c : candidate t haves (place t h) ≡ true = candidate-row h e ∙ rw b in
-      let none : not (anyContains (filters haves) (hashOf t (place t h))) ≡ true = rw (hash-of-held t h e, f) in
+      let c : candidate t haves (rowNumber t h) ≡ true = candidate-row h e ∙ rw b in
+      let none : not (anyContains (filters haves) (hashOf t (rowNumber t h))) ≡ true = rw (hash-of-held t h e, f) in
       s-rows h
-      ∙ and-true (held t h) (inTheS t haves (place t h)) e
-      (s-equation-of (place t h) less ∙ and-true _ _ c (or-right (someOf (inTheS t haves) (depsOf t (place t h))) _ none))
+      ∙ and-true (held t h) (inTheS t haves (rowNumber t h)) e
+      (s-equation-of (rowNumber t h) less ∙ and-true _ _ c (or-right (someOf (inTheS t haves) (depsOf t (rowNumber t h))) _ none))
 
   -- a row that depends on a candidate is one
   pub candidate-upward : (h g : ℕ) → member g (deps t h) ≡ true → below t (lastSyncs haves) g ≡ false → below t (lastSyncs haves) h ≡ false
@@ -103,13 +103,13 @@ module _ (t : List Row) (good : GoodTable t) (haves : List Have) where
       let d = dependency t good h g m in
       let e = only-rows t good h g m in
       let less : d .row < length t = omega (arith, d .less, d .inside) in
-      let at : place t g ≡ d .row = ap (place t) (sym (d .is)) ∙ place-of-row t good (d .row) less in
+      let at : rowNumber t g ≡ d .row = ap (rowNumber t) (sym (d .is)) ∙ place-of-row t good (d .row) less in
       let in′ : inTheS t haves (d .row) ≡ true = rw at at (s-row g s) in
-      let c : candidate t haves (place t h) ≡ true = candidate-row h e ∙ rw (candidate-upward h g m (s-beyond g s)) in
+      let c : candidate t haves (rowNumber t h) ≡ true = candidate-row h e ∙ rw (candidate-upward h g m (s-beyond g s)) in
       s-rows h
-      ∙ and-true (held t h) (inTheS t haves (place t h)) e
-      (s-equation-of (place t h) (d .inside)
-      ∙ and-true _ _ c (or-left _ _ (some-of (inTheS t haves) (depsOf t (place t h)) (d .row) (d .there) in′)))
+      ∙ and-true (held t h) (inTheS t haves (rowNumber t h)) e
+      (s-equation-of (rowNumber t h) (d .inside)
+      ∙ and-true _ _ c (or-left _ _ (some-of (inTheS t haves) (depsOf t (rowNumber t h)) (d .row) (d .there) in′)))
 
   -- S is least, by row number: what holds of missed candidates and passes to candidates that depend on it holds of every member
   pub s-least-row : (P : ℕ → Type 0)
@@ -136,7 +136,7 @@ module _ (t : List Row) (good : GoodTable t) (haves : List Have) where
       let b = both (candidate t haves i) (not (anyContains (filters haves) (hashOf t i))) q in
       base (hashOf t i) (held-row t i f) (outside i f (b .0)) (not-true _ (b .1)))
       (λ k i f g q c d. step (hashOf t i) (hashOf t k) (held-row t i g) (outside i g c) (deps-of-hash t good i k g d) q)
-      (place t h)
+      (rowNumber t h)
       (row-of-held t h e)
       (s-row h m))
     where

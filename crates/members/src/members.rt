@@ -63,7 +63,14 @@ fn some_marked(table: &[u8], i: usize, marks: &[bool]) -> bool
 }
 
 // Whether row i is a member, where the members before it are marked. Its dependencies are looked at first: that is cheaper than the filters.
-fn joins(table: &[u8], i: usize, s: &[u8], haves: &[u64], synced: bool, members: &[bool]) -> bool
+fn is_member(
+    table: &[u8],
+    i: usize,
+    s: &[u8],
+    haves: &[u64],
+    synced: bool,
+    members: &[bool],
+) -> bool
     requires { ⌜ GoodRows (now table) (i + 1) × (i ≤ length (now members)) × GoodFilters (now s) (now haves) ⌝ }
     ensures { λ r. ⌜ r ≡ (not synced && (someOf (λ k. getD (now (members .entry)) k false) (usedAt (now (table .entry)) i) || not (anyContains (filtersOf (now (s .entry)) (now (haves .entry))) (hashAt (now (table .entry)) (i * rowSize))))) ⌝ }
 {
@@ -85,7 +92,7 @@ pub fn mark_s(table: &[u8], n: usize, s: &[u8], haves: &[u64], members: &mut [bo
     mark_synced(table, n, s, haves, &mut synced);
     let mut i = 0;
     while i < n {
-        let here = joins(table, i, s, haves, synced[i], members);
+        let here = is_member(table, i, s, haves, synced[i], members);
         members[i] = here;
         i += 1;
     }

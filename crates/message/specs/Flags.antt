@@ -1,5 +1,5 @@
--- Flags. 01, Wire: "each byte of 80 or more adds its low seven bits; lower bytes are ignored. No section and an empty section differ. Written as
--- 02, 02, 80 + f."
+-- Flags. 01, Wire, Flags: a byte below 80 hexadecimal says nothing, any other sets its low seven bits; a section that says nothing is still a section. It
+-- is written as its length 02, then 02, which older peers read as version 2, and the flags with bit 80 set.
 use Prim.Native.Nat.{ℕ, _+_, _-_, _%_}
 use mathlib.Core.Bool.{Bool, cond, not}
 use mathlib.Core.List.{List, [], _∷_}

@@ -1,12 +1,11 @@
--- Messages as values and as bytes. 01, Wire: "Message: 42 (V1) or 43 (V2); heads; need; count of haves, each a hash list and a prefixed filter;
--- count of chunks, each prefixed; if bytes remain, a prefixed flags section."
+-- Messages as values and as bytes. 01, Wire, Message: a first byte for the version, heads, need, haves, chunks, and the flags section where there is one.
 use Prim.Native.Nat.{ℕ}
 use mathlib.Core.List.{List, [], _∷_, _++_}
 use lib.ListN.{length}
 use Rattle.bloom.specs.Filter.{filterBytes}
 use Rattle.bloom.specs.Have.{Have}
 use Rattle.wire.specs.Item.{prefixedBytes, hashListBytes}
-use Rattle.wire.specs.Number.{shortest}
+use Rattle.numbers.specs.Number.{shortest}
 use Rattle.message.specs.Flags.{sectionBytes}
 use Rattle.message.specs.declared.flags.Section.{Section}
 use Rattle.message.specs.declared.version.MessageVersion.{MessageVersion}

@@ -1,5 +1,5 @@
--- Messages that can be written, and which of them reading gives back. 01, Sizes and Wire: "Reading what was written gives the message back if its
--- filters have n at least 1 or are the default and its flags are below 80."
+-- Messages that can be written, and which of them reading gives back. 01, Sizes, and the last rule of Wire: each filter has an entry or is the default,
+-- and flags leave bit 80 alone.
 use Prim.Native.Nat.{ℕ, _≤_, _<_}
 use mathlib.Core.Bool.{true}
 use mathlib.Core.List.{List, [], _∷_}

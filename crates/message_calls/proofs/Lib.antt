@@ -1,1 +1,2 @@
 pub mod MessageLaws
+pub mod Promises

@@ -13,8 +13,8 @@ use Rattle.message.specs.declared.version.MessageVersion.{MessageVersion}
 use Rattle.message.specs.declared.version.MessageVersion.the-variants.{V1, V2}
 use Rattle.rules.specs.Output.{Output, Written}
 use Rattle.rules.specs.declared.output.Write.{Write}
-use Rattle.words.proofs.Answers.{answered}
-use Rattle.words.specs.Answer.{writeWords, Answered}
+use Rattle.answers.proofs.Answers.{answered}
+use Rattle.answers.specs.Answer.{writeWords, Answered}
 use Rattle.message_calls.specs.MessageWords.{versionWord, versionOf, sectionWord, sectionOf, decodedWords, MessageAnswered}
 
 -- ---- the words that are passed

@@ -2,9 +2,9 @@
 use crate::message_words::decoded_words;
 use crate::message_words::section_of;
 use crate::message_words::version_of;
-use words::answer::write_words;
+use answers::answer::write_words;
 ghost use Rattle.size.specs.Write.{partsOf, messageOutput};
-ghost use Rattle.words.specs.Answer.{Answered};
+ghost use Rattle.answers.specs.Answer.{Answered};
 ghost use Rattle.message_calls.specs.MessageWords.{versionOf, sectionOf, MessageAnswered};
 
 // Reads a message: 0, version, place and count of the heads, the need, the haves and the chunks, flags, next place; the words of haves and chunks

@@ -10,7 +10,7 @@ use Rattle.rules.specs.Order.{member, Inserted}
 use Rattle.rules.specs.Sizes.{sizes}
 use Rattle.rules.proofs.Hash.{length-hashes-at}
 use Rattle.tables.specs.Bytes.{rowSize, rowsAt, asksCount, asksPlace, waitingsAt, waitingOf}
-use Rattle.tables.specs.Table.{rows, held, placeIn}
+use Rattle.tables.specs.Table.{rows, held, indexIn}
 use Rattle.tables.specs.Waiting.{waiting, asks}
 use Rattle.tables.proofs.TableLaws.{length-rows, length-rows-at, place-at-most, member-of-place, stranger-of-place}
 use Rattle.tables.proofs.WaitingLaws.{length-waiting, length-waitings-at, asks-of-waiting, WaitingDecoded, decoded-asks-count}
@@ -21,7 +21,7 @@ use Rattle.missing.proofs.MissingLaws.{found-all, found-many}
 
 -- ---- what a place says
 
-module _ (s : List ℕ) (n h r : ℕ) (e : r ≡ placeIn (rows (rowsAt s 0 n)) h) where
+module _ (s : List ℕ) (n h r : ℕ) (e : r ≡ indexIn (rows (rowsAt s 0 n)) h) where
   long-rows : length (rows (rowsAt s 0 n)) ≡ n
   long-rows = length-rows (rowsAt s 0 n) ∙ length-rows-at s 0 n
 
@@ -33,7 +33,7 @@ module _ (s : List ℕ) (n h r : ℕ) (e : r ≡ placeIn (rows (rowsAt s 0 n)) h
   unfolding held
   not-held b = stranger-of-place (rows (rowsAt s 0 n)) h (omega (arith, long-rows, e, place-at-most (rows (rowsAt s 0 n)) h))
 
-module _ (s : List ℕ) (n h r : ℕ) (e : r ≡ placeIn (waiting (waitingsAt s 0 n)) h) where
+module _ (s : List ℕ) (n h r : ℕ) (e : r ≡ indexIn (waiting (waitingsAt s 0 n)) h) where
   long-waiting : length (waiting (waitingsAt s 0 n)) ≡ n
   long-waiting = length-waiting (waitingsAt s 0 n) ∙ length-waitings-at s 0 n
 
@@ -46,11 +46,11 @@ module _ (s : List ℕ) (n h r : ℕ) (e : r ≡ placeIn (waiting (waitingsAt s 
 -- ---- one change
 
 module _ {table : List ℕ} {n : ℕ} {waitings : List ℕ} {m h r : ℕ} {marks : List Bool} {found : List ℕ} {count : ℕ}
-    (e : r ≡ placeIn (rows (rowsAt table 0 n)) h) where
+    (e : r ≡ indexIn (rows (rowsAt table 0 n)) h) where
   pub gives-nothing : r < n → Asked table n waitings m (change h) marks found count marks found count
   gives-nothing b = record { way = held-hash (is-held table n h r e b) }
 
-  module _ (k : ℕ) (away : n ≤ r) (q : k ≡ placeIn (waiting (waitingsAt waitings 0 m)) h) where
+  module _ (k : ℕ) (away : n ≤ r) (q : k ≡ indexIn (waiting (waitingsAt waitings 0 m)) h) where
     pub gives-itself : (found′ : List ℕ) (count′ : ℕ) → m ≤ k → Inserted found found′ count h count′
         → Asked table n waitings m (change h) marks found count marks found′ count′
     gives-itself found′ count′ b i =

@@ -13,7 +13,7 @@ use lib.Seq.{getD-set-same}
 use Rattle.rules.proofs.Cases.{split, either, or-right}
 use Rattle.rules.proofs.OrderLaws.{insert-member, up-to-fits, up-to-ascends, member-here, member-there}
 use Rattle.rules.specs.Order.{member, ascends, insertOnce, insertUpTo}
-use Rattle.tables.specs.Table.{Row, held, placeIn}
+use Rattle.tables.specs.Table.{Row, held, indexIn}
 use Rattle.tables.specs.Waiting.{Waiting, waiting, asks, asksOf}
 use Rattle.missing.specs.Missing.{unknown, Missing, itself, through}
 use Rattle.missing.specs.Ask.{Request, change, list, Asks, held-hash, marked, waits, unknown-hash, none, more}
@@ -95,7 +95,7 @@ insert-has most h l s =
 
 -- Held, or waiting at a marked row, or found.
 unfoldable pub settled : List Row → List Waiting → List Bool → List ℕ → ℕ → Bool
-settled t w m l g = cond (held t g) true (cond (member g (waiting w)) (getD m (placeIn (waiting w) g) false) (member g l))
+settled t w m l g = cond (held t g) true (cond (member g (waiting w)) (getD m (indexIn (waiting w) g) false) (member g l))
 
 -- The hashes that a request asks.
 unfoldable pub asked : Request → List ℕ
@@ -123,7 +123,7 @@ module _ (t : List Row) (w : List Waiting) where
   unfolding settled
   is-held m l g a = rw a
 
-  is-marked : (m : List Bool) (l : List ℕ) (g : ℕ) → held t g ≡ false → member g (waiting w) ≡ true → getD m (placeIn (waiting w) g) false ≡ true
+  is-marked : (m : List Bool) (l : List ℕ) (g : ℕ) → held t g ≡ false → member g (waiting w) ≡ true → getD m (indexIn (waiting w) g) false ≡ true
       → settled t w m l g ≡ true
   unfolding settled
   is-marked m l g a b c = rw (a, b) c
@@ -143,7 +143,7 @@ module _ (t : List Row) (w : List Waiting) where
       cases false false x y e u = e
 
   waiting-marked : (m : List Bool) (l : List ℕ) (g : ℕ) → settled t w m l g ≡ true → held t g ≡ false → member g (waiting w) ≡ true
-      → getD m (placeIn (waiting w) g) false ≡ true
+      → getD m (indexIn (waiting w) g) false ≡ true
   unfolding settled
   waiting-marked m l g e a b = rw (a, b) at e
 
@@ -156,14 +156,14 @@ module _ (t : List Row) (w : List Waiting) where
   unfolding asks
   missing-found m l closed (itself {l = hs} {h = x} a b) f = unknown-found m l x (f x a) b
   missing-found m l closed (through {l = hs} {h = x} u a b c d) f =
-      missing-found m l closed d (λ g e. closed (placeIn (waiting w) u) g (waiting-marked m l u (f u a) b c) e)
+      missing-found m l closed d (λ g e. closed (indexIn (waiting w) u) g (waiting-marked m l u (f u a) b c) e)
 
 module _ {t : List Row} {w : List Waiting} {most : ℕ} where
   pub marks-kept : {q : Request} {m : List Bool} {l : List ℕ} {m′ : List Bool} {l′ : List ℕ} → Asks t w most q m l m′ l′
       → (k : ℕ) → getD m k false ≡ true → getD m′ k false ≡ true
   marks-kept (held-hash a) k e = e
   marks-kept (marked a b c) k e = e
-  marks-kept (waits {h} {m} a b i c d) k e = marks-kept d k (set-kept m (placeIn (waiting w) h) k e)
+  marks-kept (waits {h} {m} a b i c d) k e = marks-kept d k (set-kept m (indexIn (waiting w) h) k e)
   marks-kept (unknown-hash a b) k e = e
   marks-kept none k e = e
   marks-kept (more d f) k e = marks-kept f k (marks-kept d k e)
@@ -171,7 +171,7 @@ module _ {t : List Row} {w : List Waiting} {most : ℕ} where
   pub as-many-marks : {q : Request} {m : List Bool} {l : List ℕ} {m′ : List Bool} {l′ : List ℕ} → Asks t w most q m l m′ l′ → length m′ ≡ length m
   as-many-marks (held-hash a) = refl
   as-many-marks (marked a b c) = refl
-  as-many-marks (waits {h} {m} a b i c d) = as-many-marks d ∙ length-set m (placeIn (waiting w) h) true
+  as-many-marks (waits {h} {m} a b i c d) = as-many-marks d ∙ length-set m (indexIn (waiting w) h) true
   as-many-marks (unknown-hash a b) = refl
   as-many-marks none = refl
   as-many-marks (more d f) = as-many-marks f ∙ as-many-marks d
@@ -180,7 +180,7 @@ module _ {t : List Row} {w : List Waiting} {most : ℕ} where
       → unmarked m′ ≤ unmarked m
   fewer-unmarked (held-hash a) = omega arith
   fewer-unmarked (marked a b c) = omega arith
-  fewer-unmarked (waits {h} {m} a b i c d) = let p = fewer-unmarked d in let r = unmarked-less m (placeIn (waiting w) h) in omega (arith, p, r)
+  fewer-unmarked (waits {h} {m} a b i c d) = let p = fewer-unmarked d in let r = unmarked-less m (indexIn (waiting w) h) in omega (arith, p, r)
   fewer-unmarked (unknown-hash a b) = omega arith
   fewer-unmarked none = omega arith
   fewer-unmarked (more d f) = let p = fewer-unmarked d in let r = fewer-unmarked f in omega (arith, p, r)
@@ -263,8 +263,8 @@ module _ {t : List Row} {w : List Waiting} {most : ℕ} where
   newly-settled (held-hash a) s k x y g e = true-false _ y x
   newly-settled (marked a b c) s k x y g e = true-false _ y x
   newly-settled (waits {h} {m} {l} {m′} {l′} a b i c d) s k x y g e =
-      split (getD (set m (placeIn (waiting w) h) true) k false)
-      (λ p. asked-settled d s g (rw (set-new m (placeIn (waiting w) h) k p x) at e))
+      split (getD (set m (indexIn (waiting w) h) true) k false)
+      (λ p. asked-settled d s g (rw (set-new m (indexIn (waiting w) h) k p x) at e))
       (λ p. newly-settled d s k p y g e)
   newly-settled (unknown-hash a b) s k x y g e = true-false _ y x
   newly-settled none s k x y g e = true-false _ y x

@@ -4,3 +4,4 @@ pub mod AskBytes
 pub mod AskLaws
 pub mod MissingCalls
 pub mod MissingLaws
+pub mod Promises

@@ -15,7 +15,7 @@ use Rattle.rules.proofs.KeepLaws.{keep-member, no-members, hashes-member, hashe
 use Rattle.rules.proofs.Cases.{split, both, true-false, same-truth, either, or-left, or-right, and-true}
 use Rattle.rules.proofs.OrderLaws.{ascend-ascends, ascend-members, member-append, member-here, member-none, ascending-unique, ascending-shorter}
 use Rattle.rules.proofs.ReachLaws.{reach-base, reach-closed, reach-least}
-use Rattle.tables.specs.Table.{Row, held, placeIn}
+use Rattle.tables.specs.Table.{Row, held, indexIn}
 use Rattle.tables.specs.Waiting.{Waiting, noWaiting, waiting, asks, asksOf}
 use Rattle.tables.proofs.TableLaws.{place-of-member, at-place, member-at, place-once}
 use Rattle.tables.proofs.WaitingLaws.{length-waiting}
@@ -86,7 +86,7 @@ module _ (t : List Row) (w : List Waiting) where
       unfolding asks
       climb i b hs m n x d =
           let in-waiting : i < length (waiting w) = rw length-waiting b in
-          let own : placeIn (waiting w) (getD (waiting w) i 0) ≡ i =
+          let own : indexIn (waiting w) (getD (waiting w) i 0) ≡ i =
           place-once (waiting w) once i in-waiting
           in
           through {h = x} (getD (waiting w) i 0) m (not-true _ n) (member-at (waiting w) i in-waiting) (rw own d)
@@ -104,16 +104,16 @@ module _ (t : List Row) (w : List Waiting) where
 
     -- a waiting hash that is asked for has an asked row
     row-asked : (u : ℕ) → member u asked-for ≡ true → held t u ≡ false → member u (waiting w) ≡ true
-        → askedRow t w l (placeIn (waiting w) u) ≡ true
+        → askedRow t w l (indexIn (waiting w) u) ≡ true
     unfolding askedRow asked-for
     row-asked u e a b =
         let in-waiting = place-of-member (waiting w) u b in
-        let inside : placeIn (waiting w) u < length w = rw length-waiting at in-waiting in
-        let at : getD (waiting w) (placeIn (waiting w) u) 0 ≡ u = at-place (waiting w) u in-waiting in
+        let inside : indexIn (waiting w) u < length w = rw length-waiting at in-waiting in
+        let at : getD (waiting w) (indexIn (waiting w) u) 0 ≡ u = at-place (waiting w) u in-waiting in
         either (member u l) (member u (asksFrom 0 w (askedRow t w l))) (sym (member-append u l (asksFrom 0 w (askedRow t w l))) ∙ e)
-        (λ p. reach-base (length w) _ _ (placeIn (waiting w) u) inside (rw (at, p, a)))
+        (λ p. reach-base (length w) _ _ (indexIn (waiting w) u) inside (rw (at, p, a)))
         (λ p. asks-some (askedRow t w l) u w p
-        (λ k h q r. reach-closed (length w) _ _ k (placeIn (waiting w) u) h inside q (rw (at, r, a))))
+        (λ k h q r. reach-closed (length w) _ _ k (indexIn (waiting w) u) h inside q (rw (at, r, a))))
 
     -- what is missing from hashes that are asked for is kept
     missing-kept : {hs : List ℕ} {x : ℕ} → Missing t w hs x → ((g : ℕ) → member g hs ≡ true → member g asked-for ≡ true)
@@ -123,9 +123,9 @@ module _ (t : List Row) (w : List Waiting) where
     missing-kept (through {l = hs} {h = x} u a b c d) f =
         missing-kept d
         (λ g e.
-        let inside : placeIn (waiting w) u < length w = rw length-waiting at (place-of-member (waiting w) u c) in
+        let inside : indexIn (waiting w) u < length w = rw length-waiting at (place-of-member (waiting w) u c) in
         rw (member-append g l (asksFrom 0 w (askedRow t w l)))
-        (or-right (member g l) _ (some-asks (askedRow t w l) g w (placeIn (waiting w) u) inside (row-asked u (f u a) b c) e)))
+        (or-right (member g l) _ (some-asks (askedRow t w l) g w (indexIn (waiting w) u) inside (row-asked u (f u a) b c) e)))
 
     -- An unknown hash that is missing from H is one of the list.
     pub missing-member : {x : ℕ} → Missing t w l x → member x (missing t w l) ≡ true

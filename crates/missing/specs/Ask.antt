@@ -1,6 +1,5 @@
--- Asking for what is missing, one step after the other, as 01 says it (Waiting table): "a held hash gives nothing, an unknown one gives itself;
--- a waiting change asks its dependency list, and the list asks each change in turn. .. a cycle gives nothing new." So that it gives nothing
--- new, a row that has been asked is marked. What internal functions ensure; the public call ensures `missing`.
+-- Asking for what is missing, step by step. 01, Waiting table: one change is asked, or a list of them in turn; a waiting change asks its own list, once:
+-- its row is marked, so that a cycle ends. What internal functions ensure; the public call ensures `missing`.
 use Prim.Native.Nat.{ℕ, suc, _*_, _≤_, _<_, _/_}
 use mathlib.Core.Bool.{Bool, true, false}
 use mathlib.Core.List.{List, [], _∷_}
@@ -11,7 +10,7 @@ use Rattle.rules.specs.Order.{member, insertUpTo}
 use Rattle.rules.specs.Output.{Gathered}
 use Rattle.rules.specs.Sizes.{sizes}
 use Rattle.tables.specs.Bytes.{rowSize, waitingSize, rowsAt, waitingsAt, asksCount}
-use Rattle.tables.specs.Table.{Row, held, placeIn}
+use Rattle.tables.specs.Table.{Row, held, indexIn}
 use Rattle.tables.specs.Waiting.{Waiting, waiting, asks}
 
 -- One change is asked, or a list of them.
@@ -23,12 +22,12 @@ pub data Request : Type 0 where
 pub data Asks (t : List Row) (w : List Waiting) (most : ℕ) : Request → List Bool → List ℕ → List Bool → List ℕ → Type 0 where
   held-hash : {h : ℕ} {m : List Bool} {l : List ℕ} → held t h ≡ true → Asks t w most (change h) m l m l
   marked : {h : ℕ} {m : List Bool} {l : List ℕ} → held t h ≡ false → member h (waiting w) ≡ true
-      → getD m (placeIn (waiting w) h) false ≡ true
+      → getD m (indexIn (waiting w) h) false ≡ true
       → Asks t w most (change h) m l m l
   waits : {h : ℕ} {m : List Bool} {l : List ℕ} {m′ : List Bool} {l′ : List ℕ} → held t h ≡ false → member h (waiting w) ≡ true
-      → placeIn (waiting w) h < length m
-      → getD m (placeIn (waiting w) h) false ≡ false
-      → Asks t w most (list (asks w h)) (set m (placeIn (waiting w) h) true) l m′ l′
+      → indexIn (waiting w) h < length m
+      → getD m (indexIn (waiting w) h) false ≡ false
+      → Asks t w most (list (asks w h)) (set m (indexIn (waiting w) h) true) l m′ l′
       → Asks t w most (change h) m l m′ l′
   unknown-hash : {h : ℕ} {m : List Bool} {l : List ℕ} → held t h ≡ false → member h (waiting w) ≡ false
       → Asks t w most (change h) m l m (insertUpTo most h l)

@@ -1,5 +1,5 @@
--- What is missing. 01, Waiting table: "Missing from H: a held hash gives nothing, an unknown one gives itself; a waiting change asks its
--- dependency list, and the list asks each change in turn. Each hash once, ascending; a cycle gives nothing new."
+-- What is missing from some hashes. 01, Waiting table: what is held isn't missing, what is in neither table is, and a change that waits stands for what
+-- it asks for; each hash once, ascending.
 use Prim.Native.Nat.{ℕ, suc}
 use mathlib.Core.Bool.{Bool, true, false, cond, not, _&&_}
 use mathlib.Core.List.{List, [], _∷_, _++_}

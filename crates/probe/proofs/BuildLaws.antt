@@ -21,8 +21,8 @@ use Rattle.rules.specs.Sizes.{sizes}
 use Rattle.rules.specs.declared.output.Write.the-variants.{Wrote}
 use Rattle.rules.specs.declared.passed.Passed.the-variants.{Hashes, Refused}
 use Rattle.rules.specs.declared.refusal.Refusal.{Refusal}
-use Rattle.rules.specs.declared.refusal.Refusal.the-variants.{BadSession}
-use Rattle.wire.specs.Number.{mostFilter}
+use Rattle.rules.specs.declared.refusal.Refusal.the-variants.{BadNumbers}
+use Rattle.numbers.specs.Number.{mostFilter}
 use Rattle.probe.specs.Build.{addHashes, filterOf, buildOutput}
 use Rattle.bloom.specs.Filter.{fieldSize, filterRules}
 use Rattle.probe.proofs.FieldLaws.{length-add-hashes}
@@ -54,7 +54,7 @@ module _ (b p : ℕ) (s : List ℕ) where
   abbrev rules : Bool
   rules = filterRules entries b p (fieldSize entries b)
 
-  pub bad-numbers : rules ≡ false → buildOutput b p s ≡ refuse BadSession
+  pub bad-numbers : rules ≡ false → buildOutput b p s ≡ refuse BadNumbers
   unfolding buildOutput
   bad-numbers e = rw e
 

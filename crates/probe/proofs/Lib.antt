@@ -2,5 +2,6 @@
 pub mod BuildLaws
 pub mod FieldLaws
 pub mod ProbeLaws
+pub mod Promises
 pub mod Search
 pub mod Vectors

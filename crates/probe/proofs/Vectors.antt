@@ -5,7 +5,7 @@ use mathlib.Core.List.{[], _∷_}
 use mathlib.Core.Path.{_≡_, refl}
 use lib.ListN.{length, replicate}
 use Rattle.rules.specs.Hash.{bigEndian, bigEndianBytes, hashBytes}
-use Rattle.wire.specs.Number.{shortest, sevens}
+use Rattle.numbers.specs.Number.{shortest, sevens}
 use Rattle.probe.specs.Build.{setBit, setBits, addHash, addHashes, filterOf}
 use Rattle.probe.specs.Contains.{clearAt, noneClear, contains}
 use Rattle.probe.specs.Probes.{u32At, probesFrom, probesOf, bitAt}

@@ -8,7 +8,7 @@ use Rattle.rules.specs.Hash.{hashesAt}
 use Rattle.rules.specs.Output.{Output}
 use Rattle.rules.specs.Passed.{passedHashes, afterPassed}
 use Rattle.rules.specs.Sizes.{sizes}
-use Rattle.rules.specs.declared.refusal.Refusal.the-variants.{BadSession}
+use Rattle.rules.specs.declared.refusal.Refusal.the-variants.{BadNumbers}
 use Rattle.bloom.specs.Filter.{Filter, fieldSize, filterRules}
 use Rattle.probe.specs.Probes.{probesOf}
 
@@ -43,5 +43,5 @@ filterOf b p hs =
 unfoldable pub buildOutput : ℕ → ℕ → List ℕ → Output
 buildOutput b p s =
     cond (not (filterRules (length s / sizes .hash) b p (fieldSize (length s / sizes .hash) b)))
-    (Output.refuse BadSession)
+    (Output.refuse BadNumbers)
     (afterPassed (passedHashes s) Output.refuse (λ n. Output.bytes (filterOf b p (hashesAt s 0 n) .field)))

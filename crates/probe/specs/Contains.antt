@@ -6,7 +6,7 @@ use lib.Dec.{ltb, eqb}
 use lib.ListN.{length}
 use Rattle.rules.specs.Hash.{hashAt}
 use Rattle.rules.specs.Sizes.{sizes}
-use Rattle.rules.specs.declared.refusal.Refusal.the-variants.{Cut, PastSize, BadSession}
+use Rattle.rules.specs.declared.refusal.Refusal.the-variants.{Cut, PastSize, BadNumbers}
 use Rattle.bloom.specs.Filter.{Filter}
 use Rattle.bloom.specs.Have.{filtersOf, passedGood, passedFew}
 use Rattle.probe.specs.Probes.{probesOf, bitAt}
@@ -36,7 +36,7 @@ anyContains (f ∷ fs) h = contains f h || anyContains fs h
 unfoldable pub containedIn : List ℕ → List ℕ → List ℕ → Contained
 containedIn s haves hash =
     cond (not (passedGood s haves))
-    (Refused BadSession)
+    (Refused BadNumbers)
     (cond (not (passedFew haves))
     (Refused (PastSize 0))
     (cond (ltb (sizes .hash) (length hash))

@@ -101,7 +101,7 @@ pub fn from_hashes(field: &mut [u8], bits: u64, probes: u64, hashes: &[u8]) -> W
 {
     let entries = hashes.len() / HASH_SIZE;
     if !build_rules(entries as u64, bits, probes) {
-        return Write::Refused(Refusal::BadSession);
+        return Write::Refused(Refusal::BadNumbers);
     }
     match passed_hashes(hashes) {
         Passed::Refused(refusal) => Write::Refused(refusal),

@@ -78,7 +78,7 @@ pub fn filters_contain(s: &[u8], haves: &[u64], hash: &[u8]) -> Contained
     ensures { λ r. ⌜ r ≡ containedIn (now (s .entry)) (now (haves .entry)) (now (hash .entry)) ⌝ }
 {
     if !passed_good(s, haves) {
-        return Contained::Refused(Refusal::BadSession);
+        return Contained::Refused(Refusal::BadNumbers);
     }
     if !passed_few(haves) {
         return Contained::Refused(Refusal::PastSize(0));

@@ -1,8 +1,8 @@
 // One record: what the proved library answers to its input, held to the stored answer.
 use crate::little_endian::u16_at;
 use crate::little_endian::words_at;
-use wire::leb128::leb128_u32;
-use wire::leb128::leb128_u64;
+use numbers::leb128::leb128_u32;
+use numbers::leb128::leb128_u64;
 use wire::parse::length_prefixed_bytes;
 use wire::parse::length_prefixed_hashes;
 use wire_calls::answer::hash_list_words;

@@ -7,5 +7,6 @@ pub mod KeepLaws
 pub mod OrderLaws
 pub mod Outputs
 pub mod PassedLaws
+pub mod Promises
 pub mod ReachLaws
 pub mod Refusals

@@ -6,7 +6,7 @@ use mathlib.Core.Path.{_≡_, refl, sym, ap₂, _∙_}
 use lib.Dec.{eqb}
 use Rattle.rules.specs.Refusal.{numberOf, valueOf}
 use Rattle.rules.specs.declared.refusal.Refusal.{Refusal}
-use Rattle.rules.specs.declared.refusal.Refusal.the-variants.{Cut, WrongType, BadNumber, PastSize, NoBits, BadRow, NoRoom, LoadFailed, BadWaitingRow, BadSession, BadRowsBefore}
+use Rattle.rules.specs.declared.refusal.Refusal.the-variants.{Cut, WrongType, BadNumber, PastSize, NoBits, BadRow, NoRoom, LoadFailed, BadWaitingRow, BadNumbers, BadRowsBefore}
 
 -- A number that no refusal has is read as 11.
 unfoldable pub refusalOf : ℕ → ℕ → Refusal
@@ -20,7 +20,7 @@ refusalOf n v =
     (cond (eqb n 7) (NoRoom v)
     (cond (eqb n 8) LoadFailed
     (cond (eqb n 9) (BadWaitingRow v)
-    (cond (eqb n 10) BadSession BadRowsBefore)))))))))
+    (cond (eqb n 10) BadNumbers BadRowsBefore)))))))))
 
 pub refusal-told : (r : Refusal) → refusalOf (numberOf r) (valueOf r) ≡ r
 unfolding refusalOf
@@ -33,7 +33,7 @@ refusal-told (BadRow row) = refl
 refusal-told (NoRoom wanted) = refl
 refusal-told LoadFailed = refl
 refusal-told (BadWaitingRow row) = refl
-refusal-told BadSession = refl
+refusal-told BadNumbers = refl
 refusal-told BadRowsBefore = refl
 
 pub refusals-differ : (a b : Refusal) → numberOf a ≡ numberOf b → valueOf a ≡ valueOf b → a ≡ b

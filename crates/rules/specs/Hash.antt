@@ -1,5 +1,4 @@
--- A hash and a hash list as values. 01, Sizes ("Hash 32 bytes"), Wire ("Order and repeats are kept"), Change table ("ascending bytes").
--- A hash is the number that its bytes are, the first byte highest: two hashes are equal, or one before the other, as their numbers are.
+-- A hash and a hash list as values. 01, Sizes, Wire (lists stay as they stand) and Change table (order is by bytes).
 use Prim.Native.Nat.{ℕ, zero, suc, _+_, _*_, _/_, _%_, _^_, _<_}
 use mathlib.Core.Bool.{Bool, true, false, _||_, _&&_}
 use mathlib.Core.List.{List, [], _∷_, _++_}

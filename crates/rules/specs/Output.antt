@@ -1,5 +1,4 @@
--- What a call that writes bytes leaves in the buffer it was lent, and what it answers. 01, Refusal numbers: 7, and "Every refusal leaves
--- state and buffers untouched".
+-- What a call that writes bytes leaves in the buffer it was lent, and what it answers. 01, Refusal numbers, 7; a refusal changes nothing.
 use Prim.Native.Nat.{ℕ}
 use mathlib.Core.Bool.{cond}
 use mathlib.Core.List.{List}

@@ -1,4 +1,4 @@
--- Lists that are passed as bytes. 01, Refusal numbers: "a passed list too long gives 4"; a partial hash at its end is cut, so 1.
+-- Lists that are passed as bytes. 01, Refusal numbers, 4 for one that is too long; part of a hash at the end is cut, so 1.
 use Prim.Native.Nat.{ℕ, _*_, _/_, _%_}
 use mathlib.Core.Bool.{cond}
 use mathlib.Core.List.{List}

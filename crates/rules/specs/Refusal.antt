@@ -11,7 +11,7 @@ use Rattle.rules.specs.declared.refusal.Refusal.the-variants.{
   NoRoom,
   LoadFailed,
   BadWaitingRow,
-  BadSession,
+  BadNumbers,
   BadRowsBefore,
 }
 
@@ -26,7 +26,7 @@ numberOf (BadRow row) = 6
 numberOf (NoRoom wanted) = 7
 numberOf LoadFailed = 8
 numberOf (BadWaitingRow row) = 9
-numberOf BadSession = 10
+numberOf BadNumbers = 10
 numberOf BadRowsBefore = 11
 
 -- The column "Returns".
@@ -40,5 +40,5 @@ valueOf (BadRow row) = row
 valueOf (NoRoom wanted) = wanted
 valueOf LoadFailed = 0
 valueOf (BadWaitingRow row) = row
-valueOf BadSession = 0
+valueOf BadNumbers = 0
 valueOf BadRowsBefore = 0

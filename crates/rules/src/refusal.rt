@@ -21,8 +21,8 @@ pub enum Refusal {
     LoadFailed,
     // 9: the first bad row of a waiting table.
     BadWaitingRow(usize),
-    // 10: a bad session, or a filter passed as numbers that breaks the filter rules.
-    BadSession,
+    // 10: numbers that are no session, no have or no filter.
+    BadNumbers,
     // 11: more rows before loading than there are rows.
     BadRowsBefore,
 }
@@ -41,7 +41,7 @@ impl Refusal {
             Refusal::NoRoom(_) => 7,
             Refusal::LoadFailed => 8,
             Refusal::BadWaitingRow(_) => 9,
-            Refusal::BadSession => 10,
+            Refusal::BadNumbers => 10,
             Refusal::BadRowsBefore => 11,
         }
     }
@@ -59,7 +59,7 @@ impl Refusal {
             Refusal::NoRoom(length) => length as u64,
             Refusal::LoadFailed => 0,
             Refusal::BadWaitingRow(row) => row as u64,
-            Refusal::BadSession => 0,
+            Refusal::BadNumbers => 0,
             Refusal::BadRowsBefore => 0,
         }
     }

@@ -17,7 +17,7 @@ use Rattle.rules.specs.Sizes.{sizes}
 use Rattle.rules.specs.declared.output.Write.{Write}
 use Rattle.rules.specs.declared.output.Write.the-variants.{Wrote, Refused as NotWritten}
 use Rattle.rules.specs.declared.refusal.Refusal.{Refusal}
-use Rattle.rules.specs.declared.refusal.Refusal.the-variants.{Cut, WrongType, NoRoom, BadSession}
+use Rattle.rules.specs.declared.refusal.Refusal.the-variants.{Cut, WrongType, NoRoom, BadNumbers}
 use Rattle.rules.proofs.Cases.{split}
 use Rattle.rules.proofs.Hash.{
   take-drop,
@@ -30,10 +30,10 @@ use Rattle.rules.proofs.Hash.{
 }
 use Rattle.rules.proofs.Outputs.{written-bytes, no-room}
 use Rattle.wire.specs.Item.{run, hashListBytes, hashListAt}
-use Rattle.wire.specs.Number.{shortest, Put}
+use Rattle.numbers.specs.Number.{shortest, Put}
 use Rattle.wire.specs.declared.parse.Listed.the-variants.{Items, Refused as NotListed}
 use Rattle.wire.proofs.Item.{HashesInside, hash-list-inside, hash-list-written}
-use Rattle.wire.proofs.Number.{put-then}
+use Rattle.numbers.proofs.Number.{put-then}
 use Rattle.state.specs.Counts.{restoredCounts}
 use Rattle.state.specs.Session.{restored}
 use Rattle.state.specs.Value.{Lent, valueOf}
@@ -54,7 +54,7 @@ module _ (s : List ℕ) (count : ℕ) where
   pub prefix-long : listGood s count ≡ true → sizes .hash * count ≡ length (take (sizes .hash * count) s)
   prefix-long e = sym (length-take-le _ _ (list-parts s count e .there))
 
-  pub state-bad : listGood s count ≡ false → stateOutput s count ≡ refuse BadSession
+  pub state-bad : listGood s count ≡ false → stateOutput s count ≡ refuse BadNumbers
   unfolding stateOutput
   state-bad e = rw e
 
@@ -207,7 +207,7 @@ pub record Loads (r : Loaded) (after : List ℕ) (count : ℕ) (hs : List ℕ) :
   pub value : (l : Lent) → l .shared ≡ after → valueOf (restoredCounts count) l ≡ restored hs
 
 -- hashes that are copied to the start of a buffer are the list that it starts with
-loads : (before s after : List ℕ) (start count next : ℕ) (r : Loaded) → sizes .hash * count ≤ length before → stateAt s ≡ Hashes start count next
+loads : (before s after : List ℕ) (start count next : ℕ) (r : Loaded) → sizes .hash * count ≤ length before → stateAt s ≡ Items (run start count) next
     → Restored s before after r
     → (hs : List ℕ)
     → AreHashes hs
@@ -232,7 +232,7 @@ loads before s after start count next r wide is l hs are many part =
 
 -- Reading a saved state loads its hashes.
 pub read-loads : (s before after : List ℕ) (start count next : ℕ) (r : Loaded) → Bytes s → sizes .hash * count ≤ length before
-    → stateAt s ≡ Hashes start count next
+    → stateAt s ≡ Items (run start count) next
     → Restored s before after r
     → Loads r after count (hashesAt s start count)
 read-loads s before after start count next r all wide is l =

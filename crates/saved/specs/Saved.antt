@@ -1,5 +1,5 @@
--- Saved states. 01, Wire: "Saved state: 43 and the shared heads; the rest is ignored. Reading gives a fresh session, but their-have is present
--- and empty."
+-- Saved states. 01, Wire, Saved state: a first byte and the shared heads, and what follows isn't looked at; what is read is a fresh session whose peer's
+-- haves are there, and none.
 use Prim.Native.Nat.{ℕ, _*_}
 use mathlib.Core.Bool.{not, cond}
 use mathlib.Core.List.{List, _∷_}
@@ -11,7 +11,7 @@ use Rattle.lent.specs.Good.{listGood}
 use Rattle.rules.specs.Hash.{hashesAt}
 use Rattle.rules.specs.Output.{Output}
 use Rattle.rules.specs.Sizes.{sizes}
-use Rattle.rules.specs.declared.refusal.Refusal.the-variants.{Cut, WrongType, NoRoom, BadSession}
+use Rattle.rules.specs.declared.refusal.Refusal.the-variants.{Cut, WrongType, NoRoom, BadNumbers}
 use Rattle.wire.specs.Item.{hashListBytes, hashListAt}
 use Rattle.wire.specs.declared.parse.Listed.{Listed}
 use Rattle.wire.specs.declared.parse.Listed.the-variants.{Items, Refused as NotListed}
@@ -26,7 +26,7 @@ stateType = 0x43
 -- What is written for the first `count` hashes of a lent buffer; 10 where they are no list.
 unfoldable pub stateOutput : List ℕ → ℕ → Output
 stateOutput s count =
-    cond (not (listGood s count)) (Output.refuse BadSession) (Output.bytes (stateType ∷ hashListBytes (hashesAt s 0 count)))
+    cond (not (listGood s count)) (Output.refuse BadNumbers) (Output.bytes (stateType ∷ hashListBytes (hashesAt s 0 count)))
 
 -- A saved state as it is read: 1 where it is empty, 2 for another first byte, then the list's refusals.
 unfoldable pub stateAt : List ℕ → Listed

@@ -1,12 +1,12 @@
 // Saved states, read and written.
 use lent::list::list_good;
+use numbers::leb128::put_unsigned;
+use numbers::leb128::unsigned_size;
 use rules::output::Write;
 use rules::put::copy_into;
 use rules::refusal::Refusal;
 use rules::sizes::HASH_SIZE;
 use state::session::Session;
-use wire::leb128::put_unsigned;
-use wire::leb128::unsigned_size;
 use wire::parse::Listed;
 use wire::parse::length_prefixed_hashes;
 ghost use mathlib.Core.Path.{_≡_};
@@ -21,7 +21,7 @@ pub fn encode(out: &mut [u8], shared: &[u8], count: usize) -> Write
     ensures { λ r. ⌜ Written (stateOutput (now (shared .entry)) count) (now (out .entry)) (now (out .exit)) r ⌝ }
 {
     if !list_good(shared, count) {
-        return Write::Refused(Refusal::BadSession);
+        return Write::Refused(Refusal::BadNumbers);
     }
     let size = 1 + unsigned_size(count as u64) + HASH_SIZE * count;
     if out.len() < size {

@@ -18,7 +18,7 @@ use Rattle.rules.proofs.Hash.{length-hashes-at, length-hashes-bytes, hashes-ind
 use Rattle.rules.proofs.KeepLaws.{keep-append, keep-keep, keep-same}
 use Rattle.rules.proofs.Outputs.{sets-append}
 use Rattle.tables.specs.Bytes.{rowsAt}
-use Rattle.tables.specs.Table.{Row, GoodTable, rows, hashOf, place, placeIn, held, rowsWhere}
+use Rattle.tables.specs.Table.{Row, GoodTable, rows, hashOf, rowNumber, indexIn, held, rowsWhere}
 use Rattle.tables.proofs.TableLaws.{length-rows-at, row-of-held, hash-of-held, member-of-place, stranger-of-place, place-at-most}
 use Rattle.graph.specs.Marks.{Marks, Blank, marked, picked}
 use Rattle.graph.proofs.GraphMarks.{many-rows, marked-rows}
@@ -52,7 +52,7 @@ some-answered t s haves n r h m = record { each = λ i l. m .each i l ∙ sym (s
 
 -- the answer by them: held needs that aren't answered, then the answered rows
 unanswered : List Row → List Have → ℕ → Bool
-unanswered t haves h = held t h && not (answeredRow t haves (place t h))
+unanswered t haves h = held t h && not (answeredRow t haves (rowNumber t h))
 
 module _ (t : List Row) (good : GoodTable t) where
   send-rows : (haves : List Have) (need : List ℕ) → toSend t haves need ≡ keep (unanswered t haves) need ++ rowsWhere t (answeredRow t haves)
@@ -63,7 +63,7 @@ module _ (t : List Row) (good : GoodTable t) where
   send-rows (x ∷ xs) need =
       let s : ℕ → Bool = inTheS t (x ∷ xs) in
       ap (λ (l : List ℕ). l ++ rowsWhere t s)
-      (keep-same (λ h. held t h && not (member h (rowsWhere t s))) (λ h. held t h && not (s (place t h))) need
+      (keep-same (λ h. held t h && not (member h (rowsWhere t s))) (λ h. held t h && not (s (rowNumber t h))) need
       (λ h m. split (held t h) (λ e. rw (e, rows-where t good s h, e)) (λ e. rw e)))
 
   -- less those that were sent before
@@ -84,23 +84,23 @@ module _ (t : List Row) (good : GoodTable t) where
 
 -- ---- whether a hash has a row that neither marks name
 
-module _ (s : List ℕ) (n : ℕ) (members past : List Bool) (h row : ℕ) (found : row ≡ placeIn (rows (rowsAt s 0 n)) h) where
+module _ (s : List ℕ) (n : ℕ) (members past : List Bool) (h row : ℕ) (found : row ≡ indexIn (rows (rowsAt s 0 n)) h) where
   pub held-none : n ≤ row → false ≡ heldUnmarked (rowsAt s 0 n) members past h
   unfolding heldUnmarked held
   held-none l =
-      let behind : placeIn (rows (rowsAt s 0 n)) h ≡ length (rows (rowsAt s 0 n)) = omega (arith, many-rows s n, place-at-most (rows (rowsAt s 0 n)) h) in
+      let behind : indexIn (rows (rowsAt s 0 n)) h ≡ length (rows (rowsAt s 0 n)) = omega (arith, many-rows s n, place-at-most (rows (rowsAt s 0 n)) h) in
       rw (stranger-of-place (rows (rowsAt s 0 n)) h behind)
 
   module _ (l : row < n) where
-    inside : placeIn (rows (rowsAt s 0 n)) h < length (rows (rowsAt s 0 n))
+    inside : indexIn (rows (rowsAt s 0 n)) h < length (rows (rowsAt s 0 n))
     inside = omega (arith, many-rows s n)
 
     pub held-member : getD members row false ≡ true → false ≡ heldUnmarked (rowsAt s 0 n) members past h
-    unfolding heldUnmarked held place
+    unfolding heldUnmarked held rowNumber
     held-member e = rw (member-of-place (rows (rowsAt s 0 n)) h inside, ← found, e)
 
     pub held-past : getD members row false ≡ false → not (getD past row false) ≡ heldUnmarked (rowsAt s 0 n) members past h
-    unfolding heldUnmarked held place
+    unfolding heldUnmarked held rowNumber
     held-past e = rw (member-of-place (rows (rowsAt s 0 n)) h inside, ← found, e)
 
 -- the needs, marked one after the other
@@ -136,7 +136,7 @@ module _ (table : List ℕ) (n : ℕ) (good : GoodTable (rowsAt table 0 n)) (hav
     sent-rows : Marks n past (λ i. member (hashOf t i) sent)
     sent-rows = blank-or n empty past (λ i. member (hashOf t i) sent) none before
 
-    row-less : (h : ℕ) → held t h ≡ true → Rattle.tables.specs.Table.place t h < n
+    row-less : (h : ℕ) → held t h ≡ true → Rattle.tables.specs.Table.rowNumber t h < n
     row-less h e = omega (arith, row-of-held t h e, length-rows-at table 0 n)
 
     kept : picked needed needs ≡ keep (λ h. unanswered t haves h && not (member h sent)) needed
@@ -146,7 +146,7 @@ module _ (table : List ℕ) (n : ℕ) (good : GoodTable (rowsAt table 0 n)) (hav
         marks-picked needed needs (λ k. heldUnmarked t members past (getD needed k 0))
         (record { each = λ k h. let l : k < count = omega arith in asked .each k l ∙ rw (hashes-index need place′ count k l) })
         ∙ pick-keep needed (λ k. heldUnmarked t members past (getD needed k 0)) (heldUnmarked t members past) 0 (λ k h. rw zero-add)
-        ∙ keep-same (heldUnmarked t members past) (λ h. (held t h && not (answeredRow t haves (Rattle.tables.specs.Table.place t h))) && not (member h sent)) needed
+        ∙ keep-same (heldUnmarked t members past) (λ h. (held t h && not (answeredRow t haves (Rattle.tables.specs.Table.rowNumber t h))) && not (member h sent)) needed
         (λ h m.
         split (held t h)
         (λ e. rw (e, answer .each _ (row-less h e), sent-rows .each _ (row-less h e), hash-of-held t h e))

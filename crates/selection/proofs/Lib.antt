@@ -1,5 +1,6 @@
 -- Laws that the crates above cite.
 pub mod ChosenLaws
+pub mod Promises
 pub mod SelectLaws
 pub mod SendCalls
 pub mod Vectors

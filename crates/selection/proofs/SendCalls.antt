@@ -11,7 +11,7 @@ use Rattle.rules.specs.Passed.{passedHashes}
 use Rattle.rules.specs.declared.passed.Passed.the-variants.{Hashes}
 use Rattle.rules.specs.declared.passed.Passed.the-variants as passed
 use Rattle.rules.specs.declared.refusal.Refusal.{Refusal}
-use Rattle.rules.specs.declared.refusal.Refusal.the-variants.{PastSize, BadSession}
+use Rattle.rules.specs.declared.refusal.Refusal.the-variants.{PastSize, BadNumbers}
 use Rattle.rules.proofs.PassedLaws.{after-refused, after-hashes}
 use Rattle.tables.specs.Bytes.{rowsAt, tableChecked}
 use Rattle.tables.specs.Calls.{afterCheck}
@@ -47,7 +47,7 @@ module _ (t : List Row) (s haves need : List ℕ) where
 -- ---- the haves, then the table
 
 module _ (table s haves need : List ℕ) where
-  pub send-bad : passedGood s haves ≡ false → toSendOutput table s haves need ≡ Output.refuse BadSession
+  pub send-bad : passedGood s haves ≡ false → toSendOutput table s haves need ≡ Output.refuse BadNumbers
   unfolding toSendOutput
   send-bad e = rw e
 

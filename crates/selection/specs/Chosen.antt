@@ -7,7 +7,7 @@ use lib.ListN.{length, getD}
 use Rattle.bloom.specs.Have.{Have, GoodFilters}
 use Rattle.rules.specs.Sizes.{sizes}
 use Rattle.tables.specs.Bytes.{GoodRows}
-use Rattle.tables.specs.Table.{Row, rows, held, place}
+use Rattle.tables.specs.Table.{Row, rows, held, rowNumber}
 use Rattle.graph.specs.Marks.{picked}
 use Rattle.members.specs.Members.{inTheS, SyncsInside}
 
@@ -18,7 +18,7 @@ answeredRow t (h ∷ hs) i = inTheS t (h ∷ hs) i
 
 -- A hash whose row neither marks name.
 unfoldable pub heldUnmarked : List Row → List Bool → List Bool → ℕ → Bool
-heldUnmarked t members past h = held t h && (not (getD members (place t h) false) && not (getD past (place t h) false))
+heldUnmarked t members past h = held t h && (not (getD members (rowNumber t h) false) && not (getD past (rowNumber t h) false))
 
 -- The needs that are marked in their order, then the marked rows in table order.
 unfoldable pub chosenBy : List Row → List Bool → List ℕ → List Bool → List ℕ

@@ -1,5 +1,5 @@
--- Hashes to send. 01: "Held needs in request order, repeats kept. With no have, those are all. Otherwise .. S .. Answer: held needs outside S,
--- then S in table order." S is defined in the crate `members`.
+-- Hashes to send. 01, Hashes to send: what was asked for and is held, in the order of asking; then S, in the table's. S starts from the rows beyond what
+-- both are known to share that no filter has, and goes up from there: who lacks a change lacks all that depends on it.
 use Prim.Native.Nat.{ℕ}
 use mathlib.Core.Bool.{cond, not, _&&_}
 use mathlib.Core.List.{List, [], _∷_, _++_}
@@ -8,7 +8,7 @@ use Rattle.rules.specs.Hash.{hashesAt, hashesBytes}
 use Rattle.rules.specs.Order.{member, keep}
 use Rattle.rules.specs.Output.{Output}
 use Rattle.rules.specs.Passed.{passedHashes, afterPassed}
-use Rattle.rules.specs.declared.refusal.Refusal.the-variants.{PastSize, BadSession}
+use Rattle.rules.specs.declared.refusal.Refusal.the-variants.{PastSize, BadNumbers}
 use Rattle.tables.specs.Bytes.{tableOf, tableChecked}
 use Rattle.tables.specs.Calls.{afterCheck}
 use Rattle.tables.specs.Table.{Row, held}
@@ -41,4 +41,4 @@ sendRows table s haves need = afterCheck (tableChecked table) (λ n. sendNeeds (
 
 -- 10 for the haves.
 unfoldable pub toSendOutput : List ℕ → List ℕ → List ℕ → List ℕ → Output
-toSendOutput table s haves need = cond (not (passedGood s haves)) (Output.refuse BadSession) (sendRows table s haves need)
+toSendOutput table s haves need = cond (not (passedGood s haves)) (Output.refuse BadNumbers) (sendRows table s haves need)

@@ -85,7 +85,7 @@ pub fn get_hashes_to_send(
     ensures { λ r. ⌜ Written (toSendOutput (now (table .entry)) (now (s .entry)) (now (haves .entry)) (now (need .entry))) (now (out .entry)) (now (out .exit)) r ⌝ }
 {
     if !passed_good(s, haves) {
-        return Write::Refused(Refusal::BadSession);
+        return Write::Refused(Refusal::BadNumbers);
     }
     match check_table(table) {
         Checked::Refused(r) => Write::Refused(r),

@@ -1,7 +1,7 @@
 // Calls of the crate `selection`.
-use words::answer::write_words;
+use answers::answer::write_words;
 ghost use Rattle.selection.specs.ToSend.{toSendOutput};
-ghost use Rattle.words.specs.Answer.{Answered};
+ghost use Rattle.answers.specs.Answer.{Answered};
 
 // Writes the hashes to send to a peer: 0, bytes written.
 #[no_mangle]

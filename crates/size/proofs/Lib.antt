@@ -1,3 +1,4 @@
 -- Laws that the crates above cite.
+pub mod Promises
 pub mod SizeLaws
 pub mod WriteLaws

@@ -15,8 +15,8 @@ use Rattle.rules.specs.Sizes.{sizes}
 use Rattle.rules.proofs.Cases.{split, both}
 use Rattle.rules.proofs.Hash.{take-drop, hashes-at-bytes, length-hashes-at, length-hashes-bytes}
 use Rattle.wire.specs.Item.{prefixedBytes, hashListBytes}
-use Rattle.wire.specs.Number.{shortest, mostFilter}
-use Rattle.wire.proofs.Number.{shortest-ten}
+use Rattle.numbers.specs.Number.{shortest, mostFilter}
+use Rattle.numbers.proofs.Number.{shortest-ten}
 use Rattle.bloom.specs.Filter.{filterBytes, filterOf4, filterRules}
 use Rattle.bloom.specs.Have.{haveCount, haveIn, havesFrom, havesOf, syncPlace, syncCount, numbersIn, filterGood, filterWith}
 use Rattle.bloom.specs.declared.have.FilterNumbers.{FilterNumbers}

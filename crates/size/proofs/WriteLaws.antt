@@ -19,13 +19,13 @@ use Rattle.rules.specs.Sizes.{sizes}
 use Rattle.rules.specs.declared.passed.Passed.{Passed}
 use Rattle.rules.specs.declared.passed.Passed.the-variants.{Hashes, Refused as NotPassed}
 use Rattle.rules.specs.declared.refusal.Refusal.{Refusal}
-use Rattle.rules.specs.declared.refusal.Refusal.the-variants.{Cut, PastSize, NoRoom, BadSession}
+use Rattle.rules.specs.declared.refusal.Refusal.the-variants.{Cut, PastSize, NoRoom, BadNumbers}
 use Rattle.rules.specs.declared.output.Write.the-variants.{Wrote, Refused as NotWritten}
 use Rattle.rules.proofs.Cases.{split}
 use Rattle.rules.proofs.Outputs.{written-bytes, no-room, refused}
 use Rattle.rules.proofs.PassedLaws.{passed-is}
 use Rattle.wire.specs.Item.{prefixedBytes, hashListBytes}
-use Rattle.wire.specs.Number.{shortest}
+use Rattle.numbers.specs.Number.{shortest}
 use Rattle.size.specs.Size.{sizeOf, SizedAs, GoodHaves, total, chunksCut, listsOutput, chunksWithin, chunksOutput, Accepted}
 use Rattle.size.specs.Write.{Parts, partsOf, hashesOf, chunksFrom, messageOf, testHaves, testHashes, testFew, testChunks, withinSize, messageOutput}
 use Rattle.size.specs.declared.size.Chunks.the-variants.{Whole, Short}
@@ -77,7 +77,7 @@ not-refused r l e = absurd (let z : _≡_ {A = ℕ} 0 1 = cc in omega arith)
 
 module _ (s haves : List ℕ) where
   module _ (o : Output) where
-    haves-bad : passedGood s haves ≡ false → testHaves s haves o ≡ refuse BadSession
+    haves-bad : passedGood s haves ≡ false → testHaves s haves o ≡ refuse BadNumbers
     unfolding testHaves
     haves-bad e = rw e
 
@@ -227,7 +227,7 @@ module _ (heads need s haves : List ℕ) where
   abbrev listsBytes : List ℕ
   listsBytes = hashListBytes (hashesOf heads) ++ hashListBytes (hashesOf need)
 
-  pub lists-bad : passedGood s haves ≡ false → listsOutput heads need s haves ≡ refuse BadSession
+  pub lists-bad : passedGood s haves ≡ false → listsOutput heads need s haves ≡ refuse BadNumbers
   unfolding listsOutput
   lists-bad e = haves-bad s haves _ e
 
@@ -578,7 +578,7 @@ written-refused p r before e = rw (size-refused _ r e) (refused r before)
 -- ---- the order of refusals: each law has the tests that come before as its premises
 
 module _ (p : Parts) where
-  pub refuses-haves : passedGood (p .bytes) (p .haves) ≡ false → messageOutput p ≡ refuse BadSession
+  pub refuses-haves : passedGood (p .bytes) (p .haves) ≡ false → messageOutput p ≡ refuse BadNumbers
   unfolding messageOutput
   refuses-haves e = haves-bad (p .bytes) (p .haves) _ e
 

@@ -15,7 +15,7 @@ use Rattle.rules.specs.Sizes.{sizes}
 use Rattle.rules.specs.declared.passed.Passed.the-variants.{Hashes}
 use Rattle.rules.specs.declared.refusal.Refusal.the-variants.{PastSize}
 use Rattle.wire.specs.Item.{prefixedBytes, hashListBytes}
-use Rattle.wire.specs.Number.{shortest}
+use Rattle.numbers.specs.Number.{shortest}
 use Rattle.size.specs.Write.{Parts, hashesOf, chunksFrom, messageOf, testHaves, testHashes, testFew, testChunks}
 use Rattle.size.specs.declared.size.Chunks.{Chunks}
 use Rattle.size.specs.declared.size.Chunks.the-variants.{Whole, Short}

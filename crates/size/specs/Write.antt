@@ -14,7 +14,7 @@ use Rattle.rules.specs.Hash.{hashesAt}
 use Rattle.rules.specs.Output.{Output}
 use Rattle.rules.specs.Passed.{passedHashes, afterPassed}
 use Rattle.rules.specs.Sizes.{sizes}
-use Rattle.rules.specs.declared.refusal.Refusal.the-variants.{Cut, PastSize, BadSession}
+use Rattle.rules.specs.declared.refusal.Refusal.the-variants.{Cut, PastSize, BadNumbers}
 
 -- What is passed: hash lists as bytes, haves as records over bytes, chunks as bytes one after the other and their lengths.
 pub record Parts : Type 0 where
@@ -64,7 +64,7 @@ messageOf p =
 
 -- The tests, each with its refusal and then what follows. 10 for haves that break a rule.
 unfoldable pub testHaves : List ℕ → List ℕ → Output → Output
-testHaves s haves next = cond (not (passedGood s haves)) (Output.refuse BadSession) next
+testHaves s haves next = cond (not (passedGood s haves)) (Output.refuse BadNumbers) next
 
 -- 4, then 1, for a list of hashes.
 unfoldable pub testHashes : List ℕ → Output → Output

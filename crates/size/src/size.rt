@@ -6,13 +6,13 @@ use bloom::have::passed_good;
 use bloom::have::sync_count;
 use bloom::to_bytes::filter_size;
 use message::flags::Section;
+use numbers::leb128::unsigned_size;
 use rules::passed::Passed;
 use rules::passed::passed_hashes;
 use rules::refusal::Refusal;
 use rules::sizes::CHUNKS;
 use rules::sizes::HASH_SIZE;
 use rules::sizes::MESSAGE_SIZE;
-use wire::leb128::unsigned_size;
 ghost use mathlib.Core.Path.{_≡_};
 ghost use Prim.Native.Nat.{_+_, _*_, _≤_, _<_};
 ghost use lib.ListN.{length};
@@ -24,7 +24,7 @@ ghost use Rattle.message.specs.Flags.{sectionBytes};
 ghost use Rattle.message.specs.Message.{haveBytes, counted};
 ghost use Rattle.rules.specs.Sizes.{sizes};
 ghost use Rattle.wire.specs.Item.{prefixedBytes};
-ghost use Rattle.wire.specs.Number.{shortest};
+ghost use Rattle.numbers.specs.Number.{shortest};
 
 // How many bytes are to be written, or the refusal that comes before.
 pub enum Size {
@@ -107,7 +107,7 @@ fn lists_size(heads: &[u8], need: &[u8], s: &[u8], haves: &[u64]) -> Size
     ensures { λ r. ⌜ r ≡ sizeOf (listsOutput (now (heads .entry)) (now (need .entry)) (now (s .entry)) (now (haves .entry))) ⌝ }
 {
     if !passed_good(s, haves) {
-        return Size::Refused(Refusal::BadSession);
+        return Size::Refused(Refusal::BadNumbers);
     }
     let first = passed_hashes(heads);
     match first {

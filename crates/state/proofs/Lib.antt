@@ -1,4 +1,5 @@
 -- Laws that the crates above cite.
 pub mod CountsLaws
+pub mod Promises
 pub mod SessionLaws
 pub mod ValueLaws

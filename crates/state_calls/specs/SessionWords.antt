@@ -6,14 +6,14 @@ use mathlib.Core.List.{List, [], _∷_}
 use mathlib.Core.Path.{_≡_}
 use lib.Dec.{eqb}
 use lib.ListN.{length, getD}
-use Rattle.rules.specs.declared.refusal.Refusal.the-variants.{BadSession}
+use Rattle.rules.specs.declared.refusal.Refusal.the-variants.{BadNumbers}
 use Rattle.saved.specs.Saved.{stateAt, loadedWith, loadedInto}
 use Rattle.saved.specs.declared.saved.Loaded.{Loaded}
 use Rattle.saved.specs.declared.saved.Loaded.the-variants.{Session as Read, Refused as NotRead}
 use Rattle.state.specs.declared.session.Heard.{Heard}
 use Rattle.state.specs.declared.session.Heard.the-variants.{Nothing, Count}
 use Rattle.state.specs.declared.session.Session.{Session}
-use Rattle.words.specs.Answer.{refusalWords}
+use Rattle.answers.specs.Answer.{refusalWords}
 
 -- A flag is written as 1 or 0; a word other than 0 is yes.
 abbrev pub flagWord : Bool → ℕ
@@ -76,7 +76,7 @@ sessionOf w =
 -- The words of a checked session: 0, or refusal 10.
 abbrev pub goodWords : Bool → List ℕ
 goodWords true = 0 ∷ 0 ∷ 0 ∷ 0 ∷ []
-goodWords false = refusalWords BadSession
+goodWords false = refusalWords BadNumbers
 
 -- A session that is read from a saved state: the answer's words, and the lent session's words at exit.
 abbrev pub loadedWords : Loaded → List ℕ

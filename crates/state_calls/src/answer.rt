@@ -1,7 +1,7 @@
 // An answer as words.
+use answers::answer::refusal_words;
 use rules::refusal::Refusal;
 use saved::saved::Loaded;
-use words::answer::refusal_words;
 ghost use mathlib.Core.Path.{_≡_};
 ghost use Rattle.state_calls.specs.SessionWords.{goodWords, loadedWords};
 
@@ -11,7 +11,7 @@ pub fn good_words(good: bool) -> [u64; 4]
     if good {
         return [0, 0, 0, 0];
     }
-    refusal_words(Refusal::BadSession)
+    refusal_words(Refusal::BadNumbers)
 }
 
 pub fn loaded_words(l: Loaded) -> [u64; 4]

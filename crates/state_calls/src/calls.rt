@@ -4,13 +4,13 @@ use crate::answer::loaded_words;
 use crate::session_words::loaded_session;
 use crate::session_words::session_of;
 use crate::session_words::session_words;
+use answers::answer::write_words;
 use state::session::Session;
-use words::answer::write_words;
 ghost use mathlib.Core.Path.{_≡_};
 ghost use Rattle.lent.specs.Good.{sessionGood};
 ghost use Rattle.saved.specs.Saved.{stateOutput};
 ghost use Rattle.state.specs.Counts.{freshCounts, freshReadOnlyCounts, setReadOnlyCounts};
-ghost use Rattle.words.specs.Answer.{Answered};
+ghost use Rattle.answers.specs.Answer.{Answered};
 ghost use Rattle.state_calls.specs.SessionWords.{flagOf, sessionWords, sessionOf, goodWords, StateRead};
 
 // Writes the words of a session in which nothing was said yet.

@@ -3,7 +3,7 @@ use Prim.Native.Nat.{ℕ}
 use mathlib.Core.List.{List, [], _∷_}
 use Rattle.tables.specs.declared.check.Checked.{Checked}
 use Rattle.tables.specs.declared.check.Checked.the-variants.{Good, Refused as BadTable}
-use Rattle.words.specs.Answer.{refusalWords}
+use Rattle.answers.specs.Answer.{refusalWords}
 
 abbrev pub checkedWords : Checked → List ℕ
 checkedWords (Good n) = 0 ∷ n ∷ 0 ∷ 0 ∷ []

@@ -1,6 +1,6 @@
 // An answer as words.
+use answers::answer::refusal_words;
 use tables::check::Checked;
-use words::answer::refusal_words;
 ghost use mathlib.Core.Path.{_≡_};
 ghost use Rattle.table_calls.specs.Answer.{checkedWords};
 

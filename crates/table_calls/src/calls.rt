@@ -1,8 +1,8 @@
 // Calls of the crates `tables`, `graph` and `missing`.
 use crate::answer::checked_words;
-use words::answer::write_words;
+use answers::answer::write_words;
 ghost use mathlib.Core.Path.{_≡_};
-ghost use Rattle.words.specs.Answer.{Answered};
+ghost use Rattle.answers.specs.Answer.{Answered};
 ghost use Rattle.table_calls.specs.Answer.{checkedWords};
 ghost use Rattle.tables.specs.Bytes.{tableChecked};
 ghost use Rattle.tables.specs.Calls.{tablesChecked};

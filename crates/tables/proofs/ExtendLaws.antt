@@ -13,7 +13,7 @@ use Rattle.rules.specs.Order.{member, ascends, often, Once}
 use Rattle.rules.proofs.Cases.{split, either, true-false}
 use Rattle.rules.proofs.KeepLaws.{once-append, once-cons, once-none, once-take}
 use Rattle.rules.proofs.OrderLaws.{member-append, member-here, member-there, member-none}
-use Rattle.tables.specs.Table.{Row, noRow, rows, hashOf, depsOf, GoodTable, placeIn, place, held, deps}
+use Rattle.tables.specs.Table.{Row, noRow, rows, hashOf, depsOf, GoodTable, indexIn, rowNumber, held, deps}
 use Rattle.tables.proofs.TableLaws.{length-rows, row-of-held}
 
 pub rows-append : (t u : List Row) → rows (t ++ u) ≡ rows t ++ rows u
@@ -35,21 +35,21 @@ pub row-deps-stay : (t u : List Row) (i : ℕ) → i < length t → depsOf (t ++
 unfolding depsOf
 row-deps-stay t u i h = ap (λ (r : Row). r .deps) (List·getD-append t u noRow i h)
 
-place-before : (a b : List ℕ) (h : ℕ) → placeIn a h < length a → placeIn (a ++ b) h ≡ placeIn a h
-unfolding placeIn
+place-before : (a b : List ℕ) (h : ℕ) → indexIn a h < length a → indexIn (a ++ b) h ≡ indexIn a h
+unfolding indexIn
 place-before [] b h l = absurd (omega arith)
 place-before (x ∷ a) b h l =
     split (eqb x h)
     (λ e. rw e)
     (λ e.
-    let rest : placeIn a h < length a = omega (arith, rw e at l) in
+    let rest : indexIn a h < length a = omega (arith, rw e at l) in
     rw e (ap suc (place-before a b h rest)))
 
-pub place-stays : (t u : List Row) (h : ℕ) → held t h ≡ true → place (t ++ u) h ≡ place t h
-unfolding place
+pub place-stays : (t u : List Row) (h : ℕ) → held t h ≡ true → rowNumber (t ++ u) h ≡ rowNumber t h
+unfolding rowNumber
 place-stays t u h e =
-    let inside : placeIn (rows t) h < length (rows t) = omega (arith, length-rows t, row-of-held t h e) in
-    ap (λ (l : List ℕ). placeIn l h) (rows-append t u) ∙ place-before (rows t) (rows u) h inside
+    let inside : indexIn (rows t) h < length (rows t) = omega (arith, length-rows t, row-of-held t h e) in
+    ap (λ (l : List ℕ). indexIn l h) (rows-append t u) ∙ place-before (rows t) (rows u) h inside
 
 -- functions that agree on a list's members give the same list
 map-same : (f g : ℕ → ℕ) (l : List ℕ) → ((k : ℕ) → member k l ≡ true → f k ≡ g k) → map f l ≡ map g l
@@ -59,10 +59,10 @@ map-same f g (k ∷ l) e = ap₂ _∷_ (e k (member-here k l)) (map-same f g l (
 pub deps-stay : (t u : List Row) → GoodTable t → (h : ℕ) → held t h ≡ true → deps (t ++ u) h ≡ deps t h
 unfolding deps
 deps-stay t u good h e =
-    let inside : place t h < length t = row-of-held t h e in
-    rw (place-stays t u h e, row-deps-stay t u (place t h) inside)
-    (map-same (hashOf (t ++ u)) (hashOf t) (depsOf t (place t h))
-    (λ k m. hash-stays t u k (omega (arith, good .down (place t h) k inside m))))
+    let inside : rowNumber t h < length t = row-of-held t h e in
+    rw (place-stays t u h e, row-deps-stay t u (rowNumber t h) inside)
+    (map-same (hashOf (t ++ u)) (hashOf t) (depsOf t (rowNumber t h))
+    (λ k m. hash-stays t u k (omega (arith, good .down (rowNumber t h) k inside m))))
 
 -- ---- one row more
 

@@ -10,7 +10,7 @@ use native.Mathlib.Omega.{arith}
 use lib.Dec.{eqb}
 use Rattle.rules.specs.Hash.{hashAt}
 use Rattle.tables.specs.Bytes.{rowOf, rowsOf, rowSize, rowsAt, waitingRowOf, waitingRowsOf, waitingSize, waitingsAt}
-use Rattle.tables.specs.Table.{rows, placeIn}
+use Rattle.tables.specs.Table.{rows, indexIn}
 use Rattle.tables.specs.Waiting.{waiting}
 
 -- so many of the numbers that f gives, from i on
@@ -31,35 +31,35 @@ waiting-listed s i (suc count) = ap (λ (l : List ℕ). hashAt s (i * waitingSiz
 module _ (f : ℕ → ℕ) (h n : ℕ) where
   -- what the search finds from row i on
   pub seeking : ℕ → ℕ
-  seeking i = i + placeIn (listed f i (n - i)) h
+  seeking i = i + indexIn (listed f i (n - i)) h
 
-  pub seek-starts : seeking 0 ≡ placeIn (listed f 0 n) h
+  pub seek-starts : seeking 0 ≡ indexIn (listed f 0 n) h
   unfolding seeking
   seek-starts =
       let d : n - 0 ≡ n = omega arith in
       rw d (omega arith)
 
   pub seek-here : (i : ℕ) → i < n → eqb (f i) h ≡ true → seeking i ≡ i
-  unfolding seeking listed placeIn
+  unfolding seeking listed indexIn
   seek-here i b e =
       let d : n - i ≡ suc (n - (i + 1)) = omega arith in
       rw (d, e, add-zero)
 
   pub seek-on : (i : ℕ) → i < n → eqb (f i) h ≡ false → seeking i ≡ seeking (i + 1)
-  unfolding seeking listed placeIn
+  unfolding seeking listed indexIn
   seek-on i b e =
       let d : n - i ≡ suc (n - (i + 1)) = omega arith in
       rw (d, e, add-one) (omega arith)
 
   pub seek-ends : (i : ℕ) → i ≤ n → n ≤ i → seeking i ≡ n
-  unfolding seeking listed placeIn
+  unfolding seeking listed indexIn
   seek-ends i b e =
       let d : n - i ≡ 0 = omega arith in
       rw d (omega arith)
 
 -- the search over the rows of a table, from its start
-pub seek-rows : (s : List ℕ) (h n : ℕ) → seeking (λ k. hashAt s (k * rowSize)) h n 0 ≡ placeIn (rows (rowsAt s 0 n)) h
-seek-rows s h n = seek-starts _ h n ∙ sym (ap (λ (l : List ℕ). placeIn l h) (rows-listed s 0 n))
+pub seek-rows : (s : List ℕ) (h n : ℕ) → seeking (λ k. hashAt s (k * rowSize)) h n 0 ≡ indexIn (rows (rowsAt s 0 n)) h
+seek-rows s h n = seek-starts _ h n ∙ sym (ap (λ (l : List ℕ). indexIn l h) (rows-listed s 0 n))
 
-pub seek-waiting : (s : List ℕ) (h n : ℕ) → seeking (λ k. hashAt s (k * waitingSize)) h n 0 ≡ placeIn (waiting (waitingsAt s 0 n)) h
-seek-waiting s h n = seek-starts _ h n ∙ sym (ap (λ (l : List ℕ). placeIn l h) (waiting-listed s 0 n))
+pub seek-waiting : (s : List ℕ) (h n : ℕ) → seeking (λ k. hashAt s (k * waitingSize)) h n 0 ≡ indexIn (waiting (waitingsAt s 0 n)) h
+seek-waiting s h n = seek-starts _ h n ∙ sym (ap (λ (l : List ℕ). indexIn l h) (waiting-listed s 0 n))

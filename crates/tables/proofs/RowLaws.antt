@@ -14,8 +14,8 @@ use Rattle.rules.specs.Sizes.{sizes}
 use Rattle.rules.proofs.Cases.{split, both, same-truth, and-true}
 use Rattle.rules.proofs.KeepLaws.{every-member, every-one}
 use Rattle.rules.proofs.OrderLaws.{member-here, member-there, ascends-tail, ascends-first}
-use Rattle.tables.specs.Bytes.{twoAt, twosAt, usedOf, unusedOf, rowGoodOf, rowSize, countAt, usedAt, unusedAt, rowsAt, numbersGood, zeros, rowGood}
-use Rattle.tables.specs.Table.{rows, placeIn}
+use Rattle.tables.specs.Bytes.{u16At, u16sAt, usedOf, unusedOf, rowGoodOf, rowSize, depCount, usedAt, unusedAt, rowsAt, numbersGood, zeros, rowGood}
+use Rattle.tables.specs.Table.{rows, indexIn}
 use Rattle.tables.proofs.TableLaws.{numberAt, length-rows, length-rows-at, place-tells}
 
 -- ---- numbers that climb
@@ -73,33 +73,33 @@ number-next i j = omega arith
 module _ (s : List ℕ) (i count : ℕ) where
   -- what the numbers from the j-th on say, of those in use
   pub climbing : ℕ → ℕ → Bool
-  climbing least j = climbs least i (twosAt s (numberAt i j) (count - j))
+  climbing least j = climbs least i (u16sAt s (numberAt i j) (count - j))
 
-  pub climb-starts : count ≡ countAt s i → climbing 0 0 ≡ numbersGood i (usedAt s i)
+  pub climb-starts : count ≡ depCount s i → climbing 0 0 ≡ numbersGood i (usedAt s i)
   unfolding climbing usedOf
   climb-starts e =
-      let d : count - 0 ≡ countAt s i = omega arith in
+      let d : count - 0 ≡ depCount s i = omega arith in
       let p : numberAt i 0 ≡ i * rowSize + sizes .hash + 2 = omega arith in
       rw (d, p) (climbs-good i (usedAt s i))
 
-  module _ (least j d : ℕ) (inside : j < count) (read : d ≡ twoAt s (numberAt i j)) where
+  module _ (least j d : ℕ) (inside : j < count) (read : d ≡ u16At s (numberAt i j)) where
     left : count - j ≡ suc (count - (j + 1))
     left = omega arith
 
     pub climb-low : d < least → climbing least j ≡ false
-    unfolding climbing climbs twosAt
+    unfolding climbing climbs u16sAt
     climb-low h = rw (left, ← read, lt-leb least d h)
 
     pub climb-high : least ≤ d → i ≤ d → climbing least j ≡ false
-    unfolding climbing climbs twosAt
+    unfolding climbing climbs u16sAt
     climb-high l h = rw (left, ← read, le-leb least d l, le-ltb d i h)
 
     pub climb-on : least ≤ d → d < i → climbing least j ≡ climbing (d + 1) (j + 1)
-    unfolding climbing climbs twosAt
+    unfolding climbing climbs u16sAt
     climb-on l h = rw (left, ← read, le-leb least d l, lt-ltb d i h, number-next, add-one d)
 
   pub climb-ends : (least j : ℕ) → count ≤ j → climbing least j ≡ true
-  unfolding climbing climbs twosAt
+  unfolding climbing climbs u16sAt
   climb-ends least j h =
       let d : count - j ≡ 0 = omega arith in
       rw d
@@ -107,26 +107,26 @@ module _ (s : List ℕ) (i count : ℕ) where
 module _ (s : List ℕ) (i : ℕ) where
   -- the same of those not in use
   pub zeroing : ℕ → Bool
-  zeroing j = zeros (twosAt s (numberAt i j) (sizes .dependencies - j))
+  zeroing j = zeros (u16sAt s (numberAt i j) (sizes .dependencies - j))
 
-  pub zero-starts : (count : ℕ) → count ≡ countAt s i → zeroing count ≡ zeros (unusedAt s i)
+  pub zero-starts : (count : ℕ) → count ≡ depCount s i → zeroing count ≡ zeros (unusedAt s i)
   unfolding zeroing unusedOf
   zero-starts count e = rw e
 
-  module _ (j d : ℕ) (inside : j < sizes .dependencies) (read : d ≡ twoAt s (numberAt i j)) where
+  module _ (j d : ℕ) (inside : j < sizes .dependencies) (read : d ≡ u16At s (numberAt i j)) where
     remain : sizes .dependencies - j ≡ suc (sizes .dependencies - (j + 1))
     remain = omega arith
 
     pub zero-fails : (d ≡ 0 → ⊥) → zeroing j ≡ false
-    unfolding zeroing zeros twosAt
+    unfolding zeroing zeros u16sAt
     zero-fails h = rw (remain, ← read, ne-eqb d 0 h)
 
     pub zero-on : d ≡ 0 → zeroing j ≡ zeroing (j + 1)
-    unfolding zeroing zeros twosAt
+    unfolding zeroing zeros u16sAt
     zero-on h = rw (remain, ← read, eq-eqb d 0 h, number-next)
 
   pub zero-ends : (j : ℕ) → sizes .dependencies ≤ j → zeroing j ≡ true
-  unfolding zeroing zeros twosAt
+  unfolding zeroing zeros u16sAt
   zero-ends j h =
       let d : sizes .dependencies - j ≡ 0 = omega arith in
       rw d
@@ -134,7 +134,7 @@ module _ (s : List ℕ) (i : ℕ) where
 -- ---- a row
 
 module _ (s : List ℕ) (i : ℕ) where
-  module _ (count : ℕ) (is : count ≡ countAt s i) where
+  module _ (count : ℕ) (is : count ≡ depCount s i) where
     pub row-many : sizes .dependencies < count → rowGood s i ≡ false
     unfolding rowGoodOf
     row-many h = rw (← is, lt-leb count (sizes .dependencies) h)
@@ -149,7 +149,7 @@ module _ (s : List ℕ) (i : ℕ) where
         unfolding rowGoodOf
         row-unused e = rw (← is, le-leb count (sizes .dependencies) few, numbers, e)
 
-        pub row-hash : zeros (unusedAt s i) ≡ true → (r : ℕ) → r ≡ placeIn (rows (rowsAt s 0 i)) (hashAt s (i * rowSize))
+        pub row-hash : zeros (unusedAt s i) ≡ true → (r : ℕ) → r ≡ indexIn (rows (rowsAt s 0 i)) (hashAt s (i * rowSize))
             → rowGood s i ≡ eqb r i
         unfolding rowGoodOf
         row-hash e r q =

@@ -13,22 +13,22 @@ use Rattle.rules.specs.Order.{member, every, ascends, Once}
 use Rattle.rules.specs.Sizes.{sizes}
 use Rattle.rules.proofs.Cases.{split, both}
 use Rattle.rules.proofs.KeepLaws.{every-member, index-once, once-index}
-use Rattle.tables.specs.Bytes.{twoAt, twosAt, rowSizeOf, countOf, usedOf, unusedOf, rowOf, rowsOf, wholeRowsOf, rowGoodOf, tableCheckedOf, rowSize, countAt, usedAt, rowAt, rowsAt, tableOf, numbersGood, zeros, rowGood, tableChecked}
-use Rattle.tables.specs.Table.{Row, noRow, rows, hashOf, depsOf, GoodTable, placeIn, place, held}
+use Rattle.tables.specs.Bytes.{u16At, u16sAt, rowSizeOf, countOf, usedOf, unusedOf, rowOf, rowsOf, wholeRowsOf, rowGoodOf, tableCheckedOf, rowSize, depCount, usedAt, rowAt, rowsAt, tableOf, numbersGood, zeros, rowGood, tableChecked}
+use Rattle.tables.specs.Table.{Row, noRow, rows, hashOf, depsOf, GoodTable, indexIn, rowNumber, held}
 use Rattle.tables.specs.declared.check.Checked.the-variants.{Good, Refused}
 use Rattle.rules.specs.declared.refusal.Refusal.the-variants.{BadRow}
 use Rattle.tables.proofs.CheckLaws.{fewer, accepted, good-is-accepted}
 
 -- ---- places in a list
 
-pub place-at-most : (l : List ℕ) (h : ℕ) → placeIn l h ≤ length l
-unfolding placeIn
+pub place-at-most : (l : List ℕ) (h : ℕ) → indexIn l h ≤ length l
+unfolding indexIn
 place-at-most [] h = omega arith
 place-at-most (x ∷ xs) h = split (eqb x h) (λ e. rw e (omega arith)) (λ e. rw e (omega (arith, place-at-most xs h)))
 
 -- a member has a place inside the list, and a number that has one is a member
-pub place-of-member : (l : List ℕ) (h : ℕ) → member h l ≡ true → placeIn l h < length l
-unfolding placeIn member
+pub place-of-member : (l : List ℕ) (h : ℕ) → member h l ≡ true → indexIn l h < length l
+unfolding indexIn member
 place-of-member [] h m = absurd (let z : _≡_ {A = ℕ} 0 1 = cc in omega arith)
 place-of-member (x ∷ xs) h m =
     split (eqb x h) (λ e. rw e (omega arith))
@@ -36,8 +36,8 @@ place-of-member (x ∷ xs) h m =
     let other : eqb h x ≡ false = ne-eqb h x (λ q. eqb-false x h e (sym q)) in
     rw e (omega (arith, place-of-member xs h (rw other at m))))
 
-pub member-of-place : (l : List ℕ) (h : ℕ) → placeIn l h < length l → member h l ≡ true
-unfolding placeIn member
+pub member-of-place : (l : List ℕ) (h : ℕ) → indexIn l h < length l → member h l ≡ true
+unfolding indexIn member
 member-of-place [] h p = absurd (not-suc-le-zero p)
 member-of-place (x ∷ xs) h p =
     split (eqb x h) (λ e. rw (eq-eqb h x (sym (eqb-true x h e))))
@@ -46,32 +46,32 @@ member-of-place (x ∷ xs) h p =
     rw other (member-of-place xs h (let q = rw e at p in omega (arith, q))))
 
 -- a number that isn't a member has the place after the list
-pub place-of-stranger : (l : List ℕ) (h : ℕ) → member h l ≡ false → placeIn l h ≡ length l
+pub place-of-stranger : (l : List ℕ) (h : ℕ) → member h l ≡ false → indexIn l h ≡ length l
 place-of-stranger l h m =
-    split (ltb (placeIn l h) (length l))
+    split (ltb (indexIn l h) (length l))
     (λ e. absurd (let y : member h l ≡ true = member-of-place l h (ltb-true _ _ e) in let z : _≡_ {A = ℕ} 0 1 = cc in omega arith))
-    (λ e. omega (arith, ltb-false (placeIn l h) (length l) e, place-at-most l h))
+    (λ e. omega (arith, ltb-false (indexIn l h) (length l) e, place-at-most l h))
 
-pub stranger-of-place : (l : List ℕ) (h : ℕ) → placeIn l h ≡ length l → member h l ≡ false
+pub stranger-of-place : (l : List ℕ) (h : ℕ) → indexIn l h ≡ length l → member h l ≡ false
 stranger-of-place l h p =
     split (member h l) (λ e. absurd (omega (arith, place-of-member l h e))) (λ e. e)
 
 -- so the place tells whether a number is a member
-pub place-tells : (l : List ℕ) (h : ℕ) → not (member h l) ≡ eqb (placeIn l h) (length l)
+pub place-tells : (l : List ℕ) (h : ℕ) → not (member h l) ≡ eqb (indexIn l h) (length l)
 place-tells l h =
     split (member h l)
-    (λ e. rw (e, ne-eqb (placeIn l h) (length l) (λ q. let p = place-of-member l h e in omega (arith, p, q))))
-    (λ e. rw (e, eq-eqb (placeIn l h) (length l) (place-of-stranger l h e)))
+    (λ e. rw (e, ne-eqb (indexIn l h) (length l) (λ q. let p = place-of-member l h e in omega (arith, p, q))))
+    (λ e. rw (e, eq-eqb (indexIn l h) (length l) (place-of-stranger l h e)))
 
 -- the number stands at its place, and at none before it
-pub at-place : (l : List ℕ) (h : ℕ) → placeIn l h < length l → getD l (placeIn l h) 0 ≡ h
-unfolding placeIn
+pub at-place : (l : List ℕ) (h : ℕ) → indexIn l h < length l → getD l (indexIn l h) 0 ≡ h
+unfolding indexIn
 at-place [] h p = absurd (not-suc-le-zero p)
 at-place (x ∷ xs) h p =
     split (eqb x h) (λ e. rw e (eqb-true x h e)) (λ e. rw e (at-place xs h (let q = rw e at p in omega (arith, q))))
 
-pub place-first : (l : List ℕ) (h k : ℕ) → k < length l → getD l k 0 ≡ h → placeIn l h ≤ k
-unfolding placeIn
+pub place-first : (l : List ℕ) (h k : ℕ) → k < length l → getD l k 0 ≡ h → indexIn l h ≤ k
+unfolding indexIn
 place-first [] h k b e = absurd (not-suc-le-zero b)
 place-first (x ∷ xs) h zero b e = rw (eq-eqb x h e) (omega arith)
 place-first (x ∷ xs) h (suc k) b e =
@@ -85,10 +85,10 @@ pub member-is : (l : List ℕ) (h k : ℕ) → k < length l → getD l k 0 ≡ h
 member-is l h k b e = member-of-place l h (omega (arith, place-first l h k b e))
 
 -- where no number stands twice, each stands at its own place
-pub place-once : (l : List ℕ) → Once l → (k : ℕ) → k < length l → placeIn l (getD l k 0) ≡ k
+pub place-once : (l : List ℕ) → Once l → (k : ℕ) → k < length l → indexIn l (getD l k 0) ≡ k
 place-once l once k b =
-    let inside : placeIn l (getD l k 0) < length l = omega (arith, place-first l (getD l k 0) k b refl) in
-    once-index l once (placeIn l (getD l k 0)) k inside b (at-place l (getD l k 0) inside)
+    let inside : indexIn l (getD l k 0) < length l = omega (arith, place-first l (getD l k 0) k b refl) in
+    once-index l once (indexIn l (getD l k 0)) k inside b (at-place l (getD l k 0) inside)
 
 -- ---- rows by their numbers
 
@@ -96,8 +96,8 @@ pub length-rows : (t : List Row) → length (rows t) ≡ length t
 unfolding rows
 length-rows t = length-map t _
 
-pub place-of-row : (t : List Row) → GoodTable t → (i : ℕ) → i < length t → place t (hashOf t i) ≡ i
-unfolding place hashOf
+pub place-of-row : (t : List Row) → GoodTable t → (i : ℕ) → i < length t → rowNumber t (hashOf t i) ≡ i
+unfolding rowNumber hashOf
 place-of-row t g i b =
     place-once (rows t) (g .once) i (rw length-rows b)
 
@@ -106,12 +106,12 @@ unfolding held hashOf
 held-row t i b = member-at (rows t) i (rw length-rows b)
 
 -- a held hash is that of its row
-pub row-of-held : (t : List Row) (h : ℕ) → held t h ≡ true → place t h < length t
-unfolding held place
+pub row-of-held : (t : List Row) (h : ℕ) → held t h ≡ true → rowNumber t h < length t
+unfolding held rowNumber
 row-of-held t h e = rw (length-rows t) at (place-of-member (rows t) h e)
 
-pub hash-of-held : (t : List Row) (h : ℕ) → held t h ≡ true → hashOf t (place t h) ≡ h
-unfolding held place hashOf
+pub hash-of-held : (t : List Row) (h : ℕ) → held t h ≡ true → hashOf t (rowNumber t h) ≡ h
+unfolding held rowNumber hashOf
 hash-of-held t h e = at-place (rows t) h (place-of-member (rows t) h e)
 
 -- ---- rows in bytes
@@ -196,13 +196,13 @@ numberPlaceOf d i j = i * rowSizeOf d + sizes .hash + 2 + 2 * j
 abbrev pub numberAt : ℕ → ℕ → ℕ
 numberAt i j = numberPlaceOf (sizes .dependencies) i j
 
-length-twos-at : (s : List ℕ) (at count : ℕ) → length (twosAt s at count) ≡ count
-unfolding twosAt
+length-twos-at : (s : List ℕ) (at count : ℕ) → length (u16sAt s at count) ≡ count
+unfolding u16sAt
 length-twos-at s at zero = refl
 length-twos-at s at (suc count) = ap suc (length-twos-at s (at + 2) count)
 
-twos-index : (s : List ℕ) (at count j : ℕ) → j < count → getD (twosAt s at count) j 0 ≡ twoAt s (at + 2 * j)
-unfolding twosAt
+twos-index : (s : List ℕ) (at count j : ℕ) → j < count → getD (u16sAt s at count) j 0 ≡ u16At s (at + 2 * j)
+unfolding u16sAt
 twos-index s at zero j b = absurd (not-suc-le-zero b)
 twos-index s at (suc count) zero b = rw add-zero
 twos-index s at (suc count) (suc j) b =
@@ -213,14 +213,14 @@ pub length-used-of : (d : ℕ) (s : List ℕ) (i : ℕ) → length (usedOf d s i
 unfolding usedOf
 length-used-of d s i = length-twos-at s (i * rowSizeOf d + sizes .hash + 2) (countOf d s i)
 
-pub used-of-index : (d : ℕ) (s : List ℕ) (i j : ℕ) → j < countOf d s i → getD (usedOf d s i) j 0 ≡ twoAt s (numberPlaceOf d i j)
+pub used-of-index : (d : ℕ) (s : List ℕ) (i j : ℕ) → j < countOf d s i → getD (usedOf d s i) j 0 ≡ u16At s (numberPlaceOf d i j)
 unfolding usedOf
 used-of-index d s i j b = twos-index s (i * rowSizeOf d + sizes .hash + 2) (countOf d s i) j b
 
-pub length-used : (s : List ℕ) (i : ℕ) → length (usedAt s i) ≡ countAt s i
+pub length-used : (s : List ℕ) (i : ℕ) → length (usedAt s i) ≡ depCount s i
 length-used = length-used-of (sizes .dependencies)
 
-pub used-index : (s : List ℕ) (i j : ℕ) → j < countAt s i → getD (usedAt s i) j 0 ≡ twoAt s (numberAt i j)
+pub used-index : (s : List ℕ) (i j : ℕ) → j < depCount s i → getD (usedAt s i) j 0 ≡ u16At s (numberAt i j)
 used-index = used-of-index (sizes .dependencies)
 
 -- ---- good rows
@@ -360,18 +360,18 @@ module _ (s : List ℕ) (n : ℕ) (d : Decoded s n) where
   pub decoded-deps : (i : ℕ) → i < n → depsOf (tableOf s) i ≡ usedAt s i
   decoded-deps i b = rw (d .is) (deps-of-row s n i b)
 
-  pub decoded-count : (i : ℕ) → i < n → countAt s i ≤ sizes .dependencies
+  pub decoded-count : (i : ℕ) → i < n → depCount s i ≤ sizes .dependencies
   decoded-count i b = row-has s i (d .each i b) .count
 
   -- the j-th number in use is a dependency, and below its row
-  pub decoded-dep : (i j : ℕ) → i < n → j < countAt s i → getD (depsOf (tableOf s) i) j 0 ≡ twoAt s (numberAt i j)
+  pub decoded-dep : (i j : ℕ) → i < n → j < depCount s i → getD (depsOf (tableOf s) i) j 0 ≡ u16At s (numberAt i j)
   decoded-dep i j b l = rw (decoded-deps i b) (used-index s i j l)
 
-  pub decoded-below : (i j : ℕ) → i < n → j < countAt s i → twoAt s (numberAt i j) < i
+  pub decoded-below : (i j : ℕ) → i < n → j < depCount s i → u16At s (numberAt i j) < i
   decoded-below i j b l =
       let long : j < length (usedAt s i) = rw length-used l in
-      row-has s i (d .each i b) .below (twoAt s (numberAt i j))
-      (member-is (usedAt s i) (twoAt s (numberAt i j)) j long (used-index s i j l))
+      row-has s i (d .each i b) .below (u16At s (numberAt i j))
+      (member-is (usedAt s i) (u16At s (numberAt i j)) j long (used-index s i j l))
 
   -- its first rows are a good table too
   pub decoded-take : (k : ℕ) → k ≤ n → take k (tableOf s) ≡ rowsAt s 0 k

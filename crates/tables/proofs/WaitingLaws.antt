@@ -18,7 +18,7 @@ use Rattle.rules.proofs.Cases.{split, both}
 use Rattle.rules.proofs.Hash.{length-hashes-at, hash-is-hash, hashes-are-hashes}
 use Rattle.rules.proofs.KeepLaws.{index-once}
 use Rattle.tables.specs.Bytes.{waitingSizeOf, asksCountOf, asksPlaceOf, waitingRowOf, waitingRowsOf, wholeWaitingOf, fillOf, unaskedOf, waitingGoodOf, waitingCheckedOf, waitingSize, asksCount, asksPlace, waitingsAt, waitingOf, bytesAt, zeros, waitingGood, waitingChecked}
-use Rattle.tables.specs.Table.{Row, rows, placeIn, held}
+use Rattle.tables.specs.Table.{Row, rows, indexIn, held}
 use Rattle.tables.specs.Waiting.{Waiting, noWaiting, waiting, asksOf}
 use Rattle.tables.specs.declared.check.Checked.the-variants.{Good, Refused}
 use Rattle.tables.proofs.CheckLaws.{fewer, accepted, good-is-accepted}
@@ -194,7 +194,7 @@ module _ (t : List Row) (s : List ℕ) (i count : ℕ) (is : count ≡ asksCount
       unfolding waitingGoodOf fillOf
       waiting-unasked e = rw (← is, le-leb count (sizes .dependencies) few, fill, unasked-bytes, e)
 
-      module _ (unasked : zeros (bytesAt s (asksPlace i + sizes .hash * count) (sizes .hash * (sizes .dependencies - count))) ≡ true) (r : ℕ) (found : r ≡ placeIn (waiting (waitingsAt s 0 i)) (hashAt s (i * waitingSize))) where
+      module _ (unasked : zeros (bytesAt s (asksPlace i + sizes .hash * count) (sizes .hash * (sizes .dependencies - count))) ≡ true) (r : ℕ) (found : r ≡ indexIn (waiting (waitingsAt s 0 i)) (hashAt s (i * waitingSize))) where
         found-tells : not (member (hashAt s (i * waitingSize)) (waiting (waitingsAt s 0 i))) ≡ eqb r i
         found-tells =
             let n : length (waiting (waitingsAt s 0 i)) ≡ i = length-waiting (waitingsAt s 0 i) ∙ length-waitings-at s 0 i in
@@ -204,7 +204,7 @@ module _ (t : List Row) (s : List ℕ) (i count : ℕ) (is : count ≡ asksCount
         unfolding waitingGoodOf fillOf
         waiting-twice h = rw (← is, le-leb count (sizes .dependencies) few, fill, unasked-bytes, unasked, found-tells, ne-eqb r i h)
 
-        pub waiting-held : r ≡ i → (n q : ℕ) → length t ≡ n → q ≡ placeIn (rows t) (hashAt s (i * waitingSize)) → waitingGood t s i ≡ eqb q n
+        pub waiting-held : r ≡ i → (n q : ℕ) → length t ≡ n → q ≡ indexIn (rows t) (hashAt s (i * waitingSize)) → waitingGood t s i ≡ eqb q n
         unfolding waitingGoodOf fillOf held
         waiting-held h n q long e =
             let l : length (rows t) ≡ n = length-rows t ∙ long in
@@ -274,7 +274,7 @@ module _ (d : ℕ) (t : List Row) (s : List ℕ) (n : ℕ) (each : (i : ℕ) →
         unheld =
             λ h m.
             let w : List ℕ = waiting (waitingRowsOf d s 0 n) in
-            let i : ℕ = placeIn w h in
+            let i : ℕ = indexIn w h in
             let inside : i < length w = place-of-member w h m in
             let c : i < n = rw (length-waiting, length-waiting-of) at inside in
             let there : h ≡ hashAt s (i * waitingSizeOf d) = sym (at-place w h inside) ∙ waiting-hash-of d s n i c in
@@ -344,7 +344,7 @@ pub good-waiting-accepted : (t : List Row) (s : List ℕ)
     → waitingChecked t s ≡ Good (length s / waitingSize)
 good-waiting-accepted = waiting-accepted-of (sizes .dependencies)
 
-pub place-of-waiting : (t : List Row) (w : List Waiting) → GoodWaiting t w → (i : ℕ) → i < length w → placeIn (waiting w) (getD (waiting w) i 0) ≡ i
+pub place-of-waiting : (t : List Row) (w : List Waiting) → GoodWaiting t w → (i : ℕ) → i < length w → indexIn (waiting w) (getD (waiting w) i 0) ≡ i
 place-of-waiting t w g i b =
     place-once (waiting w) (g .once) i (rw length-waiting b)
 

@@ -17,12 +17,12 @@ use Rattle.tables.specs.declared.check.Checked.{Checked}
 use Rattle.tables.specs.declared.check.Checked.the-variants.{Good, Refused}
 
 -- The little-endian number that two bytes are, and so many of them one after the other.
-unfoldable pub twoAt : List ℕ → ℕ → ℕ
-twoAt s at = getD s at 0 + 256 * getD s (at + 1) 0
+unfoldable pub u16At : List ℕ → ℕ → ℕ
+u16At s at = getD s at 0 + 256 * getD s (at + 1) 0
 
-unfoldable pub twosAt : List ℕ → ℕ → ℕ → List ℕ
-twosAt s at zero = []
-twosAt s at (suc count) = twoAt s at ∷ twosAt s (at + 2) count
+unfoldable pub u16sAt : List ℕ → ℕ → ℕ → List ℕ
+u16sAt s at zero = []
+u16sAt s at (suc count) = u16At s at ∷ u16sAt s (at + 2) count
 
 -- ---- change rows
 
@@ -31,14 +31,14 @@ abbrev pub rowSizeOf : ℕ → ℕ
 rowSizeOf d = sizes .hash + 2 * (1 + d)
 
 unfoldable pub countOf : ℕ → List ℕ → ℕ → ℕ
-countOf d s i = twoAt s (i * rowSizeOf d + sizes .hash)
+countOf d s i = u16At s (i * rowSizeOf d + sizes .hash)
 
 -- The row numbers in use, and the others.
 unfoldable pub usedOf : ℕ → List ℕ → ℕ → List ℕ
-usedOf d s i = twosAt s (i * rowSizeOf d + sizes .hash + 2) (countOf d s i)
+usedOf d s i = u16sAt s (i * rowSizeOf d + sizes .hash + 2) (countOf d s i)
 
 unfoldable pub unusedOf : ℕ → List ℕ → ℕ → List ℕ
-unusedOf d s i = twosAt s (i * rowSizeOf d + sizes .hash + 2 + 2 * countOf d s i) (d - countOf d s i)
+unusedOf d s i = u16sAt s (i * rowSizeOf d + sizes .hash + 2 + 2 * countOf d s i) (d - countOf d s i)
 
 unfoldable pub rowOf : ℕ → List ℕ → ℕ → Row
 rowOf d s i = record { hash = hashAt s (i * rowSizeOf d); deps = usedOf d s i }
@@ -93,8 +93,8 @@ tableCheckedOf d most s = checkedWith (λ i. Refused (BadRow i)) (rowGoodOf d s)
 abbrev pub rowSize : ℕ
 rowSize = rowSizeOf (sizes .dependencies)
 
-abbrev pub countAt : List ℕ → ℕ → ℕ
-countAt s i = countOf (sizes .dependencies) s i
+abbrev pub depCount : List ℕ → ℕ → ℕ
+depCount s i = countOf (sizes .dependencies) s i
 
 abbrev pub usedAt : List ℕ → ℕ → List ℕ
 usedAt s i = usedOf (sizes .dependencies) s i
@@ -122,7 +122,7 @@ tableChecked s = tableCheckedOf (sizes .dependencies) (sizes .rows) s
 pub record GoodRows (s : List ℕ) (n : ℕ) : Type 0 where
   pub few : n ≤ sizes .rows
   pub inside : n * rowSize ≤ length s
-  pub counts : (i : ℕ) → i < n → countAt s i ≤ sizes .dependencies
+  pub counts : (i : ℕ) → i < n → depCount s i ≤ sizes .dependencies
   pub good : GoodTable (rowsAt s 0 n)
 
 -- ---- waiting rows

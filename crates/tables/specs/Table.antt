@@ -32,20 +32,20 @@ pub record GoodTable (t : List Row) : Type 0 where
   pub ordered : (i : ℕ) → i < length t → ascends (depsOf t i) ≡ true
 
 -- The place of the first number that is h, or the list's length where none is.
-unfoldable pub placeIn : List ℕ → ℕ → ℕ
-placeIn [] h = 0
-placeIn (x ∷ xs) h = cond (eqb x h) 0 (suc (placeIn xs h))
+unfoldable pub indexIn : List ℕ → ℕ → ℕ
+indexIn [] h = 0
+indexIn (x ∷ xs) h = cond (eqb x h) 0 (suc (indexIn xs h))
 
 -- The row of a hash, and whether there is one.
-unfoldable pub place : List Row → ℕ → ℕ
-place t h = placeIn (rows t) h
+unfoldable pub rowNumber : List Row → ℕ → ℕ
+rowNumber t h = indexIn (rows t) h
 
 unfoldable pub held : List Row → ℕ → Bool
 held t h = member h (rows t)
 
 -- The hashes that a hash's row depends on; none for an unknown hash.
 unfoldable pub deps : List Row → ℕ → List ℕ
-deps t h = map (hashOf t) (depsOf t (place t h))
+deps t h = map (hashOf t) (depsOf t (rowNumber t h))
 
 -- The hashes of the rows, in table order, whose numbers are some of p; numbers are counted from i.
 unfoldable pub rowsFrom : ℕ → List Row → (ℕ → Bool) → List ℕ

@@ -2,7 +2,7 @@
 use Prim.Native.Nat.{ℕ}
 use mathlib.Core.List.{List, [], map}
 use lib.ListN.{getD}
-use Rattle.tables.specs.Table.{placeIn}
+use Rattle.tables.specs.Table.{indexIn}
 
 -- A waiting change: its hash, and the hashes that it asks for.
 pub record Waiting : Type 0 where
@@ -20,4 +20,4 @@ unfoldable pub asksOf : List Waiting → ℕ → List ℕ
 asksOf w i = getD w i noWaiting .asks
 
 unfoldable pub asks : List Waiting → ℕ → List ℕ
-asks w h = asksOf w (placeIn (waiting w) h)
+asks w h = asksOf w (indexIn (waiting w) h)

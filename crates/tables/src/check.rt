@@ -10,7 +10,7 @@ ghost use mathlib.Core.Path.{_≡_};
 ghost use Prim.Native.Nat.{_+_, _*_, _≤_};
 ghost use lib.ListN.{length};
 ghost use Rattle.rules.specs.Sizes.{sizes};
-ghost use Rattle.tables.specs.Bytes.{rowSize, countAt, usedAt, unusedAt, numbersGood, zeros, rowGood, firstBad, tableChecked};
+ghost use Rattle.tables.specs.Bytes.{rowSize, depCount, usedAt, unusedAt, numbersGood, zeros, rowGood, firstBad, tableChecked};
 
 // A good table's number of rows, or the refusal.
 pub enum Checked {
@@ -20,7 +20,7 @@ pub enum Checked {
 
 // Whether the numbers in use of row i ascend and are below it.
 fn numbers_good(table: &[u8], i: usize) -> bool
-    requires { ⌜ ((i + 1) * rowSize ≤ length (now table)) × (countAt (now table) i ≤ sizes .dependencies) ⌝ }
+    requires { ⌜ ((i + 1) * rowSize ≤ length (now table)) × (depCount (now table) i ≤ sizes .dependencies) ⌝ }
     ensures { λ r. ⌜ r ≡ numbersGood i (usedAt (now (table .entry)) i) ⌝ }
 {
     let count = dep_count(table, i);
@@ -42,7 +42,7 @@ fn numbers_good(table: &[u8], i: usize) -> bool
 
 // Whether the other numbers of row i are 0.
 fn zeros_good(table: &[u8], i: usize) -> bool
-    requires { ⌜ ((i + 1) * rowSize ≤ length (now table)) × (countAt (now table) i ≤ sizes .dependencies) ⌝ }
+    requires { ⌜ ((i + 1) * rowSize ≤ length (now table)) × (depCount (now table) i ≤ sizes .dependencies) ⌝ }
     ensures { λ r. ⌜ r ≡ zeros (unusedAt (now (table .entry)) i) ⌝ }
 {
     let mut j = dep_count(table, i);

@@ -8,13 +8,13 @@ ghost use lib.ListN.{length};
 ghost use Rattle.rules.specs.Hash.{hashAt};
 ghost use Rattle.rules.specs.Sizes.{sizes};
 ghost use Rattle.tables.specs.Bytes.{rowSize, rowsAt, waitingSize, waitingsAt};
-ghost use Rattle.tables.specs.Table.{rows, placeIn};
+ghost use Rattle.tables.specs.Table.{rows, indexIn};
 ghost use Rattle.tables.specs.Waiting.{waiting};
 
 // The first of the first n rows that has the hash at a place, or n where none has.
 pub fn find_row(table: &[u8], n: usize, s: &[u8], at: usize) -> usize
     requires { ⌜ (n * rowSize ≤ length (now table)) × (at + sizes .hash ≤ length (now s)) ⌝ }
-    ensures { λ r. ⌜ r ≡ placeIn (rows (rowsAt (now (table .entry)) 0 n)) (hashAt (now (s .entry)) at) ⌝ }
+    ensures { λ r. ⌜ r ≡ indexIn (rows (rowsAt (now (table .entry)) 0 n)) (hashAt (now (s .entry)) at) ⌝ }
 {
     let mut i = 0;
     while i < n {
@@ -29,7 +29,7 @@ pub fn find_row(table: &[u8], n: usize, s: &[u8], at: usize) -> usize
 // The same of waiting rows.
 pub fn find_waiting(table: &[u8], n: usize, s: &[u8], at: usize) -> usize
     requires { ⌜ (n * waitingSize ≤ length (now table)) × (at + sizes .hash ≤ length (now s)) ⌝ }
-    ensures { λ r. ⌜ r ≡ placeIn (waiting (waitingsAt (now (table .entry)) 0 n)) (hashAt (now (s .entry)) at) ⌝ }
+    ensures { λ r. ⌜ r ≡ indexIn (waiting (waitingsAt (now (table .entry)) 0 n)) (hashAt (now (s .entry)) at) ⌝ }
 {
     let mut i = 0;
     while i < n {

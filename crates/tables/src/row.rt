@@ -5,7 +5,7 @@ ghost use mathlib.Core.Path.{_≡_};
 ghost use Prim.Native.Nat.{_+_, _*_, _≤_, _<_};
 ghost use lib.ListN.{length};
 ghost use Rattle.rules.specs.Sizes.{sizes};
-ghost use Rattle.tables.specs.Bytes.{twoAt, rowSize, countAt};
+ghost use Rattle.tables.specs.Bytes.{u16At, rowSize, depCount};
 
 // Bytes of a change row.
 pub const ROW_SIZE: usize = HASH_SIZE + 2 * (1 + DEPENDENCIES);
@@ -15,9 +15,9 @@ pub const WAITING_SIZE: usize = HASH_SIZE * (2 + DEPENDENCIES);
 pub const ASKS_PLACE: usize = 2 * HASH_SIZE;
 
 // The little-endian number that two bytes are.
-pub fn two(s: &[u8], at: usize) -> usize
+pub fn u16_at(s: &[u8], at: usize) -> usize
     requires { ⌜ at + 2 ≤ length (now s) ⌝ }
-    ensures { λ r. ⌜ r ≡ twoAt (now (s .entry)) at ⌝ }
+    ensures { λ r. ⌜ r ≡ u16At (now (s .entry)) at ⌝ }
 {
     s[at] as usize + 256 * (s[at + 1] as usize)
 }
@@ -25,15 +25,15 @@ pub fn two(s: &[u8], at: usize) -> usize
 // How many dependencies row i says that it has.
 pub fn dep_count(table: &[u8], i: usize) -> usize
     requires { ⌜ (i + 1) * rowSize ≤ length (now table) ⌝ }
-    ensures { λ r. ⌜ r ≡ countAt (now (table .entry)) i ⌝ }
+    ensures { λ r. ⌜ r ≡ depCount (now (table .entry)) i ⌝ }
 {
-    two(table, i * ROW_SIZE + HASH_SIZE)
+    u16_at(table, i * ROW_SIZE + HASH_SIZE)
 }
 
 // The j-th row number of row i.
 pub fn dep(table: &[u8], i: usize, j: usize) -> usize
     requires { ⌜ ((i + 1) * rowSize ≤ length (now table)) × (j < sizes .dependencies) ⌝ }
-    ensures { λ r. ⌜ r ≡ twoAt (now (table .entry)) (i * rowSize + sizes .hash + 2 + 2 * j) ⌝ }
+    ensures { λ r. ⌜ r ≡ u16At (now (table .entry)) (i * rowSize + sizes .hash + 2 + 2 * j) ⌝ }
 {
-    two(table, i * ROW_SIZE + HASH_SIZE + 2 + 2 * j)
+    u16_at(table, i * ROW_SIZE + HASH_SIZE + 2 + 2 * j)
 }

@@ -1,4 +1,2 @@
 -- Laws that the crates above cite.
 pub mod Item
-pub mod Meaning
-pub mod Number

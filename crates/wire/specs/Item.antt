@@ -1,5 +1,4 @@
--- Counts, prefixed strings and hash lists, read and written. 01, Wire; Refusal numbers, 1 and 4; "The count's limit is tested before any
--- element".
+-- Counts, prefixed strings and hash lists, read and written. 01, Wire, and Refusal numbers, 1 and 4: a count's limit is tested before what it counts.
 use Prim.Native.Nat.{ℕ, _+_, _*_, _/_}
 use mathlib.Core.Bool.{cond}
 use mathlib.Core.List.{List, _++_}
@@ -12,9 +11,9 @@ use Rattle.rules.specs.Passed.{passedHashes, afterPassed}
 use Rattle.rules.specs.Sizes.{sizes}
 use Rattle.rules.specs.declared.refusal.Refusal.{Refusal}
 use Rattle.rules.specs.declared.refusal.Refusal.the-variants.{Cut, PastSize}
-use Rattle.wire.specs.Number.{shortest, numberAt, most64}
-use Rattle.wire.specs.declared.leb128.Number.{Number}
-use Rattle.wire.specs.declared.leb128.Number.the-variants.{Value, Refused}
+use Rattle.numbers.specs.Number.{shortest, numberAt, most64}
+use Rattle.numbers.specs.declared.leb128.Number.{Number}
+use Rattle.numbers.specs.declared.leb128.Number.the-variants.{Value, Refused}
 use Rattle.wire.specs.declared.parse.Listed.{Listed}
 use Rattle.wire.specs.declared.parse.Listed.the-variants.{Items, Refused as NotListed}
 use Rattle.wire.specs.declared.parse.Prefixed.{Prefixed}

@@ -1,2 +1,1 @@
 pub mod Item
-pub mod Number

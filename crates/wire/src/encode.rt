@@ -1,6 +1,6 @@
 // Prefixed strings and hash lists, written (`encode_hashes` and `encode_many` of src/sync.rs).
-use crate::leb128::put_unsigned;
-use crate::leb128::unsigned_size;
+use numbers::leb128::put_unsigned;
+use numbers::leb128::unsigned_size;
 use rules::output::Write;
 use rules::passed::Passed;
 use rules::passed::passed_hashes;
@@ -9,7 +9,7 @@ use rules::refusal::Refusal;
 ghost use mathlib.Core.List.{_++_};
 ghost use Rattle.rules.specs.Output.{Written, Output};
 ghost use Rattle.wire.specs.Item.{prefixedBytes, hashListOutput};
-ghost use Rattle.wire.specs.Number.{shortest};
+ghost use Rattle.numbers.specs.Number.{shortest};
 
 // Writes a count, and the bytes that it counts in some unit.
 fn encode(out: &mut [u8], count: u64, bytes: &[u8]) -> Write

@@ -1,6 +1,5 @@
-// The items that messages and saved states are made of: numbers, prefixed strings, hash lists.
+// The items that messages and saved states are made of beside numbers: counts, prefixed strings, hash lists.
 //
-//     number            seven bits a byte, lowest first, 80 (hexadecimal) added to each byte but the last
 //     prefixed string   number (its length), bytes
 //     hash list         number (its count), hashes
 //
@@ -8,5 +7,4 @@
 // where the item stands and the next place, or the refusal. Any numbers are places; a part that isn't there has no bytes.
 // A writer takes the buffer that is lent to it, and answers how many bytes it wrote at the buffer's start, or the refusal.
 pub mod encode;
-pub mod leb128;
 pub mod parse;

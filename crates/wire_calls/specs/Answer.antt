@@ -1,13 +1,13 @@
 -- The words of an answer, as exported calls write them: 0 and what was found, or the refusal's number and value.
 use Prim.Native.Nat.{ℕ}
 use mathlib.Core.List.{List, [], _∷_}
-use Rattle.wire.specs.declared.leb128.Number.{Number}
-use Rattle.wire.specs.declared.leb128.Number.the-variants.{Value, Refused as NoNumber}
+use Rattle.numbers.specs.declared.leb128.Number.{Number}
+use Rattle.numbers.specs.declared.leb128.Number.the-variants.{Value, Refused as NoNumber}
 use Rattle.wire.specs.declared.parse.Prefixed.{Prefixed}
 use Rattle.wire.specs.declared.parse.Prefixed.the-variants.{Part, Refused as NoPart}
 use Rattle.wire.specs.declared.parse.Listed.{Listed}
 use Rattle.wire.specs.declared.parse.Listed.the-variants.{Items, Refused as NotListed}
-use Rattle.words.specs.Answer.{refusalWords}
+use Rattle.answers.specs.Answer.{refusalWords}
 
 abbrev pub numberWords : Number → List ℕ
 numberWords (Value n next) = 0 ∷ n ∷ next ∷ 0 ∷ []

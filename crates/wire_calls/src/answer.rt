@@ -1,8 +1,8 @@
 // An answer as words.
-use wire::leb128::Number;
+use answers::answer::refusal_words;
+use numbers::leb128::Number;
 use wire::parse::Listed;
 use wire::parse::Prefixed;
-use words::answer::refusal_words;
 ghost use mathlib.Core.Path.{_≡_};
 ghost use Rattle.wire_calls.specs.Answer.{numberWords, prefixedWords, hashListWords};
 

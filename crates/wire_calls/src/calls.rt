@@ -2,20 +2,20 @@
 use crate::answer::hash_list_words;
 use crate::answer::number_words;
 use crate::answer::prefixed_words;
-use words::answer::write_words;
+use answers::answer::write_words;
 ghost use mathlib.Core.Path.{_≡_};
 ghost use Rattle.rules.specs.Output.{Output};
-ghost use Rattle.words.specs.Answer.{Answered};
+ghost use Rattle.answers.specs.Answer.{Answered};
 ghost use Rattle.wire_calls.specs.Answer.{numberWords, prefixedWords, hashListWords};
 ghost use Rattle.wire.specs.Item.{prefixedAt, hashListAt, prefixedBytes, hashListOutput};
-ghost use Rattle.wire.specs.Number.{numberAt, most64, mostFilter, shortest};
+ghost use Rattle.numbers.specs.Number.{numberAt, most64, mostFilter, shortest};
 
 // The number at a place: 0, value, next place.
 #[no_mangle]
 pub extern "C" fn bt_read_number(s: &[u8], at: usize, end: usize, answer: &mut [u64; 4])
     ensures { λ _. ⌜ now (answer .exit) ≡ numberWords (numberAt most64 (now (s .entry)) at end) ⌝ }
 {
-    *answer = number_words(wire::leb128::leb128_u64(s, at, end));
+    *answer = number_words(numbers::leb128::leb128_u64(s, at, end));
 }
 
 // The filter number at a place: 0, value, next place.
@@ -23,7 +23,7 @@ pub extern "C" fn bt_read_number(s: &[u8], at: usize, end: usize, answer: &mut [
 pub extern "C" fn bt_read_filter_number(s: &[u8], at: usize, end: usize, answer: &mut [u64; 4])
     ensures { λ _. ⌜ now (answer .exit) ≡ numberWords (numberAt mostFilter (now (s .entry)) at end) ⌝ }
 {
-    *answer = number_words(wire::leb128::leb128_u32(s, at, end));
+    *answer = number_words(numbers::leb128::leb128_u32(s, at, end));
 }
 
 // The prefixed string at a place: 0, the place of its first byte, the place after its last.
@@ -47,7 +47,7 @@ pub extern "C" fn bt_read_hashes(s: &[u8], at: usize, end: usize, answer: &mut [
 pub extern "C" fn bt_write_number(out: &mut [u8], n: u64, answer: &mut [u64; 4])
     ensures { λ _. ⌜ Answered (Output.bytes (shortest n)) (now (out .entry)) (now (out .exit)) (now (answer .exit)) ⌝ }
 {
-    *answer = write_words(wire::leb128::write_unsigned(out, n));
+    *answer = write_words(numbers::leb128::write_unsigned(out, n));
 }
 
 // Writes a prefixed string: 0, bytes written.

@@ -6,7 +6,7 @@ use borrow.Author.Tests.{not-true, not-false}
 use lib.ListN.{length}
 use Prim.Native.Nat.{ℕ}
 use Rattle.rules.specs.Output.{bytes, refuse}
-use Rattle.rules.specs.declared.refusal.Refusal.the-variants.{BadSession}
+use Rattle.rules.specs.declared.refusal.Refusal.the-variants.{BadNumbers}
 use Rattle.rules.proofs.Outputs.{written-bytes, no-room, refused}
 use Rattle.bloom.specs.Filter.{filterOf4, filterRules, filterBytes, filterOutput}
 use borrow.Author.Needs.{needs}
@@ -14,7 +14,7 @@ use Rattle.bloom.proofs.to_bytes.to_bytes.Statement.{statement}
 use Rattle.bloom.proofs.to_bytes.to_bytes.Tie as tie
 
 module _ (n b p : ℕ) (field : List ℕ) where
-  broken : filterRules n b p (length field) ≡ false → filterOutput (filterOf4 n b p field) ≡ refuse BadSession
+  broken : filterRules n b p (length field) ≡ false → filterOutput (filterOf4 n b p field) ≡ refuse BadNumbers
   unfolding filterOutput
   broken e = rw e
 

@@ -5,7 +5,7 @@ use denote.Ref.{now}
 use Rattle.bloom.specs.Have.{syncPlace, syncCount}
 use Rattle.rules.specs.Hash.{hashesAt}
 use Rattle.wire.specs.Item.{hashListBytes}
-use Rattle.wire.specs.Number.{Put}
+use Rattle.numbers.specs.Number.{Put}
 use Rattle.size.proofs.SizeLaws.{HaveFits, have-fits, have-room}
 use Rattle.encode.proofs.PutLaws.{put-have-parts}
 use borrow.Author.Needs.{needs}

@@ -6,7 +6,7 @@ use Rattle.size.specs.Write.{partsOf, messageOf}
 use Rattle.message.specs.Flags.{sectionBytes}
 use Rattle.message.specs.Message.{Message, counted, haveBytes, messageBytes}
 use Rattle.wire.specs.Item.{hashListBytes, prefixedBytes}
-use Rattle.wire.specs.Number.{Put}
+use Rattle.numbers.specs.Number.{Put}
 use Rattle.encode.proofs.PutLaws.{Putting, put-long, putting-type, putting-on, putting-last, putting-room, putting-all, message-some, fromHeads, fromNeed, fromHaves, fromChunks}
 use borrow.Author.Needs.{needs}
 use Rattle.encode.proofs.put.put_message.Statement.{statement}

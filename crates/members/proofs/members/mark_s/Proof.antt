@@ -38,13 +38,13 @@ mark-synced-requires c κs =
 loop-holds : tie.Need-loop-holds Inv-loop μ-loop
 loop-holds c = record { upto = omega arith; long = refl; so = turn-start _ _ }
 
-array-read-joins : tie.Need-array-read-joins Inv-loop μ-loop
-array-read-joins c =
+array-read-is-member : tie.Need-array-read-is-member Inv-loop μ-loop
+array-read-is-member c =
     let start = c .before .before .before .before .before .before .before .before .before in
     omega (arith, c .loop-test .taken, start .pre .0 .few)
 
-joins-requires : tie.Need-joins-requires Inv-loop μ-loop
-joins-requires c κs =
+is-member-requires : tie.Need-is-member-requires Inv-loop μ-loop
+is-member-requires c κs =
     let l = c .before in
     let b = l .before in
     let start = b .before .before .before .before .before .before .before .before in (
@@ -79,7 +79,7 @@ loop-again c =
       so =
           joins-on _ _ _ _ (start .pre .0) _ more _ _ _ _ (omega (arith, more, start .pre .3, b .loop .inv .long)) (m .mark-synced .ensures)
           (b .loop .inv .so)
-          (c .joins .ensures);
+          (c .is-member .ensures);
     }
 
 same-length : tie.Need-same-length Inv-loop μ-loop
@@ -99,8 +99,8 @@ mark-s-spec =
     slice-aggregate-mark-synced
     mark-synced-requires
     loop-holds
-    array-read-joins
-    joins-requires
+    array-read-is-member
+    is-member-requires
     slice-write-members
     add-i
     loop-less

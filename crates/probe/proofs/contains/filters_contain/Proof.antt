@@ -9,7 +9,7 @@ use denote.Ref.{now}
 use lib.ListN.{length}
 use Rattle.rules.specs.Hash.{hashAt}
 use Rattle.rules.specs.Sizes.{sizes}
-use Rattle.rules.specs.declared.refusal.Refusal.the-variants.{Cut, PastSize, BadSession}
+use Rattle.rules.specs.declared.refusal.Refusal.the-variants.{Cut, PastSize, BadNumbers}
 use Rattle.bloom.specs.Have.{filtersOf, passedGood, passedFew}
 use Rattle.probe.specs.Contains.{containedIn, anyContains}
 use Rattle.probe.specs.declared.contains.Contained.the-variants.{Yes, No, Refused}
@@ -19,7 +19,7 @@ use Rattle.probe.proofs.contains.filters_contain.Statement.{statement}
 use Rattle.probe.proofs.contains.filters_contain.Tie as tie
 
 module _ (s haves hash : List ℕ) where
-  bad : passedGood s haves ≡ false → Refused BadSession ≡ containedIn s haves hash
+  bad : passedGood s haves ≡ false → Refused BadNumbers ≡ containedIn s haves hash
   unfolding containedIn
   bad e = rw e
 

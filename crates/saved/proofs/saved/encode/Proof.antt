@@ -10,7 +10,7 @@ use borrow.Author.Tests.{not-true, not-false}
 use lib.ListN.{length-set}
 use Rattle.rules.specs.Hash.{Bytes}
 use Rattle.rules.proofs.Outputs.{refused}
-use Rattle.wire.proofs.Number.{shortest-ten}
+use Rattle.numbers.proofs.Number.{shortest-ten}
 use Rattle.lent.specs.Good.{listGood}
 use Rattle.lent.proofs.GoodSessions.{list-parts}
 use Rattle.saved.proofs.SavedLaws.{prefix-long, state-bad, state-no-room, state-written}

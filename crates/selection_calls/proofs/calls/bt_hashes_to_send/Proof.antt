@@ -1,5 +1,5 @@
 -- `selection_calls::calls::bt_hashes_to_send` meets its contract: the words and the buffer of what the writer ensures. Assumes nothing.
-use Rattle.words.proofs.Answers.{answered}
+use Rattle.answers.proofs.Answers.{answered}
 use borrow.Author.Needs.{needs}
 use Rattle.selection_calls.proofs.calls.bt_hashes_to_send.Statement.{statement}
 use Rattle.selection_calls.proofs.calls.bt_hashes_to_send.Tie as tie

@@ -5,8 +5,8 @@ use native.Mathlib.Omega.{arith}
 use denote.Ref.{now}
 use lib.ListN.{length, getD, drop}
 use Rattle.size.specs.Size.{chunksCut}
-use Rattle.wire.specs.Number.{shortest}
-use Rattle.wire.proofs.Number.{shortest-ten}
+use Rattle.numbers.specs.Number.{shortest}
+use Rattle.numbers.proofs.Number.{shortest-ten}
 use Rattle.size.proofs.SizeLaws.{cutting-short, cutting-on, cutting-ends}
 use borrow.Author.Needs.{needs}
 use Rattle.size.proofs.size.cut_chunks.Statement.{statement}

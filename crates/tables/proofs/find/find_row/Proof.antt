@@ -6,7 +6,7 @@ use mathlib.Core.Path.{_≡_, sym, _∙_}
 use native.Mathlib.Omega.{arith}
 use Rattle.rules.specs.Hash.{hashAt}
 use Rattle.tables.specs.Bytes.{rowSize, rowsAt}
-use Rattle.tables.specs.Table.{rows, placeIn}
+use Rattle.tables.specs.Table.{rows, indexIn}
 use Rattle.tables.proofs.FindLaws.{seeking, seek-rows, seek-here, seek-on, seek-ends}
 use Rattle.tables.proofs.find.find_row.Statement.{statement}
 use Rattle.tables.proofs.find.find_row.Tie as tie
@@ -15,7 +15,7 @@ abbrev Inv-loop : tie.InvT-loop
 Inv-loop table n s at i₀ i =
     record {
       upto : i ≤ n;
-      rest : seeking (λ k. hashAt table (k * rowSize)) (hashAt s at) n i ≡ placeIn (rows (rowsAt table 0 n)) (hashAt s at);
+      rest : seeking (λ k. hashAt table (k * rowSize)) (hashAt s at) n i ≡ indexIn (rows (rowsAt table 0 n)) (hashAt s at);
     }
 
 abbrev μ-loop : tie.MeasureT-loop

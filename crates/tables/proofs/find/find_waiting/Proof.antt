@@ -6,7 +6,7 @@ use mathlib.Core.Path.{_≡_, sym, _∙_}
 use native.Mathlib.Omega.{arith}
 use Rattle.rules.specs.Hash.{hashAt}
 use Rattle.tables.specs.Bytes.{waitingSize, waitingsAt}
-use Rattle.tables.specs.Table.{placeIn}
+use Rattle.tables.specs.Table.{indexIn}
 use Rattle.tables.specs.Waiting.{waiting}
 use Rattle.tables.proofs.FindLaws.{seeking, seek-waiting, seek-here, seek-on, seek-ends}
 use Rattle.tables.proofs.find.find_waiting.Statement.{statement}
@@ -16,7 +16,7 @@ abbrev Inv-loop : tie.InvT-loop
 Inv-loop table n s at i₀ i =
     record {
       upto : i ≤ n;
-      rest : seeking (λ k. hashAt table (k * waitingSize)) (hashAt s at) n i ≡ placeIn (waiting (waitingsAt table 0 n)) (hashAt s at);
+      rest : seeking (λ k. hashAt table (k * waitingSize)) (hashAt s at) n i ≡ indexIn (waiting (waitingsAt table 0 n)) (hashAt s at);
     }
 
 abbrev μ-loop : tie.MeasureT-loop

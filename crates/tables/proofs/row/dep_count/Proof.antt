@@ -4,18 +4,18 @@ use borrow.Author.Needs.{needs}
 use Rattle.tables.proofs.row.dep_count.Statement.{statement}
 use Rattle.tables.proofs.row.dep_count.Tie as tie
 
-mul-two : tie.Need-mul-two
-mul-two c = search needs
+mul-u16-at : tie.Need-mul-u16-at
+mul-u16-at c = search needs
 
-add-two : tie.Need-add-two
-add-two c = search needs
+add-u16-at : tie.Need-add-u16-at
+add-u16-at c = search needs
 
-two-requires : tie.Need-two-requires
-two-requires c κs = search needs
+u16-at-requires : tie.Need-u16-at-requires
+u16-at-requires c κs = search needs
 
 returns : tie.Need-returns
 unfolding countOf
 returns c = search needs
 
 pub dep-count-spec : {M : Type 1} → statement M
-dep-count-spec = tie.close (tie.spec mul-two add-two two-requires returns)
+dep-count-spec = tie.close (tie.spec mul-u16-at add-u16-at u16-at-requires returns)

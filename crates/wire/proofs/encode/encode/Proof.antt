@@ -6,8 +6,8 @@ use native.Mathlib.Omega.{arith}
 use denote.Ref.{now}
 use lib.ListN.{length, length-append}
 use Rattle.rules.proofs.Outputs.{written-bytes, no-room, sets-append}
-use Rattle.wire.specs.Number.{shortest}
-use Rattle.wire.proofs.Number.{shortest-ten, put-then}
+use Rattle.numbers.specs.Number.{shortest}
+use Rattle.numbers.proofs.Number.{shortest-ten, put-then}
 use borrow.Author.Needs.{needs}
 use Rattle.wire.proofs.encode.encode.Statement.{statement}
 use Rattle.wire.proofs.encode.encode.Tie as tie

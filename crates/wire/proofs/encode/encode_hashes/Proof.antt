@@ -16,7 +16,7 @@ use Rattle.rules.proofs.Hash.{length-hashes-at, hashes-at-bytes}
 use Rattle.rules.proofs.Outputs.{refused}
 use Rattle.rules.proofs.PassedLaws.{passed-is, after-refused, after-hashes}
 use Rattle.wire.specs.Item.{hashListOutput, hashListBytes}
-use Rattle.wire.specs.Number.{shortest}
+use Rattle.numbers.specs.Number.{shortest}
 use borrow.Author.Needs.{needs}
 use Rattle.wire.proofs.encode.encode_hashes.Statement.{statement}
 use Rattle.wire.proofs.encode.encode_hashes.Tie as tie

@@ -1,0 +1,116 @@
+// Unsigned LEB128 numbers (src/storage/parse/leb128.rs), at 64 bits and as filter numbers.
+use rules::output::Write;
+use rules::refusal::Refusal;
+ghost use mathlib.Core.Path.{_≡_};
+ghost use Prim.Native.Nat.{_+_, _≤_, min};
+ghost use lib.ListN.{length};
+ghost use lib.Seq.{sets};
+ghost use Rattle.rules.specs.Output.{Written, Output};
+ghost use Rattle.numbers.specs.Number.{shortest, numberAt, most64, mostFilter, Put};
+
+// The largest number of 64 bits.
+const MOST_64: u64 = 18_446_744_073_709_551_615;
+// The largest number in a filter.
+pub const MOST_FILTER: u64 = 4_294_967_295;
+
+// A number that was read, and the place after it.
+pub enum Number {
+    Value { value: u64, next: usize },
+    Refused(Refusal),
+}
+
+// The number at a place, read up to `end`.
+pub fn leb128_u64(s: &[u8], at: usize, end: usize) -> Number
+    ensures { λ r. ⌜ r ≡ numberAt most64 (now (s .entry)) at end ⌝ }
+{
+    read(s, at, within(s, end), MOST_64)
+}
+
+// The filter number at a place, read up to `end`.
+pub fn leb128_u32(s: &[u8], at: usize, end: usize) -> Number
+    ensures { λ r. ⌜ r ≡ numberAt mostFilter (now (s .entry)) at end ⌝ }
+{
+    read(s, at, within(s, end), MOST_FILTER)
+}
+
+// Where a part that goes up to `end` ends in fact.
+pub fn within(s: &[u8], end: usize) -> usize
+    ensures { λ r. ⌜ r ≡ min end (length (now (s .entry))) ⌝ }
+{
+    if end < s.len() { end } else { s.len() }
+}
+
+// One function for every width: `most` is the largest number that is good. A byte of 128 or more goes on, and what follows is at
+// least 1, so the number is then at least value + b * scale: the test that a last byte wants serves it too.
+fn read(s: &[u8], at: usize, end: usize, most: u64) -> Number
+    requires { ⌜ end ≤ length (now s) ⌝ }
+    ensures { λ r. ⌜ r ≡ numberAt most (now (s .entry)) at end ⌝ }
+{
+    let mut i = at;
+    let mut least: u64 = 0;
+    let mut value: u64 = 0;
+    let mut scale: u64 = 1;
+    let mut shift: u64 = 0;
+    while i < end {
+        let b = s[i] as u64;
+        if b < least {
+            return Number::Refused(Refusal::BadNumber(at));
+        }
+        if (most - value) >> shift < b {
+            return Number::Refused(Refusal::BadNumber(at));
+        }
+        if b < 128 {
+            return Number::Value {
+                value: value + b * scale,
+                next: i + 1,
+            };
+        }
+        value = value + (b - 128) * scale;
+        scale = scale * 128;
+        shift = shift + 7;
+        least = 1;
+        i += 1;
+    }
+    Number::Refused(Refusal::Cut(at))
+}
+
+// How many bytes a number's shortest form has.
+pub fn unsigned_size(n: u64) -> usize
+    ensures { λ r. ⌜ r ≡ length (shortest n) ⌝ }
+{
+    let mut rest = n;
+    let mut size: usize = 1;
+    while 128 <= rest {
+        rest = rest / 128;
+        size += 1;
+    }
+    size
+}
+
+// Puts a number's shortest form at a place of the buffer, and returns the place after it.
+pub fn put_unsigned(out: &mut [u8], at: usize, n: u64) -> usize
+    requires { ⌜ at + length (shortest n) ≤ length (now out) ⌝ }
+    ensures { λ r. ⌜ Put (now (out .entry)) (now (out .exit)) at (shortest n) r ⌝ }
+{
+    let mut rest = n;
+    let mut i = at;
+    while 128 <= rest {
+        out[i] = (rest % 128 + 128) as u8;
+        rest = rest / 128;
+        i += 1;
+    }
+    out[i] = rest as u8;
+    i + 1
+}
+
+// Writes a number in its shortest form.
+pub fn write_unsigned(out: &mut [u8], n: u64) -> Write
+    ensures { λ r. ⌜ Written (Output.bytes (shortest n)) (now (out .entry)) (now (out .exit)) r ⌝ }
+{
+    let size = unsigned_size(n);
+    if out.len() < size {
+        return Write::Refused(Refusal::NoRoom(size));
+    }
+    put_unsigned(out, 0, n);
+    Write::Wrote(size)
+}
