@@ -1,6 +1,5 @@
--- What the bytes of a filter mean. 01, Wire ("Filter"): "no bytes means entries 0, bits 10, probes 7. Else entries n, bits b, probes p; .. then the
--- field .. Bytes after the field are ignored." With n = 0 the field is empty, which is one of the filter rules. What `filterAt` reads means its
--- filter: the law `filter-means`.
+-- What the bytes of a filter mean. 01, Wire, Filter: none are the default; any others say the three numbers and the field, and what is left over says
+-- nothing. With n = 0 the field is empty, which is one of the filter rules. What `filterAt` reads means its filter: the law `filter-means`.
 use Prim.Native.Nat.{ℕ}
 use mathlib.Core.Bool.{true}
 use mathlib.Core.List.{List, [], _++_}

@@ -1,5 +1,6 @@
--- What a message that was read means. 01, Wire, Message: its parts stand one after the other, each from the place where the one before it ended;
--- bytes behind a flags section say nothing. `messageAt` reads exactly the messages that mean something: the laws `message-means` and `means-read`.
+-- What the bytes of a message mean. 01, Wire, Message: its parts stand one after the other, each from the place where the one before it ended; bytes
+-- behind a flags section say nothing. What `messageAt` reads means the message that it says: the law `message-means`. The other way round it reads
+-- what is written of a message: `message-there-and-back`.
 use Prim.Native.Nat.{ℕ, _≤_}
 use mathlib.Core.List.{List, [], _∷_, _++_}
 use mathlib.Core.Path.{_≡_}

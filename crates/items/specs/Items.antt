@@ -1,5 +1,5 @@
--- Haves and chunks as they are read. 01, Wire: "count of haves, each a hash list and a prefixed filter; count of chunks, each prefixed"; "The
--- count's limit is tested before any element". An item is read into words, places counting from the message's first byte.
+-- Haves and chunks as they are read. 01, Wire, Message: each list is a count and as many items, and its limit is tested before the first of them. An
+-- item is read into words, places counting from the message's first byte.
 use Prim.Native.Nat.{ℕ, zero, suc, _+_, _-_, _≤_}
 use mathlib.Core.List.{List, [], _∷_, _++_}
 use mathlib.Core.Path.{_≡_}

@@ -1,5 +1,5 @@
--- What the bytes of haves mean. 01, Wire: "count of haves, each a hash list and a prefixed filter". What `havesAt` reads means its haves: the law
--- `haves-mean`.
+-- What the bytes of haves mean. 01, Wire, Message: one have after the other, a hash list and a filter's string each. What `havesAt` reads means its
+-- haves: the law `haves-mean`.
 use Prim.Native.Nat.{ℕ, _≤_}
 use mathlib.Core.List.{List, [], _∷_, _++_}
 use mathlib.Core.Path.{_≡_}

@@ -1,5 +1,5 @@
--- S. 01, Hashes to send: "candidates are the rows beyond all haves' last-sync hashes; S is every candidate missed by all filters, plus its direct
--- and indirect dependents among the candidates".
+-- S. 01, Hashes to send: the peer may lack what lies beyond all that its haves name and what no filter of them has; and who lacks a change lacks what
+-- depends on it.
 use Prim.Native.Nat.{ℕ, _+_, _*_, _≤_, _<_}
 use mathlib.Core.Bool.{Bool, false, not, _&&_, _||_}
 use mathlib.Core.List.{List, [], _∷_, _++_, map}

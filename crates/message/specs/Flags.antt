@@ -9,7 +9,7 @@ use Rattle.message.specs.declared.flags.MessageFlags.{MessageFlags}
 use Rattle.message.specs.declared.flags.Section.{Section}
 use Rattle.message.specs.declared.flags.Section.the-variants.{Absent, Present}
 
--- 01, Wire, Flags: "The three flag bits": reset 1, read-only 2, supports reset 4.
+-- 01, Wire, Flags: three bits have a meaning, reset 1, read-only 2, supports reset 4.
 abbrev pub syncReset : ℕ
 syncReset = 1
 

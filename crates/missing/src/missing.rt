@@ -1,4 +1,4 @@
-// What is missing from a list of hashes: "a waiting change asks its dependency list, and the list asks each change in turn."
+// What is missing from a list of hashes. One change is asked, or a list of them in turn, and a change that waits asks its own list.
 use rules::hashes::insert_hash;
 use rules::output::Write;
 use rules::passed::Passed;

@@ -1,5 +1,5 @@
--- Numbers. 01, Wire: "Counts and lengths: unsigned LEB128, shortest form"; Refusal numbers, 1 and 3, and "A number gets 3 at the first
--- byte after which no ending can make it good, else 1 if it is cut".
+-- Numbers. 01, Wire: LEB128 in its shortest form; Refusal numbers, 1 and 3: a number is refused with 3 as soon as nothing that may follow can mend it, and
+-- with 1 where the end cuts one that could still be good.
 use Prim.Native.Nat.{ℕ, zero, suc, _+_, _-_, _*_, _/_, _%_, _^_, _≤_, _<_}
 use mathlib.Core.Bool.{Bool, cond, _||_}
 use mathlib.Core.List.{List, [], _∷_, _++_}

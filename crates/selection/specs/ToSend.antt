@@ -19,7 +19,7 @@ unfoldable pub toSend : List Row → List Have → List ℕ → List ℕ
 toSend t [] need = keep (held t) need
 toSend t (h ∷ hs) need = keep (λ x. held t x && not (member x (theS t (h ∷ hs)))) need ++ theS t (h ∷ hs)
 
--- The answer less the hashes that were sent before. 01, The catch-up walk: "The reply is the hashes to send, less T".
+-- The answer less the hashes that were sent before. 01, Session and The catch-up walk: nothing is sent twice.
 unfoldable pub toSendLess : List Row → List Have → List ℕ → List ℕ → List ℕ
 toSendLess t haves need sent = keep (λ h. not (member h sent)) (toSend t haves need)
 

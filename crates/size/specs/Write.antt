@@ -1,5 +1,5 @@
--- A message as it is written. 01, Wire ("Message"), Refusal numbers ("Order": 10, then 4 for a passed list, then the input, then 4 for the
--- resulting message, then 7). A list that isn't whole hashes, and chunks that run past the lent bytes, are cut: 1.
+-- A message as it is written. 01, Wire, Message, and the order of refusals: 10 for the haves, then the passed lists' 4, the chunks' bytes, and 4 for the
+-- message that would result; 7 comes last (`Written`). A list that isn't whole hashes, and chunks that run past the lent bytes, are cut: 1.
 use Prim.Native.Nat.{ℕ, _+_, _-_, _/_}
 use mathlib.Core.Bool.{cond, not}
 use mathlib.Core.List.{List, [], _∷_}

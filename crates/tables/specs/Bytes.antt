@@ -1,5 +1,5 @@
--- The house records of change rows and waiting rows, and when a table is bad. 01, Change table and waiting table; Refusal numbers, 4, 6 and
--- 9, and "A partial record at a table's end is a bad row with the next row number".
+-- The house records of change rows and waiting rows, and when a table is bad. 01, Change table and waiting table; Refusal numbers, 4, 6 and 9: bytes at
+-- the end that are no whole record are a bad row with the next number.
 -- A row has room for d dependencies. All of it is said over d, in names that end in `Of`; the names without it are for as many dependencies as a
 -- change may have.
 use Prim.Native.Nat.{ℕ, zero, suc, _+_, _-_, _*_, _/_, _%_, _≤_, _<_}
