@@ -132,6 +132,17 @@ put-prefixed before mid after at next end size bytes e p q =
     let p′ : Put before mid at (shortest (length bytes)) next = rw e at p in
     put-joined before mid after at next end (shortest (length bytes)) bytes p′ q
 
+-- the last-sync hashes of record i, by a place and a count that are its words
+module _ (s haves : List ℕ) (i place count : ℕ) (at : place ≡ syncPlace haves i) (many : count ≡ syncCount haves i) where
+  pub syncs-fit : (start room : ℕ) → syncPlace haves i + sizes .hash * syncCount haves i ≤ length s
+      → start + length (hashListBytes (hashesAt s (syncPlace haves i) (syncCount haves i))) ≤ room
+      → (place + sizes .hash * count ≤ length s) × (start + length (hashListBytes (hashesAt s place count)) ≤ room)
+  syncs-fit start room h l = rw (at, many) (h, l)
+
+  pub syncs-put : (before after : List ℕ) (start next : ℕ) → Put before after start (hashListBytes (hashesAt s place count)) next
+      → Put before after start (hashListBytes (hashesAt s (syncPlace haves i) (syncCount haves i))) next
+  syncs-put before after start next p = rw (at, many) at p
+
 -- a have
 pub put-have-parts : (s haves : List ℕ) (i : ℕ) (f : FilterNumbers) → f ≡ numbersIn haves i
     → (before mid after : List ℕ) (at next end : ℕ)

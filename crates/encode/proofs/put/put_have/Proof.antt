@@ -2,12 +2,13 @@
 -- after the other are the have put at once. Assumes nothing.
 use native.Mathlib.Omega.{arith}
 use denote.Ref.{now}
+use lib.ListN.{length}
 use Rattle.bloom.specs.Have.{syncPlace, syncCount}
 use Rattle.rules.specs.Hash.{hashesAt}
 use Rattle.wire.specs.Item.{hashListBytes}
 use Rattle.numbers.specs.Number.{Put}
 use Rattle.size.proofs.SizeLaws.{HaveFits, have-fits, have-room}
-use Rattle.encode.proofs.PutLaws.{put-have-parts}
+use Rattle.encode.proofs.PutLaws.{syncs-fit, syncs-put, put-have-parts}
 use borrow.Author.Needs.{needs}
 use Rattle.encode.proofs.put.put_have.Statement.{statement}
 use Rattle.encode.proofs.put.put_have.Tie as tie
@@ -35,8 +36,12 @@ put-hashes-requires c κs =
     let f = c .before .before in
     let s = f .before .before .before .before .before .before in
     let n = f .before in
-    rw (n .before .sync-place .ensures, n .sync-count .ensures)
-    (fits f .sync, omega (arith, have-room _ _ _ _ (f .filter-in .ensures) _ _ (s .pre .1)))
+    let a = s .args in
+    syncs-fit (now (a .s)) (now (a .haves)) (a .i) _ _ (n .before .sync-place .ensures) (n .sync-count .ensures)
+    (a .at)
+    (length (now (a .out)))
+    (fits f .sync)
+    (omega (arith, have-room _ _ _ _ (f .filter-in .ensures) _ _ (s .pre .1)))
 
 -- the last-sync hashes as they are put
 hashes-put : (c : tie.After-put-hashes)
@@ -50,7 +55,8 @@ hashes-put : (c : tie.After-put-hashes)
     (c .put-hashes .result)
 hashes-put c =
     let n = c .before .before .before .before in
-    rw (n .before .sync-place .ensures, n .sync-count .ensures) at (c .put-hashes .ensures)
+    let a = n .before .before .before .before .before .args in
+    syncs-put (now (a .s)) (now (a .haves)) (a .i) _ _ (n .before .sync-place .ensures) (n .sync-count .ensures) _ _ _ _ (c .put-hashes .ensures)
 
 sub-put-prefixed-filter : tie.Need-sub-put-prefixed-filter
 sub-put-prefixed-filter c = search needs
