@@ -26,7 +26,7 @@ returns c = rw (bad-numbers _ _ _ (sym (c .before .build-rules .ensures) ∙ not
 -- past the first test the filter rules are kept
 kept : (c : tie.Else1)
     → let a = c .before .before .before .before .args in
-    let n = length (a .hashes .now) / 32 in
+    let n = length (a .hashes .now) / sizes .hash in
     filterRules n (a .bits) (a .probes) (fieldSize n (a .bits)) ≡ true
 kept c = sym (c .before .build-rules .ensures) ∙ not-false _ (c .if1 .left)
 
