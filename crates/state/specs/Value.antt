@@ -24,6 +24,11 @@ pub record Lent : Type 0 where
 abbrev pub keptHaves : List ℕ → ℕ → List ℕ
 keptHaves haves n = take (haveWords * n) haves
 
+-- How many were heard: none where nothing was.
+abbrev pub heardCount : Heard → ℕ
+heardCount Nothing = 0
+heardCount (Count n) = n
+
 -- What the peer said last, which may be absent: the first hashes of a buffer, or the first haves.
 unfoldable pub heardHashes : List ℕ → Heard → Option (List ℕ)
 heardHashes s Nothing = none

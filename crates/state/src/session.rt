@@ -1,11 +1,22 @@
 // Sessions, and read-only mode.
 ghost use mathlib.Core.Path.{_≡_};
+ghost use Rattle.state.specs.Value.{heardCount};
 ghost use Rattle.state.specs.Counts.{heardOnly, freshCounts, freshReadOnlyCounts, restoredCounts, setReadOnlyCounts};
 
 // How many hashes or haves the peer's last message had, if there was one.
 pub enum Heard {
     Nothing,
     Count(usize),
+}
+
+// How many were heard: none where nothing was.
+pub fn heard_count(heard: Heard) -> usize
+    ensures { λ r. ⌜ r ≡ heardCount heard ⌝ }
+{
+    match heard {
+        Heard::Nothing => 0,
+        Heard::Count(count) => count,
+    }
 }
 
 pub struct Session {

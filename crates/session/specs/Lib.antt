@@ -1,0 +1,3 @@
+pub mod Laid
+pub mod Plan
+pub mod Receive

@@ -1,0 +1,196 @@
+-- What a unit says next, and its session afterwards. 01, Session, which goes by `generate_sync_message` of src/sync.rs: the definitions stand in the
+-- order in which it computes them.
+use Prim.Native.Nat.{ℕ, _+_, _/_}
+use mathlib.Core.Bool.{Bool, true, false, cond, not, _&&_, _||_}
+use mathlib.Core.List.{List, [], _∷_, _++_}
+use mathlib.Core.Option.{Option, none, some}
+use lib.Dec.{ltb, eqb}
+use lib.ListN.{length}
+use Rattle.bloom.specs.Filter.{filterOf4, defaultBits, defaultProbes}
+use Rattle.bloom.specs.Have.{Have}
+use Rattle.graph.specs.Graph.{heads, beyond}
+use Rattle.lists.specs.Lists.{same}
+use Rattle.message.specs.Flags.{syncReset, readOnly, supportsSyncReset, flagsOf}
+use Rattle.message.specs.declared.flags.MessageFlags.{MessageFlags}
+use Rattle.message.specs.declared.version.MessageVersion.{MessageVersion}
+use Rattle.message.specs.declared.version.MessageVersion.the-variants.{V1, V2}
+use Rattle.missing.specs.Missing.{missing}
+use Rattle.probe.specs.Build.{filterOf}
+use Rattle.rules.specs.Order.{member, every, ascend}
+use Rattle.rules.specs.Sizes.{sizes}
+use Rattle.rules.specs.declared.refusal.Refusal.{Refusal}
+use Rattle.rules.specs.declared.refusal.Refusal.the-variants.{PastSize}
+use Rattle.selection.specs.ToSend.{toSendLess}
+use Rattle.state.specs.Session.{State}
+use Rattle.tables.specs.Table.{Row, rows, held}
+use Rattle.tables.specs.Waiting.{Waiting}
+
+-- What a message carries: hashes, whose changes the host lends, and whether these go as the whole document. Nothing is a list of none.
+pub record Body : Type 0 where
+  pub document : Bool
+  pub hashes : List ℕ
+
+-- A message that is to be written once the host has lent the bytes of its changes.
+pub record Plan : Type 0 where
+  pub version : MessageVersion
+  pub heads : List ℕ
+  pub need : List ℕ
+  pub haves : List Have
+  pub body : Body
+  pub flags : MessageFlags
+
+-- Nothing is said after a refusal and in silence; a reset leaves the session as it was, a message doesn't.
+pub data Planned : Type 0 where
+  refused : Refusal → Planned
+  silent : Planned
+  reset : Plan → Planned
+  says : Plan → State → Planned
+
+-- Hashes that were heard, or none where nothing was.
+abbrev pub heard : Option (List ℕ) → List ℕ
+heard none = []
+heard (some l) = l
+
+-- Heard, and just these. Nothing heard isn't a list of none.
+abbrev pub heardAs : List ℕ → Option (List ℕ) → Bool
+heardAs l none = false
+heardAs l (some m) = same m l
+
+-- `our_need`: what is missing from the heads that were heard, not all that waiting changes lack; a read-only unit asks for nothing.
+unfoldable pub needOf : List Row → List Waiting → Bool → List ℕ → List ℕ
+needOf t w readOnlyUnit theirHeads = cond readOnlyUnit [] (missing t w theirHeads)
+
+-- `make_bloom_filter`: the last-sync hashes as they stand, and a filter over the rows beyond them.
+unfoldable pub haveOf : ℕ → ℕ → List Row → List ℕ → Have
+haveOf bits probes t lastSync = record { lastSync = lastSync; filter = filterOf bits probes (beyond t lastSync) }
+
+-- `our_have`: one if each hash that is asked for is a head that was heard, else none.
+unfoldable pub havesFor : ℕ → ℕ → List Row → List ℕ → List ℕ → List ℕ → List Have
+havesFor bits probes t need theirHeads lastSync =
+    cond (every (λ h. member h theirHeads) need) (haveOf bits probes t lastSync ∷ []) []
+
+-- A reset is due where the peer's first have names a last-sync hash that isn't held: one of the two lost data. Other haves aren't looked at.
+unfoldable pub unknownSync : List Row → Option (List Have) → Bool
+unknownSync t none = false
+unknownSync t (some []) = false
+unknownSync t (some (v ∷ vs)) = not (every (held t) (v .lastSync))
+
+abbrev pub listOf : List ℕ → Body
+listOf l = record { document = false; hashes = l }
+
+abbrev pub documentOf : List Row → Body
+documentOf t = record { document = true; hashes = rows t }
+
+-- More than this part of the rows, rounded down, goes as the document.
+abbrev pub documentPart : ℕ
+documentPart = 3
+
+-- The list, or the document where the list is long and the peer knows V2.
+unfoldable pub listOrDocument : List Row → Bool → List ℕ → Body
+listOrDocument t v2 l = cond (v2 && ltb (length t / documentPart) (length l)) (documentOf t) (listOf l)
+
+-- The document too where the peer is heard to have no heads at all (`send_doc`) and knows V2; else the hashes to send, less those that were sent.
+unfoldable pub bodyFor : List Row → Bool → Bool → List Have → List ℕ → List ℕ → Body
+bodyFor t v2 lost haves need sent = cond (v2 && lost) (documentOf t) (listOrDocument t v2 (toSendLess t haves need sent))
+
+-- Nothing goes before both a have and a need were heard.
+unfoldable pub bodyHeard : List Row → Bool → Bool → Option (List Have) → Option (List ℕ) → List ℕ → Body
+bodyHeard t v2 lost none need sent = listOf []
+bodyHeard t v2 lost (some haves) none sent = listOf []
+bodyHeard t v2 lost (some haves) (some need) sent = bodyFor t v2 lost haves need sent
+
+-- Nothing goes to a peer that takes no changes.
+unfoldable pub bodyOf : List Row → State → Body
+bodyOf t s =
+    cond (s .peerReadOnly)
+    (listOf [])
+    (bodyHeard t (s .supportsV2) (heardAs [] (s .theirHeads)) (s .theirHave) (s .theirNeed) (s .sentHashes))
+
+-- A list of no hashes. The document of no rows is one as well: there is nothing in it to tell.
+abbrev pub empty : List ℕ → Bool
+empty [] = true
+empty (h ∷ hs) = false
+
+-- Silence: the heads are those that were sent last and the peer was answered, and there is nothing to tell, or a message is still on its way. Nothing is
+-- to be told where the peer has these heads, or this unit takes no changes, and the body is empty.
+unfoldable pub silence : List Row → State → Bool
+silence t s =
+    (same (s .lastSentHeads) (heads t) && s .haveResponded)
+    && (((heardAs (heads t) (s .theirHeads) || s .readOnly) && empty (bodyOf t s .hashes)) || s .inFlight)
+
+-- The hashes sent in the session: those of the body join, each once, ascending.
+unfoldable pub sentAfter : List Row → State → List ℕ
+sentAfter t s = ascend (bodyOf t s .hashes ++ s .sentHashes)
+
+-- A peer that is to forget what it sent is told so where it understands that; where not, a message without heads looks as if all was lost here.
+unfoldable pub headsFor : Bool → Bool → List ℕ → List ℕ
+headsFor needsReset supportsReset ourHeads = cond (needsReset && not supportsReset) [] ourHeads
+
+unfoldable pub flagsFor : Bool → Bool → MessageFlags
+flagsFor readOnlyUnit forget = flagsOf (supportsSyncReset + (cond readOnlyUnit readOnly 0 + cond forget syncReset 0))
+
+-- V2 for a peer that knows it, whatever the body.
+unfoldable pub versionFor : Bool → MessageVersion
+versionFor v2 = cond v2 V2 V1
+
+-- The message.
+unfoldable pub planOf : ℕ → ℕ → List Row → List Waiting → State → Plan
+planOf bits probes t w s =
+    record {
+      version = versionFor (s .supportsV2);
+      heads = headsFor (s .needsReset) (s .supportsReset) (heads t);
+      need = needOf t w (s .readOnly) (heard (s .theirHeads));
+      haves = havesFor bits probes t (needOf t w (s .readOnly) (heard (s .theirHeads))) (heard (s .theirHeads)) (s .sharedHeads);
+      body = bodyOf t s;
+      flags = flagsFor (s .readOnly) (s .needsReset && s .supportsReset);
+    }
+
+-- The session after it.
+unfoldable pub planned : List Row → State → State
+planned t s =
+    record {
+      sharedHeads = s .sharedHeads;
+      lastSentHeads = heads t;
+      theirHeads = s .theirHeads;
+      theirNeed = s .theirNeed;
+      theirHave = s .theirHave;
+      sentHashes = sentAfter t s;
+      inFlight = true;
+      haveResponded = true;
+      supportsV2 = s .supportsV2;
+      supportsReset = s .supportsReset;
+      readOnly = s .readOnly;
+      peerReadOnly = s .peerReadOnly;
+      needsReset = false;
+    }
+
+-- The reset message: V1, heads, a have that claims nothing, and only the flag that resets are understood.
+unfoldable pub resetOf : List Row → Plan
+resetOf t =
+    record {
+      version = V1;
+      heads = heads t;
+      need = [];
+      haves = record { lastSync = []; filter = filterOf4 0 defaultBits defaultProbes [] } ∷ [];
+      body = listOf [];
+      flags = flagsOf supportsSyncReset;
+    }
+
+-- The stages, in 01's order of refusals: 4 for the need list, even before a reset or silence; a reset; silence; 4 for the sent hashes; the message.
+unfoldable pub planSent : ℕ → ℕ → List Row → List Waiting → State → Planned
+planSent bits probes t w s =
+    cond (ltb (sizes .sentHashes) (length (sentAfter t s)))
+    (refused (PastSize 0))
+    (says (planOf bits probes t w s) (planned t s))
+
+unfoldable pub planSilence : ℕ → ℕ → List Row → List Waiting → State → Planned
+planSilence bits probes t w s = cond (silence t s) silent (planSent bits probes t w s)
+
+unfoldable pub planReset : ℕ → ℕ → List Row → List Waiting → State → Planned
+planReset bits probes t w s = cond (unknownSync t (s .theirHave)) (reset (resetOf t)) (planSilence bits probes t w s)
+
+unfoldable pub plan : ℕ → ℕ → List Row → List Waiting → State → Planned
+plan bits probes t w s =
+    cond (ltb (sizes .hashes) (length (needOf t w (s .readOnly) (heard (s .theirHeads)))))
+    (refused (PastSize 0))
+    (planReset bits probes t w s)
