@@ -1,0 +1,5 @@
+-- Laws that the crates above cite.
+pub mod CompareLaws
+pub mod JoinLaws
+pub mod Lists
+pub mod Promises
