@@ -21,11 +21,11 @@ pub extern "C" fn bt_read_filter(s: &[u8], at: usize, end: usize, answer: &mut [
 // Writes a filter: 0, bytes written.
 #[no_mangle]
 pub extern "C" fn bt_write_filter(
-    out: &mut [u8],
     entries: u64,
     bits: u64,
     probes: u64,
     field: &[u8],
+    out: &mut [u8],
     answer: &mut [u64; 4],
 )
     ensures { λ _. ⌜ Answered (filterOutput (filterOf4 entries bits probes (now (field .entry)))) (now (out .entry)) (now (out .exit)) (now (answer .exit)) ⌝ }
@@ -36,10 +36,10 @@ pub extern "C" fn bt_write_filter(
 // Builds the field of a filter over hashes that are lent as bytes: 0, the field's length.
 #[no_mangle]
 pub extern "C" fn bt_build_filter(
-    field: &mut [u8],
     bits: u64,
     probes: u64,
     hashes: &[u8],
+    field: &mut [u8],
     answer: &mut [u64; 4],
 )
     ensures { λ _. ⌜ Answered (buildOutput bits probes (now (hashes .entry))) (now (field .entry)) (now (field .exit)) (now (answer .exit)) ⌝ }

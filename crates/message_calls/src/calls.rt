@@ -24,7 +24,6 @@ pub extern "C" fn bt_read_message(
 // Writes a message from its parts: 0, bytes written.
 #[no_mangle]
 pub extern "C" fn bt_write_message(
-    out: &mut [u8],
     version: u64,
     heads: &[u8],
     need: &[u8],
@@ -33,6 +32,7 @@ pub extern "C" fn bt_write_message(
     chunks: &[u8],
     lengths: &[u64],
     flags: u64,
+    out: &mut [u8],
     answer: &mut [u64; 4],
 )
     ensures { λ _. ⌜ Answered (messageOutput (partsOf (versionOf version) (now (heads .entry)) (now (need .entry)) (now (s .entry)) (now (haves .entry))

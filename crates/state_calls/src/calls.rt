@@ -66,7 +66,7 @@ pub extern "C" fn bt_check_session(
 
 // Writes a saved state from the first hashes of a buffer, the shared heads: 0, bytes written.
 #[no_mangle]
-pub extern "C" fn bt_write_state(out: &mut [u8], shared: &[u8], count: usize, answer: &mut [u64; 4])
+pub extern "C" fn bt_write_state(shared: &[u8], count: usize, out: &mut [u8], answer: &mut [u64; 4])
     ensures { λ _. ⌜ Answered (stateOutput (now (shared .entry)) count) (now (out .entry)) (now (out .exit)) (now (answer .exit)) ⌝ }
 {
     *answer = write_words(saved::saved::encode(out, shared, count));

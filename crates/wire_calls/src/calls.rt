@@ -44,7 +44,7 @@ pub extern "C" fn bt_read_hashes(s: &[u8], at: usize, end: usize, answer: &mut [
 
 // Writes a number: 0, bytes written.
 #[no_mangle]
-pub extern "C" fn bt_write_number(out: &mut [u8], n: u64, answer: &mut [u64; 4])
+pub extern "C" fn bt_write_number(n: u64, out: &mut [u8], answer: &mut [u64; 4])
     ensures { λ _. ⌜ Answered (Output.bytes (shortest n)) (now (out .entry)) (now (out .exit)) (now (answer .exit)) ⌝ }
 {
     *answer = write_words(numbers::leb128::write_unsigned(out, n));
@@ -52,7 +52,7 @@ pub extern "C" fn bt_write_number(out: &mut [u8], n: u64, answer: &mut [u64; 4])
 
 // Writes a prefixed string: 0, bytes written.
 #[no_mangle]
-pub extern "C" fn bt_write_prefixed(out: &mut [u8], bytes: &[u8], answer: &mut [u64; 4])
+pub extern "C" fn bt_write_prefixed(bytes: &[u8], out: &mut [u8], answer: &mut [u64; 4])
     ensures { λ _. ⌜ Answered (Output.bytes (prefixedBytes (now (bytes .entry)))) (now (out .entry)) (now (out .exit)) (now (answer .exit)) ⌝ }
 {
     *answer = write_words(wire::encode::encode_bytes(out, bytes));
@@ -60,7 +60,7 @@ pub extern "C" fn bt_write_prefixed(out: &mut [u8], bytes: &[u8], answer: &mut [
 
 // Writes a hash list that is lent as the bytes of its hashes: 0, bytes written.
 #[no_mangle]
-pub extern "C" fn bt_write_hashes(out: &mut [u8], hashes: &[u8], answer: &mut [u64; 4])
+pub extern "C" fn bt_write_hashes(hashes: &[u8], out: &mut [u8], answer: &mut [u64; 4])
     ensures { λ _. ⌜ Answered (hashListOutput (now (hashes .entry))) (now (out .entry)) (now (out .exit)) (now (answer .exit)) ⌝ }
 {
     *answer = write_words(wire::encode::encode_hashes(out, hashes));

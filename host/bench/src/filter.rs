@@ -48,7 +48,7 @@ fn both(added: &[[u8; 32]]) -> (Vec<u8>, BloomFilter) {
     let filter = BloomFilter::from_hashes(change_hashes(added).iter());
     let published = facade::filter_parts(&filter).field;
     let mut field = vec![0xff; published.len()];
-    let [first, ..] = raw::build_filter(&mut field, BITS, PROBES, &added.concat());
+    let [first, ..] = raw::build_filter(BITS, PROBES, &added.concat(), &mut field);
     assert_eq!((first, &field), (0, &published));
     (field, filter)
 }
@@ -60,7 +60,7 @@ fn build_filter(size: &str, added: &[[u8; 32]]) {
     let lent = added.concat();
     let library = || {
         let hashes = black_box(&lent[..]);
-        let [first, ..] = raw::build_filter(&mut field, BITS, PROBES, hashes);
+        let [first, ..] = raw::build_filter(BITS, PROBES, hashes, &mut field);
         black_box(&field);
         first + hashes.len() as u64 / 32
     };

@@ -69,7 +69,7 @@ fn write_numbers(size: &str, numbers: &[u64]) {
     let library = || {
         let mut length = 0;
         for &n in black_box(numbers) {
-            length += raw::write_number(&mut lent, n)[1];
+            length += raw::write_number(n, &mut lent)[1];
             black_box(&lent);
         }
         length
@@ -123,7 +123,7 @@ fn write_hashes() {
     let lent_hashes = hashes().concat();
     let mut lent = vec![0; lent_hashes.len() + 2];
     let library = || {
-        let length = raw::write_hashes(&mut lent, black_box(&lent_hashes))[1];
+        let length = raw::write_hashes(black_box(&lent_hashes), &mut lent)[1];
         black_box(&lent);
         length
     };

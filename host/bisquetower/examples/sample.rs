@@ -100,12 +100,12 @@ fn hash_list(count: &[u8], bytes: usize) -> Vec<u8> {
 
 fn writers() {
     heading("Written by it");
-    written("300", 2, |out| raw::write_number(out, 300));
-    written("300, too little room", 1, |out| raw::write_number(out, 300));
-    written("\"sync\"", 5, |out| raw::write_prefixed(out, b"sync"));
-    written("one hash", 40, |out| raw::write_hashes(out, &[1; 32]));
+    written("300", 2, |out| raw::write_number(300, out));
+    written("300, too little room", 1, |out| raw::write_number(300, out));
+    written("\"sync\"", 5, |out| raw::write_prefixed(b"sync", out));
+    written("one hash", 40, |out| raw::write_hashes(&[1; 32], out));
     written("a hash and a half", 60, |out| {
-        raw::write_hashes(out, &[1; 48])
+        raw::write_hashes(&[1; 48], out)
     });
 }
 
@@ -149,7 +149,7 @@ fn hashes_to_send() {
         table.extend(numbers.iter().flat_map(|number| number.to_le_bytes()));
     }
     let mut field = [0; 64];
-    let built = raw::build_filter(&mut field, 10, 7, &b"acd".map(hash).concat());
+    let built = raw::build_filter(10, 7, &b"acd".map(hash).concat(), &mut field);
     let have = [0, 0, 3, 10, 7, 0, built[1]];
     for need in ["", "c", "d", "cc"] {
         let hashes: Vec<u8> = need.bytes().flat_map(hash).collect();

@@ -65,13 +65,13 @@ fn wire(random: &mut Random) -> Vec<Deep> {
             raw::read_hashes(&cut, 0, cut.len())
         }),
         deep("bt_write_number", || {
-            raw::write_number(&mut [0; 10], u64::MAX)
+            raw::write_number(u64::MAX, &mut [0; 10])
         }),
         deep("bt_write_prefixed", move || {
-            raw::write_prefixed(&mut vec![0; long.len() + 3], &long)
+            raw::write_prefixed(&long, &mut vec![0; long.len() + 3])
         }),
         deep("bt_write_hashes", move || {
-            raw::write_hashes(&mut vec![0; hashes.len() + 2], &hashes)
+            raw::write_hashes(&hashes, &mut vec![0; hashes.len() + 2])
         }),
     ]
 }
@@ -95,10 +95,10 @@ fn filters(random: &mut Random) -> Vec<Deep> {
             raw::read_filter(&bad, 0, bad.len())
         }),
         deep("bt_write_filter", move || {
-            raw::write_filter(&mut vec![0; 9_000], 65_536, 1, 64, &field)
+            raw::write_filter(65_536, 1, 64, &field, &mut vec![0; 9_000])
         }),
         deep("bt_build_filter", move || {
-            raw::build_filter(&mut vec![0; 8_192], 64, 64, &hashes)
+            raw::build_filter(64, 64, &hashes, &mut vec![0; 8_192])
         }),
         deep("bt_filters_contain", move || {
             raw::filters_contain(&full, &haves, &hash)
@@ -214,7 +214,7 @@ fn states(random: &mut Random) -> Vec<Deep> {
             raw::check_session(&session, h, h, h, h, &haves, h, h)
         }),
         deep("bt_write_state", move || {
-            raw::write_state(&mut vec![0; HASH * HASHES + 3], &shared, HASHES)
+            raw::write_state(&shared, HASHES, &mut vec![0; HASH * HASHES + 3])
         }),
         deep("bt_read_state", move || {
             raw::read_state(&state, &mut vec![0; HASH * HASHES], &mut [0; 16])
@@ -255,7 +255,7 @@ fn messages(random: &mut Random) -> Vec<Deep> {
     let write = move || {
         let out = &mut vec![0; s.len()];
         let Chunks { bytes, lengths } = &own;
-        raw::write_message(out, 2, &heads, &need, &s, &haves, bytes, lengths, 4)
+        raw::write_message(2, &heads, &need, &s, &haves, bytes, lengths, 4, out)
     };
     vec![
         deep("bt_read_message", move || {

@@ -43,12 +43,12 @@ impl Write<'_> {
 
     pub fn library(&self, out: &mut [u8]) -> [u64; 4] {
         match *self {
-            Write::Number(n) => raw::write_number(out, n),
-            Write::Prefixed(bytes) => raw::write_prefixed(out, bytes),
-            Write::Hashes(hashes) => raw::write_hashes(out, hashes),
-            Write::Filter(f) => raw::write_filter(out, f.entries, f.bits, f.probes, f.field),
-            Write::Built(b) => raw::build_filter(out, b.bits, b.probes, b.hashes),
-            Write::State { shared, count } => raw::write_state(out, shared, count),
+            Write::Number(n) => raw::write_number(n, out),
+            Write::Prefixed(bytes) => raw::write_prefixed(bytes, out),
+            Write::Hashes(hashes) => raw::write_hashes(hashes, out),
+            Write::Filter(f) => raw::write_filter(f.entries, f.bits, f.probes, f.field, out),
+            Write::Built(b) => raw::build_filter(b.bits, b.probes, b.hashes, out),
+            Write::State { shared, count } => raw::write_state(shared, count, out),
             Write::Message(parts) => messages::parts::write(&parts, out),
         }
     }

@@ -52,7 +52,7 @@ fn lists(count: usize, bits: u64, random: &mut Random) -> [Vec<u8>; 3] {
 fn field_of(bits: u64, probes: u64, hashes: &[u8]) -> Vec<u8> {
     let wanted = field_size(hashes.len() as u64 / 32, bits) as usize;
     let mut field = vec![0xff; wanted];
-    let answer = raw::build_filter(&mut field, bits, probes, hashes);
+    let answer = raw::build_filter(bits, probes, hashes, &mut field);
     assert_eq!(answer, [0, wanted as u64, 0, 0]);
     field
 }

@@ -56,13 +56,13 @@ pub fn shown(parts: &Parts) -> String {
 /// What the library writes.
 pub fn write(p: &Parts, out: &mut [u8]) -> [u64; 4] {
     raw::write_message(
-        out, p.version, p.heads, p.need, p.s, p.haves, p.chunks, p.lengths, p.flags,
+        p.version, p.heads, p.need, p.s, p.haves, p.chunks, p.lengths, p.flags, out,
     )
 }
 
 /// The same as one call of a batch.
 pub fn ask<'m>(p: &Parts, batch: &mut Batch<'m>, out: &'m mut [u8], answer: &'m mut [u64; 4]) {
     batch.write_message(
-        out, p.version, p.heads, p.need, p.s, p.haves, p.chunks, p.lengths, p.flags, answer,
+        p.version, p.heads, p.need, p.s, p.haves, p.chunks, p.lengths, p.flags, out, answer,
     );
 }

@@ -33,7 +33,7 @@ fn p6_probes_and_filter_of_one_hash() {
     }
     let mut out = [0; 5];
     let field = field_of(10, 7, &hash);
-    assert_eq!(raw::write_filter(&mut out, 1, 10, 7, &field), [0, 5, 0, 0]);
+    assert_eq!(raw::write_filter(1, 10, 7, &field, &mut out), [0, 5, 0, 0]);
     assert_eq!(out, [0x01, 0x0a, 0x07, 0x0b, 0x0f]);
     assert_eq!(published::built(&hash).field, [0x0b, 0x0f]);
 }

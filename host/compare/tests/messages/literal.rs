@@ -23,7 +23,7 @@ fn p1_to_p3() {
     let mut out = [0x5a; 9];
     let mut write = |flags| {
         out = [0x5a; 9];
-        let answer = raw::write_message(&mut out, 1, &[], &[], &[], &[], &[], &[], flags);
+        let answer = raw::write_message(1, &[], &[], &[], &[], &[], &[], flags, &mut out);
         (answer, out)
     };
     let (answer, out) = write(256);

@@ -16,7 +16,7 @@ fn the_library_builds_the_filters() {
     let mut batch = Batch::new();
     for (record, field) in records.iter().zip(&mut fields) {
         let Out { bytes, answer } = field;
-        batch.build_filter(bytes, DEFAULT_BITS, DEFAULT_PROBES, &record.hashes, answer);
+        batch.build_filter(DEFAULT_BITS, DEFAULT_PROBES, &record.hashes, bytes, answer);
     }
     batch.run();
 
@@ -27,7 +27,7 @@ fn the_library_builds_the_filters() {
         let field = field.written().expect("the filter is built");
         let entries = (record.hashes.len() / HASH) as u64;
         let Out { bytes, answer } = out;
-        batch.write_filter(bytes, entries, DEFAULT_BITS, DEFAULT_PROBES, field, answer);
+        batch.write_filter(entries, DEFAULT_BITS, DEFAULT_PROBES, field, bytes, answer);
     }
     batch.run();
     for (record, out) in records.iter().zip(&outs) {

@@ -32,7 +32,7 @@ fn the_library_answers_the_states() {
     let mut batch = Batch::new();
     for (_, _, shared, out) in &mut again {
         let count = shared.answer[1] as usize;
-        batch.write_state(&mut out.bytes, &shared.bytes, count, &mut out.answer);
+        batch.write_state(&shared.bytes, count, &mut out.bytes, &mut out.answer);
     }
     batch.run();
     for (record, written, _, out) in &again {

@@ -46,7 +46,7 @@ fn random_states() {
         let more = random.below(40);
         let shared = random.bytes(32 * count + more);
         let mut out = vec![0; 3 + 32 * count];
-        let answer = raw::write_state(&mut out, &shared, count);
+        let answer = raw::write_state(&shared, count, &mut out);
         assert_eq!(answer[0], 0);
         out.truncate(answer[1] as usize);
         compare_writes(&shared, count, [out.len() - 1, out.len(), out.len() + 1]);

@@ -25,7 +25,7 @@ fn states_not_written() {
     let bad = |shared: &[u8], count: usize| {
         for room in [0, 1, 33_000] {
             let mut out = vec![0x5a; room];
-            assert_eq!(raw::write_state(&mut out, shared, count), REFUSED);
+            assert_eq!(raw::write_state(shared, count, &mut out), REFUSED);
         }
         assert_eq!(compare_writes(shared, count, [0, 1, 100]), 0);
     };

@@ -114,7 +114,7 @@ fn what_is_written_is_read_back() {
     for round in 0..2_000 {
         let told = || format!("round {round}");
         let n = random.number();
-        let [first, size, ..] = raw::write_number(&mut out[..10], n);
+        let [first, size, ..] = raw::write_number(n, &mut out[..10]);
         assert_eq!(first, 0, "{}", told());
         let end = size as usize;
         assert_eq!(
@@ -132,7 +132,7 @@ fn what_is_written_is_read_back() {
 
         let length = random.below(400);
         let string = random.bytes(length);
-        let [_, size, ..] = raw::write_prefixed(&mut out[..500], &string);
+        let [_, size, ..] = raw::write_prefixed(&string, &mut out[..500]);
         let start = size - length as u64;
         assert_eq!(
             raw::read_prefixed(&out, 0, 500),
@@ -148,7 +148,7 @@ fn what_is_written_is_read_back() {
             random.below(9)
         };
         let hashes = random.bytes(32 * count);
-        let [_, size, ..] = raw::write_hashes(&mut out, &hashes);
+        let [_, size, ..] = raw::write_hashes(&hashes, &mut out);
         let start = size - hashes.len() as u64;
         let list = raw::read_hashes(&out, 0, size as usize);
         assert_eq!(list, [0, start, count as u64, size], "{}", told());
