@@ -19,7 +19,7 @@ pub extern "C" fn bt_check_table(table: &[u8], answer: &mut [u64; 4])
 
 // Checks a change table, and a waiting table beside it: 0, waiting rows.
 #[no_mangle]
-pub extern "C" fn bt_check_waiting(table: &[u8], waiting: &[u8], answer: &mut [u64; 4])
+pub extern "C" fn bt_check_tables(table: &[u8], waiting: &[u8], answer: &mut [u64; 4])
     ensures { λ _. ⌜ now (answer .exit) ≡ checkedWords (tablesChecked (now (table .entry)) (now (waiting .entry))) ⌝ }
 {
     *answer = checked_words(tables::waiting::check_tables(table, waiting));

@@ -146,8 +146,8 @@ fn tables(random: &mut Random) -> Vec<Deep> {
         let list = hashes.concat();
         deep_calls.extend([
             deep("bt_check_table", move || raw::check_table(&first)),
-            deep("bt_check_waiting", move || {
-                raw::check_waiting(&second, &waiting)
+            deep("bt_check_tables", move || {
+                raw::check_tables(&second, &waiting)
             }),
             deep("bt_heads", move || {
                 raw::heads(&third, ROWS, &mut vec![0; HASH * ROWS])

@@ -16,7 +16,7 @@ pub enum Call<'a> {
     CheckTable {
         table: &'a [u8],
     },
-    CheckWaiting {
+    CheckTables {
         table: &'a [u8],
         waiting: &'a [u8],
     },
@@ -43,14 +43,14 @@ enum Found {
 }
 
 /// The calls by name.
-pub const NAMES: [&str; 5] = ["check_table", "check_waiting", "heads", "beyond", "missing"];
+pub const NAMES: [&str; 5] = ["check_table", "check_tables", "heads", "beyond", "missing"];
 
 impl Call<'_> {
     /// The call's place in `NAMES`.
     pub fn kind(&self) -> usize {
         match self {
             Call::CheckTable { .. } => 0,
-            Call::CheckWaiting { .. } => 1,
+            Call::CheckTables { .. } => 1,
             Call::Heads { .. } => 2,
             Call::Beyond { .. } => 3,
             Call::Missing { .. } => 4,
@@ -65,7 +65,7 @@ impl Call<'_> {
     fn library<'a>(&self, batch: &mut Batch<'a>, out: &'a mut [u8], answer: &'a mut [u64; 4]) {
         match *self {
             Call::CheckTable { table } => batch.check_table(table, answer),
-            Call::CheckWaiting { table, waiting } => batch.check_waiting(table, waiting, answer),
+            Call::CheckTables { table, waiting } => batch.check_tables(table, waiting, answer),
             Call::Heads { table, before } => batch.heads(table, before, out, answer),
             Call::Beyond { table, hashes } => batch.beyond(table, hashes, out, answer),
             Call::Missing {
@@ -79,8 +79,8 @@ impl Call<'_> {
     fn model(&self) -> Result<Found, Refused> {
         match *self {
             Call::CheckTable { table } => table::check_table(table).map(Found::Rows),
-            Call::CheckWaiting { table, waiting } => {
-                table::check_waiting(table, waiting).map(Found::Rows)
+            Call::CheckTables { table, waiting } => {
+                table::check_tables(table, waiting).map(Found::Rows)
             }
             Call::Heads { table, before } => table::heads(table, before).map(Found::Hashes),
             Call::Beyond { table, hashes } => table::beyond(table, hashes).map(Found::Hashes),
@@ -97,7 +97,7 @@ impl Call<'_> {
         let found = |hashes: Vec<ChangeHash>| Found::Hashes(hashes.iter().map(|h| h.0).collect());
         match *self {
             Call::CheckTable { table } => Found::Rows(document(table, &[]).rows().len()),
-            Call::CheckWaiting { table, waiting } => {
+            Call::CheckTables { table, waiting } => {
                 Found::Rows(document(table, waiting).waiting().len())
             }
             Call::Heads { table, before } => {
@@ -121,7 +121,7 @@ impl Call<'_> {
         let name = NAMES[self.kind()];
         let (table, rest) = match *self {
             Call::CheckTable { table } => (table, String::new()),
-            Call::CheckWaiting { table, waiting } => {
+            Call::CheckTables { table, waiting } => {
                 (table, format!(", {} waiting bytes", waiting.len()))
             }
             Call::Heads { table, before } => (table, format!(", before {before}")),

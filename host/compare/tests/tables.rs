@@ -23,7 +23,7 @@ use compare::tables::{ask, compare, Call, Rooms, Tally};
 
 /// The calls by their places in `NAMES`.
 const CHECK_TABLE: usize = 0;
-const CHECK_WAITING: usize = 1;
+const CHECK_TABLES: usize = 1;
 const HEADS: usize = 2;
 const BEYOND: usize = 3;
 const MISSING: usize = 4;
@@ -61,8 +61,8 @@ fn check(table: &[u8]) -> Call<'_> {
     Call::CheckTable { table }
 }
 
-fn check_waiting<'a>(table: &'a [u8], waiting: &'a [u8]) -> Call<'a> {
-    Call::CheckWaiting { table, waiting }
+fn check_tables<'a>(table: &'a [u8], waiting: &'a [u8]) -> Call<'a> {
+    Call::CheckTables { table, waiting }
 }
 
 fn heads(table: &[u8], before: usize) -> Call<'_> {

@@ -134,7 +134,7 @@ pub fn check_table(lent: &[u8]) -> Result<usize, Refused> {
 }
 
 /// How many rows a waiting table has.
-pub fn check_waiting(lent: &[u8], waiting_lent: &[u8]) -> Result<usize, Refused> {
+pub fn check_tables(lent: &[u8], waiting_lent: &[u8]) -> Result<usize, Refused> {
     Ok(waiting(&table(lent)?, waiting_lent)?.len())
 }
 

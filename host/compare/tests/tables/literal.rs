@@ -1,7 +1,7 @@
 //! The smallest tables at which readings of 01 part, as literals.
 
 use crate::{
-    answer, beyond, check, check_waiting, diamond, hash, hashes, heads, list, missing, table,
+    answer, beyond, check, check_tables, diamond, hash, hashes, heads, list, missing, table,
     waiting, written, First, ROOM,
 };
 use compare::inputs::table::{set_number, table_bytes, waiting_bytes, Row, WaitingRow};
@@ -99,18 +99,18 @@ fn settled_readings_of_waiting_tables() {
         (1_088, [0, 2]),
     ];
     for (length, expected) in lengths {
-        let call = check_waiting(&rows, &good[..length]);
+        let call = check_tables(&rows, &good[..length]);
         assert_eq!(answer(call, 0), expected, "{length}");
     }
     // Dependencies in use are free: oneself, one twice, held ones, all fifteen.
     let free = waiting(&[(10, &[10, 10, 1, 4, 30, 30]), (11, &[20; DEPENDENCIES])]);
-    assert_eq!(answer(check_waiting(&rows, &free), 0), [0, 2]);
+    assert_eq!(answer(check_tables(&rows, &free), 0), [0, 2]);
     let found = |numbers: &[u16]| written(missing(&rows, &free, &list(numbers)));
     assert_eq!(found(&[10]), hashes(&[30]));
     assert_eq!(found(&[11, 10, 11, 2, 40]), hashes(&[20, 30, 40]));
     // Sixteen are a bad row.
     let sixteen = waiting(&[(10, &[]), (11, &[20; 16])]);
-    assert_eq!(answer(check_waiting(&rows, &sixteen), 0), [9, 1]);
+    assert_eq!(answer(check_tables(&rows, &sixteen), 0), [9, 1]);
     // Only what lies under the asked hashes, not all that waiting rows lack.
     assert_eq!(found(&[]), hashes(&[]));
     assert_eq!(found(&[3, 1]), hashes(&[]));
@@ -124,10 +124,10 @@ fn settled_readings_of_waiting_tables() {
     assert_eq!(written(missing(&[], &[], &[0; HASH])), [[0; HASH]]);
     // A waiting row's hash that is held, or that waits twice.
     let held = waiting(&[(10, &[]), (4, &[])]);
-    assert_eq!(answer(check_waiting(&rows, &held), 0), [9, 1]);
-    assert_eq!(answer(check_waiting(&rows[..3 * ROW], &held), 0), [0, 2]);
+    assert_eq!(answer(check_tables(&rows, &held), 0), [9, 1]);
+    assert_eq!(answer(check_tables(&rows[..3 * ROW], &held), 0), [0, 2]);
     let twice = waiting(&[(10, &[]), (11, &[]), (10, &[5])]);
-    assert_eq!(answer(check_waiting(&rows, &twice), 0), [9, 2]);
+    assert_eq!(answer(check_tables(&rows, &twice), 0), [9, 2]);
     // A cycle gives nothing new; what hangs on it does.
     let cycle = waiting(&[(10, &[11]), (11, &[12]), (12, &[10, 20])]);
     assert_eq!(written(missing(&rows, &cycle, &list(&[11]))), hashes(&[20]));

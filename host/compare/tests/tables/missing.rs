@@ -1,6 +1,6 @@
 //! What is missing, through as many waiting rows as there may be.
 
-use crate::{agree, answer, check_waiting, missing, with_record, Bytes, MISSING, ROOM};
+use crate::{agree, answer, check_tables, missing, with_record, Bytes, MISSING, ROOM};
 use compare::inputs::table::{table_bytes, waiting_bytes, Likeness, Shape, WaitingRow};
 use compare::inputs::Random;
 use compare::model::table::{Hash, HASH, HASHES, ROWS, WAITING_ROW, WAITING_ROWS};
@@ -56,7 +56,7 @@ fn both_tables_at_their_largest() {
     let table = table_bytes(&random.rows_of(held, Shape::Any));
     let rows = random.waiting_rows(own, &all);
     let waiting = waiting_bytes(&rows);
-    assert_eq!(answer(check_waiting(&table, &waiting), 0), [0, 1_024]);
+    assert_eq!(answer(check_tables(&table, &waiting), 0), [0, 1_024]);
     for list in [own.concat(), held.concat(), own[0].to_vec()] {
         agree(&[(missing(&table, &waiting, &list), Rooms::Enough)]);
     }
@@ -64,7 +64,7 @@ fn both_tables_at_their_largest() {
     for taken in [held[ROWS - 1], own[WAITING_ROWS - 2], own[0]] {
         last.hash = taken;
         let bad = with_record(&waiting, WAITING_ROWS - 1, &last.bytes());
-        assert_eq!(answer(check_waiting(&table, &bad), 0), [9, 1_023]);
+        assert_eq!(answer(check_tables(&table, &bad), 0), [9, 1_023]);
     }
 }
 

@@ -1,8 +1,8 @@
 //! Random tables and lists, good and damaged, through all five calls.
 
 use crate::{
-    beyond, check, check_waiting, heads, missing, with_record, Bytes, BEYOND, CHECK_TABLE,
-    CHECK_WAITING, HEADS, MISSING,
+    beyond, check, check_tables, heads, missing, with_record, Bytes, BEYOND, CHECK_TABLE,
+    CHECK_TABLES, HEADS, MISSING,
 };
 use compare::inputs::table::{
     row_faults, table_bytes, waiting_bytes, waiting_faults, LIKENESSES, SHAPES,
@@ -73,7 +73,7 @@ fn compare_random(seed: Seed, rounds: usize, batch: usize, most: usize) -> Tally
             let (table, waiting, hashes) = (&one.table, &one.waiting, &one.hashes);
             calls.extend([
                 (check(table), Rooms::Enough),
-                (check_waiting(table, waiting), Rooms::Enough),
+                (check_tables(table, waiting), Rooms::Enough),
             ]);
             let writing = [
                 heads(table, one.before),
@@ -102,7 +102,7 @@ fn random_small_tables() {
     let tally = compare_random(Seed::fixed(), 20, 1_000, 12);
     let seen: [(usize, &[usize]); 5] = [
         (CHECK_TABLE, &[0, 6]),
-        (CHECK_WAITING, &[0, 6, 9]),
+        (CHECK_TABLES, &[0, 6, 9]),
         (HEADS, &[0, 6, 7, 11]),
         (BEYOND, &[0, 1, 6, 7]),
         (MISSING, &[0, 1, 6, 7, 9]),

@@ -1,8 +1,8 @@
 //! Every way in which a record is bad names its row; every bit, number and length.
 
 use crate::{
-    agree, answer, ask, beyond, check, check_waiting, diamond, heads, missing, waiting,
-    with_record, Bytes, First, CHECK_TABLE, CHECK_WAITING, ROOM,
+    agree, answer, ask, beyond, check, check_tables, diamond, heads, missing, waiting, with_record,
+    Bytes, First, CHECK_TABLE, CHECK_TABLES, ROOM,
 };
 use compare::inputs::table::{
     row_faults, set_number, table_bytes, waiting_bytes, waiting_faults, Likeness, Shape,
@@ -24,7 +24,7 @@ fn every_bit_of_small_tables() {
     };
     let tables: Vec<Bytes> = (0..8 * rows.len()).map(|bit| flipped(&rows, bit)).collect();
     let calls = tables.iter().flat_map(|table| {
-        let some = [check(table), check_waiting(table, &good)];
+        let some = [check(table), check_tables(table, &good)];
         let others = [heads(table, 4), beyond(table, &rows[ROW..][..HASH])];
         some.into_iter().chain(others)
     });
@@ -38,10 +38,7 @@ fn every_bit_of_small_tables() {
     for some in waitings.chunks(1_000) {
         let calls = some.iter().flat_map(|waiting| {
             let asked = &good[..HASH];
-            [
-                check_waiting(&rows, waiting),
-                missing(&rows, waiting, asked),
-            ]
+            [check_tables(&rows, waiting), missing(&rows, waiting, asked)]
         });
         agree(&calls.map(|call| (call, Rooms::Enough)).collect::<Vec<_>>());
     }
@@ -119,7 +116,7 @@ fn one_fault_in_the_largest_table() {
             let table = with_record(&good, row, record);
             let calls = [
                 check(&table),
-                check_waiting(&table, &[]),
+                check_tables(&table, &[]),
                 heads(&table, 1),
                 beyond(&table, &[]),
                 missing(&table, &[], &[]),
@@ -203,9 +200,9 @@ fn byte_lengths_around_rows() {
     waiting.extend(vec![0; WAITING_ROW]);
     let table = &good[..2 * ROW];
     let calls: Vec<_> = (0..=2 * WAITING_ROW + 1)
-        .map(|length| (check_waiting(table, &waiting[..length]), Rooms::Enough))
+        .map(|length| (check_tables(table, &waiting[..length]), Rooms::Enough))
         .collect();
-    assert_eq!(agree(&calls).of(CHECK_WAITING, 0), 3);
+    assert_eq!(agree(&calls).of(CHECK_TABLES, 0), 3);
     let lengths: [(usize, First); 6] = [
         (most - WAITING_ROW, [0, 1_023]),
         (most - 1, [9, 1_023]),
@@ -215,7 +212,7 @@ fn byte_lengths_around_rows() {
         (most + WAITING_ROW, [4, 0]),
     ];
     for (length, expected) in lengths {
-        let call = check_waiting(table, &waiting[..length]);
+        let call = check_tables(table, &waiting[..length]);
         assert_eq!(answer(call, 0), expected, "{length}");
     }
 }
@@ -236,7 +233,7 @@ fn waiting_faults_name_their_row() {
                 let mut bytes = with_record(&good, row, &record);
                 let expected = [9, row as u64];
                 let told = format!("waiting row {row} of {count}, {why}");
-                let ([first, at, ..], _) = ask(check_waiting(&table, &bytes), 0);
+                let ([first, at, ..], _) = ask(check_tables(&table, &bytes), 0);
                 assert_eq!([first, at], expected, "{told}");
                 bytes.push(0);
                 let last = WAITING_ROW * (count - 1);

@@ -1,7 +1,7 @@
 //! Arguments that are wrong at once: the order of their refusals.
 
 use crate::{
-    answer, beyond, check, check_waiting, diamond, heads, list, missing, waiting, with_record,
+    answer, beyond, check, check_tables, diamond, heads, list, missing, waiting, with_record,
     Bytes, First, ROOM,
 };
 use compare::model::table::{HASH, HASHES, ROW, ROWS, WAITING_ROW, WAITING_ROWS};
@@ -101,7 +101,7 @@ fn refusals_of_missing_in_their_order() {
     for (table, table_fault) in faulty_tables() {
         for (waiting, waiting_fault) in faulty_waitings() {
             let expected = first(&[table_fault, waiting_fault], [0, 2]);
-            assert_eq!(answer(check_waiting(&table, &waiting), 0), expected);
+            assert_eq!(answer(check_tables(&table, &waiting), 0), expected);
             for ((hashes, list_fault), count) in faulty_lists() {
                 let many = (count > HASHES as u64).then_some([4, 0]);
                 let wanted = HASH as u64 * count;
