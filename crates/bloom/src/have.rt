@@ -63,35 +63,35 @@ pub fn inside(place: usize, size: usize, whole: usize) -> bool
 }
 
 // Whether the filter of record i is a filter over the lent bytes.
-pub fn filter_good(s: &[u8], haves: &[u64], i: usize) -> bool
+pub fn filter_good(bytes: &[u8], haves: &[u64], i: usize) -> bool
     requires { ⌜ i < haveCount (now haves) ⌝ }
-    ensures { λ r. ⌜ r ≡ filterGood (now (s .entry)) (numbersIn (now (haves .entry)) i) ⌝ }
+    ensures { λ r. ⌜ r ≡ filterGood (now (bytes .entry)) (numbersIn (now (haves .entry)) i) ⌝ }
 {
     let f = filter_in(haves, i);
     if !filter_rules(f.entries, f.bits, f.probes, f.size as u64) {
         return false;
     }
-    inside(f.place, f.size, s.len())
+    inside(f.place, f.size, bytes.len())
 }
 
 // Whether record i is a have over the lent bytes: its last-sync hashes stand there, and its filter is good.
-pub fn have_good(s: &[u8], haves: &[u64], i: usize) -> bool
+pub fn have_good(bytes: &[u8], haves: &[u64], i: usize) -> bool
     requires { ⌜ i < haveCount (now haves) ⌝ }
-    ensures { λ r. ⌜ r ≡ haveGood (now (s .entry)) (now (haves .entry)) i ⌝ }
+    ensures { λ r. ⌜ r ≡ haveGood (now (bytes .entry)) (now (haves .entry)) i ⌝ }
 {
     let count = sync_count(haves, i);
-    if s.len() / HASH_SIZE < count {
+    if bytes.len() / HASH_SIZE < count {
         return false;
     }
-    if !inside(sync_place(haves, i), HASH_SIZE * count, s.len()) {
+    if !inside(sync_place(haves, i), HASH_SIZE * count, bytes.len()) {
         return false;
     }
-    filter_good(s, haves, i)
+    filter_good(bytes, haves, i)
 }
 
 // Whether a list that is passed is whole records, each a have; of more than a list may have, the first are looked at.
-pub fn passed_good(s: &[u8], haves: &[u64]) -> bool
-    ensures { λ r. ⌜ r ≡ passedGood (now (s .entry)) (now (haves .entry)) ⌝ }
+pub fn passed_good(bytes: &[u8], haves: &[u64]) -> bool
+    ensures { λ r. ⌜ r ≡ passedGood (now (bytes .entry)) (now (haves .entry)) ⌝ }
 {
     if haves.len() % HAVE_WORDS != 0 {
         return false;
@@ -99,7 +99,7 @@ pub fn passed_good(s: &[u8], haves: &[u64]) -> bool
     let total = at_most(haves.len() / HAVE_WORDS);
     let mut i = 0;
     while i < total {
-        if !have_good(s, haves, i) {
+        if !have_good(bytes, haves, i) {
             return false;
         }
         i += 1;

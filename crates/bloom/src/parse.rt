@@ -24,10 +24,10 @@ pub enum Parsed {
 }
 
 // The filter at a place, in the part that goes up to `end`.
-pub fn parse(s: &[u8], at: usize, end: usize) -> Parsed
-    ensures { λ r. ⌜ r ≡ filterAt (now (s .entry)) at end ⌝ }
+pub fn parse(bytes: &[u8], at: usize, end: usize) -> Parsed
+    ensures { λ r. ⌜ r ≡ filterAt (now (bytes .entry)) at end ⌝ }
 {
-    if left(s, at, end) == 0 {
+    if left(bytes, at, end) == 0 {
         return Parsed::Filter {
             filter: FilterNumbers {
                 entries: 0,
@@ -39,31 +39,31 @@ pub fn parse(s: &[u8], at: usize, end: usize) -> Parsed
             next: at,
         };
     }
-    parse_numbers(s, at, end)
+    parse_numbers(bytes, at, end)
 }
 
 // All three numbers are read before any of them is looked at.
-fn parse_numbers(s: &[u8], at: usize, end: usize) -> Parsed
-    ensures { λ r. ⌜ r ≡ numbersAt (now (s .entry)) at end ⌝ }
+fn parse_numbers(bytes: &[u8], at: usize, end: usize) -> Parsed
+    ensures { λ r. ⌜ r ≡ numbersAt (now (bytes .entry)) at end ⌝ }
 {
-    let n = leb128_u32(s, at, end);
+    let n = leb128_u32(bytes, at, end);
     match n {
         Number::Value {
             value: entries,
             next: at_bits,
         } => {
-            let b = leb128_u32(s, at_bits, end);
+            let b = leb128_u32(bytes, at_bits, end);
             match b {
                 Number::Value {
                     value: bits,
                     next: at_probes,
                 } => {
-                    let p = leb128_u32(s, at_probes, end);
+                    let p = leb128_u32(bytes, at_probes, end);
                     match p {
                         Number::Value {
                             value: probes,
                             next: place,
-                        } => parse_field(s, at, end, entries, bits, probes, place),
+                        } => parse_field(bytes, at, end, entries, bits, probes, place),
                         Number::Refused(r) => Parsed::Refused(r),
                     }
                 }
@@ -76,7 +76,7 @@ fn parse_numbers(s: &[u8], at: usize, end: usize) -> Parsed
 
 // The field behind the numbers of the filter at `at`.
 fn parse_field(
-    s: &[u8],
+    bytes: &[u8],
     at: usize,
     end: usize,
     entries: u64,
@@ -85,7 +85,7 @@ fn parse_field(
     place: usize,
 ) -> Parsed
     requires { ⌜ (entries ≤ mostFilter) × (bits ≤ mostFilter) ⌝ }
-    ensures { λ r. ⌜ r ≡ fieldAt (now (s .entry)) at end entries bits probes place ⌝ }
+    ensures { λ r. ⌜ r ≡ fieldAt (now (bytes .entry)) at end entries bits probes place ⌝ }
 {
     if entries == 0 {
         return Parsed::Filter {
@@ -109,7 +109,7 @@ fn parse_field(
     if FIELD_SIZE < size {
         return Parsed::Refused(Refusal::PastSize(at));
     }
-    if left(s, place, end) < size {
+    if left(bytes, place, end) < size {
         return Parsed::Refused(Refusal::Cut(place));
     }
     let next = place + size;

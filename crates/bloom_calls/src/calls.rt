@@ -12,10 +12,10 @@ ghost use Rattle.bloom_calls.specs.Answer.{filterWords, containedWords};
 
 // The filter at a place: 0, entries, bits, probes, place of the field, its length, next place.
 #[no_mangle]
-pub extern "C" fn bt_read_filter(s: &[u8], at: usize, end: usize, answer: &mut [u64; 8])
-    ensures { λ _. ⌜ now (answer .exit) ≡ filterWords (filterAt (now (s .entry)) at end) ⌝ }
+pub extern "C" fn bt_read_filter(bytes: &[u8], at: usize, end: usize, answer: &mut [u64; 8])
+    ensures { λ _. ⌜ now (answer .exit) ≡ filterWords (filterAt (now (bytes .entry)) at end) ⌝ }
 {
-    *answer = filter_words(bloom::parse::parse(s, at, end));
+    *answer = filter_words(bloom::parse::parse(bytes, at, end));
 }
 
 // Writes a filter: 0, bytes written.
@@ -49,8 +49,13 @@ pub extern "C" fn bt_build_filter(
 
 // Whether some filter of the haves contains a hash: 0, then 1 or 0.
 #[no_mangle]
-pub extern "C" fn bt_filters_contain(s: &[u8], haves: &[u64], hash: &[u8], answer: &mut [u64; 4])
-    ensures { λ _. ⌜ now (answer .exit) ≡ containedWords (containedIn (now (s .entry)) (now (haves .entry)) (now (hash .entry))) ⌝ }
+pub extern "C" fn bt_filters_contain(
+    bytes: &[u8],
+    haves: &[u64],
+    hash: &[u8],
+    answer: &mut [u64; 4],
+)
+    ensures { λ _. ⌜ now (answer .exit) ≡ containedWords (containedIn (now (bytes .entry)) (now (haves .entry)) (now (hash .entry))) ⌝ }
 {
-    *answer = contained_words(probe::contains::filters_contain(s, haves, hash));
+    *answer = contained_words(probe::contains::filters_contain(bytes, haves, hash));
 }

@@ -9,10 +9,10 @@ use rules::refusal::Refusal;
 ghost use Rattle.decode.specs.Read.{DecodedInto};
 
 // Reads a message: the places of its parts, with the words of its haves and of its chunks at the start of the lists that are lent for them.
-pub fn decode(s: &[u8], haves: &mut [u64], chunks: &mut [u64]) -> Decoded
-    ensures { λ r. ⌜ DecodedInto (now (s .entry)) (now (haves .entry)) (now (haves .exit)) (now (chunks .entry)) (now (chunks .exit)) r ⌝ }
+pub fn decode(bytes: &[u8], haves: &mut [u64], chunks: &mut [u64]) -> Decoded
+    ensures { λ r. ⌜ DecodedInto (now (bytes .entry)) (now (haves .entry)) (now (haves .exit)) (now (chunks .entry)) (now (chunks .exit)) r ⌝ }
 {
-    let read = parse(s);
+    let read = parse(bytes);
     match read {
         Decoded::Message(places) => {
             let have_run = places.haves;
@@ -25,8 +25,8 @@ pub fn decode(s: &[u8], haves: &mut [u64], chunks: &mut [u64]) -> Decoded
             if chunks.len() < chunk_words {
                 return Decoded::Refused(Refusal::NoRoom(chunk_words));
             }
-            put_haves(s, have_run.start, have_run.count, haves);
-            put_chunks(s, chunk_run.start, chunk_run.count, chunks);
+            put_haves(bytes, have_run.start, have_run.count, haves);
+            put_chunks(bytes, chunk_run.start, chunk_run.count, chunks);
             Decoded::Message(places)
         }
         Decoded::Refused(r) => Decoded::Refused(r),

@@ -20,29 +20,29 @@ pub enum Opening {
     Refused(Refusal),
 }
 
-pub fn parse_opening(s: &[u8]) -> Opening
-    ensures { λ r. ⌜ r ≡ openingAt (now (s .entry)) ⌝ }
+pub fn parse_opening(bytes: &[u8]) -> Opening
+    ensures { λ r. ⌜ r ≡ openingAt (now (bytes .entry)) ⌝ }
 {
-    if MESSAGE_SIZE < s.len() {
+    if MESSAGE_SIZE < bytes.len() {
         return Opening::Refused(Refusal::PastSize(0));
     }
-    if s.len() == 0 {
+    if bytes.len() == 0 {
         return Opening::Refused(Refusal::Cut(0));
     }
-    let message_type = s[0];
+    let message_type = bytes[0];
     if message_type == MESSAGE_TYPE_SYNC {
-        return parse_heads(s, MessageVersion::V1);
+        return parse_heads(bytes, MessageVersion::V1);
     }
     if message_type == MESSAGE_TYPE_SYNC_V2 {
-        return parse_heads(s, MessageVersion::V2);
+        return parse_heads(bytes, MessageVersion::V2);
     }
     Opening::Refused(Refusal::WrongType(message_type))
 }
 
-fn parse_heads(s: &[u8], version: MessageVersion) -> Opening
-    ensures { λ r. ⌜ r ≡ headsAt (now (s .entry)) version ⌝ }
+fn parse_heads(bytes: &[u8], version: MessageVersion) -> Opening
+    ensures { λ r. ⌜ r ≡ headsAt (now (bytes .entry)) version ⌝ }
 {
-    let list = length_prefixed_hashes(s, 1, s.len());
+    let list = length_prefixed_hashes(bytes, 1, bytes.len());
     match list {
         Listed::Items { run, next } => Opening::Heads {
             version,

@@ -38,19 +38,19 @@ pub enum Flagged {
 }
 
 // The flags section at a place, if bytes remain there.
-pub fn parse_section(s: &[u8], at: usize) -> Flagged
-    ensures { λ r. ⌜ r ≡ sectionAt (now (s .entry)) at ⌝ }
+pub fn parse_section(bytes: &[u8], at: usize) -> Flagged
+    ensures { λ r. ⌜ r ≡ sectionAt (now (bytes .entry)) at ⌝ }
 {
-    if s.len() <= at {
+    if bytes.len() <= at {
         return Flagged::Section {
             flags: Section::Absent,
             next: at,
         };
     }
-    let part = length_prefixed_bytes(s, at, s.len());
+    let part = length_prefixed_bytes(bytes, at, bytes.len());
     match part {
         Prefixed::Part { start, end } => {
-            let flags = MessageFlags::parse_bytes(s, start, end);
+            let flags = MessageFlags::parse_bytes(bytes, start, end);
             Flagged::Section {
                 flags: Section::Present(flags),
                 next: end,
@@ -61,22 +61,22 @@ pub fn parse_section(s: &[u8], at: usize) -> Flagged
 }
 
 // The haves, the chunks and the flags, which stand after the need.
-fn parse_lists(s: &[u8], version: MessageVersion, heads: Run, need: Run, at: usize) -> Decoded
-    ensures { λ r. ⌜ r ≡ decodedOf (listsAt (now (s .entry)) version heads need at) ⌝ }
+fn parse_lists(bytes: &[u8], version: MessageVersion, heads: Run, need: Run, at: usize) -> Decoded
+    ensures { λ r. ⌜ r ≡ decodedOf (listsAt (now (bytes .entry)) version heads need at) ⌝ }
 {
-    let have_list = parse_haves(s, at);
+    let have_list = parse_haves(bytes, at);
     match have_list {
         Listed::Items {
             run: haves,
             next: at_chunks,
         } => {
-            let chunk_list = parse_chunks(s, at_chunks);
+            let chunk_list = parse_chunks(bytes, at_chunks);
             match chunk_list {
                 Listed::Items {
                     run: chunks,
                     next: at_section,
                 } => {
-                    let section = parse_section(s, at_section);
+                    let section = parse_section(bytes, at_section);
                     match section {
                         Flagged::Section { flags, next } => Decoded::Message(Places {
                             version,
@@ -98,27 +98,27 @@ fn parse_lists(s: &[u8], version: MessageVersion, heads: Run, need: Run, at: usi
 }
 
 // The need, which stands after the heads, and what follows it.
-fn parse_need(s: &[u8], version: MessageVersion, heads: Run, at: usize) -> Decoded
-    ensures { λ r. ⌜ r ≡ decodedOf (needAt (now (s .entry)) version heads at) ⌝ }
+fn parse_need(bytes: &[u8], version: MessageVersion, heads: Run, at: usize) -> Decoded
+    ensures { λ r. ⌜ r ≡ decodedOf (needAt (now (bytes .entry)) version heads at) ⌝ }
 {
-    let list = length_prefixed_hashes(s, at, s.len());
+    let list = length_prefixed_hashes(bytes, at, bytes.len());
     match list {
-        Listed::Items { run, next } => parse_lists(s, version, heads, run, next),
+        Listed::Items { run, next } => parse_lists(bytes, version, heads, run, next),
         Listed::Refused(r) => Decoded::Refused(r),
     }
 }
 
 // The places of a message's parts.
-pub fn parse(s: &[u8]) -> Decoded
-    ensures { λ r. ⌜ r ≡ decodedOf (messageAt (now (s .entry))) ⌝ }
+pub fn parse(bytes: &[u8]) -> Decoded
+    ensures { λ r. ⌜ r ≡ decodedOf (messageAt (now (bytes .entry))) ⌝ }
 {
-    let opening = parse_opening(s);
+    let opening = parse_opening(bytes);
     match opening {
         Opening::Heads {
             version,
             heads,
             next,
-        } => parse_need(s, version, heads, next),
+        } => parse_need(bytes, version, heads, next),
         Opening::Refused(r) => Decoded::Refused(r),
     }
 }

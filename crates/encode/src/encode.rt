@@ -15,22 +15,32 @@ pub fn encode(
     version: MessageVersion,
     heads: &[u8],
     need: &[u8],
-    s: &[u8],
+    bytes: &[u8],
     haves: &[u64],
     chunks: &[u8],
     lengths: &[u64],
     flags: Section,
 ) -> Write
-    ensures { λ r. ⌜ Written (messageOutput (partsOf version (now (heads .entry)) (now (need .entry)) (now (s .entry)) (now (haves .entry))
+    ensures { λ r. ⌜ Written (messageOutput (partsOf version (now (heads .entry)) (now (need .entry)) (now (bytes .entry)) (now (haves .entry))
         (now (chunks .entry)) (now (lengths .entry)) flags)) (now (out .entry)) (now (out .exit)) r ⌝ }
 {
-    let sized = message_size(heads, need, s, haves, chunks, lengths, flags);
+    let sized = message_size(heads, need, bytes, haves, chunks, lengths, flags);
     match sized {
         Size::Bytes(size) => {
             if out.len() < size {
                 return Write::Refused(Refusal::NoRoom(size));
             }
-            put_message(out, version, heads, need, s, haves, chunks, lengths, flags);
+            put_message(
+                out,
+                version,
+                heads,
+                need,
+                bytes,
+                haves,
+                chunks,
+                lengths,
+                flags,
+            );
             Write::Wrote(size)
         }
         Size::Refused(r) => Write::Refused(r),

@@ -27,14 +27,14 @@ ghost use Rattle.rules.specs.Sizes.{sizes};
 ghost use Rattle.wire.specs.Item.{prefixedBytes, hashListBytes};
 ghost use Rattle.numbers.specs.Number.{Put};
 
-// A list of so many hashes, which stand in s from a place on.
-fn put_hashes(out: &mut [u8], at: usize, s: &[u8], place: usize, count: usize) -> usize
-    requires { ⌜ (place + sizes .hash * count ≤ length (now s)) × (at + length (hashListBytes (hashesAt (now s) place count)) ≤ length (now out)) ⌝ }
-    ensures { λ r. ⌜ Put (now (out .entry)) (now (out .exit)) at (hashListBytes (hashesAt (now (s .entry)) place count)) r ⌝ }
+// A list of so many hashes, which stand in the bytes from a place on.
+fn put_hashes(out: &mut [u8], at: usize, bytes: &[u8], place: usize, count: usize) -> usize
+    requires { ⌜ (place + sizes .hash * count ≤ length (now bytes)) × (at + length (hashListBytes (hashesAt (now bytes) place count)) ≤ length (now out)) ⌝ }
+    ensures { λ r. ⌜ Put (now (out .entry)) (now (out .exit)) at (hashListBytes (hashesAt (now (bytes .entry)) place count)) r ⌝ }
 {
     let end = place + HASH_SIZE * count;
     let at_hashes = put_unsigned(out, at, count as u64);
-    copy_into(out, at_hashes, &s[place..end]);
+    copy_into(out, at_hashes, &bytes[place..end]);
     at_hashes + HASH_SIZE * count
 }
 
@@ -56,29 +56,36 @@ fn put_prefixed_filter(
 }
 
 // The have of record i: its last-sync hashes and its filter.
-fn put_have(out: &mut [u8], at: usize, s: &[u8], haves: &[u64], i: usize) -> usize
-    requires { ⌜ (GoodHaves (now s) (now haves) × (i < haveCount (now haves))) × (at + length (haveBytes (haveIn (now s) (now haves) i)) ≤ length (now out)) ⌝ }
-    ensures { λ r. ⌜ Put (now (out .entry)) (now (out .exit)) at (haveBytes (haveIn (now (s .entry)) (now (haves .entry)) i)) r ⌝ }
+fn put_have(out: &mut [u8], at: usize, bytes: &[u8], haves: &[u64], i: usize) -> usize
+    requires { ⌜ (GoodHaves (now bytes) (now haves) × (i < haveCount (now haves))) × (at + length (haveBytes (haveIn (now bytes) (now haves) i)) ≤ length (now out)) ⌝ }
+    ensures { λ r. ⌜ Put (now (out .entry)) (now (out .exit)) at (haveBytes (haveIn (now (bytes .entry)) (now (haves .entry)) i)) r ⌝ }
 {
     let place = sync_place(haves, i);
     let count = sync_count(haves, i);
     let f = filter_in(haves, i);
     let start = f.place;
     let end = start + f.size;
-    let at_filter = put_hashes(out, at, s, place, count);
-    put_prefixed_filter(out, at_filter, f.entries, f.bits, f.probes, &s[start..end])
+    let at_filter = put_hashes(out, at, bytes, place, count);
+    put_prefixed_filter(
+        out,
+        at_filter,
+        f.entries,
+        f.bits,
+        f.probes,
+        &bytes[start..end],
+    )
 }
 
 // All haves after their count.
-fn put_haves(out: &mut [u8], at: usize, s: &[u8], haves: &[u64]) -> usize
-    requires { ⌜ GoodHaves (now s) (now haves) × (at + length (counted haveBytes (havesOf (now s) (now haves))) ≤ length (now out)) ⌝ }
-    ensures { λ r. ⌜ Put (now (out .entry)) (now (out .exit)) at (counted haveBytes (havesOf (now (s .entry)) (now (haves .entry)))) r ⌝ }
+fn put_haves(out: &mut [u8], at: usize, bytes: &[u8], haves: &[u64]) -> usize
+    requires { ⌜ GoodHaves (now bytes) (now haves) × (at + length (counted haveBytes (havesOf (now bytes) (now haves))) ≤ length (now out)) ⌝ }
+    ensures { λ r. ⌜ Put (now (out .entry)) (now (out .exit)) at (counted haveBytes (havesOf (now (bytes .entry)) (now (haves .entry)))) r ⌝ }
 {
     let total = haves.len() / HAVE_WORDS;
     let mut place = put_unsigned(out, at, total as u64);
     let mut i = 0;
     while i < total {
-        place = put_have(out, place, s, haves, i);
+        place = put_have(out, place, bytes, haves, i);
         i += 1;
     }
     place
@@ -133,20 +140,20 @@ pub fn put_message(
     version: MessageVersion,
     heads: &[u8],
     need: &[u8],
-    s: &[u8],
+    bytes: &[u8],
     haves: &[u64],
     chunks: &[u8],
     lengths: &[u64],
     flags: Section,
 )
-    requires { ⌜ Placed (partsOf version (now heads) (now need) (now s) (now haves) (now chunks) (now lengths) flags) (now out) ⌝ }
+    requires { ⌜ Placed (partsOf version (now heads) (now need) (now bytes) (now haves) (now chunks) (now lengths) flags) (now out) ⌝ }
     ensures { λ _. ⌜ now (out .exit) ≡ sets (now (out .entry)) 0 (messageBytes (messageOf (partsOf version (now (heads .entry)) (now (need .entry))
-        (now (s .entry)) (now (haves .entry)) (now (chunks .entry)) (now (lengths .entry)) flags))) ⌝ }
+        (now (bytes .entry)) (now (haves .entry)) (now (chunks .entry)) (now (lengths .entry)) flags))) ⌝ }
 {
     out[0] = version.encode();
     let at_need = put_hashes(out, 1, heads, 0, heads.len() / HASH_SIZE);
     let at_haves = put_hashes(out, at_need, need, 0, need.len() / HASH_SIZE);
-    let at_chunks = put_haves(out, at_haves, s, haves);
+    let at_chunks = put_haves(out, at_haves, bytes, haves);
     let at_flags = put_chunks(out, at_chunks, chunks, lengths);
     put_section(out, at_flags, flags);
 }

@@ -16,13 +16,13 @@ ghost use Rattle.items.specs.Items.{chunkItem, manyAt, listFrom, listedO
 pub const CHUNK_WORDS: usize = 2;
 
 // Passes over so many chunks.
-fn skip_chunks(s: &[u8], start: usize, count: usize) -> Listed
-    ensures { λ r. ⌜ r ≡ listedOf (listFrom (run start count) (manyAt (chunkItem (now (s .entry))) count start)) ⌝ }
+fn skip_chunks(bytes: &[u8], start: usize, count: usize) -> Listed
+    ensures { λ r. ⌜ r ≡ listedOf (listFrom (run start count) (manyAt (chunkItem (now (bytes .entry))) count start)) ⌝ }
 {
     let mut next = start;
     let mut k = 0;
     while k < count {
-        let chunk = length_prefixed_bytes(s, next, s.len());
+        let chunk = length_prefixed_bytes(bytes, next, bytes.len());
         match chunk {
             Prefixed::Part { start: _, end } => {
                 next = end;
@@ -40,25 +40,25 @@ fn skip_chunks(s: &[u8], start: usize, count: usize) -> Listed
 }
 
 // The chunks at a place.
-pub fn parse_chunks(s: &[u8], at: usize) -> Listed
-    ensures { λ r. ⌜ r ≡ listedOf (chunksAt (now (s .entry)) at) ⌝ }
+pub fn parse_chunks(bytes: &[u8], at: usize) -> Listed
+    ensures { λ r. ⌜ r ≡ listedOf (chunksAt (now (bytes .entry)) at) ⌝ }
 {
-    let n = length_prefix(s, at, s.len(), CHUNKS as u64);
+    let n = length_prefix(bytes, at, bytes.len(), CHUNKS as u64);
     match n {
-        Number::Value { value, next } => skip_chunks(s, next, value as usize),
+        Number::Value { value, next } => skip_chunks(bytes, next, value as usize),
         Number::Refused(r) => Listed::Refused(r),
     }
 }
 
 // Puts the words of so many chunks, which were passed over before, at the start of the list.
-pub fn put_chunks(s: &[u8], start: usize, count: usize, out: &mut [u64])
-    requires { ⌜ AllRead (manyAt (chunkItem (now s)) count start) (length (now out)) ⌝ }
-    ensures { λ _. ⌜ now (out .exit) ≡ sets (now (out .entry)) 0 (wordsOf (manyAt (chunkItem (now (s .entry))) count start)) ⌝ }
+pub fn put_chunks(bytes: &[u8], start: usize, count: usize, out: &mut [u64])
+    requires { ⌜ AllRead (manyAt (chunkItem (now bytes)) count start) (length (now out)) ⌝ }
+    ensures { λ _. ⌜ now (out .exit) ≡ sets (now (out .entry)) 0 (wordsOf (manyAt (chunkItem (now (bytes .entry))) count start)) ⌝ }
 {
     let mut next = start;
     let mut k = 0;
     while k < count {
-        let chunk = length_prefixed_bytes(s, next, s.len());
+        let chunk = length_prefixed_bytes(bytes, next, bytes.len());
         match chunk {
             Prefixed::Part { start: place, end } => {
                 let at = CHUNK_WORDS * k;

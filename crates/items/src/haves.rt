@@ -28,16 +28,16 @@ pub enum HaveRead {
 }
 
 // The have at a place: its hash list, then its filter string, which is there whole before the filter is looked for in it.
-pub fn parse_have(s: &[u8], at: usize) -> HaveRead
-    ensures { λ r. ⌜ r ≡ haveAt (now (s .entry)) at ⌝ }
+pub fn parse_have(bytes: &[u8], at: usize) -> HaveRead
+    ensures { λ r. ⌜ r ≡ haveAt (now (bytes .entry)) at ⌝ }
 {
-    let list = length_prefixed_hashes(s, at, s.len());
+    let list = length_prefixed_hashes(bytes, at, bytes.len());
     match list {
         Listed::Items { run, next } => {
-            let part = length_prefixed_bytes(s, next, s.len());
+            let part = length_prefixed_bytes(bytes, next, bytes.len());
             match part {
                 Prefixed::Part { start, end } => {
-                    let parsed = bloom::parse::parse(s, start, end);
+                    let parsed = bloom::parse::parse(bytes, start, end);
                     match parsed {
                         Parsed::Filter { filter, next: _ } => HaveRead::Have {
                             sync: run,
@@ -55,13 +55,13 @@ pub fn parse_have(s: &[u8], at: usize) -> HaveRead
 }
 
 // Passes over so many haves.
-fn skip_haves(s: &[u8], start: usize, count: usize) -> Listed
-    ensures { λ r. ⌜ r ≡ listedOf (listFrom (run start count) (manyAt (haveItem (now (s .entry))) count start)) ⌝ }
+fn skip_haves(bytes: &[u8], start: usize, count: usize) -> Listed
+    ensures { λ r. ⌜ r ≡ listedOf (listFrom (run start count) (manyAt (haveItem (now (bytes .entry))) count start)) ⌝ }
 {
     let mut next = start;
     let mut k = 0;
     while k < count {
-        let have = parse_have(s, next);
+        let have = parse_have(bytes, next);
         match have {
             HaveRead::Have {
                 sync: _,
@@ -83,25 +83,25 @@ fn skip_haves(s: &[u8], start: usize, count: usize) -> Listed
 }
 
 // The haves at a place: their count is tested before any of them.
-pub fn parse_haves(s: &[u8], at: usize) -> Listed
-    ensures { λ r. ⌜ r ≡ listedOf (havesAt (now (s .entry)) at) ⌝ }
+pub fn parse_haves(bytes: &[u8], at: usize) -> Listed
+    ensures { λ r. ⌜ r ≡ listedOf (havesAt (now (bytes .entry)) at) ⌝ }
 {
-    let n = length_prefix(s, at, s.len(), HAVES as u64);
+    let n = length_prefix(bytes, at, bytes.len(), HAVES as u64);
     match n {
-        Number::Value { value, next } => skip_haves(s, next, value as usize),
+        Number::Value { value, next } => skip_haves(bytes, next, value as usize),
         Number::Refused(r) => Listed::Refused(r),
     }
 }
 
 // Puts the words of so many haves, which were passed over before, at the start of the list.
-pub fn put_haves(s: &[u8], start: usize, count: usize, out: &mut [u64])
-    requires { ⌜ AllRead (manyAt (haveItem (now s)) count start) (length (now out)) ⌝ }
-    ensures { λ _. ⌜ now (out .exit) ≡ sets (now (out .entry)) 0 (wordsOf (manyAt (haveItem (now (s .entry))) count start)) ⌝ }
+pub fn put_haves(bytes: &[u8], start: usize, count: usize, out: &mut [u64])
+    requires { ⌜ AllRead (manyAt (haveItem (now bytes)) count start) (length (now out)) ⌝ }
+    ensures { λ _. ⌜ now (out .exit) ≡ sets (now (out .entry)) 0 (wordsOf (manyAt (haveItem (now (bytes .entry))) count start)) ⌝ }
 {
     let mut next = start;
     let mut k = 0;
     while k < count {
-        let have = parse_have(s, next);
+        let have = parse_have(bytes, next);
         match have {
             HaveRead::Have {
                 sync,

@@ -12,8 +12,8 @@ ghost use mathlib.Core.Path.{_≡_};
 ghost use Rattle.lent.specs.Good.{havesGood, sessionGood};
 
 // Whether the peer's haves, which may be absent, are haves over the lent bytes.
-pub fn haves_good(s: &[u8], haves: &[u64], heard: Heard) -> bool
-    ensures { λ r. ⌜ r ≡ havesGood (now (s .entry)) (now (haves .entry)) heard ⌝ }
+pub fn haves_good(bytes: &[u8], haves: &[u64], heard: Heard) -> bool
+    ensures { λ r. ⌜ r ≡ havesGood (now (bytes .entry)) (now (haves .entry)) heard ⌝ }
 {
     let Heard::Count(count) = heard else {
         return true;
@@ -25,7 +25,7 @@ pub fn haves_good(s: &[u8], haves: &[u64], heard: Heard) -> bool
         return false;
     }
     let kept = &haves[..HAVE_WORDS * count];
-    if !passed_good(s, kept) {
+    if !passed_good(bytes, kept) {
         return false;
     }
     passed_few(kept)

@@ -13,33 +13,33 @@ ghost use Rattle.rules.specs.Sizes.{sizes};
 ghost use Rattle.lent.specs.Good.{listGood, heardGood, sentGood};
 
 // Whether so many hashes can be the list that a buffer starts with.
-pub fn list_good(s: &[u8], count: usize) -> bool
-    ensures { λ r. ⌜ r ≡ listGood (now (s .entry)) count ⌝ }
+pub fn list_good(bytes: &[u8], count: usize) -> bool
+    ensures { λ r. ⌜ r ≡ listGood (now (bytes .entry)) count ⌝ }
 {
     if HASHES < count {
         return false;
     }
-    HASH_SIZE * count <= s.len()
+    HASH_SIZE * count <= bytes.len()
 }
 
 // The same for a list that may be absent.
-pub fn heard_good(s: &[u8], heard: Heard) -> bool
-    ensures { λ r. ⌜ r ≡ heardGood (now (s .entry)) heard ⌝ }
+pub fn heard_good(bytes: &[u8], heard: Heard) -> bool
+    ensures { λ r. ⌜ r ≡ heardGood (now (bytes .entry)) heard ⌝ }
 {
     match heard {
         Heard::Nothing => true,
-        Heard::Count(count) => list_good(s, count),
+        Heard::Count(count) => list_good(bytes, count),
     }
 }
 
 // Whether each of the first hashes of a buffer is greater than the one before it.
-fn ascending(s: &[u8], count: usize) -> bool
-    requires { ⌜ sizes .hash * count ≤ length (now s) ⌝ }
-    ensures { λ r. ⌜ r ≡ ascends (hashesAt (now (s .entry)) 0 count) ⌝ }
+fn ascending(bytes: &[u8], count: usize) -> bool
+    requires { ⌜ sizes .hash * count ≤ length (now bytes) ⌝ }
+    ensures { λ r. ⌜ r ≡ ascends (hashesAt (now (bytes .entry)) 0 count) ⌝ }
 {
     let mut i = 0;
     while i + 1 < count {
-        if !hash_before(s, HASH_SIZE * i, s, HASH_SIZE * (i + 1)) {
+        if !hash_before(bytes, HASH_SIZE * i, bytes, HASH_SIZE * (i + 1)) {
             return false;
         }
         i += 1;
@@ -48,14 +48,14 @@ fn ascending(s: &[u8], count: usize) -> bool
 }
 
 // Whether the sent hashes stand at the start of their buffer, ascending.
-pub fn sent_good(s: &[u8], count: usize) -> bool
-    ensures { λ r. ⌜ r ≡ sentGood (now (s .entry)) count ⌝ }
+pub fn sent_good(bytes: &[u8], count: usize) -> bool
+    ensures { λ r. ⌜ r ≡ sentGood (now (bytes .entry)) count ⌝ }
 {
     if SENT_HASHES < count {
         return false;
     }
-    if s.len() < HASH_SIZE * count {
+    if bytes.len() < HASH_SIZE * count {
         return false;
     }
-    ascending(s, count)
+    ascending(bytes, count)
 }

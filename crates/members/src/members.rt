@@ -22,26 +22,26 @@ ghost use Rattle.graph.specs.Marks.{Marks, Blank};
 ghost use Rattle.members.specs.Members.{lastSyncs, inTheS, someOf, SyncsInside};
 
 // Marks the rows of all haves' last-sync hashes.
-fn mark_syncs(table: &[u8], n: usize, s: &[u8], haves: &[u64], marks: &mut [bool])
-    requires { ⌜ GoodRows (now table) n × SyncsInside (now s) (now haves) × (n ≤ length (now marks)) × Blank n (now marks) ⌝ }
-    ensures { λ _. ⌜ Marks n (now (marks .exit)) (λ i. member (hashOf (rowsAt (now (table .entry)) 0 n) i) (lastSyncs (havesOf (now (s .entry)) (now (haves .entry))))) ⌝ }
+fn mark_syncs(table: &[u8], n: usize, bytes: &[u8], haves: &[u64], marks: &mut [bool])
+    requires { ⌜ GoodRows (now table) n × SyncsInside (now bytes) (now haves) × (n ≤ length (now marks)) × Blank n (now marks) ⌝ }
+    ensures { λ _. ⌜ Marks n (now (marks .exit)) (λ i. member (hashOf (rowsAt (now (table .entry)) 0 n) i) (lastSyncs (havesOf (now (bytes .entry)) (now (haves .entry))))) ⌝ }
 {
     let total = haves.len() / HAVE_WORDS;
     let mut k = 0;
     while k < total {
         let place = haves[k * HAVE_WORDS] as usize;
         let count = haves[k * HAVE_WORDS + 1] as usize;
-        mark_list(table, n, s, place, count, marks);
+        mark_list(table, n, bytes, place, count, marks);
         k += 1;
     }
 }
 
 // Marks the rows below all haves' last-sync hashes: those that aren't candidates.
-fn mark_synced(table: &[u8], n: usize, s: &[u8], haves: &[u64], marks: &mut [bool])
-    requires { ⌜ GoodRows (now table) n × SyncsInside (now s) (now haves) × (n ≤ length (now marks)) × Blank n (now marks) ⌝ }
-    ensures { λ _. ⌜ Marks n (now (marks .exit)) (belowRow (rowsAt (now (table .entry)) 0 n) (lastSyncs (havesOf (now (s .entry)) (now (haves .entry))))) ⌝ }
+fn mark_synced(table: &[u8], n: usize, bytes: &[u8], haves: &[u64], marks: &mut [bool])
+    requires { ⌜ GoodRows (now table) n × SyncsInside (now bytes) (now haves) × (n ≤ length (now marks)) × Blank n (now marks) ⌝ }
+    ensures { λ _. ⌜ Marks n (now (marks .exit)) (belowRow (rowsAt (now (table .entry)) 0 n) (lastSyncs (havesOf (now (bytes .entry)) (now (haves .entry))))) ⌝ }
 {
-    mark_syncs(table, n, s, haves, marks);
+    mark_syncs(table, n, bytes, haves, marks);
     mark_below(table, n, marks);
 }
 
@@ -66,13 +66,13 @@ fn some_marked(table: &[u8], i: usize, marks: &[bool]) -> bool
 fn is_member(
     table: &[u8],
     i: usize,
-    s: &[u8],
+    bytes: &[u8],
     haves: &[u64],
     synced: bool,
     members: &[bool],
 ) -> bool
-    requires { ⌜ GoodRows (now table) (i + 1) × (i ≤ length (now members)) × GoodFilters (now s) (now haves) ⌝ }
-    ensures { λ r. ⌜ r ≡ (not synced && (someOf (λ k. getD (now (members .entry)) k false) (usedAt (now (table .entry)) i) || not (anyContains (filtersOf (now (s .entry)) (now (haves .entry))) (hashAt (now (table .entry)) (i * rowSize))))) ⌝ }
+    requires { ⌜ GoodRows (now table) (i + 1) × (i ≤ length (now members)) × GoodFilters (now bytes) (now haves) ⌝ }
+    ensures { λ r. ⌜ r ≡ (not synced && (someOf (λ k. getD (now (members .entry)) k false) (usedAt (now (table .entry)) i) || not (anyContains (filtersOf (now (bytes .entry)) (now (haves .entry))) (hashAt (now (table .entry)) (i * rowSize))))) ⌝ }
 {
     if synced {
         return false;
@@ -80,19 +80,19 @@ fn is_member(
     if some_marked(table, i, members) {
         return true;
     }
-    !contains_hash(s, haves, table, i * ROW_SIZE)
+    !contains_hash(bytes, haves, table, i * ROW_SIZE)
 }
 
 // Marks the members of S. From the first row to the last, so that the marks of a row's dependencies are final when its turn comes.
-pub fn mark_s(table: &[u8], n: usize, s: &[u8], haves: &[u64], members: &mut [bool])
-    requires { ⌜ GoodRows (now table) n × GoodFilters (now s) (now haves) × SyncsInside (now s) (now haves) × (n ≤ length (now members)) ⌝ }
-    ensures { λ _. ⌜ Marks n (now (members .exit)) (inTheS (rowsAt (now (table .entry)) 0 n) (havesOf (now (s .entry)) (now (haves .entry)))) ⌝ }
+pub fn mark_s(table: &[u8], n: usize, bytes: &[u8], haves: &[u64], members: &mut [bool])
+    requires { ⌜ GoodRows (now table) n × GoodFilters (now bytes) (now haves) × SyncsInside (now bytes) (now haves) × (n ≤ length (now members)) ⌝ }
+    ensures { λ _. ⌜ Marks n (now (members .exit)) (inTheS (rowsAt (now (table .entry)) 0 n) (havesOf (now (bytes .entry)) (now (haves .entry)))) ⌝ }
 {
     let mut synced = [false; ROWS];
-    mark_synced(table, n, s, haves, &mut synced);
+    mark_synced(table, n, bytes, haves, &mut synced);
     let mut i = 0;
     while i < n {
-        let here = is_member(table, i, s, haves, synced[i], members);
+        let here = is_member(table, i, bytes, haves, synced[i], members);
         members[i] = here;
         i += 1;
     }

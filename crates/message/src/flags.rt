@@ -62,14 +62,14 @@ impl MessageFlags {
     }
 
     // The flags that the bytes of a section say, from a place up to an end.
-    pub fn parse_bytes(s: &[u8], start: usize, end: usize) -> MessageFlags
-        requires { ⌜ (start ≤ end) × (end ≤ length (now s)) ⌝ }
-        ensures { λ r. ⌜ r ≡ flagsOf (flagsIn (slice start end (now (s .entry)))) ⌝ }
+    pub fn parse_bytes(bytes: &[u8], start: usize, end: usize) -> MessageFlags
+        requires { ⌜ (start ≤ end) × (end ≤ length (now bytes)) ⌝ }
+        ensures { λ r. ⌜ r ≡ flagsOf (flagsIn (slice start end (now (bytes .entry)))) ⌝ }
     {
         let mut flags = MessageFlags::new();
         let mut i = start;
         while i < end {
-            let byte = s[i];
+            let byte = bytes[i];
             i += 1;
             if byte < BITFIELD_MARKER {
                 continue;

@@ -11,14 +11,14 @@ ghost use Rattle.message_calls.specs.MessageWords.{versionOf, sectionOf,
 // go into their lists.
 #[no_mangle]
 pub extern "C" fn bt_read_message(
-    s: &[u8],
+    bytes: &[u8],
     haves: &mut [u64],
     chunks: &mut [u64],
     answer: &mut [u64; 12],
 )
-    ensures { λ _. ⌜ MessageAnswered (now (s .entry)) (now (haves .entry)) (now (haves .exit)) (now (chunks .entry)) (now (chunks .exit)) (now (answer .exit)) ⌝ }
+    ensures { λ _. ⌜ MessageAnswered (now (bytes .entry)) (now (haves .entry)) (now (haves .exit)) (now (chunks .entry)) (now (chunks .exit)) (now (answer .exit)) ⌝ }
 {
-    *answer = decoded_words(decode::decode::decode(s, haves, chunks));
+    *answer = decoded_words(decode::decode::decode(bytes, haves, chunks));
 }
 
 // Writes a message from its parts: 0, bytes written.
@@ -27,7 +27,7 @@ pub extern "C" fn bt_write_message(
     version: u64,
     heads: &[u8],
     need: &[u8],
-    s: &[u8],
+    bytes: &[u8],
     haves: &[u64],
     chunks: &[u8],
     lengths: &[u64],
@@ -35,7 +35,7 @@ pub extern "C" fn bt_write_message(
     out: &mut [u8],
     answer: &mut [u64; 4],
 )
-    ensures { λ _. ⌜ Answered (messageOutput (partsOf (versionOf version) (now (heads .entry)) (now (need .entry)) (now (s .entry)) (now (haves .entry))
+    ensures { λ _. ⌜ Answered (messageOutput (partsOf (versionOf version) (now (heads .entry)) (now (need .entry)) (now (bytes .entry)) (now (haves .entry))
         (now (chunks .entry)) (now (lengths .entry)) (sectionOf flags))) (now (out .entry)) (now (out .exit)) (now (answer .exit)) ⌝ }
 {
     let v = version_of(version);
@@ -45,7 +45,7 @@ pub extern "C" fn bt_write_message(
         v,
         heads,
         need,
-        s,
+        bytes,
         haves,
         chunks,
         lengths,

@@ -41,18 +41,18 @@ fn ask_change(
     marks: &mut [bool],
     list: &mut [u8],
     count: usize,
-    s: &[u8],
+    bytes: &[u8],
     at: usize,
 ) -> usize
-    requires { ⌜ Askable (now table) n (now waiting) m (now marks) (now list) count × (at + sizes .hash ≤ length (now s)) ⌝ }
-    ensures { λ r. ⌜ Asked (now (table .entry)) n (now (waiting .entry)) m (Request.change (hashAt (now (s .entry)) at)) (now (marks .entry)) (now (list .entry)) count (now (marks .exit)) (now (list .exit)) r ⌝ }
+    requires { ⌜ Askable (now table) n (now waiting) m (now marks) (now list) count × (at + sizes .hash ≤ length (now bytes)) ⌝ }
+    ensures { λ r. ⌜ Asked (now (table .entry)) n (now (waiting .entry)) m (Request.change (hashAt (now (bytes .entry)) at)) (now (marks .entry)) (now (list .entry)) count (now (marks .exit)) (now (list .exit)) r ⌝ }
 {
-    if find_row(table, n, s, at) < n {
+    if find_row(table, n, bytes, at) < n {
         return count;
     }
-    let row = find_waiting(waiting, m, s, at);
+    let row = find_waiting(waiting, m, bytes, at);
     if m <= row {
-        return insert_hash(list, count, s, at);
+        return insert_hash(list, count, bytes, at);
     }
     if marks[row] {
         return count;
@@ -83,12 +83,12 @@ fn ask_list(
     marks: &mut [bool],
     list: &mut [u8],
     count: usize,
-    s: &[u8],
+    bytes: &[u8],
     place: usize,
     entries: usize,
 ) -> usize
-    requires { ⌜ Askable (now table) n (now waiting) m (now marks) (now list) count × (place + sizes .hash * entries ≤ length (now s)) ⌝ }
-    ensures { λ r. ⌜ Asked (now (table .entry)) n (now (waiting .entry)) m (Request.list (hashesAt (now (s .entry)) place entries)) (now (marks .entry)) (now (list .entry)) count (now (marks .exit)) (now (list .exit)) r ⌝ }
+    requires { ⌜ Askable (now table) n (now waiting) m (now marks) (now list) count × (place + sizes .hash * entries ≤ length (now bytes)) ⌝ }
+    ensures { λ r. ⌜ Asked (now (table .entry)) n (now (waiting .entry)) m (Request.list (hashesAt (now (bytes .entry)) place entries)) (now (marks .entry)) (now (list .entry)) count (now (marks .exit)) (now (list .exit)) r ⌝ }
 {
     let mut found = count;
     let mut i = 0;
@@ -101,7 +101,7 @@ fn ask_list(
             marks,
             list,
             found,
-            s,
+            bytes,
             place + HASH_SIZE * i,
         );
         i += 1;
@@ -116,16 +116,27 @@ pub fn find_missing(
     n: usize,
     waiting: &[u8],
     m: usize,
-    s: &[u8],
+    bytes: &[u8],
     place: usize,
     entries: usize,
     list: &mut [u8],
 ) -> usize
-    requires { ⌜ (n * rowSize ≤ length (now table)) × ((waitingChecked (rowsAt (now table) 0 n) (now waiting) ≡ Good m) × (place + sizes .hash * entries ≤ length (now s))) ⌝ }
-    ensures { λ r. ⌜ Found (missing (rowsAt (now (table .entry)) 0 n) (waitingOf (now (waiting .entry))) (hashesAt (now (s .entry)) place entries)) (length (now (list .entry)) / sizes .hash) (now (list .exit)) r ⌝ }
+    requires { ⌜ (n * rowSize ≤ length (now table)) × ((waitingChecked (rowsAt (now table) 0 n) (now waiting) ≡ Good m) × (place + sizes .hash * entries ≤ length (now bytes))) ⌝ }
+    ensures { λ r. ⌜ Found (missing (rowsAt (now (table .entry)) 0 n) (waitingOf (now (waiting .entry))) (hashesAt (now (bytes .entry)) place entries)) (length (now (list .entry)) / sizes .hash) (now (list .exit)) r ⌝ }
 {
     let mut marks = [false; WAITING_ROWS];
-    ask_list(table, n, waiting, m, &mut marks, list, 0, s, place, entries)
+    ask_list(
+        table,
+        n,
+        waiting,
+        m,
+        &mut marks,
+        list,
+        0,
+        bytes,
+        place,
+        entries,
+    )
 }
 
 // What is missing from a list, for tables that are good: the list's own refusals, then 4 for too many hashes, then 7.

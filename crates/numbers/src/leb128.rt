@@ -20,31 +20,31 @@ pub enum Number {
 }
 
 // The number at a place, read up to `end`.
-pub fn leb128_u64(s: &[u8], at: usize, end: usize) -> Number
-    ensures { λ r. ⌜ r ≡ numberAt most64 (now (s .entry)) at end ⌝ }
+pub fn leb128_u64(bytes: &[u8], at: usize, end: usize) -> Number
+    ensures { λ r. ⌜ r ≡ numberAt most64 (now (bytes .entry)) at end ⌝ }
 {
-    read(s, at, within(s, end), MOST_64)
+    read(bytes, at, within(bytes, end), MOST_64)
 }
 
 // The filter number at a place, read up to `end`.
-pub fn leb128_u32(s: &[u8], at: usize, end: usize) -> Number
-    ensures { λ r. ⌜ r ≡ numberAt mostFilter (now (s .entry)) at end ⌝ }
+pub fn leb128_u32(bytes: &[u8], at: usize, end: usize) -> Number
+    ensures { λ r. ⌜ r ≡ numberAt mostFilter (now (bytes .entry)) at end ⌝ }
 {
-    read(s, at, within(s, end), MOST_FILTER)
+    read(bytes, at, within(bytes, end), MOST_FILTER)
 }
 
 // Where a part that goes up to `end` ends in fact.
-pub fn within(s: &[u8], end: usize) -> usize
-    ensures { λ r. ⌜ r ≡ min end (length (now (s .entry))) ⌝ }
+pub fn within(bytes: &[u8], end: usize) -> usize
+    ensures { λ r. ⌜ r ≡ min end (length (now (bytes .entry))) ⌝ }
 {
-    if end < s.len() { end } else { s.len() }
+    if end < bytes.len() { end } else { bytes.len() }
 }
 
 // One function for every width: `most` is the largest number that is good. A byte of 128 or more goes on, and what follows is at
 // least 1, so the number is then at least value + b * scale: the test that a last byte wants serves it too.
-fn read(s: &[u8], at: usize, end: usize, most: u64) -> Number
-    requires { ⌜ end ≤ length (now s) ⌝ }
-    ensures { λ r. ⌜ r ≡ numberAt most (now (s .entry)) at end ⌝ }
+fn read(bytes: &[u8], at: usize, end: usize, most: u64) -> Number
+    requires { ⌜ end ≤ length (now bytes) ⌝ }
+    ensures { λ r. ⌜ r ≡ numberAt most (now (bytes .entry)) at end ⌝ }
 {
     let mut i = at;
     let mut least: u64 = 0;
@@ -52,7 +52,7 @@ fn read(s: &[u8], at: usize, end: usize, most: u64) -> Number
     let mut scale: u64 = 1;
     let mut shift: u64 = 0;
     while i < end {
-        let b = s[i] as u64;
+        let b = bytes[i] as u64;
         if b < least {
             return Number::Refused(Refusal::BadNumber(at));
         }

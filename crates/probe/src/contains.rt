@@ -29,9 +29,9 @@ pub fn clear_bit(field: &[u8], probe: usize) -> bool
 
 // Whether some have's filter contains the hash at a place. One clear bit ends that filter, and the search goes on with the next; a run of
 // probes without one leaves it as contained.
-pub fn contains_hash(s: &[u8], haves: &[u64], hashes: &[u8], at: usize) -> bool
-    requires { ⌜ GoodFilters (now s) (now haves) × (at + sizes .hash ≤ length (now hashes)) ⌝ }
-    ensures { λ r. ⌜ r ≡ anyContains (filtersOf (now (s .entry)) (now (haves .entry))) (hashAt (now (hashes .entry)) at) ⌝ }
+pub fn contains_hash(bytes: &[u8], haves: &[u64], hashes: &[u8], at: usize) -> bool
+    requires { ⌜ GoodFilters (now bytes) (now haves) × (at + sizes .hash ≤ length (now hashes)) ⌝ }
+    ensures { λ r. ⌜ r ≡ anyContains (filtersOf (now (bytes .entry)) (now (haves .entry))) (hashAt (now (hashes .entry)) at) ⌝ }
 {
     let first = u32_at(hashes, at);
     let second = u32_at(hashes, at + 4);
@@ -46,7 +46,7 @@ pub fn contains_hash(s: &[u8], haves: &[u64], hashes: &[u8], at: usize) -> bool
         }
         let place = f.place;
         let size = f.size;
-        let field = &s[place..place + size];
+        let field = &bytes[place..place + size];
         let m = 8 * size as u32;
         let x = first % m;
         let y = second % m;
@@ -74,10 +74,10 @@ pub enum Contained {
 }
 
 // Whether some filter of the haves contains the hash that is lent.
-pub fn filters_contain(s: &[u8], haves: &[u64], hash: &[u8]) -> Contained
-    ensures { λ r. ⌜ r ≡ containedIn (now (s .entry)) (now (haves .entry)) (now (hash .entry)) ⌝ }
+pub fn filters_contain(bytes: &[u8], haves: &[u64], hash: &[u8]) -> Contained
+    ensures { λ r. ⌜ r ≡ containedIn (now (bytes .entry)) (now (haves .entry)) (now (hash .entry)) ⌝ }
 {
-    if !passed_good(s, haves) {
+    if !passed_good(bytes, haves) {
         return Contained::Refused(Refusal::BadNumbers);
     }
     if !passed_few(haves) {
@@ -89,7 +89,7 @@ pub fn filters_contain(s: &[u8], haves: &[u64], hash: &[u8]) -> Contained
     if hash.len() < HASH_SIZE {
         return Contained::Refused(Refusal::Cut(0));
     }
-    if contains_hash(s, haves, hash, 0) {
+    if contains_hash(bytes, haves, hash, 0) {
         return Contained::Yes;
     }
     Contained::No

@@ -6,19 +6,20 @@ ghost use Rattle.rules.specs.Sizes.{sizes};
 ghost use Rattle.probe.specs.Probes.{u32At};
 
 // The byte at a place, widened.
-fn byte(s: &[u8], at: usize) -> u32
-    requires { ⌜ at < length (now s) ⌝ }
-    ensures { λ r. ⌜ (r ≡ getD (now (s .entry)) at 0) × (r < 256) ⌝ }
+fn byte(bytes: &[u8], at: usize) -> u32
+    requires { ⌜ at < length (now bytes) ⌝ }
+    ensures { λ r. ⌜ (r ≡ getD (now (bytes .entry)) at 0) × (r < 256) ⌝ }
 {
-    s[at] as u32
+    bytes[at] as u32
 }
 
 // The little-endian word at a place.
-pub fn u32_at(s: &[u8], at: usize) -> u32
-    requires { ⌜ at + 4 ≤ length (now s) ⌝ }
-    ensures { λ r. ⌜ r ≡ u32At (now (s .entry)) at ⌝ }
+pub fn u32_at(bytes: &[u8], at: usize) -> u32
+    requires { ⌜ at + 4 ≤ length (now bytes) ⌝ }
+    ensures { λ r. ⌜ r ≡ u32At (now (bytes .entry)) at ⌝ }
 {
-    byte(s, at) + 256 * (byte(s, at + 1) + 256 * (byte(s, at + 2) + 256 * byte(s, at + 3)))
+    byte(bytes, at)
+        + 256 * (byte(bytes, at + 1) + 256 * (byte(bytes, at + 2) + 256 * byte(bytes, at + 3)))
 }
 
 // One step of a probe: both numbers are below m, so the sum is less than twice m.

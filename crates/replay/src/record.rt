@@ -38,21 +38,21 @@ pub enum Record {
 }
 
 // The record at a place.
-pub fn record_at(s: &[u8], at: usize) -> Record
-    requires { ⌜ at ≤ length (now s) ⌝ }
-    ensures { λ r. ⌜ r ≡ recordAt (now (s .entry)) at ⌝ }
+pub fn record_at(bytes: &[u8], at: usize) -> Record
+    requires { ⌜ at ≤ length (now bytes) ⌝ }
+    ensures { λ r. ⌜ r ≡ recordAt (now (bytes .entry)) at ⌝ }
 {
-    if s.len() - at < INPUT {
+    if bytes.len() - at < INPUT {
         return Record::Bad;
     }
     let start = at + INPUT;
-    let size = u16_at(s, at + SIZE) as usize;
-    if s.len() - start < size {
+    let size = u16_at(bytes, at + SIZE) as usize;
+    if bytes.len() - start < size {
         return Record::Bad;
     }
     let next = start + size;
-    let kind = s[at] as usize;
-    let verdict = replayed(kind, &s[start..next], words_at(s, at + ANSWER));
+    let kind = bytes[at] as usize;
+    let verdict = replayed(kind, &bytes[start..next], words_at(bytes, at + ANSWER));
     match verdict {
         Verdict::Same => Record::Read {
             kind,

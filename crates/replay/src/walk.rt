@@ -44,13 +44,13 @@ fn one_if(b: bool) -> u64
 }
 
 // Walks from record to record, and counts. It stops at a bad record, since nothing says where the next one starts.
-pub fn walk(s: &[u8]) -> Counts
-    ensures { λ r. ⌜ Counted (walkOf (now (s .entry))) r ⌝ }
+pub fn walk(bytes: &[u8]) -> Counts
+    ensures { λ r. ⌜ Counted (walkOf (now (bytes .entry))) r ⌝ }
 {
     let mut counts = Counts::new();
     let mut at = 0;
-    while at < s.len() {
-        let Record::Read { kind, same, next } = record_at(s, at) else {
+    while at < bytes.len() {
+        let Record::Read { kind, same, next } = record_at(bytes, at) else {
             return counts;
         };
         counts = counts.add(kind, same, next);

@@ -12,14 +12,14 @@ pub enum Passed {
 }
 
 // How many hashes the bytes are: 4 for more than a list may have, 1 for a partial hash at the end.
-pub fn passed_hashes(s: &[u8]) -> Passed
-    ensures { λ r. ⌜ r ≡ passedHashes (now (s .entry)) ⌝ }
+pub fn passed_hashes(bytes: &[u8]) -> Passed
+    ensures { λ r. ⌜ r ≡ passedHashes (now (bytes .entry)) ⌝ }
 {
-    if HASHES * HASH_SIZE < s.len() {
+    if HASHES * HASH_SIZE < bytes.len() {
         return Passed::Refused(Refusal::PastSize(0));
     }
-    let count = s.len() / HASH_SIZE;
-    if s.len() % HASH_SIZE != 0 {
+    let count = bytes.len() / HASH_SIZE;
+    if bytes.len() % HASH_SIZE != 0 {
         return Passed::Refused(Refusal::Cut(HASH_SIZE * count));
     }
     Passed::Hashes(count)

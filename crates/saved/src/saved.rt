@@ -40,24 +40,24 @@ pub enum Loaded {
 }
 
 // Where the shared heads of a saved state stand.
-pub fn parse(s: &[u8]) -> Listed
-    ensures { λ r. ⌜ r ≡ stateAt (now (s .entry)) ⌝ }
+pub fn parse(bytes: &[u8]) -> Listed
+    ensures { λ r. ⌜ r ≡ stateAt (now (bytes .entry)) ⌝ }
 {
-    if s.len() == 0 {
+    if bytes.len() == 0 {
         return Listed::Refused(Refusal::Cut(0));
     }
-    let record_type = s[0];
+    let record_type = bytes[0];
     if record_type != SYNC_STATE_TYPE {
         return Listed::Refused(Refusal::WrongType(record_type));
     }
-    length_prefixed_hashes(s, 1, s.len())
+    length_prefixed_hashes(bytes, 1, bytes.len())
 }
 
 // Reads a saved state: a fresh session with the shared heads, which are copied to the start of the buffer that is lent for them.
-pub fn decode(s: &[u8], shared: &mut [u8]) -> Loaded
-    ensures { λ r. ⌜ Restored (now (s .entry)) (now (shared .entry)) (now (shared .exit)) r ⌝ }
+pub fn decode(bytes: &[u8], shared: &mut [u8]) -> Loaded
+    ensures { λ r. ⌜ Restored (now (bytes .entry)) (now (shared .entry)) (now (shared .exit)) r ⌝ }
 {
-    let list = parse(s);
+    let list = parse(bytes);
     match list {
         Listed::Items { run, next } => {
             let start = run.start;
@@ -66,7 +66,7 @@ pub fn decode(s: &[u8], shared: &mut [u8]) -> Loaded
             if shared.len() < size {
                 return Loaded::Refused(Refusal::NoRoom(size));
             }
-            copy_into(shared, 0, &s[start..next]);
+            copy_into(shared, 0, &bytes[start..next]);
             let session = Session::restored(count);
             Loaded::Session(session)
         }

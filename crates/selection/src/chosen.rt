@@ -23,14 +23,14 @@ ghost use Rattle.selection.specs.Chosen.{answeredRow, heldUnmarked, chos
 ghost use Rattle.selection.specs.ToSend.{toSendLess};
 
 // Marks the rows that are sent without being needed: S, or none where there is no have.
-fn mark_answer(table: &[u8], n: usize, s: &[u8], haves: &[u64], marks: &mut [bool])
-    requires { ⌜ GoodRows (now table) n × GoodFilters (now s) (now haves) × SyncsInside (now s) (now haves) × (n ≤ length (now marks)) × Blank n (now marks) ⌝ }
-    ensures { λ _. ⌜ Marks n (now (marks .exit)) (answeredRow (rowsAt (now (table .entry)) 0 n) (havesOf (now (s .entry)) (now (haves .entry)))) ⌝ }
+fn mark_answer(table: &[u8], n: usize, bytes: &[u8], haves: &[u64], marks: &mut [bool])
+    requires { ⌜ GoodRows (now table) n × GoodFilters (now bytes) (now haves) × SyncsInside (now bytes) (now haves) × (n ≤ length (now marks)) × Blank n (now marks) ⌝ }
+    ensures { λ _. ⌜ Marks n (now (marks .exit)) (answeredRow (rowsAt (now (table .entry)) 0 n) (havesOf (now (bytes .entry)) (now (haves .entry)))) ⌝ }
 {
     if haves.len() < HAVE_WORDS {
         return;
     }
-    mark_s(table, n, s, haves, marks);
+    mark_s(table, n, bytes, haves, marks);
 }
 
 // Whether the hash at a place has a row, and one that neither marks name.
@@ -82,7 +82,7 @@ fn mark_needs(
 pub fn choose(
     table: &[u8],
     n: usize,
-    s: &[u8],
+    bytes: &[u8],
     haves: &[u64],
     need: &[u8],
     place: usize,
@@ -92,12 +92,12 @@ pub fn choose(
     marks: &mut [bool],
     needs: &mut [bool],
 ) -> usize
-    requires { ⌜ Choosable (now table) n (now s) (now haves) (now need) place count × (sizes .hash * before ≤ length (now sent)) × (n ≤ length (now marks)) × Blank n (now marks) × (count ≤ length (now needs)) ⌝ }
-    ensures { λ r. ⌜ Chosen (toSendLess (rowsAt (now (table .entry)) 0 n) (havesOf (now (s .entry)) (now (haves .entry))) (hashesAt (now (need .entry)) place count) (hashesAt (now (sent .entry)) 0 before)) (rowsAt (now (table .entry)) 0 n) (now (marks .exit)) (hashesAt (now (need .entry)) place count) (now (needs .exit)) r ⌝ }
+    requires { ⌜ Choosable (now table) n (now bytes) (now haves) (now need) place count × (sizes .hash * before ≤ length (now sent)) × (n ≤ length (now marks)) × Blank n (now marks) × (count ≤ length (now needs)) ⌝ }
+    ensures { λ r. ⌜ Chosen (toSendLess (rowsAt (now (table .entry)) 0 n) (havesOf (now (bytes .entry)) (now (haves .entry))) (hashesAt (now (need .entry)) place count) (hashesAt (now (sent .entry)) 0 before)) (rowsAt (now (table .entry)) 0 n) (now (marks .exit)) (hashesAt (now (need .entry)) place count) (now (needs .exit)) r ⌝ }
 {
     let mut past = [false; ROWS];
     mark_list(table, n, sent, 0, before, &mut past);
-    mark_answer(table, n, s, haves, marks);
+    mark_answer(table, n, bytes, haves, marks);
     mark_needs(table, n, need, place, count, marks, &past, needs);
     unmark(n, marks, &past);
     count_marked(count, needs) + count_marked(n, marks)

@@ -25,22 +25,22 @@ ghost use Rattle.selection.specs.ToSend.{toSend, sendNeeds, toSendOutput
 pub fn put_to_send(
     table: &[u8],
     n: usize,
-    s: &[u8],
+    bytes: &[u8],
     haves: &[u64],
     need: &[u8],
     place: usize,
     count: usize,
     out: &mut [u8],
 ) -> Write
-    requires { ⌜ Choosable (now table) n (now s) (now haves) (now need) place count ⌝ }
-    ensures { λ r. ⌜ Written (Output.bytes (hashesBytes (toSend (rowsAt (now (table .entry)) 0 n) (havesOf (now (s .entry)) (now (haves .entry))) (hashesAt (now (need .entry)) place count)))) (now (out .entry)) (now (out .exit)) r ⌝ }
+    requires { ⌜ Choosable (now table) n (now bytes) (now haves) (now need) place count ⌝ }
+    ensures { λ r. ⌜ Written (Output.bytes (hashesBytes (toSend (rowsAt (now (table .entry)) 0 n) (havesOf (now (bytes .entry)) (now (haves .entry))) (hashesAt (now (need .entry)) place count)))) (now (out .entry)) (now (out .exit)) r ⌝ }
 {
     let mut marks = [false; ROWS];
     let mut needs = [false; HASHES];
     let total = choose(
         table,
         n,
-        s,
+        bytes,
         haves,
         need,
         place,
@@ -59,9 +59,16 @@ pub fn put_to_send(
 }
 
 // The same where the need list and the sizes of the haves haven't been checked yet.
-fn send_needs(table: &[u8], n: usize, s: &[u8], haves: &[u64], need: &[u8], out: &mut [u8]) -> Write
-    requires { ⌜ GoodRows (now table) n × (passedGood (now s) (now haves) ≡ true) ⌝ }
-    ensures { λ r. ⌜ Written (sendNeeds (rowsAt (now (table .entry)) 0 n) (now (s .entry)) (now (haves .entry)) (now (need .entry))) (now (out .entry)) (now (out .exit)) r ⌝ }
+fn send_needs(
+    table: &[u8],
+    n: usize,
+    bytes: &[u8],
+    haves: &[u64],
+    need: &[u8],
+    out: &mut [u8],
+) -> Write
+    requires { ⌜ GoodRows (now table) n × (passedGood (now bytes) (now haves) ≡ true) ⌝ }
+    ensures { λ r. ⌜ Written (sendNeeds (rowsAt (now (table .entry)) 0 n) (now (bytes .entry)) (now (haves .entry)) (now (need .entry))) (now (out .entry)) (now (out .exit)) r ⌝ }
 {
     match passed_hashes(need) {
         Passed::Refused(r) => Write::Refused(r),
@@ -69,26 +76,26 @@ fn send_needs(table: &[u8], n: usize, s: &[u8], haves: &[u64], need: &[u8], out:
             if !passed_few(haves) {
                 return Write::Refused(Refusal::PastSize(0));
             }
-            put_to_send(table, n, s, haves, need, 0, count, out)
+            put_to_send(table, n, bytes, haves, need, 0, count, out)
         }
     }
 }
 
-// The hashes to send for haves that are records over the bytes s, and a need list that is lent as the bytes of its hashes.
+// The hashes to send for haves that are records over the bytes, and a need list that is lent as the bytes of its hashes.
 pub fn get_hashes_to_send(
     table: &[u8],
-    s: &[u8],
+    bytes: &[u8],
     haves: &[u64],
     need: &[u8],
     out: &mut [u8],
 ) -> Write
-    ensures { λ r. ⌜ Written (toSendOutput (now (table .entry)) (now (s .entry)) (now (haves .entry)) (now (need .entry))) (now (out .entry)) (now (out .exit)) r ⌝ }
+    ensures { λ r. ⌜ Written (toSendOutput (now (table .entry)) (now (bytes .entry)) (now (haves .entry)) (now (need .entry))) (now (out .entry)) (now (out .exit)) r ⌝ }
 {
-    if !passed_good(s, haves) {
+    if !passed_good(bytes, haves) {
         return Write::Refused(Refusal::BadNumbers);
     }
     match check_table(table) {
         Checked::Refused(r) => Write::Refused(r),
-        Checked::Good(n) => send_needs(table, n, s, haves, need, out),
+        Checked::Good(n) => send_needs(table, n, bytes, haves, need, out),
     }
 }

@@ -56,27 +56,27 @@ fn prefixed_filter_size(entries: u64, bits: u64, probes: u64, field: &[u8]) -> u
 }
 
 // The have of record i.
-fn have_size(s: &[u8], haves: &[u64], i: usize) -> usize
-    requires { ⌜ GoodHaves (now s) (now haves) × (i < haveCount (now haves)) ⌝ }
-    ensures { λ r. ⌜ r ≡ length (haveBytes (haveIn (now (s .entry)) (now (haves .entry)) i)) ⌝ }
+fn have_size(bytes: &[u8], haves: &[u64], i: usize) -> usize
+    requires { ⌜ GoodHaves (now bytes) (now haves) × (i < haveCount (now haves)) ⌝ }
+    ensures { λ r. ⌜ r ≡ length (haveBytes (haveIn (now (bytes .entry)) (now (haves .entry)) i)) ⌝ }
 {
     let hashes = hashes_size(sync_count(haves, i));
     let f = filter_in(haves, i);
     let start = f.place;
     let end = start + f.size;
-    hashes + prefixed_filter_size(f.entries, f.bits, f.probes, &s[start..end])
+    hashes + prefixed_filter_size(f.entries, f.bits, f.probes, &bytes[start..end])
 }
 
 // All haves, and their count.
-pub fn haves_size(s: &[u8], haves: &[u64]) -> usize
-    requires { ⌜ GoodHaves (now s) (now haves) ⌝ }
-    ensures { λ r. ⌜ r ≡ length (counted haveBytes (havesOf (now (s .entry)) (now (haves .entry)))) ⌝ }
+pub fn haves_size(bytes: &[u8], haves: &[u64]) -> usize
+    requires { ⌜ GoodHaves (now bytes) (now haves) ⌝ }
+    ensures { λ r. ⌜ r ≡ length (counted haveBytes (havesOf (now (bytes .entry)) (now (haves .entry)))) ⌝ }
 {
     let total = haves.len() / HAVE_WORDS;
     let mut size = unsigned_size(total as u64);
     let mut i = 0;
     while i < total {
-        size += have_size(s, haves, i);
+        size += have_size(bytes, haves, i);
         i += 1;
     }
     size
@@ -103,10 +103,10 @@ pub fn cut_chunks(chunks: &[u8], lengths: &[u64]) -> Chunks
 }
 
 // 10 for the haves, then heads and need.
-fn lists_size(heads: &[u8], need: &[u8], s: &[u8], haves: &[u64]) -> Size
-    ensures { λ r. ⌜ r ≡ sizeOf (listsOutput (now (heads .entry)) (now (need .entry)) (now (s .entry)) (now (haves .entry))) ⌝ }
+fn lists_size(heads: &[u8], need: &[u8], bytes: &[u8], haves: &[u64]) -> Size
+    ensures { λ r. ⌜ r ≡ sizeOf (listsOutput (now (heads .entry)) (now (need .entry)) (now (bytes .entry)) (now (haves .entry))) ⌝ }
 {
-    if !passed_good(s, haves) {
+    if !passed_good(bytes, haves) {
         return Size::Refused(Refusal::BadNumbers);
     }
     let first = passed_hashes(heads);
@@ -160,22 +160,22 @@ fn section_size(flags: Section) -> usize
 pub fn message_size(
     heads: &[u8],
     need: &[u8],
-    s: &[u8],
+    bytes: &[u8],
     haves: &[u64],
     chunks: &[u8],
     lengths: &[u64],
     flags: Section,
 ) -> Size
-    ensures { λ r. ⌜ SizedAs (λ v. messageOutput (partsOf v (now (heads .entry)) (now (need .entry)) (now (s .entry)) (now (haves .entry))
+    ensures { λ r. ⌜ SizedAs (λ v. messageOutput (partsOf v (now (heads .entry)) (now (need .entry)) (now (bytes .entry)) (now (haves .entry))
         (now (chunks .entry)) (now (lengths .entry)) flags)) r ⌝ }
 {
-    let lists = lists_size(heads, need, s, haves);
+    let lists = lists_size(heads, need, bytes, haves);
     match lists {
         Size::Bytes(first) => {
             let rest = chunks_size(haves, chunks, lengths);
             match rest {
                 Size::Bytes(last) => {
-                    let size = 1 + first + haves_size(s, haves) + last + section_size(flags);
+                    let size = 1 + first + haves_size(bytes, haves) + last + section_size(flags);
                     if MESSAGE_SIZE < size {
                         return Size::Refused(Refusal::PastSize(0));
                     }

@@ -75,14 +75,14 @@ pub extern "C" fn bt_write_state(shared: &[u8], count: usize, out: &mut [u8], an
 // Reads a saved state into a buffer for its shared heads and the words of a session: 0, shared heads.
 #[no_mangle]
 pub extern "C" fn bt_read_state(
-    s: &[u8],
+    bytes: &[u8],
     shared: &mut [u8],
     session: &mut [u64; 16],
     answer: &mut [u64; 4],
 )
-    ensures { λ _. ⌜ StateRead (now (s .entry)) (now (shared .entry)) (now (shared .exit)) (now (session .entry)) (now (session .exit)) (now (answer .exit)) ⌝ }
+    ensures { λ _. ⌜ StateRead (now (bytes .entry)) (now (shared .entry)) (now (shared .exit)) (now (session .entry)) (now (session .exit)) (now (answer .exit)) ⌝ }
 {
-    let loaded = saved::saved::decode(s, shared);
+    let loaded = saved::saved::decode(bytes, shared);
     *session = loaded_session(loaded, *session);
     *answer = loaded_words(loaded);
 }

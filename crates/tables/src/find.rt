@@ -12,13 +12,13 @@ ghost use Rattle.tables.specs.Table.{rows, indexIn};
 ghost use Rattle.tables.specs.Waiting.{waiting};
 
 // The first of the first n rows that has the hash at a place, or n where none has.
-pub fn find_row(table: &[u8], n: usize, s: &[u8], at: usize) -> usize
-    requires { ⌜ (n * rowSize ≤ length (now table)) × (at + sizes .hash ≤ length (now s)) ⌝ }
-    ensures { λ r. ⌜ r ≡ indexIn (rows (rowsAt (now (table .entry)) 0 n)) (hashAt (now (s .entry)) at) ⌝ }
+pub fn find_row(table: &[u8], n: usize, bytes: &[u8], at: usize) -> usize
+    requires { ⌜ (n * rowSize ≤ length (now table)) × (at + sizes .hash ≤ length (now bytes)) ⌝ }
+    ensures { λ r. ⌜ r ≡ indexIn (rows (rowsAt (now (table .entry)) 0 n)) (hashAt (now (bytes .entry)) at) ⌝ }
 {
     let mut i = 0;
     while i < n {
-        if same_hash(table, i * ROW_SIZE, s, at) {
+        if same_hash(table, i * ROW_SIZE, bytes, at) {
             return i;
         }
         i += 1;
@@ -27,13 +27,13 @@ pub fn find_row(table: &[u8], n: usize, s: &[u8], at: usize) -> usize
 }
 
 // The same of waiting rows.
-pub fn find_waiting(table: &[u8], n: usize, s: &[u8], at: usize) -> usize
-    requires { ⌜ (n * waitingSize ≤ length (now table)) × (at + sizes .hash ≤ length (now s)) ⌝ }
-    ensures { λ r. ⌜ r ≡ indexIn (waiting (waitingsAt (now (table .entry)) 0 n)) (hashAt (now (s .entry)) at) ⌝ }
+pub fn find_waiting(table: &[u8], n: usize, bytes: &[u8], at: usize) -> usize
+    requires { ⌜ (n * waitingSize ≤ length (now table)) × (at + sizes .hash ≤ length (now bytes)) ⌝ }
+    ensures { λ r. ⌜ r ≡ indexIn (waiting (waitingsAt (now (table .entry)) 0 n)) (hashAt (now (bytes .entry)) at) ⌝ }
 {
     let mut i = 0;
     while i < n {
-        if same_hash(table, i * WAITING_SIZE, s, at) {
+        if same_hash(table, i * WAITING_SIZE, bytes, at) {
             return i;
         }
         i += 1;

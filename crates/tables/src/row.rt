@@ -15,11 +15,11 @@ pub const WAITING_SIZE: usize = HASH_SIZE * (2 + DEPENDENCIES);
 pub const ASKS_PLACE: usize = 2 * HASH_SIZE;
 
 // The little-endian number that two bytes are.
-pub fn u16_at(s: &[u8], at: usize) -> usize
-    requires { ⌜ at + 2 ≤ length (now s) ⌝ }
-    ensures { λ r. ⌜ r ≡ u16At (now (s .entry)) at ⌝ }
+pub fn u16_at(bytes: &[u8], at: usize) -> usize
+    requires { ⌜ at + 2 ≤ length (now bytes) ⌝ }
+    ensures { λ r. ⌜ r ≡ u16At (now (bytes .entry)) at ⌝ }
 {
-    s[at] as usize + 256 * (s[at + 1] as usize)
+    bytes[at] as usize + 256 * (bytes[at + 1] as usize)
 }
 
 // How many dependencies row i says that it has.

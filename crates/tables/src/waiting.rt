@@ -24,13 +24,13 @@ pub fn asks_count(waiting: &[u8], i: usize) -> usize
 }
 
 // Whether so many bytes from a place on are 0.
-fn zero_bytes(s: &[u8], at: usize, count: usize) -> bool
-    requires { ⌜ at + count ≤ length (now s) ⌝ }
-    ensures { λ r. ⌜ r ≡ zeros (bytesAt (now (s .entry)) at count) ⌝ }
+fn zero_bytes(bytes: &[u8], at: usize, count: usize) -> bool
+    requires { ⌜ at + count ≤ length (now bytes) ⌝ }
+    ensures { λ r. ⌜ r ≡ zeros (bytesAt (now (bytes .entry)) at count) ⌝ }
 {
     let mut k = 0;
     while k < count {
-        if s[at + k] != 0 {
+        if bytes[at + k] != 0 {
             return false;
         }
         k += 1;

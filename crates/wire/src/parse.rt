@@ -27,18 +27,18 @@ pub enum Listed {
 }
 
 // How many bytes stand from a place up to `end`.
-pub fn left(s: &[u8], at: usize, end: usize) -> usize
-    ensures { λ r. ⌜ r ≡ leftAt (now (s .entry)) at end ⌝ }
+pub fn left(bytes: &[u8], at: usize, end: usize) -> usize
+    ensures { λ r. ⌜ r ≡ leftAt (now (bytes .entry)) at end ⌝ }
 {
-    let stop = within(s, end);
+    let stop = within(bytes, end);
     if at < stop { stop - at } else { 0 }
 }
 
 // The count at a place, which is at most `limit`.
-pub fn length_prefix(s: &[u8], at: usize, end: usize, limit: u64) -> Number
-    ensures { λ r. ⌜ r ≡ countAt limit (now (s .entry)) at end ⌝ }
+pub fn length_prefix(bytes: &[u8], at: usize, end: usize, limit: u64) -> Number
+    ensures { λ r. ⌜ r ≡ countAt limit (now (bytes .entry)) at end ⌝ }
 {
-    let n = leb128_u64(s, at, end);
+    let n = leb128_u64(bytes, at, end);
     match n {
         Number::Value { value, next } => {
             if limit < value {
@@ -51,13 +51,13 @@ pub fn length_prefix(s: &[u8], at: usize, end: usize, limit: u64) -> Number
 }
 
 // The prefixed string at a place.
-pub fn length_prefixed_bytes(s: &[u8], at: usize, end: usize) -> Prefixed
-    ensures { λ r. ⌜ r ≡ prefixedAt (now (s .entry)) at end ⌝ }
+pub fn length_prefixed_bytes(bytes: &[u8], at: usize, end: usize) -> Prefixed
+    ensures { λ r. ⌜ r ≡ prefixedAt (now (bytes .entry)) at end ⌝ }
 {
-    let n = leb128_u64(s, at, end);
+    let n = leb128_u64(bytes, at, end);
     match n {
         Number::Value { value, next } => {
-            if (left(s, next, end) as u64) < value {
+            if (left(bytes, next, end) as u64) < value {
                 return Prefixed::Refused(Refusal::Cut(at));
             }
             Prefixed::Part {
@@ -70,13 +70,13 @@ pub fn length_prefixed_bytes(s: &[u8], at: usize, end: usize) -> Prefixed
 }
 
 // The hash list at a place. Its hashes are not walked: how many stand there whole follows from the bytes that are left.
-pub fn length_prefixed_hashes(s: &[u8], at: usize, end: usize) -> Listed
-    ensures { λ r. ⌜ r ≡ hashListAt (now (s .entry)) at end ⌝ }
+pub fn length_prefixed_hashes(bytes: &[u8], at: usize, end: usize) -> Listed
+    ensures { λ r. ⌜ r ≡ hashListAt (now (bytes .entry)) at end ⌝ }
 {
-    let n = length_prefix(s, at, end, HASHES as u64);
+    let n = length_prefix(bytes, at, end, HASHES as u64);
     match n {
         Number::Value { value, next } => {
-            let whole = left(s, next, end) / HASH_SIZE;
+            let whole = left(bytes, next, end) / HASH_SIZE;
             if (whole as u64) < value {
                 let cut = next + HASH_SIZE * whole;
                 return Listed::Refused(Refusal::Cut(cut));

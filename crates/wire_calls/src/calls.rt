@@ -12,34 +12,34 @@ ghost use Rattle.numbers.specs.Number.{numberAt, most64, mostFilter, shortest};
 
 // The number at a place: 0, value, next place.
 #[no_mangle]
-pub extern "C" fn bt_read_number(s: &[u8], at: usize, end: usize, answer: &mut [u64; 4])
-    ensures { λ _. ⌜ now (answer .exit) ≡ numberWords (numberAt most64 (now (s .entry)) at end) ⌝ }
+pub extern "C" fn bt_read_number(bytes: &[u8], at: usize, end: usize, answer: &mut [u64; 4])
+    ensures { λ _. ⌜ now (answer .exit) ≡ numberWords (numberAt most64 (now (bytes .entry)) at end) ⌝ }
 {
-    *answer = number_words(numbers::leb128::leb128_u64(s, at, end));
+    *answer = number_words(numbers::leb128::leb128_u64(bytes, at, end));
 }
 
 // The filter number at a place: 0, value, next place.
 #[no_mangle]
-pub extern "C" fn bt_read_filter_number(s: &[u8], at: usize, end: usize, answer: &mut [u64; 4])
-    ensures { λ _. ⌜ now (answer .exit) ≡ numberWords (numberAt mostFilter (now (s .entry)) at end) ⌝ }
+pub extern "C" fn bt_read_filter_number(bytes: &[u8], at: usize, end: usize, answer: &mut [u64; 4])
+    ensures { λ _. ⌜ now (answer .exit) ≡ numberWords (numberAt mostFilter (now (bytes .entry)) at end) ⌝ }
 {
-    *answer = number_words(numbers::leb128::leb128_u32(s, at, end));
+    *answer = number_words(numbers::leb128::leb128_u32(bytes, at, end));
 }
 
 // The prefixed string at a place: 0, the place of its first byte, the place after its last.
 #[no_mangle]
-pub extern "C" fn bt_read_prefixed(s: &[u8], at: usize, end: usize, answer: &mut [u64; 4])
-    ensures { λ _. ⌜ now (answer .exit) ≡ prefixedWords (prefixedAt (now (s .entry)) at end) ⌝ }
+pub extern "C" fn bt_read_prefixed(bytes: &[u8], at: usize, end: usize, answer: &mut [u64; 4])
+    ensures { λ _. ⌜ now (answer .exit) ≡ prefixedWords (prefixedAt (now (bytes .entry)) at end) ⌝ }
 {
-    *answer = prefixed_words(wire::parse::length_prefixed_bytes(s, at, end));
+    *answer = prefixed_words(wire::parse::length_prefixed_bytes(bytes, at, end));
 }
 
 // The hash list at a place: 0, the place of its first hash, their count, next place.
 #[no_mangle]
-pub extern "C" fn bt_read_hashes(s: &[u8], at: usize, end: usize, answer: &mut [u64; 4])
-    ensures { λ _. ⌜ now (answer .exit) ≡ hashListWords (hashListAt (now (s .entry)) at end) ⌝ }
+pub extern "C" fn bt_read_hashes(bytes: &[u8], at: usize, end: usize, answer: &mut [u64; 4])
+    ensures { λ _. ⌜ now (answer .exit) ≡ hashListWords (hashListAt (now (bytes .entry)) at end) ⌝ }
 {
-    *answer = hash_list_words(wire::parse::length_prefixed_hashes(s, at, end));
+    *answer = hash_list_words(wire::parse::length_prefixed_hashes(bytes, at, end));
 }
 
 // Writes a number: 0, bytes written.

@@ -35,7 +35,7 @@ pub const NO_FLAGS: u64 = 256;
 
 #[derive(Clone, Copy, Debug)]
 pub struct Message<'a> {
-    s: &'a [u8],
+    bytes: &'a [u8],
     version: u64,
     heads: &'a [u8],
     need: &'a [u8],
@@ -60,18 +60,18 @@ impl<'a> Message<'a> {
     /// Reads a message. The lists get `HAVE_WORDS` words a have and `CHUNK_WORDS` a
     /// chunk; one that is too short is refusal 7.
     pub fn read(
-        s: &'a [u8],
+        bytes: &'a [u8],
         haves: &'a mut [u64],
         chunks: &'a mut [u64],
     ) -> Result<Message<'a>, Refusal> {
-        let words = raw::read_message(s, haves, chunks);
-        Message::of(s, words, haves, chunks)
+        let words = raw::read_message(bytes, haves, chunks);
+        Message::of(bytes, words, haves, chunks)
     }
 
     /// The message of an answer and of the lists that `raw::read_message` left with
     /// it. Other words than these may panic.
     pub fn of(
-        s: &'a [u8],
+        bytes: &'a [u8],
         words: [u64; ANSWER_WORDS],
         haves: &'a [u64],
         chunks: &'a [u64],
@@ -79,10 +79,10 @@ impl<'a> Message<'a> {
         let [version, heads, head_count, need, need_count, _, have_count, _, chunk_count, flags, next] =
             answer(words)?;
         Ok(Message {
-            s,
+            bytes,
             version,
-            heads: hashes(s, heads, head_count),
-            need: hashes(s, need, need_count),
+            heads: hashes(bytes, heads, head_count),
+            need: hashes(bytes, need, need_count),
             haves: &haves[..HAVE_WORDS * have_count as usize],
             chunks: &chunks[..CHUNK_WORDS * chunk_count as usize],
             flags,
@@ -92,7 +92,7 @@ impl<'a> Message<'a> {
 
     /// The bytes that it was read from.
     pub fn bytes(&self) -> &'a [u8] {
-        self.s
+        self.bytes
     }
 
     /// 1 or 2.
@@ -110,13 +110,13 @@ impl<'a> Message<'a> {
     }
 
     pub fn haves(&self) -> impl ExactSizeIterator<Item = Have<'a>> {
-        let s = self.s;
+        let bytes = self.bytes;
         self.haves.chunks(HAVE_WORDS).map(move |words| Have {
-            last_sync: hashes(s, words[0], words[1]),
+            last_sync: hashes(bytes, words[0], words[1]),
             entries: words[2],
             bits: words[3],
             probes: words[4],
-            field: part(s, words[5], words[6]),
+            field: part(bytes, words[5], words[6]),
         })
     }
 
@@ -126,9 +126,9 @@ impl<'a> Message<'a> {
     }
 
     pub fn chunks(&self) -> impl ExactSizeIterator<Item = &'a [u8]> {
-        let s = self.s;
+        let bytes = self.bytes;
         let words = self.chunks.chunks(CHUNK_WORDS);
-        words.map(move |words| part(s, words[0], words[1]))
+        words.map(move |words| part(bytes, words[0], words[1]))
     }
 
     /// None if there is no flags section.
@@ -142,10 +142,10 @@ impl<'a> Message<'a> {
     }
 }
 
-fn part(s: &[u8], place: u64, length: u64) -> &[u8] {
-    &s[place as usize..][..length as usize]
+fn part(bytes: &[u8], place: u64, length: u64) -> &[u8] {
+    &bytes[place as usize..][..length as usize]
 }
 
-fn hashes(s: &[u8], place: u64, count: u64) -> &[u8] {
-    part(s, place, HASH as u64 * count)
+fn hashes(bytes: &[u8], place: u64, count: u64) -> &[u8] {
+    part(bytes, place, HASH as u64 * count)
 }

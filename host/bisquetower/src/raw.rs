@@ -45,11 +45,11 @@ pub enum Reader {
     Hashes,
 }
 
-/// A call that reads the item at `at`, in the bytes of `s` up to `end`.
+/// A call that reads the item at `at`, in `bytes` up to `end`.
 #[derive(Clone, Copy, Debug, PartialEq, Eq)]
 pub struct Read<'a> {
     pub reader: Reader,
-    pub s: &'a [u8],
+    pub bytes: &'a [u8],
     pub at: usize,
     pub end: usize,
 }
@@ -58,12 +58,13 @@ pub struct Read<'a> {
 pub fn read_many(reads: &[Read]) -> Vec<[u64; 4]> {
     let mut answers = vec![[UNWRITTEN; 4]; reads.len()];
     let mut batch = Batch::new();
-    for (&Read { reader, s, at, end }, answer) in reads.iter().zip(&mut answers) {
-        match reader {
-            Reader::Number => batch.read_number(s, at, end, answer),
-            Reader::FilterNumber => batch.read_filter_number(s, at, end, answer),
-            Reader::Prefixed => batch.read_prefixed(s, at, end, answer),
-            Reader::Hashes => batch.read_hashes(s, at, end, answer),
+    for (read, answer) in reads.iter().zip(&mut answers) {
+        let (bytes, at, end) = (read.bytes, read.at, read.end);
+        match read.reader {
+            Reader::Number => batch.read_number(bytes, at, end, answer),
+            Reader::FilterNumber => batch.read_filter_number(bytes, at, end, answer),
+            Reader::Prefixed => batch.read_prefixed(bytes, at, end, answer),
+            Reader::Hashes => batch.read_hashes(bytes, at, end, answer),
         }
     }
     batch.run();

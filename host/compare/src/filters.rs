@@ -60,7 +60,7 @@ pub fn difference(part: Part) -> Option<(Difference, u64)> {
             Err(_) => {
                 let read = Read {
                     reader: Reader::FilterNumber,
-                    s,
+                    bytes: s,
                     at,
                     end: s.len(),
                 };

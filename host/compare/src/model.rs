@@ -48,8 +48,8 @@ fn words(answer: Result<[u64; 3], Refused>) -> [u64; 4] {
 /// The bytes that a read may look at. One that starts at or past the end of its
 /// part, or of the slice, has none.
 fn part<'a>(read: &Read<'a>) -> &'a [u8] {
-    let end = read.end.min(read.s.len());
-    read.s[..end].get(read.at..).unwrap_or_default()
+    let end = read.end.min(read.bytes.len());
+    read.bytes[..end].get(read.at..).unwrap_or_default()
 }
 
 /// "A number gets 3 at the first byte after which no ending can make it good,

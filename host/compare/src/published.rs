@@ -19,7 +19,7 @@ pub struct Answer {
 
 /// The crate has no end of a part: it is lent the slice up to there.
 pub fn read(read: &Read) -> Answer {
-    let s = &read.s[..read.end.min(read.s.len())];
+    let s = &read.bytes[..read.end.min(read.bytes.len())];
     let answered = match read.reader {
         Reader::Number => facade::read_u64(s, read.at).map(|(value, next)| number(value, next)),
         Reader::FilterNumber => {

@@ -24,7 +24,7 @@ pub enum Difference {
 /// The intended difference that a read shows, told from its bytes and, for a
 /// count, from the crate's own reading of it.
 pub fn difference(read: &Read) -> Option<Difference> {
-    let s = &read.s[..read.end.min(read.s.len())];
+    let s = &read.bytes[..read.end.min(read.bytes.len())];
     let part = s.get(read.at..).unwrap_or_default();
     match read.reader {
         // Five bytes of 80 or more mean 2^35 at the least; the tenth byte ends
@@ -126,12 +126,17 @@ fn content<'a>(read: &Read<'a>, answer: [u64; 4]) -> &'a [u8] {
         Reader::Prefixed => answer[1] as usize..answer[2] as usize,
         Reader::Hashes => answer[1] as usize..answer[3] as usize,
     };
-    &read.s[places]
+    &read.bytes[places]
 }
 
 fn report(read: &Read, answer: [u64; 4], whose: &str, other: [u64; 4]) -> String {
-    let Read { reader, s, at, end } = read;
-    let bytes = inputs::shown(s);
+    let Read {
+        reader,
+        bytes,
+        at,
+        end,
+    } = read;
+    let bytes = inputs::shown(bytes);
     format!(
         "{reader:?} at {at} up to {end} of {bytes}: the library's answer is {answer:?}, {whose} {other:?}"
     )

@@ -28,8 +28,13 @@ fn compare_all(reads: &[Read]) -> Tally {
     tally
 }
 
-fn at(reader: Reader, s: &[u8], at: usize, end: usize) -> Read<'_> {
-    Read { reader, s, at, end }
+fn at(reader: Reader, bytes: &[u8], at: usize, end: usize) -> Read<'_> {
+    Read {
+        reader,
+        bytes,
+        at,
+        end,
+    }
 }
 
 fn whole(reader: Reader, s: &[u8]) -> Read<'_> {

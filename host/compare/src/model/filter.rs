@@ -41,7 +41,7 @@ pub fn read(s: &[u8], at: usize, end: usize) -> [u64; 8] {
 pub(super) fn numbers(s: &[u8], at: usize, end: usize) -> Result<[u64; 5], Refused> {
     let item = |at| Read {
         reader: Reader::FilterNumber,
-        s,
+        bytes: s,
         at,
         end,
     };

@@ -83,7 +83,7 @@ fn at(s: &[u8], at: usize) -> Read<'_> {
     let end = s.len();
     Read {
         reader: Reader::Number,
-        s,
+        bytes: s,
         at,
         end,
     }

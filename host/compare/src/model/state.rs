@@ -87,7 +87,7 @@ fn shared_heads(s: &[u8]) -> Result<(usize, usize), Refused> {
         None => Err((1, 0)),
         Some(&TYPE) => hashes(&Read {
             reader: Reader::Hashes,
-            s,
+            bytes: s,
             at: 1,
             end: s.len(),
         }),

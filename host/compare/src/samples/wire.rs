@@ -39,7 +39,7 @@ impl Record {
 fn whole(reader: Reader, s: &[u8]) -> Read<'_> {
     Read {
         reader,
-        s,
+        bytes: s,
         at: 0,
         end: s.len(),
     }

@@ -10,10 +10,10 @@ use Rattle.bloom.proofs.have.passed_good.Statement.{statement}
 use Rattle.bloom.proofs.have.passed_good.Tie as tie
 
 abbrev Inv-loop : tie.InvT-loop
-Inv-loop s haves total i₀ i = record { upto : i ≤ total; rest : testing s haves total i ≡ passedGood s haves }
+Inv-loop bytes haves total i₀ i = record { upto : i ≤ total; rest : testing bytes haves total i ≡ passedGood bytes haves }
 
 abbrev μ-loop : tie.MeasureT-loop
-μ-loop s haves total i₀ i = total - i
+μ-loop bytes haves total i₀ i = total - i
 
 returns : tie.Need-returns Inv-loop μ-loop
 returns c = sym (not-whole _ _ (c .if1 .taken))

@@ -46,7 +46,7 @@ add-next c =
     let l = c .before in
     let start = l .before .before .before .before .before .before .before in
     let a = start .args in
-    omega (arith, left-is (now (a .s)) (a .place) (a .end), l .left .ensures, start .fits .place .fits, c .if5 .left)
+    omega (arith, left-is (now (a .bytes)) (a .place) (a .end), l .left .ensures, start .fits .place .fits, c .if5 .left)
 
 returns-6 : tie.Need-returns-6
 returns-6 c =

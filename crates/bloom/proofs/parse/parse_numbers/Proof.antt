@@ -32,7 +32,7 @@ parse-field-requires c κs =
     let b = c .before .before .before .before .before in
     let n = b .before .before .before .before in
     let k = n .before .before .before in
-    let all : Bytes (now (k .before .args .s)) = λ i. k .shared-slice-known .given i .fits in (
+    let all : Bytes (now (k .before .args .bytes)) = λ i. k .shared-slice-known .given i .fits in (
       number-most _ _ _ _ _ _ all (sym (n .before .before .leb128-u32 .ensures) ∙ n .n .given .1),
       number-most _ _ _ _ _ _ all (sym (b .before .before .leb128-u322 .ensures) ∙ b .b .given .1),
     )

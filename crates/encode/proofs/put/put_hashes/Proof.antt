@@ -16,7 +16,7 @@ add-end c = search needs
 put-unsigned-requires : tie.Need-put-unsigned-requires
 put-unsigned-requires c κs =
     let s = c .before .before .before in
-    omega (arith, s .pre .1, hash-list-long (now (s .args .s)) (s .args .place) (s .args .count))
+    omega (arith, s .pre .1, hash-list-long (now (s .args .bytes)) (s .args .place) (s .args .count))
 
 sub-copy-into : tie.Need-sub-copy-into
 sub-copy-into c = search needs
@@ -40,7 +40,7 @@ add-result : tie.Need-add-result
 add-result c =
     let u = c .before .before .before .before .before .before .before in
     let s = u .before .before .before .before in
-    omega (arith, s .pre .1, hash-list-long (now (s .args .s)) (s .args .place) (s .args .count), u .put-unsigned .ensures .place)
+    omega (arith, s .pre .1, hash-list-long (now (s .args .bytes)) (s .args .place) (s .args .count), u .put-unsigned .ensures .place)
 
 same-length : tie.Need-same-length
 same-length c = search needs

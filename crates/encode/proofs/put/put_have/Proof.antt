@@ -25,7 +25,7 @@ filter-in-requires c κs = search needs
 -- where the parts of the record stand
 fits : (c : tie.After-filter-in)
     → let a = c .before .before .before .before .before .before .args in
-    HaveFits (now (a .s)) (now (a .haves)) (a .i) (c .filter-in .result)
+    HaveFits (now (a .bytes)) (now (a .haves)) (a .i) (c .filter-in .result)
 fits c = let s = c .before .before .before .before .before .before in have-fits _ _ _ _ (c .filter-in .ensures) (s .pre .0 .0) (s .pre .0 .1)
 
 add-end : tie.Need-add-end
@@ -37,7 +37,7 @@ put-hashes-requires c κs =
     let s = f .before .before .before .before .before .before in
     let n = f .before in
     let a = s .args in
-    syncs-fit (now (a .s)) (now (a .haves)) (a .i) _ _ (n .before .sync-place .ensures) (n .sync-count .ensures)
+    syncs-fit (now (a .bytes)) (now (a .haves)) (a .i) _ _ (n .before .sync-place .ensures) (n .sync-count .ensures)
     (a .at)
     (length (now (a .out)))
     (fits f .sync)
@@ -51,12 +51,12 @@ hashes-put : (c : tie.After-put-hashes)
     (now (a .out))
     (c .put-hashes .last .0)
     (a .at)
-    (hashListBytes (hashesAt (now (a .s)) (syncPlace (now (a .haves)) (a .i)) (syncCount (now (a .haves)) (a .i))))
+    (hashListBytes (hashesAt (now (a .bytes)) (syncPlace (now (a .haves)) (a .i)) (syncCount (now (a .haves)) (a .i))))
     (c .put-hashes .result)
 hashes-put c =
     let n = c .before .before .before .before in
     let a = n .before .before .before .before .before .args in
-    syncs-put (now (a .s)) (now (a .haves)) (a .i) _ _ (n .before .sync-place .ensures) (n .sync-count .ensures) _ _ _ _ (c .put-hashes .ensures)
+    syncs-put (now (a .bytes)) (now (a .haves)) (a .i) _ _ (n .before .sync-place .ensures) (n .sync-count .ensures) _ _ _ _ (c .put-hashes .ensures)
 
 sub-put-prefixed-filter : tie.Need-sub-put-prefixed-filter
 sub-put-prefixed-filter c = search needs

@@ -11,19 +11,19 @@ use Rattle.encode.proofs.put.put_haves.Statement.{statement}
 use Rattle.encode.proofs.put.put_haves.Tie as tie
 
 abbrev Inv-loop : tie.InvT-loop
-Inv-loop out₀ at s haves total place₀ i₀ out place i =
+Inv-loop out₀ at bytes haves total place₀ i₀ out place i =
     record {
       upto : i ≤ total;
-      rest : Putting out₀ out place₀ place (havesLeft s haves total 0) (havesLeft s haves total i);
+      rest : Putting out₀ out place₀ place (havesLeft bytes haves total 0) (havesLeft bytes haves total i);
     }
 
 abbrev μ-loop : tie.MeasureT-loop
-μ-loop out₀ at s haves total place₀ i₀ out place i = total - i
+μ-loop out₀ at bytes haves total place₀ i₀ out place i = total - i
 
 put-unsigned-requires : tie.Need-put-unsigned-requires Inv-loop μ-loop
 put-unsigned-requires c κs =
     let s = c .before .before .before .before in
-    omega (arith, s .pre .1, counted-long _ _ _ (haves-counted (now (s .args .s)) (now (s .args .haves)) (haveCount (now (s .args .haves))) refl))
+    omega (arith, s .pre .1, counted-long _ _ _ (haves-counted (now (s .args .bytes)) (now (s .args .haves)) (haveCount (now (s .args .haves))) refl))
 
 loop-holds : tie.Need-loop-holds Inv-loop μ-loop
 loop-holds c = record { upto = omega arith; rest = putting-starts _ _ _ }
@@ -32,14 +32,14 @@ loop-holds c = record { upto = omega arith; rest = putting-starts _ _ _ }
 room : (l : tie.At-loop Inv-loop μ-loop)
     → let u = l .before .before .before in
     let a = u .before .before .before .before .before .args in
-    u .put-unsigned .result + length (havesLeft (now (a .s)) (now (a .haves)) (haveCount (now (a .haves))) 0) ≤ length (now (a .out))
+    u .put-unsigned .result + length (havesLeft (now (a .bytes)) (now (a .haves)) (haveCount (now (a .haves))) 0) ≤ length (now (a .out))
 room l =
     let u = l .before .before .before in
     let s = u .before .before .before .before .before in
     omega (
       arith,
       s .pre .1,
-      counted-long _ _ _ (haves-counted (now (s .args .s)) (now (s .args .haves)) (haveCount (now (s .args .haves))) refl),
+      counted-long _ _ _ (haves-counted (now (s .args .bytes)) (now (s .args .haves)) (haveCount (now (s .args .haves))) refl),
       u .put-unsigned .ensures .place,
     )
 

@@ -23,7 +23,7 @@ abbrev msg : tie.Start → Message
 msg s =
     let a = s .args in
     messageOf
-    (partsOf (a .version) (now (a .heads)) (now (a .need)) (now (a .s)) (now (a .haves)) (now (a .chunks)) (now (a .lengths)) (a .flags))
+    (partsOf (a .version) (now (a .heads)) (now (a .need)) (now (a .bytes)) (now (a .haves)) (now (a .chunks)) (now (a .lengths)) (a .flags))
 
 -- what is put and what is left, part by part
 type-put : (c : tie.After-encode)

@@ -10,14 +10,14 @@ use Rattle.items.proofs.chunks.skip_chunks.Statement.{statement}
 use Rattle.items.proofs.chunks.skip_chunks.Tie as tie
 
 abbrev Inv-loop : tie.InvT-loop
-Inv-loop s start count next₀ k₀ next k =
+Inv-loop bytes start count next₀ k₀ next k =
     record {
       upto : k ≤ count;
-      rest : passing (chunkItem s) start count (count - k) next ≡ listedOf (listFrom (run start count) (manyAt (chunkItem s) count start));
+      rest : passing (chunkItem bytes) start count (count - k) next ≡ listedOf (listFrom (run start count) (manyAt (chunkItem bytes) count start));
     }
 
 abbrev μ-loop : tie.MeasureT-loop
-μ-loop s start count next₀ k₀ next k = count - k
+μ-loop bytes start count next₀ k₀ next k = count - k
 
 loop-holds : tie.Need-loop-holds Inv-loop μ-loop
 loop-holds c = record { upto = omega arith; rest = passing-starts _ _ _ }

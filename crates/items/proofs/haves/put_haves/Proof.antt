@@ -19,10 +19,10 @@ use Rattle.items.proofs.haves.put_haves.Statement.{statement}
 use Rattle.items.proofs.haves.put_haves.Tie as tie
 
 abbrev Inv-loop : tie.InvT-loop
-Inv-loop s start count out₀ next₀ k₀ out next k = Putting (haveItem s) haveWords out₀ count start out next k
+Inv-loop bytes start count out₀ next₀ k₀ out next k = Putting (haveItem bytes) haveWords out₀ count start out next k
 
 abbrev μ-loop : tie.MeasureT-loop
-μ-loop s start count out₀ next₀ k₀ out next k = count - k
+μ-loop bytes start count out₀ next₀ k₀ out next k = count - k
 
 -- an answer by its tag
 told-refused : (x : HaveRead) → tagOf (declared enum) x ≡ 1 → (r : Refusal) × (x ≡ NoHave r)

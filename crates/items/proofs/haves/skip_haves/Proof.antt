@@ -10,14 +10,14 @@ use Rattle.items.proofs.haves.skip_haves.Statement.{statement}
 use Rattle.items.proofs.haves.skip_haves.Tie as tie
 
 abbrev Inv-loop : tie.InvT-loop
-Inv-loop s start count next₀ k₀ next k =
+Inv-loop bytes start count next₀ k₀ next k =
     record {
       upto : k ≤ count;
-      rest : passing (haveItem s) start count (count - k) next ≡ listedOf (listFrom (run start count) (manyAt (haveItem s) count start));
+      rest : passing (haveItem bytes) start count (count - k) next ≡ listedOf (listFrom (run start count) (manyAt (haveItem bytes) count start));
     }
 
 abbrev μ-loop : tie.MeasureT-loop
-μ-loop s start count next₀ k₀ next k = count - k
+μ-loop bytes start count next₀ k₀ next k = count - k
 
 loop-holds : tie.Need-loop-holds Inv-loop μ-loop
 loop-holds c = record { upto = omega arith; rest = passing-starts _ _ _ }

@@ -11,10 +11,10 @@ use Rattle.lent.proofs.list.ascending.Statement.{statement}
 use Rattle.lent.proofs.list.ascending.Tie as tie
 
 abbrev Inv-loop : tie.InvT-loop
-Inv-loop s count i₀ i = record { upto : i ≤ count; rest : climbing s count i ≡ ascends (hashesAt s 0 count) }
+Inv-loop bytes count i₀ i = record { upto : i ≤ count; rest : climbing bytes count i ≡ ascends (hashesAt bytes 0 count) }
 
 abbrev μ-loop : tie.MeasureT-loop
-μ-loop s count i₀ i = count - i
+μ-loop bytes count i₀ i = count - i
 
 loop-holds : tie.Need-loop-holds Inv-loop μ-loop
 loop-holds c = record { upto = omega arith; rest = climbing-starts _ _ }

@@ -17,15 +17,15 @@ use Rattle.members.proofs.members.mark_s.Statement.{statement}
 use Rattle.members.proofs.members.mark_s.Tie as tie
 
 abbrev Inv-loop : tie.InvT-loop
-Inv-loop table n s haves members₀ synced i₀ members i =
+Inv-loop table n bytes haves members₀ synced i₀ members i =
     record {
       upto : i ≤ n;
       long : length members ≡ length members₀;
-      so : Turned (memberAt (rowsAt table 0 n) (havesOf s haves)) i members₀ members;
+      so : Turned (memberAt (rowsAt table 0 n) (havesOf bytes haves)) i members₀ members;
     }
 
 abbrev μ-loop : tie.MeasureT-loop
-μ-loop table n s haves members₀ synced i₀ members i = n - i
+μ-loop table n bytes haves members₀ synced i₀ members i = n - i
 
 slice-aggregate-mark-synced : tie.Need-slice-aggregate-mark-synced Inv-loop μ-loop
 slice-aggregate-mark-synced c = search needs

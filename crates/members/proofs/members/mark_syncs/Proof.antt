@@ -16,17 +16,17 @@ use Rattle.members.proofs.members.mark_syncs.Statement.{statement}
 use Rattle.members.proofs.members.mark_syncs.Tie as tie
 
 abbrev Inv-loop : tie.InvT-loop
-Inv-loop table n s haves marks₀ total k₀ marks k =
+Inv-loop table n bytes haves marks₀ total k₀ marks k =
     record {
       long : length marks ≡ length marks₀;
       rest :
           (i : ℕ) → i < n
-          → (getD marks i false || member (hashOf (rowsAt table 0 n) i) (syncsFrom s haves total k))
-          ≡ member (hashOf (rowsAt table 0 n) i) (lastSyncs (havesOf s haves));
+          → (getD marks i false || member (hashOf (rowsAt table 0 n) i) (syncsFrom bytes haves total k))
+          ≡ member (hashOf (rowsAt table 0 n) i) (lastSyncs (havesOf bytes haves));
     }
 
 abbrev μ-loop : tie.MeasureT-loop
-μ-loop table n s haves marks₀ total k₀ marks k = total - k
+μ-loop table n bytes haves marks₀ total k₀ marks k = total - k
 
 loop-holds : tie.Need-loop-holds Inv-loop μ-loop
 loop-holds c = record { long = refl; rest = λ k h. syncs-start _ _ _ refl _ _ (c .before .before .before .before .pre .3 .each k h) }

@@ -146,7 +146,7 @@ ask-change-returns-4 t c =
     (d .ask-list .ensures)
 
 abbrev ask-list-Inv-loop : ask-list-lts.InvT-loop
-ask-list-Inv-loop table n waiting m marks₀ list₀ count s place entries found₀ i₀ marks list found i =
+ask-list-Inv-loop table n waiting m marks₀ list₀ count bytes place entries found₀ i₀ marks list found i =
     record {
       upto : i ≤ entries;
       same-marks : length marks ≡ length marks₀;
@@ -154,12 +154,12 @@ ask-list-Inv-loop table n waiting m marks₀ list₀ count s place entries found
       room : sizes .hash * found ≤ length list₀;
       less : unmarked marks ≤ unmarked marks₀;
       rest : (marks′ : List Bool) (list′ : List ℕ) (found′ : ℕ)
-          → Asked table n waiting m (Request.list (hashesAt s (place + sizes .hash * i) (entries - i))) marks list found marks′ list′ found′
-          → Asked table n waiting m (Request.list (hashesAt s place entries)) marks₀ list₀ count marks′ list′ found′;
+          → Asked table n waiting m (Request.list (hashesAt bytes (place + sizes .hash * i) (entries - i))) marks list found marks′ list′ found′
+          → Asked table n waiting m (Request.list (hashesAt bytes place entries)) marks₀ list₀ count marks′ list′ found′;
     }
 
 abbrev ask-list-μ-loop : ask-list-lts.MeasureT-loop
-ask-list-μ-loop table n waiting m marks₀ list₀ count s place entries found₀ i₀ marks list found i =
+ask-list-μ-loop table n waiting m marks₀ list₀ count bytes place entries found₀ i₀ marks list found i =
     entries - i
 
 ask-list-loop-holds : (t : ℕ) → ask-list-lts.Need-loop-holds (list-calls t) (ask-list-at t) ask-list.Post ask-list-Inv-loop ask-list-μ-loop

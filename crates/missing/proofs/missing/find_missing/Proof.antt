@@ -23,7 +23,7 @@ returns : tie.Need-returns
 returns c =
     let d = c .before .before .before in
     let a = d .before .before .before .before .before .before .before in
-    list-found _ _ _ _ (waiting-good _ _ _ (a .pre .1 .0)) {hs = hashesAt (now (a .args .s)) (a .args .place) (a .args .entries)} (d .ask-list .ensures)
+    list-found _ _ _ _ (waiting-good _ _ _ (a .pre .1 .0)) {hs = hashesAt (now (a .args .bytes)) (a .args .place) (a .args .entries)} (d .ask-list .ensures)
 
 pub find-missing-spec : {M : Type 1} → statement M
 find-missing-spec =

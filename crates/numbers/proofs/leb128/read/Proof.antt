@@ -24,17 +24,17 @@ use Rattle.numbers.proofs.leb128.read.Statement.{statement}
 use Rattle.numbers.proofs.leb128.read.Tie as tie
 
 abbrev Inv-loop : tie.InvT-loop
-Inv-loop s at end most i₀ least₀ value₀ scale₀ shift₀ i least value scale shift =
+Inv-loop bytes at end most i₀ least₀ value₀ scale₀ shift₀ i least value scale shift =
     record {
       after : at ≤ i;
       small : value ≤ most;
       power : scale ≡ 2 ^ shift;
       short : shift < 64;
-      rest : reading most s at end i least value scale ≡ numberAt most s at end;
+      rest : reading most bytes at end i least value scale ≡ numberAt most bytes at end;
     }
 
 abbrev μ-loop : tie.MeasureT-loop
-μ-loop s at end most i₀ least₀ value₀ scale₀ shift₀ i least value scale shift = end - i
+μ-loop bytes at end most i₀ least₀ value₀ scale₀ shift₀ i least value scale shift = end - i
 
 loop-holds : tie.Need-loop-holds Inv-loop μ-loop
 loop-holds c =
@@ -87,7 +87,7 @@ returns-2 c =
 -- past the second test the number so far, with this byte, is at most `most`
 small-enough : (c : tie.Else2 Inv-loop μ-loop)
     → let l = c .before .before .before .before in
-    l .loop .value + getD (l .before .args .s .now) (l .loop .i) 0 * l .loop .scale ≤ l .before .args .most
+    l .loop .value + getD (l .before .args .bytes .now) (l .loop .i) 0 * l .loop .scale ≤ l .before .args .most
 small-enough c =
     let l = c .before .before .before .before in
     room-for _ _ _ _ _ (l .loop .inv .power) (l .loop .inv .small) (c .if2 .left)
@@ -116,7 +116,7 @@ returns-3 c =
 
 seven-bits : (c : tie.Else3 Inv-loop μ-loop)
     → let l = c .before .before .before .before .before in
-    let b = getD (l .before .args .s .now) (l .loop .i) 0 in
+    let b = getD (l .before .args .bytes .now) (l .loop .i) 0 in
     b * l .loop .scale ≡ (b - 128) * l .loop .scale + l .loop .scale * 128
 seven-bits c = high-bit-off _ _ (c .if3 .left)
 

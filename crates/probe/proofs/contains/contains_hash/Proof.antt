@@ -32,7 +32,7 @@ use Rattle.probe.proofs.contains.contains_hash.Statement.{statement}
 use Rattle.probe.proofs.contains.contains_hash.Tie as tie
 
 abbrev Inv-loop : tie.InvT-loop
-Inv-loop s haves hashes at first second third total i place size field m x y z probe₀ rounds k₀ probe k =
+Inv-loop bytes haves hashes at first second third total i place size field m x y z probe₀ rounds k₀ probe k =
     record {
       xs : probe .x < m;
       ys : probe .y < m;
@@ -41,23 +41,23 @@ Inv-loop s haves hashes at first second third total i place size field m x y z p
     }
 
 abbrev μ-loop : tie.MeasureT-loop
-μ-loop s haves hashes at first second third total i place size field m x y z probe₀ rounds k₀ probe k = rounds - k
+μ-loop bytes haves hashes at first second third total i place size field m x y z probe₀ rounds k₀ probe k = rounds - k
 
 abbrev Inv-next-filter : tie.InvT-next-filter
-Inv-next-filter s haves hashes at first second third total i₀ i =
+Inv-next-filter bytes haves hashes at first second third total i₀ i =
     record {
       upto : i ≤ total;
-      rest : searching s haves (hashAt hashes at) total i ≡ anyContains (filtersOf s haves) (hashAt hashes at);
+      rest : searching bytes haves (hashAt hashes at) total i ≡ anyContains (filtersOf bytes haves) (hashAt hashes at);
     }
 
 abbrev μ-next-filter : tie.MeasureT-next-filter
-μ-next-filter s haves hashes at first second third total i₀ i = total - i
+μ-next-filter bytes haves hashes at first second third total i₀ i = total - i
 
 -- what is known of a filter with entries
 good : (c : tie.Else1 Inv-loop μ-loop Inv-next-filter μ-next-filter)
     → let e = c .before .before in
     let a = e .before .before .before .before .before .before .before .before .before .args in
-    Probed (now (a .s)) (e .filter-in .result)
+    Probed (now (a .bytes)) (e .filter-in .result)
 good c =
     let e = c .before .before in
     let start = e .before .before .before .before .before .before .before .before .before in
@@ -70,9 +70,9 @@ decides : (c : tie.After-count Inv-loop μ-loop Inv-next-filter μ-next-filter)
     let a = w .before .before .before .before .before .before .args in
     let f = e .filter-in .result in
     let m = 8 * f .size in
-    contains (filterWith (now (a .s)) f) (hashAt (now (a .hashes)) (a .at))
+    contains (filterWith (now (a .bytes)) f) (hashAt (now (a .hashes)) (a .at))
     ≡ noneClear
-    (take (f .place + f .size - f .place) (drop (f .place) (now (a .s))))
+    (take (f .place + f .size - f .place) (drop (f .place) (now (a .bytes))))
     (probesFrom (c .count .result) m (w .before .before .u32-at .result % m) (w .before .u32-at2 .result % m) (w .u32-at3 .result % m))
 decides c =
     let e = c .before .before .before .before in

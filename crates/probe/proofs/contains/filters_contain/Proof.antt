@@ -57,7 +57,7 @@ passed-few-requires : tie.Need-passed-few-requires
 passed-few-requires c κs = search needs
 
 -- past the first two tests the haves are accepted
-good : (c : tie.Else2) → passedGood (now (c .before .before .before .before .before .before .before .args .s)) (now (c .before .before .before .before .before .before .before .args .haves)) ≡ true
+good : (c : tie.Else2) → passedGood (now (c .before .before .before .before .before .before .before .args .bytes)) (now (c .before .before .before .before .before .before .before .args .haves)) ≡ true
 good c = let g = c .before .before in sym (g .before .passed-good .ensures) ∙ not-false _ (g .if1 .left)
 
 few : (c : tie.Else2) → passedFew (now (c .before .before .before .before .before .before .before .args .haves)) ≡ true

@@ -10,10 +10,10 @@ use Rattle.replay.proofs.walk.walk.Statement.{statement}
 use Rattle.replay.proofs.walk.walk.Tie as tie
 
 abbrev Inv-loop : tie.InvT-loop
-Inv-loop s counts₀ at₀ counts at = Going s at counts
+Inv-loop bytes counts₀ at₀ counts at = Going bytes at counts
 
 abbrev μ-loop : tie.MeasureT-loop
-μ-loop s counts₀ at₀ counts at = length s - at
+μ-loop bytes counts₀ at₀ counts at = length bytes - at
 
 new-requires : tie.Need-new-requires Inv-loop μ-loop
 new-requires c κs = search needs

@@ -20,12 +20,12 @@ enum-known-list c = search needs
 -- what stands in the state, as the match found it
 found : (c : tie.After-list)
     → let g = c .list .given .0 in
-    stateAt (now (c .before .before .before .before .before .args .s)) ≡ Items (g .0) (g .1 .0)
+    stateAt (now (c .before .before .before .before .before .args .bytes)) ≡ Items (g .0) (g .1 .0)
 found c = sym (c .before .before .parse .ensures) ∙ c .list .given .1
 
 where-list : (c : tie.After-list)
     → let g = c .list .given .0 in
-    let s = now (c .before .before .before .before .before .args .s) in
+    let s = now (c .before .before .before .before .before .args .bytes) in
     HashesInside s 1 (length s) (g .0) (g .1 .0)
 where-list c = state-inside _ _ _ _ (found c)
 

@@ -23,7 +23,7 @@ filter-in-requires : tie.Need-filter-in-requires
 filter-in-requires c κs = search needs
 
 -- where the parts of the record stand
-fits : (c : tie.After-filter-in) → let a = c .before .before .before .before .before .args in HaveFits (now (a .s)) (now (a .haves)) (a .i) (c .filter-in .result)
+fits : (c : tie.After-filter-in) → let a = c .before .before .before .before .before .args in HaveFits (now (a .bytes)) (now (a .haves)) (a .i) (c .filter-in .result)
 fits c = let s = c .before .before .before .before .before in have-fits _ _ _ _ (c .filter-in .ensures) (s .pre .0) (s .pre .1)
 
 add-end : tie.Need-add-end
@@ -45,7 +45,7 @@ prefixed-filter-size-requires c κs = let w = fits (c .before .before) in rw par
 sum : (c : tie.After-prefixed-filter-size)
     → let f = c .before .before .before in
     let a = f .before .before .before .before .before .args in
-    f .before .hashes-size .result + c .prefixed-filter-size .result ≡ length (haveBytes (haveIn (now (a .s)) (now (a .haves)) (a .i)))
+    f .before .hashes-size .result + c .prefixed-filter-size .result ≡ length (haveBytes (haveIn (now (a .bytes)) (now (a .haves)) (a .i)))
 sum c =
     let f = c .before .before .before in
     let h = f .before in

@@ -12,15 +12,15 @@ use Rattle.size.proofs.size.haves_size.Statement.{statement}
 use Rattle.size.proofs.size.haves_size.Tie as tie
 
 abbrev Inv-loop : tie.InvT-loop
-Inv-loop s haves total size₀ i₀ size i =
+Inv-loop bytes haves total size₀ i₀ size i =
     record {
       upto : i ≤ total;
       small : size ≤ 10 + most-have * i;
-      rest : size + havesSize s haves total i ≡ length (counted haveBytes (havesOf s haves));
+      rest : size + havesSize bytes haves total i ≡ length (counted haveBytes (havesOf bytes haves));
     }
 
 abbrev μ-loop : tie.MeasureT-loop
-μ-loop s haves total size₀ i₀ size i = total - i
+μ-loop bytes haves total size₀ i₀ size i = total - i
 
 unsigned-size-requires : tie.Need-unsigned-size-requires Inv-loop μ-loop
 unsigned-size-requires c κs = search needs
@@ -33,7 +33,7 @@ loop-holds c =
     record {
       upto = omega arith;
       small = omega (arith, n, c .unsigned-size .ensures);
-      rest = ap (λ (k : ℕ). k + havesSize (now (a .args .s)) (now (a .args .haves)) (haveCount (now (a .args .haves))) 0) (c .unsigned-size .ensures) ∙ haves-counted-long _ _ _ refl;
+      rest = ap (λ (k : ℕ). k + havesSize (now (a .args .bytes)) (now (a .args .haves)) (haveCount (now (a .args .haves))) 0) (c .unsigned-size .ensures) ∙ haves-counted-long _ _ _ refl;
     }
 
 have-size-requires : tie.Need-have-size-requires Inv-loop μ-loop

@@ -19,7 +19,7 @@ returns : tie.Need-returns
 returns c = refused-size _ _ (lists-bad _ _ _ _ (sym (c .before .passed-good .ensures) ∙ not-true _ (c .if1 .taken)))
 
 -- the haves are good where the first test was passed
-good : (c : tie.Else1) → let a = c .before .before .before .before .before .before .args in passedGood (now (a .s)) (now (a .haves)) ≡ true
+good : (c : tie.Else1) → let a = c .before .before .before .before .before .before .args in passedGood (now (a .bytes)) (now (a .haves)) ≡ true
 good c = sym (c .before .passed-good .ensures) ∙ not-false _ (c .if1 .left)
 
 passed-hashes-requires : tie.Need-passed-hashes-requires

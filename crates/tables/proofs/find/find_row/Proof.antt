@@ -12,14 +12,14 @@ use Rattle.tables.proofs.find.find_row.Statement.{statement}
 use Rattle.tables.proofs.find.find_row.Tie as tie
 
 abbrev Inv-loop : tie.InvT-loop
-Inv-loop table n s at i₀ i =
+Inv-loop table n bytes at i₀ i =
     record {
       upto : i ≤ n;
-      rest : seeking (λ k. hashAt table (k * rowSize)) (hashAt s at) n i ≡ indexIn (rows (rowsAt table 0 n)) (hashAt s at);
+      rest : seeking (λ k. hashAt table (k * rowSize)) (hashAt bytes at) n i ≡ indexIn (rows (rowsAt table 0 n)) (hashAt bytes at);
     }
 
 abbrev μ-loop : tie.MeasureT-loop
-μ-loop table n s at i₀ i = n - i
+μ-loop table n bytes at i₀ i = n - i
 
 loop-holds : tie.Need-loop-holds Inv-loop μ-loop
 loop-holds c = record { upto = omega arith; rest = seek-rows _ _ _ }

@@ -13,14 +13,14 @@ use Rattle.tables.proofs.find.find_waiting.Statement.{statement}
 use Rattle.tables.proofs.find.find_waiting.Tie as tie
 
 abbrev Inv-loop : tie.InvT-loop
-Inv-loop table n s at i₀ i =
+Inv-loop table n bytes at i₀ i =
     record {
       upto : i ≤ n;
-      rest : seeking (λ k. hashAt table (k * waitingSize)) (hashAt s at) n i ≡ indexIn (waiting (waitingsAt table 0 n)) (hashAt s at);
+      rest : seeking (λ k. hashAt table (k * waitingSize)) (hashAt bytes at) n i ≡ indexIn (waiting (waitingsAt table 0 n)) (hashAt bytes at);
     }
 
 abbrev μ-loop : tie.MeasureT-loop
-μ-loop table n s at i₀ i = n - i
+μ-loop table n bytes at i₀ i = n - i
 
 loop-holds : tie.Need-loop-holds Inv-loop μ-loop
 loop-holds c = record { upto = omega arith; rest = seek-waiting _ _ _ }

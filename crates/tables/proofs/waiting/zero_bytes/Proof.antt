@@ -10,10 +10,10 @@ use Rattle.tables.proofs.waiting.zero_bytes.Statement.{statement}
 use Rattle.tables.proofs.waiting.zero_bytes.Tie as tie
 
 abbrev Inv-loop : tie.InvT-loop
-Inv-loop s at count k₀ k = record { upto : k ≤ count; rest : blanking s at count k ≡ zeros (bytesAt s at count) }
+Inv-loop bytes at count k₀ k = record { upto : k ≤ count; rest : blanking bytes at count k ≡ zeros (bytesAt bytes at count) }
 
 abbrev μ-loop : tie.MeasureT-loop
-μ-loop s at count k₀ k = count - k
+μ-loop bytes at count k₀ k = count - k
 
 loop-holds : tie.Need-loop-holds Inv-loop μ-loop
 loop-holds c = record { upto = omega arith; rest = blank-starts _ _ _ }

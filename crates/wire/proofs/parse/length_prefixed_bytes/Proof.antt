@@ -24,7 +24,7 @@ returns c =
 add-t13 : tie.Need-add-t13
 add-t13 c =
     let a = c .before .before .before .before .before .before .before .args in
-    omega (arith, left-is (now (a .s)) (c .before .before .before .n .given .0 .1 .0) (a .end), c .before .left .ensures)
+    omega (arith, left-is (now (a .bytes)) (c .before .before .before .n .given .0 .1 .0) (a .end), c .before .left .ensures)
 
 enum-known-n-2 : tie.Need-enum-known-n-2
 enum-known-n-2 c = search needs

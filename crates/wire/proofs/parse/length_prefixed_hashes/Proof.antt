@@ -22,7 +22,7 @@ mul-cut c = search needs
 add-cut : tie.Need-add-cut
 add-cut c =
     let a = c .before .before .before .before .before .before .before .args in
-    omega (arith, left-is (now (a .s)) (c .before .before .before .n .given .0 .1 .0) (a .end), c .before .left .ensures)
+    omega (arith, left-is (now (a .bytes)) (c .before .before .before .n .given .0 .1 .0) (a .end), c .before .left .ensures)
 
 returns : tie.Need-returns
 returns c =
@@ -36,7 +36,7 @@ mul-after c = search needs
 add-after : tie.Need-add-after
 add-after c =
     let a = c .before .before .before .before .before .before .before .args in
-    omega (arith, left-is (now (a .s)) (c .before .before .before .n .given .0 .1 .0) (a .end), c .before .left .ensures)
+    omega (arith, left-is (now (a .bytes)) (c .before .before .before .n .given .0 .1 .0) (a .end), c .before .left .ensures)
 
 enum-known-n-2 : tie.Need-enum-known-n-2
 enum-known-n-2 c = search needs

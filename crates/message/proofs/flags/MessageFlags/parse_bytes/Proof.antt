@@ -18,11 +18,11 @@ unfolding flagsIn
 starts l m e = rw e
 
 abbrev Inv-loop : tie.InvT-loop
-Inv-loop s start end flags₀ i₀ flags i =
-    record { upto : i ≤ end; rest : addFlags (flags .0) (slice i end s) ≡ flagsIn (slice start end s) }
+Inv-loop bytes start end flags₀ i₀ flags i =
+    record { upto : i ≤ end; rest : addFlags (flags .0) (slice i end bytes) ≡ flagsIn (slice start end bytes) }
 
 abbrev μ-loop : tie.MeasureT-loop
-μ-loop s start end flags₀ i₀ flags i = end - i
+μ-loop bytes start end flags₀ i₀ flags i = end - i
 
 new-requires : tie.Need-new-requires Inv-loop μ-loop
 new-requires c κs = search needs
