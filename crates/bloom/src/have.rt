@@ -89,6 +89,12 @@ pub fn have_good(bytes: &[u8], haves: &[u64], i: usize) -> bool
     filter_good(bytes, haves, i)
 }
 
+fn at_most(count: usize) -> usize
+    ensures { λ r. ⌜ r ≡ min count (sizes .haves) ⌝ }
+{
+    if count < HAVES { count } else { HAVES }
+}
+
 // Whether a list that is passed is whole records, each a have; of more than a list may have, the first are looked at.
 pub fn passed_good(bytes: &[u8], haves: &[u64]) -> bool
     ensures { λ r. ⌜ r ≡ passedGood (now (bytes .entry)) (now (haves .entry)) ⌝ }
@@ -123,10 +129,4 @@ pub fn passed_few(haves: &[u64]) -> bool
         i += 1;
     }
     true
-}
-
-fn at_most(count: usize) -> usize
-    ensures { λ r. ⌜ r ≡ min count (sizes .haves) ⌝ }
-{
-    if count < HAVES { count } else { HAVES }
 }

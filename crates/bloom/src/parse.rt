@@ -23,57 +23,6 @@ pub enum Parsed {
     Refused(Refusal),
 }
 
-// The filter at a place, in the part that goes up to `end`.
-pub fn parse(bytes: &[u8], at: usize, end: usize) -> Parsed
-    ensures { λ r. ⌜ r ≡ filterAt (now (bytes .entry)) at end ⌝ }
-{
-    if left(bytes, at, end) == 0 {
-        return Parsed::Filter {
-            filter: FilterNumbers {
-                entries: 0,
-                bits: BITS_PER_ENTRY,
-                probes: NUM_PROBES,
-                place: at,
-                size: 0,
-            },
-            next: at,
-        };
-    }
-    parse_numbers(bytes, at, end)
-}
-
-// All three numbers are read before any of them is looked at.
-fn parse_numbers(bytes: &[u8], at: usize, end: usize) -> Parsed
-    ensures { λ r. ⌜ r ≡ numbersAt (now (bytes .entry)) at end ⌝ }
-{
-    let n = leb128_u32(bytes, at, end);
-    match n {
-        Number::Value {
-            value: entries,
-            next: at_bits,
-        } => {
-            let b = leb128_u32(bytes, at_bits, end);
-            match b {
-                Number::Value {
-                    value: bits,
-                    next: at_probes,
-                } => {
-                    let p = leb128_u32(bytes, at_probes, end);
-                    match p {
-                        Number::Value {
-                            value: probes,
-                            next: place,
-                        } => parse_field(bytes, at, end, entries, bits, probes, place),
-                        Number::Refused(r) => Parsed::Refused(r),
-                    }
-                }
-                Number::Refused(r) => Parsed::Refused(r),
-            }
-        }
-        Number::Refused(r) => Parsed::Refused(r),
-    }
-}
-
 // The field behind the numbers of the filter at `at`.
 fn parse_field(
     bytes: &[u8],
@@ -123,4 +72,55 @@ fn parse_field(
         },
         next,
     }
+}
+
+// All three numbers are read before any of them is looked at.
+fn parse_numbers(bytes: &[u8], at: usize, end: usize) -> Parsed
+    ensures { λ r. ⌜ r ≡ numbersAt (now (bytes .entry)) at end ⌝ }
+{
+    let n = leb128_u32(bytes, at, end);
+    match n {
+        Number::Value {
+            value: entries,
+            next: at_bits,
+        } => {
+            let b = leb128_u32(bytes, at_bits, end);
+            match b {
+                Number::Value {
+                    value: bits,
+                    next: at_probes,
+                } => {
+                    let p = leb128_u32(bytes, at_probes, end);
+                    match p {
+                        Number::Value {
+                            value: probes,
+                            next: place,
+                        } => parse_field(bytes, at, end, entries, bits, probes, place),
+                        Number::Refused(r) => Parsed::Refused(r),
+                    }
+                }
+                Number::Refused(r) => Parsed::Refused(r),
+            }
+        }
+        Number::Refused(r) => Parsed::Refused(r),
+    }
+}
+
+// The filter at a place, in the part that goes up to `end`.
+pub fn parse(bytes: &[u8], at: usize, end: usize) -> Parsed
+    ensures { λ r. ⌜ r ≡ filterAt (now (bytes .entry)) at end ⌝ }
+{
+    if left(bytes, at, end) == 0 {
+        return Parsed::Filter {
+            filter: FilterNumbers {
+                entries: 0,
+                bits: BITS_PER_ENTRY,
+                probes: NUM_PROBES,
+                place: at,
+                size: 0,
+            },
+            next: at,
+        };
+    }
+    parse_numbers(bytes, at, end)
 }

@@ -20,6 +20,20 @@ pub enum Opening {
     Refused(Refusal),
 }
 
+fn parse_heads(bytes: &[u8], version: MessageVersion) -> Opening
+    ensures { λ r. ⌜ r ≡ headsAt (now (bytes .entry)) version ⌝ }
+{
+    let list = length_prefixed_hashes(bytes, 1, bytes.len());
+    match list {
+        Listed::Items { run, next } => Opening::Heads {
+            version,
+            heads: run,
+            next,
+        },
+        Listed::Refused(r) => Opening::Refused(r),
+    }
+}
+
 pub fn parse_opening(bytes: &[u8]) -> Opening
     ensures { λ r. ⌜ r ≡ openingAt (now (bytes .entry)) ⌝ }
 {
@@ -37,18 +51,4 @@ pub fn parse_opening(bytes: &[u8]) -> Opening
         return parse_heads(bytes, MessageVersion::V2);
     }
     Opening::Refused(Refusal::WrongType(message_type))
-}
-
-fn parse_heads(bytes: &[u8], version: MessageVersion) -> Opening
-    ensures { λ r. ⌜ r ≡ headsAt (now (bytes .entry)) version ⌝ }
-{
-    let list = length_prefixed_hashes(bytes, 1, bytes.len());
-    match list {
-        Listed::Items { run, next } => Opening::Heads {
-            version,
-            heads: run,
-            next,
-        },
-        Listed::Refused(r) => Opening::Refused(r),
-    }
 }

@@ -19,20 +19,6 @@ pub enum Number {
     Refused(Refusal),
 }
 
-// The number at a place, read up to `end`.
-pub fn leb128_u64(bytes: &[u8], at: usize, end: usize) -> Number
-    ensures { λ r. ⌜ r ≡ numberAt most64 (now (bytes .entry)) at end ⌝ }
-{
-    read(bytes, at, within(bytes, end), MOST_64)
-}
-
-// The filter number at a place, read up to `end`.
-pub fn leb128_u32(bytes: &[u8], at: usize, end: usize) -> Number
-    ensures { λ r. ⌜ r ≡ numberAt mostFilter (now (bytes .entry)) at end ⌝ }
-{
-    read(bytes, at, within(bytes, end), MOST_FILTER)
-}
-
 // Where a part that goes up to `end` ends in fact.
 pub fn within(bytes: &[u8], end: usize) -> usize
     ensures { λ r. ⌜ r ≡ min end (length (now (bytes .entry))) ⌝ }
@@ -72,6 +58,20 @@ fn read(bytes: &[u8], at: usize, end: usize, most: u64) -> Number
         i += 1;
     }
     Number::Refused(Refusal::Cut(at))
+}
+
+// The number at a place, read up to `end`.
+pub fn leb128_u64(bytes: &[u8], at: usize, end: usize) -> Number
+    ensures { λ r. ⌜ r ≡ numberAt most64 (now (bytes .entry)) at end ⌝ }
+{
+    read(bytes, at, within(bytes, end), MOST_64)
+}
+
+// The filter number at a place, read up to `end`.
+pub fn leb128_u32(bytes: &[u8], at: usize, end: usize) -> Number
+    ensures { λ r. ⌜ r ≡ numberAt mostFilter (now (bytes .entry)) at end ⌝ }
+{
+    read(bytes, at, within(bytes, end), MOST_FILTER)
 }
 
 // How many bytes a number's shortest form has.

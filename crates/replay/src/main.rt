@@ -24,18 +24,19 @@ const INPUT: i32 = 0;
 
 const OUTPUT: i32 = 1;
 
-fn main() {
-    let mut bytes = buffer();
-    let n = io::read_full(INPUT, &mut bytes);
-    let counts = walk::walk(&bytes[..n]);
-    report(counts, n);
-}
-
 // Room for the longest sample. The `ensures` gives the length, which lending the array as a slice needs.
 fn buffer() -> [u8; MOST]
     ensures { λ r. ⌜ 131072 ≡ length r ⌝ }
 {
     [0; MOST]
+}
+
+fn report_kind(name: &[u8], records: u64, agree: u64) {
+    io::write_all(OUTPUT, name);
+    io::print_decimal(OUTPUT, records);
+    io::write_all(OUTPUT, b" agree ");
+    io::print_decimal(OUTPUT, agree);
+    io::write_all(OUTPUT, b"\n");
 }
 
 // A line for each kind (a new one adds its own here, beside its arm in `record::replayed`), and one more where the walk stopped before the end of the `n` bytes.
@@ -54,10 +55,9 @@ fn report(counts: Counts, n: usize) {
     }
 }
 
-fn report_kind(name: &[u8], records: u64, agree: u64) {
-    io::write_all(OUTPUT, name);
-    io::print_decimal(OUTPUT, records);
-    io::write_all(OUTPUT, b" agree ");
-    io::print_decimal(OUTPUT, agree);
-    io::write_all(OUTPUT, b"\n");
+fn main() {
+    let mut bytes = buffer();
+    let n = io::read_full(INPUT, &mut bytes);
+    let counts = walk::walk(&bytes[..n]);
+    report(counts, n);
 }

@@ -37,6 +37,45 @@ pub enum Record {
     Bad,
 }
 
+// Two answers, word by word. Of a refusal only the number is compared: the original tells no places.
+fn compared(stored: [u64; 4], found: [u64; 4]) -> Verdict
+    ensures { λ r. ⌜ r ≡ compare stored found ⌝ }
+{
+    if stored[0] != found[0] {
+        return Verdict::Different;
+    }
+    if stored[0] != 0 {
+        return Verdict::Same;
+    }
+    if stored[1] != found[1] {
+        return Verdict::Different;
+    }
+    if stored[2] != found[2] {
+        return Verdict::Different;
+    }
+    if stored[3] != found[3] {
+        return Verdict::Different;
+    }
+    Verdict::Same
+}
+
+// What the library answers to an input, held to the stored answer. Each kind has its call here and nowhere else.
+fn replayed(kind: usize, input: &[u8], stored: [u64; 4]) -> Verdict
+    ensures { λ r. ⌜ r ≡ verdictOf kind (now (input .entry)) stored ⌝ }
+{
+    let end = input.len();
+    match kind {
+        1 => compared(stored, number_words(leb128_u64(input, 0, end))),
+        2 => compared(stored, number_words(leb128_u32(input, 0, end))),
+        3 => compared(stored, prefixed_words(length_prefixed_bytes(input, 0, end))),
+        4 => compared(
+            stored,
+            hash_list_words(length_prefixed_hashes(input, 0, end)),
+        ),
+        _ => Verdict::Unknown,
+    }
+}
+
 // The record at a place.
 pub fn record_at(bytes: &[u8], at: usize) -> Record
     requires { ⌜ at ≤ length (now bytes) ⌝ }
@@ -66,43 +105,4 @@ pub fn record_at(bytes: &[u8], at: usize) -> Record
         },
         Verdict::Unknown => Record::Bad,
     }
-}
-
-// What the library answers to an input, held to the stored answer. Each kind has its call here and nowhere else.
-fn replayed(kind: usize, input: &[u8], stored: [u64; 4]) -> Verdict
-    ensures { λ r. ⌜ r ≡ verdictOf kind (now (input .entry)) stored ⌝ }
-{
-    let end = input.len();
-    match kind {
-        1 => compared(stored, number_words(leb128_u64(input, 0, end))),
-        2 => compared(stored, number_words(leb128_u32(input, 0, end))),
-        3 => compared(stored, prefixed_words(length_prefixed_bytes(input, 0, end))),
-        4 => compared(
-            stored,
-            hash_list_words(length_prefixed_hashes(input, 0, end)),
-        ),
-        _ => Verdict::Unknown,
-    }
-}
-
-// Two answers, word by word. Of a refusal only the number is compared: the original tells no places.
-fn compared(stored: [u64; 4], found: [u64; 4]) -> Verdict
-    ensures { λ r. ⌜ r ≡ compare stored found ⌝ }
-{
-    if stored[0] != found[0] {
-        return Verdict::Different;
-    }
-    if stored[0] != 0 {
-        return Verdict::Same;
-    }
-    if stored[1] != found[1] {
-        return Verdict::Different;
-    }
-    if stored[2] != found[2] {
-        return Verdict::Different;
-    }
-    if stored[3] != found[3] {
-        return Verdict::Different;
-    }
-    Verdict::Same
 }

@@ -7,6 +7,12 @@ ghost use Rattle.replay.specs.Walk.{oneIf, fresh, added, Room, walkOf, C
 // Kinds are below this; 0 is none.
 const KINDS: usize = 5;
 
+fn one_if(b: bool) -> u64
+    ensures { λ r. ⌜ r ≡ oneIf b ⌝ }
+{
+    if b { 1 } else { 0 }
+}
+
 // How many records of each kind there are, and how many of them agree, up to the place `end`: the sample's end, or the first bad record.
 pub struct Counts {
     pub records: [u64; KINDS],
@@ -35,12 +41,6 @@ impl Counts {
         self.end = next;
         self
     }
-}
-
-fn one_if(b: bool) -> u64
-    ensures { λ r. ⌜ r ≡ oneIf b ⌝ }
-{
-    if b { 1 } else { 0 }
 }
 
 // Walks from record to record, and counts. It stops at a bad record, since nothing says where the next one starts.
