@@ -89,13 +89,13 @@ module _ (s haves : List ℕ) (total : ℕ) where
       let d : total - 0 ≡ total = omega arith in
       rw (none, d, e)
 
-  pub syncs-on : (i h : ℕ) (a b : Bool) → i < total
-      → b ≡ (a || member h (hashesAt s (syncPlace haves i) (syncCount haves i)))
+  pub syncs-on : (i h place count : ℕ) (a b : Bool) → i < total → place ≡ syncPlace haves i → count ≡ syncCount haves i
+      → b ≡ (a || member h (hashesAt s place count))
       → (b || member h (syncsFrom (i + 1))) ≡ (a || member h (syncsFrom i))
   unfolding syncsFrom havesFrom haveIn lastSyncs
-  syncs-on i h a b l e =
+  syncs-on i h place count a b l p c e =
       let d : total - i ≡ suc (total - (i + 1)) = omega arith in
-      rw (e, d, add-one i, member-append) (or-assoc a _ _)
+      rw (e, p, c, d, add-one i, member-append) (or-assoc a _ _)
 
   pub syncs-done : (i h : ℕ) (a : Bool) → total ≤ i → (a || member h (syncsFrom i)) ≡ a
   unfolding syncsFrom havesFrom lastSyncs member

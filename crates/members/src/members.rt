@@ -1,5 +1,7 @@
 // The members of S, as marks of rows: candidates that every filter misses, and candidates that depend on a member.
 use bloom::have::HAVE_WORDS;
+use bloom::have::sync_count;
+use bloom::have::sync_place;
 use graph::marks::mark_below;
 use graph::marks::mark_list;
 use probe::contains::contains_hash;
@@ -29,8 +31,8 @@ fn mark_syncs(table: &[u8], n: usize, bytes: &[u8], haves: &[u64], marks: &mut [
     let total = haves.len() / HAVE_WORDS;
     let mut k = 0;
     while k < total {
-        let place = haves[k * HAVE_WORDS] as usize;
-        let count = haves[k * HAVE_WORDS + 1] as usize;
+        let place = sync_place(haves, k);
+        let count = sync_count(haves, k);
         mark_list(table, n, bytes, place, count, marks);
         k += 1;
     }

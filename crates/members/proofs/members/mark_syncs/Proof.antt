@@ -31,33 +31,21 @@ abbrev μ-loop : tie.MeasureT-loop
 loop-holds : tie.Need-loop-holds Inv-loop μ-loop
 loop-holds c = record { long = refl; rest = λ k h. syncs-start _ _ _ refl _ _ (c .before .before .before .before .pre .3 .each k h) }
 
-mul-place : tie.Need-mul-place Inv-loop μ-loop
-mul-place c = search needs
+sync-place-requires : tie.Need-sync-place-requires Inv-loop μ-loop
+sync-place-requires c κs = search needs
 
-mul-place-2 : tie.Need-mul-place-2 Inv-loop μ-loop
-mul-place-2 c = search needs
-
-shared-slice-read-place : tie.Need-shared-slice-read-place Inv-loop μ-loop
-shared-slice-read-place c = search needs
-
-mul-count : tie.Need-mul-count Inv-loop μ-loop
-mul-count c = search needs
-
-add-count : tie.Need-add-count Inv-loop μ-loop
-add-count c = search needs
-
-mul-count-2 : tie.Need-mul-count-2 Inv-loop μ-loop
-mul-count-2 c = search needs
-
-shared-slice-read-count : tie.Need-shared-slice-read-count Inv-loop μ-loop
-shared-slice-read-count c = search needs
+sync-count-requires : tie.Need-sync-count-requires Inv-loop μ-loop
+sync-count-requires c κs = search needs
 
 mark-list-requires : tie.Need-mark-list-requires Inv-loop μ-loop
 mark-list-requires c κs =
     let l = c .before .before .before in
     let b = l .before in
-    let start = b .before .before .before .before .before in
-    (start .pre .0, start .pre .1 .each (b .loop .k) (l .loop-test .taken), omega (arith, start .pre .2, b .loop .inv .long))
+    let start = b .before .before .before .before .before in (
+      start .pre .0,
+      rw (c .before .before .sync-place .ensures, c .before .sync-count .ensures) (start .pre .1 .each (b .loop .k) (l .loop-test .taken)),
+      omega (arith, start .pre .2, b .loop .inv .long),
+    )
 
 add-k : tie.Need-add-k Inv-loop μ-loop
 add-k c = search needs
@@ -68,11 +56,18 @@ loop-less c = search needs
 loop-again : tie.Need-loop-again Inv-loop μ-loop
 loop-again c =
     let m = c .before .before in
-    let l = m .before .before .before .before in
+    let n = m .before .before in
+    let l = n .before .before in
     let b = l .before in
     record {
       long = m .mark-list .kept .1 .1 .1 .1 .1 .0 ∙ b .loop .inv .long;
-      rest = λ k h. syncs-on _ _ _ _ _ (getD (b .loop .marks) k false) _ (l .loop-test .taken) (m .mark-list .ensures .each k h) ∙ b .loop .inv .rest k h;
+      rest =
+          λ k h.
+          syncs-on _ _ _ _ _ _ _ (getD (b .loop .marks) k false) _ (l .loop-test .taken)
+          (n .before .sync-place .ensures)
+          (n .sync-count .ensures)
+          (m .mark-list .ensures .each k h)
+          ∙ b .loop .inv .rest k h;
     }
 
 same-length : tie.Need-same-length Inv-loop μ-loop
@@ -88,13 +83,8 @@ mark-syncs-spec =
     Inv-loop
     μ-loop
     loop-holds
-    mul-place
-    mul-place-2
-    shared-slice-read-place
-    mul-count
-    add-count
-    mul-count-2
-    shared-slice-read-count
+    sync-place-requires
+    sync-count-requires
     mark-list-requires
     add-k
     loop-less
