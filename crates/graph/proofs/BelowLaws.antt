@@ -16,7 +16,7 @@ use Rattle.rules.proofs.OrderLaws.{member-none}
 use Rattle.rules.proofs.ReachLaws.{reach-equation, reach-base, reach-closed, reach-least}
 use Rattle.rules.specs.Hash.{AreHashes}
 use Rattle.tables.specs.Table.{Row, noRow, rows, hashOf, depsOf, GoodTable, indexIn, rowNumber, held, deps}
-use Rattle.tables.proofs.TableLaws.{length-rows, place-of-row, held-row, row-of-held, hash-of-held, place-of-stranger}
+use Rattle.tables.proofs.TableLaws.{length-rows, number-of-row, held-row, row-of-held, hash-of-held, index-of-unknown}
 use Rattle.graph.specs.Graph.{belowRow, below, beyond}
 use Rattle.graph.proofs.PickLaws.{rows-where, rows-most, chosen-hashes}
 
@@ -44,7 +44,7 @@ map-member f (x ∷ xs) g m =
 pub no-deps : (t : List Row) (h : ℕ) → held t h ≡ false → deps t h ≡ []
 unfolding deps depsOf rowNumber held
 no-deps t h e =
-    let p : indexIn (rows t) h ≡ length t = place-of-stranger (rows t) h e ∙ length-rows t in
+    let p : indexIn (rows t) h ≡ length t = index-of-unknown (rows t) h e ∙ length-rows t in
     let none : getD t (length t) noRow ≡ noRow = List·getD-eq-default t noRow (omega arith) in
     ap (λ (k : ℕ). map (hashOf t) (getD t k noRow .deps)) p ∙ ap (λ (r : Row). map (hashOf t) (r .deps)) none
 
@@ -76,7 +76,7 @@ module _ (t : List Row) (good : GoodTable t) where
   -- a row's number and what its row names, as hashes
   pub deps-of-hash : (i k : ℕ) → i < length t → member k (depsOf t i) ≡ true → member (hashOf t k) (deps t (hashOf t i)) ≡ true
   unfolding deps
-  deps-of-hash i k h m = rw (place-of-row t good i h) (member-map (hashOf t) (depsOf t i) k m)
+  deps-of-hash i k h m = rw (number-of-row t good i h) (member-map (hashOf t) (depsOf t i) k m)
 
   -- what holds of a row if it holds of all that the row depends on holds of every row
   module _ (P : ℕ → Type 0) (step : (h : ℕ) → held t h ≡ true → ((g : ℕ) → member g (deps t h) ≡ true → P g) → P h) where
@@ -87,7 +87,7 @@ module _ (t : List Row) (good : GoodTable t) where
         (λ g m.
         let d = dependency h g m in
         let less : d .row < length t = omega (arith, d .less, d .inside) in
-        let at : rowNumber t g ≡ d .row = ap (rowNumber t) (sym (d .is)) ∙ place-of-row t good (d .row) less in
+        let at : rowNumber t g ≡ d .row = ap (rowNumber t) (sym (d .is)) ∙ number-of-row t good (d .row) less in
         from-first n g (omega (arith, d .less)) (deps-held h g m))
 
     pub row-induction : (h : ℕ) → held t h ≡ true → P h
@@ -111,9 +111,9 @@ module _ (t : List Row) (good : GoodTable t) (l : List ℕ) where
   below-equation i h = reach-equation (length t) (λ k. member (hashOf t k) l) (λ k j. member j (depsOf t k)) i h
 
   -- L's known hashes are below
-  pub below-known : (h : ℕ) → held t h ≡ true → member h l ≡ true → below t l h ≡ true
+  pub below-listed : (h : ℕ) → held t h ≡ true → member h l ≡ true → below t l h ≡ true
   unfolding belowRow
-  below-known h e m =
+  below-listed h e m =
       below-row h e
       ∙ reach-base (length t) (λ k. member (hashOf t k) l) (λ k j. member j (depsOf t k)) (rowNumber t h) (row-of-held t h e) (rw (hash-of-held t h e) m)
 
@@ -123,7 +123,7 @@ module _ (t : List Row) (good : GoodTable t) (l : List ℕ) where
   below-deps h g b m =
       let d = dependency t good h g m in
       let less : d .row < length t = omega (arith, d .less, d .inside) in
-      let at : rowNumber t g ≡ d .row = ap (rowNumber t) (sym (d .is)) ∙ place-of-row t good (d .row) less in
+      let at : rowNumber t g ≡ d .row = ap (rowNumber t) (sym (d .is)) ∙ number-of-row t good (d .row) less in
       below-row g (deps-held t good h g m)
       ∙ rw at
       (reach-closed (length t) (λ k. member (hashOf t k) l) (λ k j. member j (depsOf t k)) (rowNumber t h) (d .row) (d .inside) less

@@ -13,9 +13,9 @@ use Rattle.rules.proofs.OrderLaws.{ascend-ascends, ascend-members, ascend-most}
 use Rattle.rules.proofs.ReachLaws.{some-below, some-witness}
 use Rattle.rules.specs.Hash.{AreHashes}
 use Rattle.tables.specs.Table.{Row, rows, hashOf, depsOf, GoodTable, rowNumber, held, deps, rowsWhere}
-use Rattle.tables.proofs.TableLaws.{place-of-row, held-row, row-of-held, hash-of-held}
+use Rattle.tables.proofs.TableLaws.{number-of-row, held-row, row-of-held, hash-of-held}
 use Rattle.graph.specs.Graph.{needed, heads, below}
-use Rattle.graph.proofs.BelowLaws.{dependency, deps-of-hash, below-known, below-deps}
+use Rattle.graph.proofs.BelowLaws.{dependency, deps-of-hash, below-listed, below-deps}
 use Rattle.graph.proofs.PickLaws.{rows-where, rows-member, rows-most}
 
 pub heads-ascend : (t : List Row) → ascends (heads t) ≡ true
@@ -54,7 +54,7 @@ module _ (t : List Row) (good : GoodTable t) where
       (λ e.
       let d = dependency t good g h e in
       let less : d .row < length t = omega (arith, d .less, d .inside) in
-      let at : d .row ≡ rowNumber t h = sym (place-of-row t good (d .row) less) ∙ ap (rowNumber t) (d .is) in
+      let at : d .row ≡ rowNumber t h = sym (number-of-row t good (d .row) less) ∙ ap (rowNumber t) (d .is) in
       let named : member (rowNumber t h) (depsOf t (rowNumber t g)) ≡ true = rw at at (d .there) in
       absurd (true-false _ (some-below (length t) (λ k. member (rowNumber t h) (depsOf t k)) (rowNumber t g) (d .inside) named) (head-unneeded h m)))
       (λ e. e)
@@ -72,7 +72,7 @@ module _ (t : List Row) (good : GoodTable t) where
         let w = some-witness (length t) (λ k. member i (depsOf t k)) e in
         let later : i < w .k = good .down (w .k) i (w .less) (w .is) in
         step (hashOf t (w .k)) (hashOf t i) (held-row t (w .k) (w .less)) (from-last d (w .k) (omega arith) (w .less)) (deps-of-hash t good (w .k) i (w .less) (w .is)))
-        (λ e. base (hashOf t i) (head-is (hashOf t i) ∙ rw (held-row t i h, place-of-row t good i h, e)))
+        (λ e. base (hashOf t i) (head-is (hashOf t i) ∙ rw (held-row t i h, number-of-row t good i h, e)))
 
     pub heads-cover : (h : ℕ) → held t h ≡ true → P h
     heads-cover h e = subst P (hash-of-held t h e) (from-last (length t) (rowNumber t h) (omega arith) (row-of-held t h e))
@@ -81,5 +81,5 @@ module _ (t : List Row) (good : GoodTable t) where
   pub rows-below-heads : (h : ℕ) → held t h ≡ true → below t (heads t) h ≡ true
   rows-below-heads =
       heads-cover (λ (h : ℕ). below t (heads t) h ≡ true)
-      (λ h m. below-known t good (heads t) h (head-held h m) m)
+      (λ h m. below-listed t good (heads t) h (head-held h m) m)
       (λ h g e b d. below-deps t good (heads t) h g b d)

@@ -19,7 +19,7 @@ use Rattle.tables.specs.Bytes.{u16At, depCount, usedAt, rowsAt, GoodRows}
 use Rattle.tables.specs.Table.{Row, rows, hashOf, depsOf, indexIn}
 use Rattle.rules.proofs.KeepLaws.{once-index}
 use Rattle.tables.proofs.GoodLaws.{good-down}
-use Rattle.tables.proofs.TableLaws.{at-place, place-first, length-rows, length-rows-at, deps-of-row, numberAt, length-used, used-index}
+use Rattle.tables.proofs.TableLaws.{entry-at-index, index-first, length-rows, length-rows-at, deps-of-row, numberAt, length-used, used-index}
 use Rattle.rules.proofs.Cases.{split, both, same-truth, or-right}
 use Rattle.rules.proofs.OrderLaws.{index-member}
 use Rattle.rules.proofs.ReachLaws.{some-witness, reach-unique}
@@ -238,7 +238,7 @@ module _ (hs : List ℕ) where
         split (ltb (indexIn hs h) (length hs))
         (λ e.
         let inside : indexIn hs h < length hs = ltb-true _ _ e in
-        let at : getD hs (indexIn hs h) 0 ≡ h = at-place hs h inside in
+        let at : getD hs (indexIn hs h) 0 ≡ h = entry-at-index hs h inside in
         let same : eqb i (indexIn hs h) ≡ eqb (getD hs i 0) h =
         same-truth (eqb i (indexIn hs h)) (eqb (getD hs i 0) h)
         (λ q. eq-eqb (getD hs i 0) h (ap (λ (k : ℕ). getD hs k 0) (eqb-true i (indexIn hs h) q) ∙ at))
@@ -246,7 +246,7 @@ module _ (hs : List ℕ) where
         rw e (mark-at m (indexIn hs h) i (omega arith) ∙ rw same))
         (λ e.
         let none : eqb (getD hs i 0) h ≡ false =
-        ne-eqb (getD hs i 0) h (λ q. let p = place-first hs h i l q in omega (arith, ltb-false (indexIn hs h) (length hs) e)) in
+        ne-eqb (getD hs i 0) h (λ q. let p = index-first hs h i l q in omega (arith, ltb-false (indexIn hs h) (length hs) e)) in
         rw (e, none) (sym (or-false (getD m i false))))
 
     mark-list : (m : List Bool) (l : List ℕ) (i : ℕ) → length hs ≤ length m → i < length hs
@@ -264,9 +264,9 @@ module _ (s : List ℕ) (n : ℕ) where
   long : length hs ≡ n
   long = length-rows (rowsAt s 0 n) ∙ length-rows-at s 0 n
 
-  pub hash-known : (m : List Bool) (h row : ℕ) → row ≡ indexIn hs h → row < n → set m row true ≡ markHash hs m h
+  pub hash-held : (m : List Bool) (h row : ℕ) → row ≡ indexIn hs h → row < n → set m row true ≡ markHash hs m h
   unfolding markHash
-  hash-known m h row e l = rw (← e, long, lt-ltb row n l)
+  hash-held m h row e l = rw (← e, long, lt-ltb row n l)
 
   pub hash-unknown : (m : List Bool) (h row : ℕ) → row ≡ indexIn hs h → n ≤ row → m ≡ markHash hs m h
   unfolding markHash

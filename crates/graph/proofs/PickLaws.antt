@@ -19,7 +19,7 @@ use Rattle.rules.proofs.Hash.{length-hashes-bytes}
 use Rattle.rules.proofs.KeepLaws.{once-none, once-first, once-tail, once-cons, hashes-inside}
 use Rattle.rules.proofs.OrderLaws.{index-member}
 use Rattle.tables.specs.Table.{Row, GoodTable, rows, hashOf, rowNumber, held, rowsFrom, rowsWhere}
-use Rattle.tables.proofs.TableLaws.{length-rows, place-of-row, held-row, row-of-held, hash-of-held}
+use Rattle.tables.proofs.TableLaws.{length-rows, number-of-row, held-row, row-of-held, hash-of-held}
 use Rattle.graph.specs.Marks.{Marks, marked, pickFrom, picked}
 
 -- ---- which they are
@@ -239,7 +239,7 @@ rows-where t good p h =
     (λ m.
     let w = pick-out (rows t) p 0 h (rw (rows-picked t p) at m) in
     let less : w .k < length t = omega (arith, w .less, length-rows t) in
-    let at : rowNumber t h ≡ w .k = ap (rowNumber t) (sym (w .is)) ∙ place-of-row t good (w .k) less in
+    let at : rowNumber t h ≡ w .k = ap (rowNumber t) (sym (w .is)) ∙ number-of-row t good (w .k) less in
     let chosen : p (w .k) ≡ true = rw zero-add at (w .chosen) in
     and-true (held t h) (p (rowNumber t h)) (rw (w .is) at (held-row t (w .k) less)) (rw at chosen))
     (λ e.

@@ -23,7 +23,14 @@ ghost use Rattle.graph.specs.Graph.{belowRow, beyond};
 ghost use Rattle.graph.specs.Marks.{Marks, Blank};
 
 // Marks the rows of a list and all below them.
-pub fn mark_known(table: &[u8], n: usize, l: &[u8], place: usize, count: usize, marks: &mut [bool])
+pub fn mark_at_or_below(
+    table: &[u8],
+    n: usize,
+    l: &[u8],
+    place: usize,
+    count: usize,
+    marks: &mut [bool],
+)
     requires { ⌜ GoodRows (now table) n × (place + sizes .hash * count ≤ length (now l)) × (n ≤ length (now marks)) × Blank n (now marks) ⌝ }
     ensures { λ _. ⌜ Marks n (now (marks .exit)) (belowRow (rowsAt (now (table .entry)) 0 n) (hashesAt (now (l .entry)) place count)) ⌝ }
 {
@@ -37,7 +44,7 @@ pub fn put_beyond(table: &[u8], n: usize, l: &[u8], count: usize, out: &mut [u8]
     ensures { λ r. ⌜ Written (Output.bytes (hashesBytes (beyond (rowsAt (now (table .entry)) 0 n) (hashesAt (now (l .entry)) 0 count)))) (now (out .entry)) (now (out .exit)) r ⌝ }
 {
     let mut marks = [false; ROWS];
-    mark_known(table, n, l, 0, count, &mut marks);
+    mark_at_or_below(table, n, l, 0, count, &mut marks);
     flip(n, &mut marks);
     let size = HASH_SIZE * count_marked(n, &marks);
     if out.len() < size {

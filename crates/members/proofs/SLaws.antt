@@ -14,7 +14,7 @@ use Rattle.rules.proofs.Cases.{split, both, true-false, or-left, or-right, and-
 use Rattle.rules.proofs.KeepLaws.{no-members}
 use Rattle.rules.proofs.ReachLaws.{reach-least}
 use Rattle.tables.specs.Table.{Row, GoodTable, rows, hashOf, depsOf, rowNumber, held, deps}
-use Rattle.tables.proofs.TableLaws.{place-of-row, held-row, row-of-held, hash-of-held}
+use Rattle.tables.proofs.TableLaws.{number-of-row, held-row, row-of-held, hash-of-held}
 use Rattle.graph.specs.Graph.{below}
 use Rattle.graph.proofs.BelowLaws.{below-row, below-deps, dependency, only-rows, deps-of-hash}
 use Rattle.graph.proofs.PickLaws.{rows-where, rows-once, rows-most, chosen-hashes}
@@ -103,7 +103,7 @@ module _ (t : List Row) (good : GoodTable t) (haves : List Have) where
       let d = dependency t good h g m in
       let e = only-rows t good h g m in
       let less : d .row < length t = omega (arith, d .less, d .inside) in
-      let at : rowNumber t g ≡ d .row = ap (rowNumber t) (sym (d .is)) ∙ place-of-row t good (d .row) less in
+      let at : rowNumber t g ≡ d .row = ap (rowNumber t) (sym (d .is)) ∙ number-of-row t good (d .row) less in
       let in′ : inTheS t haves (d .row) ≡ true = rw at at (s-row g s) in
       let c : candidate t haves (rowNumber t h) ≡ true = candidate-row h e ∙ rw (candidate-upward h g m (s-beyond g s)) in
       s-rows h
@@ -143,7 +143,7 @@ module _ (t : List Row) (good : GoodTable t) (haves : List Have) where
       outside : (i : ℕ) → i < length t → candidate t haves i ≡ true → below t (lastSyncs haves) (hashOf t i) ≡ false
       outside i f c =
           not-true (below t (lastSyncs haves) (hashOf t i))
-          (sym (candidate-row (hashOf t i) (held-row t i f)) ∙ rw (place-of-row t good i f) c)
+          (sym (candidate-row (hashOf t i) (held-row t i f)) ∙ rw (number-of-row t good i f) c)
 
   -- where every candidate is in some filter, S is empty
   pub s-empty : ((h : ℕ) → held t h ≡ true → below t (lastSyncs haves) h ≡ false → anyContains (filters haves) h ≡ true) → theS t haves ≡ []

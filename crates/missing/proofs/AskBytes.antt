@@ -12,7 +12,7 @@ use Rattle.rules.proofs.Hash.{length-hashes-at}
 use Rattle.tables.specs.Bytes.{rowSize, rowsAt, asksCount, asksPlace, waitingsAt, waitingOf}
 use Rattle.tables.specs.Table.{rows, held, indexIn}
 use Rattle.tables.specs.Waiting.{waiting, asks}
-use Rattle.tables.proofs.TableLaws.{length-rows, length-rows-at, place-at-most, member-of-place, stranger-of-place}
+use Rattle.tables.proofs.TableLaws.{length-rows, length-rows-at, index-at-most, member-of-index, unknown-of-index}
 use Rattle.tables.proofs.WaitingLaws.{length-waiting, length-waitings-at, asks-of-waiting, WaitingDecoded, decoded-asks-count}
 use Rattle.missing.specs.Ask.{Request, change, list, held-hash, marked, waits, unknown-hash, none, more, Askable, Asked, Found}
 use Rattle.missing.specs.Missing.{missing}
@@ -27,21 +27,21 @@ module _ (s : List ℕ) (n h r : ℕ) (e : r ≡ indexIn (rows (rowsAt s 0 n)) h
 
   pub is-held : r < n → held (rowsAt s 0 n) h ≡ true
   unfolding held
-  is-held b = member-of-place (rows (rowsAt s 0 n)) h (omega (arith, long-rows, e))
+  is-held b = member-of-index (rows (rowsAt s 0 n)) h (omega (arith, long-rows, e))
 
   pub not-held : n ≤ r → held (rowsAt s 0 n) h ≡ false
   unfolding held
-  not-held b = stranger-of-place (rows (rowsAt s 0 n)) h (omega (arith, long-rows, e, place-at-most (rows (rowsAt s 0 n)) h))
+  not-held b = unknown-of-index (rows (rowsAt s 0 n)) h (omega (arith, long-rows, e, index-at-most (rows (rowsAt s 0 n)) h))
 
 module _ (s : List ℕ) (n h r : ℕ) (e : r ≡ indexIn (waiting (waitingsAt s 0 n)) h) where
   long-waiting : length (waiting (waitingsAt s 0 n)) ≡ n
   long-waiting = length-waiting (waitingsAt s 0 n) ∙ length-waitings-at s 0 n
 
   pub is-waiting : r < n → member h (waiting (waitingsAt s 0 n)) ≡ true
-  is-waiting b = member-of-place (waiting (waitingsAt s 0 n)) h (omega (arith, long-waiting, e))
+  is-waiting b = member-of-index (waiting (waitingsAt s 0 n)) h (omega (arith, long-waiting, e))
 
   pub not-waiting : n ≤ r → member h (waiting (waitingsAt s 0 n)) ≡ false
-  not-waiting b = stranger-of-place (waiting (waitingsAt s 0 n)) h (omega (arith, long-waiting, e, place-at-most (waiting (waitingsAt s 0 n)) h))
+  not-waiting b = unknown-of-index (waiting (waitingsAt s 0 n)) h (omega (arith, long-waiting, e, index-at-most (waiting (waitingsAt s 0 n)) h))
 
 -- ---- one change
 

@@ -17,7 +17,7 @@ use Rattle.rules.proofs.OrderLaws.{ascend-ascends, ascend-members, member-appen
 use Rattle.rules.proofs.ReachLaws.{reach-base, reach-closed, reach-least}
 use Rattle.tables.specs.Table.{Row, held, indexIn}
 use Rattle.tables.specs.Waiting.{Waiting, noWaiting, waiting, asks, asksOf}
-use Rattle.tables.proofs.TableLaws.{place-of-member, at-place, member-at, place-once}
+use Rattle.tables.proofs.TableLaws.{index-of-member, entry-at-index, member-at, index-of-entry}
 use Rattle.tables.proofs.WaitingLaws.{length-waiting}
 use Rattle.missing.specs.Missing.{unknown, Missing, itself, through, askedRow, asksFrom, missing}
 use Rattle.missing.specs.Ask.{list, Asks}
@@ -87,7 +87,7 @@ module _ (t : List Row) (w : List Waiting) where
       climb i b hs m n x d =
           let in-waiting : i < length (waiting w) = rw length-waiting b in
           let own : indexIn (waiting w) (getD (waiting w) i 0) ≡ i =
-          place-once (waiting w) once i in-waiting
+          index-of-entry (waiting w) once i in-waiting
           in
           through {h = x} (getD (waiting w) i 0) m (not-true _ n) (member-at (waiting w) i in-waiting) (rw own d)
 
@@ -107,9 +107,9 @@ module _ (t : List Row) (w : List Waiting) where
         → askedRow t w l (indexIn (waiting w) u) ≡ true
     unfolding askedRow asked-for
     row-asked u e a b =
-        let in-waiting = place-of-member (waiting w) u b in
+        let in-waiting = index-of-member (waiting w) u b in
         let inside : indexIn (waiting w) u < length w = rw length-waiting at in-waiting in
-        let at : getD (waiting w) (indexIn (waiting w) u) 0 ≡ u = at-place (waiting w) u in-waiting in
+        let at : getD (waiting w) (indexIn (waiting w) u) 0 ≡ u = entry-at-index (waiting w) u in-waiting in
         either (member u l) (member u (asksFrom 0 w (askedRow t w l))) (sym (member-append u l (asksFrom 0 w (askedRow t w l))) ∙ e)
         (λ p. reach-base (length w) _ _ (indexIn (waiting w) u) inside (rw (at, p, a)))
         (λ p. asks-some (askedRow t w l) u w p
@@ -123,7 +123,7 @@ module _ (t : List Row) (w : List Waiting) where
     missing-kept (through {l = hs} {h = x} u a b c d) f =
         missing-kept d
         (λ g e.
-        let inside : indexIn (waiting w) u < length w = rw length-waiting at (place-of-member (waiting w) u c) in
+        let inside : indexIn (waiting w) u < length w = rw length-waiting at (index-of-member (waiting w) u c) in
         rw (member-append g l (asksFrom 0 w (askedRow t w l)))
         (or-right (member g l) _ (some-asks (askedRow t w l) g w (indexIn (waiting w) u) inside (row-asked u (f u a) b c) e)))
 

@@ -19,7 +19,7 @@ use Rattle.rules.proofs.KeepLaws.{keep-append, keep-keep, keep-same}
 use Rattle.rules.proofs.Outputs.{sets-append}
 use Rattle.tables.specs.Bytes.{rowsAt}
 use Rattle.tables.specs.Table.{Row, GoodTable, rows, hashOf, rowNumber, indexIn, held, rowsWhere}
-use Rattle.tables.proofs.TableLaws.{length-rows-at, row-of-held, hash-of-held, member-of-place, stranger-of-place, place-at-most}
+use Rattle.tables.proofs.TableLaws.{length-rows-at, row-of-held, hash-of-held, member-of-index, unknown-of-index, index-at-most}
 use Rattle.graph.specs.Marks.{Marks, Blank, marked, picked}
 use Rattle.graph.proofs.GraphMarks.{many-rows, marked-rows}
 use Rattle.graph.proofs.MarkLaws.{blank-or}
@@ -88,8 +88,8 @@ module _ (s : List ℕ) (n : ℕ) (members past : List Bool) (h row : ℕ) (foun
   pub held-none : n ≤ row → false ≡ heldUnmarked (rowsAt s 0 n) members past h
   unfolding heldUnmarked held
   held-none l =
-      let behind : indexIn (rows (rowsAt s 0 n)) h ≡ length (rows (rowsAt s 0 n)) = omega (arith, many-rows s n, place-at-most (rows (rowsAt s 0 n)) h) in
-      rw (stranger-of-place (rows (rowsAt s 0 n)) h behind)
+      let behind : indexIn (rows (rowsAt s 0 n)) h ≡ length (rows (rowsAt s 0 n)) = omega (arith, many-rows s n, index-at-most (rows (rowsAt s 0 n)) h) in
+      rw (unknown-of-index (rows (rowsAt s 0 n)) h behind)
 
   module _ (l : row < n) where
     inside : indexIn (rows (rowsAt s 0 n)) h < length (rows (rowsAt s 0 n))
@@ -97,11 +97,11 @@ module _ (s : List ℕ) (n : ℕ) (members past : List Bool) (h row : ℕ) (foun
 
     pub held-member : getD members row false ≡ true → false ≡ heldUnmarked (rowsAt s 0 n) members past h
     unfolding heldUnmarked held rowNumber
-    held-member e = rw (member-of-place (rows (rowsAt s 0 n)) h inside, ← found, e)
+    held-member e = rw (member-of-index (rows (rowsAt s 0 n)) h inside, ← found, e)
 
     pub held-past : getD members row false ≡ false → not (getD past row false) ≡ heldUnmarked (rowsAt s 0 n) members past h
     unfolding heldUnmarked held rowNumber
-    held-past e = rw (member-of-place (rows (rowsAt s 0 n)) h inside, ← found, e)
+    held-past e = rw (member-of-index (rows (rowsAt s 0 n)) h inside, ← found, e)
 
 -- the needs, marked one after the other
 pub asking : List ℕ → ℕ → List ℕ → ℕ → List Bool → List Bool → ℕ → Bool → Bool

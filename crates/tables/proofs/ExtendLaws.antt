@@ -35,21 +35,21 @@ pub row-deps-stay : (t u : List Row) (i : ℕ) → i < length t → depsOf (t ++
 unfolding depsOf
 row-deps-stay t u i h = ap (λ (r : Row). r .deps) (List·getD-append t u noRow i h)
 
-place-before : (a b : List ℕ) (h : ℕ) → indexIn a h < length a → indexIn (a ++ b) h ≡ indexIn a h
+index-before : (a b : List ℕ) (h : ℕ) → indexIn a h < length a → indexIn (a ++ b) h ≡ indexIn a h
 unfolding indexIn
-place-before [] b h l = absurd (omega arith)
-place-before (x ∷ a) b h l =
+index-before [] b h l = absurd (omega arith)
+index-before (x ∷ a) b h l =
     split (eqb x h)
     (λ e. rw e)
     (λ e.
     let rest : indexIn a h < length a = omega (arith, rw e at l) in
-    rw e (ap suc (place-before a b h rest)))
+    rw e (ap suc (index-before a b h rest)))
 
-pub place-stays : (t u : List Row) (h : ℕ) → held t h ≡ true → rowNumber (t ++ u) h ≡ rowNumber t h
+pub number-stays : (t u : List Row) (h : ℕ) → held t h ≡ true → rowNumber (t ++ u) h ≡ rowNumber t h
 unfolding rowNumber
-place-stays t u h e =
+number-stays t u h e =
     let inside : indexIn (rows t) h < length (rows t) = omega (arith, length-rows t, row-of-held t h e) in
-    ap (λ (l : List ℕ). indexIn l h) (rows-append t u) ∙ place-before (rows t) (rows u) h inside
+    ap (λ (l : List ℕ). indexIn l h) (rows-append t u) ∙ index-before (rows t) (rows u) h inside
 
 -- functions that agree on a list's members give the same list
 map-same : (f g : ℕ → ℕ) (l : List ℕ) → ((k : ℕ) → member k l ≡ true → f k ≡ g k) → map f l ≡ map g l
@@ -60,7 +60,7 @@ pub deps-stay : (t u : List Row) → GoodTable t → (h : ℕ) → held t h ≡ 
 unfolding deps
 deps-stay t u good h e =
     let inside : rowNumber t h < length t = row-of-held t h e in
-    rw (place-stays t u h e, row-deps-stay t u (rowNumber t h) inside)
+    rw (number-stays t u h e, row-deps-stay t u (rowNumber t h) inside)
     (map-same (hashOf (t ++ u)) (hashOf t) (depsOf t (rowNumber t h))
     (λ k m. hash-stays t u k (omega (arith, good .down (rowNumber t h) k inside m))))
 

@@ -16,7 +16,7 @@ use Rattle.rules.proofs.KeepLaws.{every-member, every-one}
 use Rattle.rules.proofs.OrderLaws.{member-here, member-there, ascends-tail, ascends-first}
 use Rattle.tables.specs.Bytes.{u16At, u16sAt, usedOf, unusedOf, rowGoodOf, rowSize, depCount, usedAt, unusedAt, rowsAt, numbersGood, zeros, rowGood}
 use Rattle.tables.specs.Table.{rows, indexIn}
-use Rattle.tables.proofs.TableLaws.{numberAt, length-rows, length-rows-at, place-tells}
+use Rattle.tables.proofs.TableLaws.{numberAt, length-rows, length-rows-at, index-tells}
 
 -- ---- numbers that climb
 
@@ -154,4 +154,4 @@ module _ (s : List ℕ) (i : ℕ) where
         unfolding rowGoodOf
         row-hash e r q =
             let n : length (rows (rowsAt s 0 i)) ≡ i = length-rows (rowsAt s 0 i) ∙ length-rows-at s 0 i in
-            rw (← is, le-leb count (sizes .dependencies) few, numbers, e, place-tells, ← q) (ap (eqb r) n)
+            rw (← is, le-leb count (sizes .dependencies) few, numbers, e, index-tells, ← q) (ap (eqb r) n)

@@ -21,74 +21,74 @@ use Rattle.tables.proofs.CheckLaws.{fewer, accepted, good-is-accepted}
 
 -- ---- places in a list
 
-pub place-at-most : (l : List ℕ) (h : ℕ) → indexIn l h ≤ length l
+pub index-at-most : (l : List ℕ) (h : ℕ) → indexIn l h ≤ length l
 unfolding indexIn
-place-at-most [] h = omega arith
-place-at-most (x ∷ xs) h = split (eqb x h) (λ e. rw e (omega arith)) (λ e. rw e (omega (arith, place-at-most xs h)))
+index-at-most [] h = omega arith
+index-at-most (x ∷ xs) h = split (eqb x h) (λ e. rw e (omega arith)) (λ e. rw e (omega (arith, index-at-most xs h)))
 
 -- a member has a place inside the list, and a number that has one is a member
-pub place-of-member : (l : List ℕ) (h : ℕ) → member h l ≡ true → indexIn l h < length l
+pub index-of-member : (l : List ℕ) (h : ℕ) → member h l ≡ true → indexIn l h < length l
 unfolding indexIn member
-place-of-member [] h m = absurd (let z : _≡_ {A = ℕ} 0 1 = cc in omega arith)
-place-of-member (x ∷ xs) h m =
+index-of-member [] h m = absurd (let z : _≡_ {A = ℕ} 0 1 = cc in omega arith)
+index-of-member (x ∷ xs) h m =
     split (eqb x h) (λ e. rw e (omega arith))
     (λ e.
     let other : eqb h x ≡ false = ne-eqb h x (λ q. eqb-false x h e (sym q)) in
-    rw e (omega (arith, place-of-member xs h (rw other at m))))
+    rw e (omega (arith, index-of-member xs h (rw other at m))))
 
-pub member-of-place : (l : List ℕ) (h : ℕ) → indexIn l h < length l → member h l ≡ true
+pub member-of-index : (l : List ℕ) (h : ℕ) → indexIn l h < length l → member h l ≡ true
 unfolding indexIn member
-member-of-place [] h p = absurd (not-suc-le-zero p)
-member-of-place (x ∷ xs) h p =
+member-of-index [] h p = absurd (not-suc-le-zero p)
+member-of-index (x ∷ xs) h p =
     split (eqb x h) (λ e. rw (eq-eqb h x (sym (eqb-true x h e))))
     (λ e.
     let other : eqb h x ≡ false = ne-eqb h x (λ q. eqb-false x h e (sym q)) in
-    rw other (member-of-place xs h (let q = rw e at p in omega (arith, q))))
+    rw other (member-of-index xs h (let q = rw e at p in omega (arith, q))))
 
 -- a number that isn't a member has the place after the list
-pub place-of-stranger : (l : List ℕ) (h : ℕ) → member h l ≡ false → indexIn l h ≡ length l
-place-of-stranger l h m =
+pub index-of-unknown : (l : List ℕ) (h : ℕ) → member h l ≡ false → indexIn l h ≡ length l
+index-of-unknown l h m =
     split (ltb (indexIn l h) (length l))
-    (λ e. absurd (let y : member h l ≡ true = member-of-place l h (ltb-true _ _ e) in let z : _≡_ {A = ℕ} 0 1 = cc in omega arith))
-    (λ e. omega (arith, ltb-false (indexIn l h) (length l) e, place-at-most l h))
+    (λ e. absurd (let y : member h l ≡ true = member-of-index l h (ltb-true _ _ e) in let z : _≡_ {A = ℕ} 0 1 = cc in omega arith))
+    (λ e. omega (arith, ltb-false (indexIn l h) (length l) e, index-at-most l h))
 
-pub stranger-of-place : (l : List ℕ) (h : ℕ) → indexIn l h ≡ length l → member h l ≡ false
-stranger-of-place l h p =
-    split (member h l) (λ e. absurd (omega (arith, place-of-member l h e))) (λ e. e)
+pub unknown-of-index : (l : List ℕ) (h : ℕ) → indexIn l h ≡ length l → member h l ≡ false
+unknown-of-index l h p =
+    split (member h l) (λ e. absurd (omega (arith, index-of-member l h e))) (λ e. e)
 
 -- so the place tells whether a number is a member
-pub place-tells : (l : List ℕ) (h : ℕ) → not (member h l) ≡ eqb (indexIn l h) (length l)
-place-tells l h =
+pub index-tells : (l : List ℕ) (h : ℕ) → not (member h l) ≡ eqb (indexIn l h) (length l)
+index-tells l h =
     split (member h l)
-    (λ e. rw (e, ne-eqb (indexIn l h) (length l) (λ q. let p = place-of-member l h e in omega (arith, p, q))))
-    (λ e. rw (e, eq-eqb (indexIn l h) (length l) (place-of-stranger l h e)))
+    (λ e. rw (e, ne-eqb (indexIn l h) (length l) (λ q. let p = index-of-member l h e in omega (arith, p, q))))
+    (λ e. rw (e, eq-eqb (indexIn l h) (length l) (index-of-unknown l h e)))
 
 -- the number stands at its place, and at none before it
-pub at-place : (l : List ℕ) (h : ℕ) → indexIn l h < length l → getD l (indexIn l h) 0 ≡ h
+pub entry-at-index : (l : List ℕ) (h : ℕ) → indexIn l h < length l → getD l (indexIn l h) 0 ≡ h
 unfolding indexIn
-at-place [] h p = absurd (not-suc-le-zero p)
-at-place (x ∷ xs) h p =
-    split (eqb x h) (λ e. rw e (eqb-true x h e)) (λ e. rw e (at-place xs h (let q = rw e at p in omega (arith, q))))
+entry-at-index [] h p = absurd (not-suc-le-zero p)
+entry-at-index (x ∷ xs) h p =
+    split (eqb x h) (λ e. rw e (eqb-true x h e)) (λ e. rw e (entry-at-index xs h (let q = rw e at p in omega (arith, q))))
 
-pub place-first : (l : List ℕ) (h k : ℕ) → k < length l → getD l k 0 ≡ h → indexIn l h ≤ k
+pub index-first : (l : List ℕ) (h k : ℕ) → k < length l → getD l k 0 ≡ h → indexIn l h ≤ k
 unfolding indexIn
-place-first [] h k b e = absurd (not-suc-le-zero b)
-place-first (x ∷ xs) h zero b e = rw (eq-eqb x h e) (omega arith)
-place-first (x ∷ xs) h (suc k) b e =
-    split (eqb x h) (λ q. rw q (omega arith)) (λ q. rw q (omega (arith, place-first xs h k (omega arith) e)))
+index-first [] h k b e = absurd (not-suc-le-zero b)
+index-first (x ∷ xs) h zero b e = rw (eq-eqb x h e) (omega arith)
+index-first (x ∷ xs) h (suc k) b e =
+    split (eqb x h) (λ q. rw q (omega arith)) (λ q. rw q (omega (arith, index-first xs h k (omega arith) e)))
 
 -- what stands in a list is a member
 pub member-at : (l : List ℕ) (k : ℕ) → k < length l → member (getD l k 0) l ≡ true
-member-at l k b = member-of-place l (getD l k 0) (omega (arith, place-first l (getD l k 0) k b refl))
+member-at l k b = member-of-index l (getD l k 0) (omega (arith, index-first l (getD l k 0) k b refl))
 
 pub member-is : (l : List ℕ) (h k : ℕ) → k < length l → getD l k 0 ≡ h → member h l ≡ true
-member-is l h k b e = member-of-place l h (omega (arith, place-first l h k b e))
+member-is l h k b e = member-of-index l h (omega (arith, index-first l h k b e))
 
 -- where no number stands twice, each stands at its own place
-pub place-once : (l : List ℕ) → Once l → (k : ℕ) → k < length l → indexIn l (getD l k 0) ≡ k
-place-once l once k b =
-    let inside : indexIn l (getD l k 0) < length l = omega (arith, place-first l (getD l k 0) k b refl) in
-    once-index l once (indexIn l (getD l k 0)) k inside b (at-place l (getD l k 0) inside)
+pub index-of-entry : (l : List ℕ) → Once l → (k : ℕ) → k < length l → indexIn l (getD l k 0) ≡ k
+index-of-entry l once k b =
+    let inside : indexIn l (getD l k 0) < length l = omega (arith, index-first l (getD l k 0) k b refl) in
+    once-index l once (indexIn l (getD l k 0)) k inside b (entry-at-index l (getD l k 0) inside)
 
 -- ---- rows by their numbers
 
@@ -96,10 +96,10 @@ pub length-rows : (t : List Row) → length (rows t) ≡ length t
 unfolding rows
 length-rows t = length-map t _
 
-pub place-of-row : (t : List Row) → GoodTable t → (i : ℕ) → i < length t → rowNumber t (hashOf t i) ≡ i
+pub number-of-row : (t : List Row) → GoodTable t → (i : ℕ) → i < length t → rowNumber t (hashOf t i) ≡ i
 unfolding rowNumber hashOf
-place-of-row t g i b =
-    place-once (rows t) (g .once) i (rw length-rows b)
+number-of-row t g i b =
+    index-of-entry (rows t) (g .once) i (rw length-rows b)
 
 pub held-row : (t : List Row) (i : ℕ) → i < length t → held t (hashOf t i) ≡ true
 unfolding held hashOf
@@ -108,11 +108,11 @@ held-row t i b = member-at (rows t) i (rw length-rows b)
 -- a held hash is that of its row
 pub row-of-held : (t : List Row) (h : ℕ) → held t h ≡ true → rowNumber t h < length t
 unfolding held rowNumber
-row-of-held t h e = rw (length-rows t) at (place-of-member (rows t) h e)
+row-of-held t h e = rw (length-rows t) at (index-of-member (rows t) h e)
 
 pub hash-of-held : (t : List Row) (h : ℕ) → held t h ≡ true → hashOf t (rowNumber t h) ≡ h
 unfolding held rowNumber hashOf
-hash-of-held t h e = at-place (rows t) h (place-of-member (rows t) h e)
+hash-of-held t h e = entry-at-index (rows t) h (index-of-member (rows t) h e)
 
 -- ---- rows in bytes
 

@@ -22,7 +22,7 @@ use Rattle.tables.specs.Table.{Row, rows, indexIn, held}
 use Rattle.tables.specs.Waiting.{Waiting, noWaiting, waiting, asksOf}
 use Rattle.tables.specs.declared.check.Checked.the-variants.{Good, Refused}
 use Rattle.tables.proofs.CheckLaws.{fewer, accepted, good-is-accepted}
-use Rattle.tables.proofs.TableLaws.{length-rows, place-tells, place-once, member-is, place-of-member, at-place}
+use Rattle.tables.proofs.TableLaws.{length-rows, index-tells, index-of-entry, member-is, index-of-member, entry-at-index}
 
 -- ---- waiting rows by their numbers
 
@@ -198,7 +198,7 @@ module _ (t : List Row) (s : List ℕ) (i count : ℕ) (is : count ≡ asksCount
         found-tells : not (member (hashAt s (i * waitingSize)) (waiting (waitingsAt s 0 i))) ≡ eqb r i
         found-tells =
             let n : length (waiting (waitingsAt s 0 i)) ≡ i = length-waiting (waitingsAt s 0 i) ∙ length-waitings-at s 0 i in
-            rw (place-tells, ← found, n)
+            rw (index-tells, ← found, n)
 
         pub waiting-twice : (r ≡ i → ⊥) → waitingGood t s i ≡ false
         unfolding waitingGoodOf fillOf
@@ -208,7 +208,7 @@ module _ (t : List Row) (s : List ℕ) (i count : ℕ) (is : count ≡ asksCount
         unfolding waitingGoodOf fillOf held
         waiting-held h n q long e =
             let l : length (rows t) ≡ n = length-rows t ∙ long in
-            rw (← is, le-leb count (sizes .dependencies) few, fill, unasked-bytes, unasked, found-tells, eq-eqb r i h, place-tells, ← e, l)
+            rw (← is, le-leb count (sizes .dependencies) few, fill, unasked-bytes, unasked, found-tells, eq-eqb r i h, index-tells, ← e, l)
 
 -- ---- good waiting rows
 
@@ -275,9 +275,9 @@ module _ (d : ℕ) (t : List Row) (s : List ℕ) (n : ℕ) (each : (i : ℕ) →
             λ h m.
             let w : List ℕ = waiting (waitingRowsOf d s 0 n) in
             let i : ℕ = indexIn w h in
-            let inside : i < length w = place-of-member w h m in
+            let inside : i < length w = index-of-member w h m in
             let c : i < n = rw (length-waiting, length-waiting-of) at inside in
-            let there : h ≡ hashAt s (i * waitingSizeOf d) = sym (at-place w h inside) ∙ waiting-hash-of d s n i c in
+            let there : h ≡ hashAt s (i * waitingSizeOf d) = sym (entry-at-index w h inside) ∙ waiting-hash-of d s n i c in
             ap (held t) there ∙ row-waits-of d t s i (each i c) .unheld;
       }
 
@@ -344,9 +344,9 @@ pub good-waiting-accepted : (t : List Row) (s : List ℕ)
     → waitingChecked t s ≡ Good (length s / waitingSize)
 good-waiting-accepted = waiting-accepted-of (sizes .dependencies)
 
-pub place-of-waiting : (t : List Row) (w : List Waiting) → GoodWaiting t w → (i : ℕ) → i < length w → indexIn (waiting w) (getD (waiting w) i 0) ≡ i
-place-of-waiting t w g i b =
-    place-once (waiting w) (g .once) i (rw length-waiting b)
+pub index-of-waiting : (t : List Row) (w : List Waiting) → GoodWaiting t w → (i : ℕ) → i < length w → indexIn (waiting w) (getD (waiting w) i 0) ≡ i
+index-of-waiting t w g i b =
+    index-of-entry (waiting w) (g .once) i (rw length-waiting b)
 
 -- the bytes of an accepted waiting table and its rows
 module _ (t : List Row) (s : List ℕ) (n : ℕ) (d : WaitingDecoded t s n) where

@@ -12,11 +12,11 @@ use borrow.Author.Needs.{needs}
 use Rattle.graph.proofs.beyond.put_beyond.Statement.{statement}
 use Rattle.graph.proofs.beyond.put_beyond.Tie as tie
 
-slice-aggregate-mark-known : tie.Need-slice-aggregate-mark-known
-slice-aggregate-mark-known c = search needs
+slice-aggregate-mark-at-or-below : tie.Need-slice-aggregate-mark-at-or-below
+slice-aggregate-mark-at-or-below c = search needs
 
-mark-known-requires : tie.Need-mark-known-requires
-mark-known-requires c κs =
+mark-at-or-below-requires : tie.Need-mark-at-or-below-requires
+mark-at-or-below-requires c κs =
     let start = c .before .before .before .before in
     (start .pre .0, omega (arith, start .pre .1), omega (arith, length-replicate (sizes .rows) false, start .pre .0 .few), blank _ _ (start .pre .0 .few))
 
@@ -41,7 +41,7 @@ returns : tie.Need-returns
 returns c =
     let k = c .before in
     let f = k .before .before .before in
-    no-room _ _ _ (beyond-size _ _ _ _ _ (f .before .before .before .mark-known .ensures) (f .flip .ensures) _ (k .count-marked .ensures)) (c .if1 .taken)
+    no-room _ _ _ (beyond-size _ _ _ _ _ (f .before .before .before .mark-at-or-below .ensures) (f .flip .ensures) _ (k .count-marked .ensures)) (c .if1 .taken)
 
 slice-aggregate-put-marked : tie.Need-slice-aggregate-put-marked
 slice-aggregate-put-marked c = search needs
@@ -58,7 +58,7 @@ returns-2 c =
     let e = p .before .before .before in
     let k = e .before in
     let f = k .before .before .before in
-    let marks = f .before .before .before .mark-known .ensures in
+    let marks = f .before .before .before .mark-at-or-below .ensures in
     written-bytes _ _ _ _ (beyond-size _ _ _ _ _ marks (f .flip .ensures) _ (k .count-marked .ensures)) (e .if1 .left)
     (beyond-put _ _ _ _ _ marks (f .flip .ensures) _ _ (p .put-marked .ensures))
 
@@ -66,8 +66,8 @@ pub put-beyond-spec : {M : Type 1} → statement M
 put-beyond-spec =
     tie.close
     (tie.spec
-    slice-aggregate-mark-known
-    mark-known-requires
+    slice-aggregate-mark-at-or-below
+    mark-at-or-below-requires
     slice-aggregate-flip
     flip-requires
     slice-aggregate-count-marked

@@ -1,6 +1,6 @@
 -- `graph::marks::mark_hash` meets its contract: the row that is found is the hash's place, and there is one if it is below the number of rows.
 -- Assumes nothing.
-use Rattle.graph.proofs.MarkLaws.{hash-known, hash-unknown}
+use Rattle.graph.proofs.MarkLaws.{hash-held, hash-unknown}
 use borrow.Author.Needs.{needs}
 use Rattle.graph.proofs.marks.mark_hash.Statement.{statement}
 use Rattle.graph.proofs.marks.mark_hash.Tie as tie
@@ -18,7 +18,7 @@ same-length : tie.Need-same-length
 same-length c = search needs
 
 returns-2 : tie.Need-returns-2
-returns-2 c = hash-known _ _ _ _ _ (c .before .find-row .ensures) (c .if1 .left)
+returns-2 c = hash-held _ _ _ _ _ (c .before .find-row .ensures) (c .if1 .left)
 
 pub mark-hash-spec : {M : Type 1} → statement M
 mark-hash-spec =

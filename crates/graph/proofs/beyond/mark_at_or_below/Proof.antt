@@ -1,8 +1,8 @@
--- `graph::beyond::mark_known` meets its contract: the list's marks, made where none was, are the base of what is below it. Assumes nothing.
+-- `graph::beyond::mark_at_or_below` meets its contract: the list's marks, made where none was, are the base of what is below it. Assumes nothing.
 use Rattle.graph.proofs.GraphMarks.{below-blank}
 use borrow.Author.Needs.{needs}
-use Rattle.graph.proofs.beyond.mark_known.Statement.{statement}
-use Rattle.graph.proofs.beyond.mark_known.Tie as tie
+use Rattle.graph.proofs.beyond.mark_at_or_below.Statement.{statement}
+use Rattle.graph.proofs.beyond.mark_at_or_below.Tie as tie
 
 mark-list-requires : tie.Need-mark-list-requires
 mark-list-requires c κs = search needs
@@ -19,5 +19,5 @@ returns c =
     let l = b .before .before .before .before in
     below-blank _ _ _ _ _ _ (l .before .before .before .before .before .pre .3) (l .mark-list .ensures) (b .mark-below .ensures)
 
-pub mark-known-spec : {M : Type 1} → statement M
-mark-known-spec = tie.close (tie.spec mark-list-requires mark-below-requires same-length returns)
+pub mark-at-or-below-spec : {M : Type 1} → statement M
+mark-at-or-below-spec = tie.close (tie.spec mark-list-requires mark-below-requires same-length returns)
