@@ -57,7 +57,8 @@ fn put_prefixed_filter(
 
 // The have of record i: its last-sync hashes and its filter.
 fn put_have(out: &mut [u8], at: usize, bytes: &[u8], haves: &[u64], i: usize) -> usize
-    requires { ⌜ (GoodHaves (now bytes) (now haves) × (i < haveCount (now haves))) × (at + length (haveBytes (haveIn (now bytes) (now haves) i)) ≤ length (now out)) ⌝ }
+    requires { ⌜ (GoodHaves (now bytes) (now haves) × (i < haveCount (now haves)))
+        × (at + length (haveBytes (haveIn (now bytes) (now haves) i)) ≤ length (now out)) ⌝ }
     ensures { λ r. ⌜ Put (now (out .entry)) (now (out .exit)) at (haveBytes (haveIn (now (bytes .entry)) (now (haves .entry)) i)) r ⌝ }
 {
     let place = sync_place(haves, i);
@@ -103,7 +104,8 @@ fn put_chunk(out: &mut [u8], at: usize, bytes: &[u8]) -> usize
 
 // All chunks after their count.
 fn put_chunks(out: &mut [u8], at: usize, chunks: &[u8], lengths: &[u64]) -> usize
-    requires { ⌜ (total (now lengths) ≤ length (now chunks)) × (at + length (counted prefixedBytes (chunksFrom (now chunks) 0 (now lengths))) ≤ length (now out)) ⌝ }
+    requires { ⌜ (total (now lengths) ≤ length (now chunks))
+        × (at + length (counted prefixedBytes (chunksFrom (now chunks) 0 (now lengths))) ≤ length (now out)) ⌝ }
     ensures { λ r. ⌜ Put (now (out .entry)) (now (out .exit)) at (counted prefixedBytes (chunksFrom (now (chunks .entry)) 0 (now (lengths .entry)))) r ⌝ }
 {
     let mut place = put_unsigned(out, at, lengths.len() as u64);

@@ -41,7 +41,8 @@ pub fn mark_at_or_below(
 // The rows beyond the first hashes of a list, of a table that has been checked.
 pub fn put_beyond(table: &[u8], n: usize, l: &[u8], count: usize, out: &mut [u8]) -> Write
     requires { ⌜ GoodRows (now table) n × (sizes .hash * count ≤ length (now l)) ⌝ }
-    ensures { λ r. ⌜ Written (Output.bytes (hashesBytes (beyond (rowsAt (now (table .entry)) 0 n) (hashesAt (now (l .entry)) 0 count)))) (now (out .entry)) (now (out .exit)) r ⌝ }
+    ensures { λ r. ⌜ Written (Output.bytes (hashesBytes (beyond (rowsAt (now (table .entry)) 0 n) (hashesAt (now (l .entry)) 0 count))))
+        (now (out .entry)) (now (out .exit)) r ⌝ }
 {
     let mut marks = [false; ROWS];
     mark_at_or_below(table, n, l, 0, count, &mut marks);

@@ -46,7 +46,8 @@ fn mark_row(table: &[u8], i: usize, marks: &mut [bool])
 // Marks all that lies below the marked rows. From the last row to the first, so that a row's mark is final when its turn comes.
 pub fn mark_below(table: &[u8], n: usize, marks: &mut [bool])
     requires { ⌜ GoodRows (now table) n × (n ≤ length (now marks)) ⌝ }
-    ensures { λ _. ⌜ Marks n (now (marks .exit)) (reach n (λ k. getD (now (marks .entry)) k false) (λ k j. member j (depsOf (rowsAt (now (table .entry)) 0 n) k))) ⌝ }
+    ensures { λ _. ⌜ Marks n (now (marks .exit))
+        (reach n (λ k. getD (now (marks .entry)) k false) (λ k j. member j (depsOf (rowsAt (now (table .entry)) 0 n) k))) ⌝ }
 {
     let mut i = n;
     while 0 < i {
@@ -82,7 +83,8 @@ fn mark_hash(table: &[u8], n: usize, l: &[u8], at: usize, marks: &mut [bool])
 // Marks the rows of the hashes of a list; unknown ones are ignored.
 pub fn mark_list(table: &[u8], n: usize, l: &[u8], place: usize, count: usize, marks: &mut [bool])
     requires { ⌜ GoodRows (now table) n × (place + sizes .hash * count ≤ length (now l)) × (n ≤ length (now marks)) ⌝ }
-    ensures { λ _. ⌜ Marks n (now (marks .exit)) (λ i. getD (now (marks .entry)) i false || member (hashOf (rowsAt (now (table .entry)) 0 n) i) (hashesAt (now (l .entry)) place count)) ⌝ }
+    ensures { λ _. ⌜ Marks n (now (marks .exit))
+        (λ i. getD (now (marks .entry)) i false || member (hashOf (rowsAt (now (table .entry)) 0 n) i) (hashesAt (now (l .entry)) place count)) ⌝ }
 {
     let mut k = 0;
     while k < count {

@@ -35,6 +35,19 @@ havesGood s haves (Count n) =
 unfoldable pub sentGood : List ℕ → ℕ → Bool
 sentGood s n = (leb n (sizes .sentHashes) && leb (sizes .hash * n) (length s)) && ascends (hashesAt s 0 n)
 
+-- The lists that are lent with a session, in the order in which calls take them.
+abbrev pub lentOf : List ℕ → List ℕ → List ℕ → List ℕ → List ℕ → List ℕ → List ℕ → Lent
+lentOf shared lastSent theirHeads theirNeed haves bytes sent =
+    record {
+      shared = shared;
+      lastSent = lastSent;
+      theirHeads = theirHeads;
+      theirNeed = theirNeed;
+      haves = haves;
+      bytes = bytes;
+      sent = sent;
+    }
+
 -- Every list of the session.
 unfoldable pub sessionGood : Session → Lent → Bool
 sessionGood s l =

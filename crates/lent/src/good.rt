@@ -9,7 +9,7 @@ use rules::sizes::HAVES;
 use state::session::Heard;
 use state::session::Session;
 ghost use mathlib.Core.Path.{_≡_};
-ghost use Rattle.lent.specs.Good.{havesGood, sessionGood};
+ghost use Rattle.lent.specs.Good.{havesGood, lentOf, sessionGood};
 
 // Whether the peer's haves, which may be absent, are haves over the lent bytes.
 pub fn haves_good(bytes: &[u8], haves: &[u64], heard: Heard) -> bool
@@ -42,7 +42,8 @@ pub fn session_good(
     bytes: &[u8],
     sent: &[u8],
 ) -> bool
-    ensures { λ r. ⌜ r ≡ sessionGood session (record { shared = now (shared .entry); lastSent = now («last_sent» .entry); theirHeads = now («their_heads» .entry); theirNeed = now («their_need» .entry); haves = now (haves .entry); bytes = now (bytes .entry); sent = now (sent .entry) }) ⌝ }
+    ensures { λ r. ⌜ r ≡ sessionGood session (lentOf (now (shared .entry)) (now («last_sent» .entry)) (now («their_heads» .entry)) (now («their_need» .entry))
+        (now (haves .entry)) (now (bytes .entry)) (now (sent .entry))) ⌝ }
 {
     if !list_good(shared, session.shared_heads) {
         return false;

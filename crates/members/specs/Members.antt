@@ -3,13 +3,15 @@
 use Prim.Native.Nat.{ℕ, _+_, _*_, _≤_, _<_}
 use mathlib.Core.Bool.{Bool, false, not, _&&_, _||_}
 use mathlib.Core.List.{List, [], _∷_, _++_, map}
-use lib.ListN.{length}
+use lib.ListN.{length, getD}
 use Rattle.probe.specs.Contains.{anyContains}
 use Rattle.bloom.specs.Filter.{Filter}
-use Rattle.bloom.specs.Have.{Have, haveCount, syncPlace, syncCount}
+use Rattle.bloom.specs.Have.{Have, haveCount, filtersOf, syncPlace, syncCount}
+use Rattle.rules.specs.Hash.{hashAt}
 use Rattle.rules.specs.Order.{member}
 use Rattle.rules.specs.Reach.{reach}
 use Rattle.rules.specs.Sizes.{sizes}
+use Rattle.tables.specs.Bytes.{rowSize, usedAt}
 use Rattle.tables.specs.Table.{Row, hashOf, depsOf, rowsWhere}
 use Rattle.graph.specs.Graph.{belowRow}
 
@@ -43,6 +45,12 @@ theS t haves = rowsWhere t (inTheS t haves)
 unfoldable pub someOf : (ℕ → Bool) → List ℕ → Bool
 someOf p [] = false
 someOf p (k ∷ ks) = p k || someOf p ks
+
+-- Whether row i is in S, where the members before it are marked and `synced` says that it lies below a last-sync hash.
+abbrev pub isMember : List ℕ → ℕ → List ℕ → List ℕ → Bool → List Bool → Bool
+isMember table i s haves synced members =
+    not synced
+    && (someOf (λ k. getD members k false) (usedAt table i) || not (anyContains (filtersOf s haves) (hashAt table (i * rowSize))))
 
 -- Every have's last-sync hashes stand inside the lent bytes.
 pub record SyncsInside (s haves : List ℕ) : Type 0 where

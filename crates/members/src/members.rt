@@ -9,24 +9,23 @@ use rules::sizes::ROWS;
 use tables::row::ROW_SIZE;
 use tables::row::dep;
 use tables::row::dep_count;
-ghost use mathlib.Core.Bool.{false, not, _&&_, _||_};
+ghost use mathlib.Core.Bool.{false};
 ghost use mathlib.Core.Path.{_≡_};
-ghost use Prim.Native.Nat.{_+_, _*_, _≤_};
+ghost use Prim.Native.Nat.{_+_, _≤_};
 ghost use lib.ListN.{length, getD};
-ghost use Rattle.probe.specs.Contains.{anyContains};
-ghost use Rattle.bloom.specs.Have.{havesOf, filtersOf, GoodFilters};
-ghost use Rattle.rules.specs.Hash.{hashAt};
+ghost use Rattle.bloom.specs.Have.{havesOf, GoodFilters};
 ghost use Rattle.rules.specs.Order.{member};
-ghost use Rattle.tables.specs.Bytes.{rowSize, usedAt, rowsAt, GoodRows};
+ghost use Rattle.tables.specs.Bytes.{usedAt, rowsAt, GoodRows};
 ghost use Rattle.tables.specs.Table.{hashOf};
 ghost use Rattle.graph.specs.Graph.{belowRow};
 ghost use Rattle.graph.specs.Marks.{Marks, Blank};
-ghost use Rattle.members.specs.Members.{lastSyncs, inTheS, someOf, SyncsInside};
+ghost use Rattle.members.specs.Members.{lastSyncs, inTheS, someOf, isMember, SyncsInside};
 
 // Marks the rows of all haves' last-sync hashes.
 fn mark_syncs(table: &[u8], n: usize, bytes: &[u8], haves: &[u64], marks: &mut [bool])
     requires { ⌜ GoodRows (now table) n × SyncsInside (now bytes) (now haves) × (n ≤ length (now marks)) × Blank n (now marks) ⌝ }
-    ensures { λ _. ⌜ Marks n (now (marks .exit)) (λ i. member (hashOf (rowsAt (now (table .entry)) 0 n) i) (lastSyncs (havesOf (now (bytes .entry)) (now (haves .entry))))) ⌝ }
+    ensures { λ _. ⌜ Marks n (now (marks .exit))
+        (λ i. member (hashOf (rowsAt (now (table .entry)) 0 n) i) (lastSyncs (havesOf (now (bytes .entry)) (now (haves .entry))))) ⌝ }
 {
     let total = haves.len() / HAVE_WORDS;
     let mut k = 0;
@@ -41,7 +40,8 @@ fn mark_syncs(table: &[u8], n: usize, bytes: &[u8], haves: &[u64], marks: &mut [
 // Marks the rows below all haves' last-sync hashes: those that aren't candidates.
 fn mark_synced(table: &[u8], n: usize, bytes: &[u8], haves: &[u64], marks: &mut [bool])
     requires { ⌜ GoodRows (now table) n × SyncsInside (now bytes) (now haves) × (n ≤ length (now marks)) × Blank n (now marks) ⌝ }
-    ensures { λ _. ⌜ Marks n (now (marks .exit)) (belowRow (rowsAt (now (table .entry)) 0 n) (lastSyncs (havesOf (now (bytes .entry)) (now (haves .entry))))) ⌝ }
+    ensures { λ _. ⌜ Marks n (now (marks .exit))
+        (belowRow (rowsAt (now (table .entry)) 0 n) (lastSyncs (havesOf (now (bytes .entry)) (now (haves .entry))))) ⌝ }
 {
     mark_syncs(table, n, bytes, haves, marks);
     mark_below(table, n, marks);
@@ -74,7 +74,7 @@ fn is_member(
     members: &[bool],
 ) -> bool
     requires { ⌜ GoodRows (now table) (i + 1) × (i ≤ length (now members)) × GoodFilters (now bytes) (now haves) ⌝ }
-    ensures { λ r. ⌜ r ≡ (not synced && (someOf (λ k. getD (now (members .entry)) k false) (usedAt (now (table .entry)) i) || not (anyContains (filtersOf (now (bytes .entry)) (now (haves .entry))) (hashAt (now (table .entry)) (i * rowSize))))) ⌝ }
+    ensures { λ r. ⌜ r ≡ isMember (now (table .entry)) i (now (bytes .entry)) (now (haves .entry)) synced (now (members .entry)) ⌝ }
 {
     if synced {
         return false;

@@ -16,7 +16,8 @@ pub extern "C" fn bt_read_message(
     chunks: &mut [u64],
     answer: &mut [u64; 12],
 )
-    ensures { λ _. ⌜ MessageAnswered (now (bytes .entry)) (now (haves .entry)) (now (haves .exit)) (now (chunks .entry)) (now (chunks .exit)) (now (answer .exit)) ⌝ }
+    ensures { λ _. ⌜ MessageAnswered (now (bytes .entry)) (now (haves .entry)) (now (haves .exit)) (now (chunks .entry)) (now (chunks .exit))
+        (now (answer .exit)) ⌝ }
 {
     *answer = decoded_words(decode::decode::decode(bytes, haves, chunks));
 }

@@ -45,7 +45,8 @@ fn ask_change(
     at: usize,
 ) -> usize
     requires { ⌜ Askable (now table) n (now waiting) m (now marks) (now list) count × (at + sizes .hash ≤ length (now bytes)) ⌝ }
-    ensures { λ r. ⌜ Asked (now (table .entry)) n (now (waiting .entry)) m (Request.change (hashAt (now (bytes .entry)) at)) (now (marks .entry)) (now (list .entry)) count (now (marks .exit)) (now (list .exit)) r ⌝ }
+    ensures { λ r. ⌜ Asked (now (table .entry)) n (now (waiting .entry)) m (Request.change (hashAt (now (bytes .entry)) at))
+        (now (marks .entry)) (now (list .entry)) count (now (marks .exit)) (now (list .exit)) r ⌝ }
 {
     if find_row(table, n, bytes, at) < n {
         return count;
@@ -88,7 +89,8 @@ fn ask_list(
     entries: usize,
 ) -> usize
     requires { ⌜ Askable (now table) n (now waiting) m (now marks) (now list) count × (place + sizes .hash * entries ≤ length (now bytes)) ⌝ }
-    ensures { λ r. ⌜ Asked (now (table .entry)) n (now (waiting .entry)) m (Request.list (hashesAt (now (bytes .entry)) place entries)) (now (marks .entry)) (now (list .entry)) count (now (marks .exit)) (now (list .exit)) r ⌝ }
+    ensures { λ r. ⌜ Asked (now (table .entry)) n (now (waiting .entry)) m (Request.list (hashesAt (now (bytes .entry)) place entries))
+        (now (marks .entry)) (now (list .entry)) count (now (marks .exit)) (now (list .exit)) r ⌝ }
 {
     let mut found = count;
     let mut i = 0;
@@ -121,8 +123,10 @@ pub fn find_missing(
     entries: usize,
     list: &mut [u8],
 ) -> usize
-    requires { ⌜ (n * rowSize ≤ length (now table)) × ((waitingChecked (rowsAt (now table) 0 n) (now waiting) ≡ Good m) × (place + sizes .hash * entries ≤ length (now bytes))) ⌝ }
-    ensures { λ r. ⌜ Found (missing (rowsAt (now (table .entry)) 0 n) (waitingOf (now (waiting .entry))) (hashesAt (now (bytes .entry)) place entries)) (length (now (list .entry)) / sizes .hash) (now (list .exit)) r ⌝ }
+    requires { ⌜ (n * rowSize ≤ length (now table))
+        × ((waitingChecked (rowsAt (now table) 0 n) (now waiting) ≡ Good m) × (place + sizes .hash * entries ≤ length (now bytes))) ⌝ }
+    ensures { λ r. ⌜ Found (missing (rowsAt (now (table .entry)) 0 n) (waitingOf (now (waiting .entry))) (hashesAt (now (bytes .entry)) place entries))
+        (length (now (list .entry)) / sizes .hash) (now (list .exit)) r ⌝ }
 {
     let mut marks = [false; WAITING_ROWS];
     ask_list(
@@ -142,7 +146,8 @@ pub fn find_missing(
 // What is missing from a list, for tables that are good: the list's own refusals, then 4 for too many hashes, then 7.
 fn missing_from(table: &[u8], n: usize, waiting: &[u8], m: usize, l: &[u8], out: &mut [u8]) -> Write
     requires { ⌜ (n * rowSize ≤ length (now table)) × (waitingChecked (rowsAt (now table) 0 n) (now waiting) ≡ Good m) ⌝ }
-    ensures { λ r. ⌜ Written (missingFrom (rowsAt (now (table .entry)) 0 n) (waitingOf (now (waiting .entry))) (now (l .entry))) (now (out .entry)) (now (out .exit)) r ⌝ }
+    ensures { λ r. ⌜ Written (missingFrom (rowsAt (now (table .entry)) 0 n) (waitingOf (now (waiting .entry))) (now (l .entry)))
+        (now (out .entry)) (now (out .exit)) r ⌝ }
 {
     match passed_hashes(l) {
         Passed::Refused(refusal) => Write::Refused(refusal),
@@ -160,7 +165,8 @@ fn missing_from(table: &[u8], n: usize, waiting: &[u8], m: usize, l: &[u8], out:
 // The same after the waiting table's check.
 fn missing_beside(table: &[u8], n: usize, waiting: &[u8], l: &[u8], out: &mut [u8]) -> Write
     requires { ⌜ n * rowSize ≤ length (now table) ⌝ }
-    ensures { λ r. ⌜ Written (missingBeside (rowsAt (now (table .entry)) 0 n) (now (waiting .entry)) (now (l .entry))) (now (out .entry)) (now (out .exit)) r ⌝ }
+    ensures { λ r. ⌜ Written (missingBeside (rowsAt (now (table .entry)) 0 n) (now (waiting .entry)) (now (l .entry)))
+        (now (out .entry)) (now (out .exit)) r ⌝ }
 {
     match check_waiting(table, n, waiting) {
         Checked::Refused(refusal) => Write::Refused(refusal),

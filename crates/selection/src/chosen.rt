@@ -24,7 +24,8 @@ ghost use Rattle.selection.specs.ToSend.{toSendLess};
 
 // Marks the rows that are sent without being needed: S, or none where there is no have.
 fn mark_answer(table: &[u8], n: usize, bytes: &[u8], haves: &[u64], marks: &mut [bool])
-    requires { ⌜ GoodRows (now table) n × GoodFilters (now bytes) (now haves) × SyncsInside (now bytes) (now haves) × (n ≤ length (now marks)) × Blank n (now marks) ⌝ }
+    requires { ⌜ GoodRows (now table) n × GoodFilters (now bytes) (now haves) × SyncsInside (now bytes) (now haves)
+        × (n ≤ length (now marks)) × Blank n (now marks) ⌝ }
     ensures { λ _. ⌜ Marks n (now (marks .exit)) (answeredRow (rowsAt (now (table .entry)) 0 n) (havesOf (now (bytes .entry)) (now (haves .entry)))) ⌝ }
 {
     if haves.len() < HAVE_WORDS {
@@ -66,8 +67,11 @@ fn mark_needs(
     past: &[bool],
     needs: &mut [bool],
 )
-    requires { ⌜ GoodRows (now table) n × (place + sizes .hash * count ≤ length (now need)) × (n ≤ length (now members)) × (n ≤ length (now past)) × (count ≤ length (now needs)) ⌝ }
-    ensures { λ _. ⌜ Marks count (now (needs .exit)) (λ k. heldUnmarked (rowsAt (now (table .entry)) 0 n) (now (members .entry)) (now (past .entry)) (hashAt (now (need .entry)) (place + sizes .hash * k))) ⌝ }
+    requires { ⌜ GoodRows (now table) n × (place + sizes .hash * count ≤ length (now need))
+        × (n ≤ length (now members)) × (n ≤ length (now past)) × (count ≤ length (now needs)) ⌝ }
+    ensures { λ _. ⌜ Marks count (now (needs .exit))
+        (λ k. heldUnmarked (rowsAt (now (table .entry)) 0 n) (now (members .entry)) (now (past .entry))
+        (hashAt (now (need .entry)) (place + sizes .hash * k))) ⌝ }
 {
     let mut k = 0;
     while k < count {
@@ -92,8 +96,11 @@ pub fn choose(
     marks: &mut [bool],
     needs: &mut [bool],
 ) -> usize
-    requires { ⌜ Choosable (now table) n (now bytes) (now haves) (now need) place count × (sizes .hash * before ≤ length (now sent)) × (n ≤ length (now marks)) × Blank n (now marks) × (count ≤ length (now needs)) ⌝ }
-    ensures { λ r. ⌜ Chosen (toSendLess (rowsAt (now (table .entry)) 0 n) (havesOf (now (bytes .entry)) (now (haves .entry))) (hashesAt (now (need .entry)) place count) (hashesAt (now (sent .entry)) 0 before)) (rowsAt (now (table .entry)) 0 n) (now (marks .exit)) (hashesAt (now (need .entry)) place count) (now (needs .exit)) r ⌝ }
+    requires { ⌜ Choosable (now table) n (now bytes) (now haves) (now need) place count × (sizes .hash * before ≤ length (now sent))
+        × (n ≤ length (now marks)) × Blank n (now marks) × (count ≤ length (now needs)) ⌝ }
+    ensures { λ r. ⌜ Chosen (toSendLess (rowsAt (now (table .entry)) 0 n) (havesOf (now (bytes .entry)) (now (haves .entry)))
+        (hashesAt (now (need .entry)) place count) (hashesAt (now (sent .entry)) 0 before))
+        (rowsAt (now (table .entry)) 0 n) (now (marks .exit)) (hashesAt (now (need .entry)) place count) (now (needs .exit)) r ⌝ }
 {
     let mut past = [false; ROWS];
     mark_list(table, n, sent, 0, before, &mut past);
@@ -105,8 +112,10 @@ pub fn choose(
 
 // Copies the hashes of a list that are marked to the buffer's start, one behind the other, and returns where they end.
 fn put_needs(need: &[u8], place: usize, count: usize, needs: &[bool], out: &mut [u8]) -> usize
-    requires { ⌜ (place + sizes .hash * count ≤ length (now need)) × (count ≤ length (now needs)) × (sizes .hash * marked count (now needs) ≤ length (now out)) ⌝ }
-    ensures { λ r. ⌜ (now (out .exit) ≡ sets (now (out .entry)) 0 (hashesBytes (picked (hashesAt (now (need .entry)) place count) (now (needs .entry))))) × (r ≡ sizes .hash * marked count (now (needs .entry))) ⌝ }
+    requires { ⌜ (place + sizes .hash * count ≤ length (now need)) × (count ≤ length (now needs))
+        × (sizes .hash * marked count (now needs) ≤ length (now out)) ⌝ }
+    ensures { λ r. ⌜ (now (out .exit) ≡ sets (now (out .entry)) 0 (hashesBytes (picked (hashesAt (now (need .entry)) place count) (now (needs .entry)))))
+        × (r ≡ sizes .hash * marked count (now (needs .entry))) ⌝ }
 {
     let mut at = 0;
     let mut k = 0;
@@ -133,8 +142,10 @@ pub fn put_chosen(
     needs: &[bool],
     out: &mut [u8],
 )
-    requires { ⌜ GoodRows (now table) n × (n ≤ length (now marks)) × (place + sizes .hash * count ≤ length (now need)) × (count ≤ length (now needs)) × (sizes .hash * length (chosenBy (rowsAt (now table) 0 n) (now marks) (hashesAt (now need) place count) (now needs)) ≤ length (now out)) ⌝ }
-    ensures { λ _. ⌜ now (out .exit) ≡ sets (now (out .entry)) 0 (hashesBytes (chosenBy (rowsAt (now (table .entry)) 0 n) (now (marks .entry)) (hashesAt (now (need .entry)) place count) (now (needs .entry)))) ⌝ }
+    requires { ⌜ GoodRows (now table) n × (n ≤ length (now marks)) × (place + sizes .hash * count ≤ length (now need)) × (count ≤ length (now needs))
+        × (sizes .hash * length (chosenBy (rowsAt (now table) 0 n) (now marks) (hashesAt (now need) place count) (now needs)) ≤ length (now out)) ⌝ }
+    ensures { λ _. ⌜ now (out .exit) ≡ sets (now (out .entry)) 0
+        (hashesBytes (chosenBy (rowsAt (now (table .entry)) 0 n) (now (marks .entry)) (hashesAt (now (need .entry)) place count) (now (needs .entry)))) ⌝ }
 {
     let end = put_needs(need, place, count, needs, out);
     put_marked(table, n, marks, out, end);

@@ -33,7 +33,8 @@ pub fn put_to_send(
     out: &mut [u8],
 ) -> Write
     requires { ⌜ Choosable (now table) n (now bytes) (now haves) (now need) place count ⌝ }
-    ensures { λ r. ⌜ Written (Output.bytes (hashesBytes (toSend (rowsAt (now (table .entry)) 0 n) (havesOf (now (bytes .entry)) (now (haves .entry))) (hashesAt (now (need .entry)) place count)))) (now (out .entry)) (now (out .exit)) r ⌝ }
+    ensures { λ r. ⌜ Written (Output.bytes (hashesBytes (toSend (rowsAt (now (table .entry)) 0 n) (havesOf (now (bytes .entry)) (now (haves .entry)))
+        (hashesAt (now (need .entry)) place count)))) (now (out .entry)) (now (out .exit)) r ⌝ }
 {
     let mut marks = [false; ROWS];
     let mut needs = [false; HASHES];
@@ -68,7 +69,8 @@ fn send_needs(
     out: &mut [u8],
 ) -> Write
     requires { ⌜ GoodRows (now table) n × (passedGood (now bytes) (now haves) ≡ true) ⌝ }
-    ensures { λ r. ⌜ Written (sendNeeds (rowsAt (now (table .entry)) 0 n) (now (bytes .entry)) (now (haves .entry)) (now (need .entry))) (now (out .entry)) (now (out .exit)) r ⌝ }
+    ensures { λ r. ⌜ Written (sendNeeds (rowsAt (now (table .entry)) 0 n) (now (bytes .entry)) (now (haves .entry)) (now (need .entry)))
+        (now (out .entry)) (now (out .exit)) r ⌝ }
 {
     match passed_hashes(need) {
         Passed::Refused(r) => Write::Refused(r),
@@ -89,7 +91,8 @@ pub fn get_hashes_to_send(
     need: &[u8],
     out: &mut [u8],
 ) -> Write
-    ensures { λ r. ⌜ Written (toSendOutput (now (table .entry)) (now (bytes .entry)) (now (haves .entry)) (now (need .entry))) (now (out .entry)) (now (out .exit)) r ⌝ }
+    ensures { λ r. ⌜ Written (toSendOutput (now (table .entry)) (now (bytes .entry)) (now (haves .entry)) (now (need .entry)))
+        (now (out .entry)) (now (out .exit)) r ⌝ }
 {
     if !passed_good(bytes, haves) {
         return Write::Refused(Refusal::BadNumbers);

@@ -13,7 +13,8 @@ pub extern "C" fn bt_hashes_to_send(
     out: &mut [u8],
     answer: &mut [u64; 4],
 )
-    ensures { λ _. ⌜ Answered (toSendOutput (now (table .entry)) (now (bytes .entry)) (now (haves .entry)) (now (need .entry))) (now (out .entry)) (now (out .exit)) (now (answer .exit)) ⌝ }
+    ensures { λ _. ⌜ Answered (toSendOutput (now (table .entry)) (now (bytes .entry)) (now (haves .entry)) (now (need .entry)))
+        (now (out .entry)) (now (out .exit)) (now (answer .exit)) ⌝ }
 {
     *answer = write_words(selection::to_send::get_hashes_to_send(table, bytes, haves, need, out));
 }

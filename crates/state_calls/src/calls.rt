@@ -7,7 +7,7 @@ use crate::session_words::session_words;
 use answers::answer::write_words;
 use state::session::Session;
 ghost use mathlib.Core.Path.{_≡_};
-ghost use Rattle.lent.specs.Good.{sessionGood};
+ghost use Rattle.lent.specs.Good.{lentOf, sessionGood};
 ghost use Rattle.saved.specs.Saved.{stateOutput};
 ghost use Rattle.state.specs.Counts.{freshCounts, freshReadOnlyCounts, setReadOnlyCounts};
 ghost use Rattle.answers.specs.Answer.{Answered};
@@ -50,7 +50,8 @@ pub extern "C" fn bt_check_session(
     sent: &[u8],
     answer: &mut [u64; 4],
 )
-    ensures { λ _. ⌜ now (answer .exit) ≡ goodWords (sessionGood (sessionOf (now (session .entry))) (record { shared = now (shared .entry); lastSent = now («last_sent» .entry); theirHeads = now («their_heads» .entry); theirNeed = now («their_need» .entry); haves = now (haves .entry); bytes = now (bytes .entry); sent = now (sent .entry) })) ⌝ }
+    ensures { λ _. ⌜ now (answer .exit) ≡ goodWords (sessionGood (sessionOf (now (session .entry))) (lentOf (now (shared .entry)) (now («last_sent» .entry))
+        (now («their_heads» .entry)) (now («their_need» .entry)) (now (haves .entry)) (now (bytes .entry)) (now (sent .entry)))) ⌝ }
 {
     *answer = good_words(lent::good::session_good(
         session_of(*session),
@@ -80,7 +81,8 @@ pub extern "C" fn bt_read_state(
     session: &mut [u64; 16],
     answer: &mut [u64; 4],
 )
-    ensures { λ _. ⌜ StateRead (now (bytes .entry)) (now (shared .entry)) (now (shared .exit)) (now (session .entry)) (now (session .exit)) (now (answer .exit)) ⌝ }
+    ensures { λ _. ⌜ StateRead (now (bytes .entry)) (now (shared .entry)) (now (shared .exit)) (now (session .entry))
+        (now (session .exit)) (now (answer .exit)) ⌝ }
 {
     let loaded = saved::saved::decode(bytes, shared);
     *session = loaded_session(loaded, *session);

@@ -50,7 +50,8 @@ pub extern "C" fn bt_missing(
     out: &mut [u8],
     answer: &mut [u64; 4],
 )
-    ensures { λ _. ⌜ Answered (missingOutput (now (table .entry)) (now (waiting .entry)) (now (hashes .entry))) (now (out .entry)) (now (out .exit)) (now (answer .exit)) ⌝ }
+    ensures { λ _. ⌜ Answered (missingOutput (now (table .entry)) (now (waiting .entry)) (now (hashes .entry)))
+        (now (out .entry)) (now (out .exit)) (now (answer .exit)) ⌝ }
 {
     *answer = write_words(missing::missing::missing(table, waiting, hashes, out));
 }
