@@ -9,9 +9,10 @@ use Rattle.rules.specs.Hash.{hashAt, hashesAt}
 use Rattle.rules.specs.Order.{member, Inserted}
 use Rattle.rules.specs.Sizes.{sizes}
 use Rattle.rules.proofs.Hash.{length-hashes-at}
-use Rattle.tables.specs.Bytes.{rowSize, rowsAt, asksCount, asksPlace, waitingsAt, waitingOf}
+use Rattle.tables.specs.Bytes.{rowSize, rowsAt, asksCount, waitingsAt, waitingOf}
 use Rattle.tables.specs.Table.{rows, held, indexIn}
 use Rattle.tables.specs.Waiting.{waiting, asks}
+use Rattle.tables.proofs.Today.{asksPlace}
 use Rattle.tables.proofs.TableLaws.{length-rows, length-rows-at, index-at-most, member-of-index, unknown-of-index}
 use Rattle.tables.proofs.WaitingLaws.{length-waiting, length-waitings-at, asks-of-waiting, WaitingDecoded, decoded-asks-count}
 use Rattle.missing.specs.Ask.{Request, change, list, held-hash, marked, waits, unknown-hash, none, more, Askable, Asked, Found}

@@ -13,10 +13,11 @@ use lib.ListN.{length}
 use Rattle.rules.specs.Sizes.{sizes}
 use Rattle.rules.specs.declared.refusal.Refusal.the-variants.{PastSize, BadRow, BadWaitingRow}
 use Rattle.rules.proofs.Cases.{split}
-use Rattle.tables.specs.Bytes.{rowSize, rowGood, firstBad, checkedWith, tableCheckedOf, tableChecked, waitingSize, waitingGood, waitingCheckedOf, waitingChecked}
+use Rattle.tables.specs.Bytes.{rowSize, firstBad, checkedWith, tableCheckedOf, tableChecked, waitingSize, waitingCheckedOf, waitingChecked}
 use Rattle.tables.specs.Table.{Row}
 use Rattle.tables.specs.declared.check.Checked.{Checked}
 use Rattle.tables.specs.declared.check.Checked.the-variants.{Good, Refused}
+use Rattle.tables.proofs.Today.{rowGood, waitingGood}
 
 -- ---- rows
 

@@ -6,4 +6,5 @@ pub mod GoodLaws
 pub mod Promises
 pub mod RowLaws
 pub mod TableLaws
+pub mod Today
 pub mod WaitingLaws

@@ -14,8 +14,9 @@ use Rattle.rules.specs.Sizes.{sizes}
 use Rattle.rules.proofs.Cases.{split, both, same-truth, and-true}
 use Rattle.rules.proofs.KeepLaws.{every-member, every-one}
 use Rattle.rules.proofs.OrderLaws.{member-here, member-there, ascends-tail, ascends-first}
-use Rattle.tables.specs.Bytes.{u16At, u16sAt, usedOf, unusedOf, rowGoodOf, rowSize, depCount, usedAt, unusedAt, rowsAt, numbersGood, zeros, rowGood}
+use Rattle.tables.specs.Bytes.{u16At, u16sAt, usedOf, unusedOf, rowGoodOf, rowSize, depCount, usedAt, rowsAt, numbersGood, zeros}
 use Rattle.tables.specs.Table.{rows, indexIn}
+use Rattle.tables.proofs.Today.{unusedAt, rowGood}
 use Rattle.tables.proofs.TableLaws.{numberAt, length-rows, length-rows-at, index-tells}
 
 -- ---- numbers that climb

@@ -13,9 +13,10 @@ use Rattle.rules.specs.Order.{member, every, ascends, Once}
 use Rattle.rules.specs.Sizes.{sizes}
 use Rattle.rules.proofs.Cases.{split, both}
 use Rattle.rules.proofs.KeepLaws.{every-member, index-once, once-index}
-use Rattle.tables.specs.Bytes.{u16At, u16sAt, rowSizeOf, countOf, usedOf, unusedOf, rowOf, rowsOf, wholeRowsOf, rowGoodOf, tableCheckedOf, rowSize, depCount, usedAt, rowAt, rowsAt, tableOf, numbersGood, zeros, rowGood, tableChecked}
+use Rattle.tables.specs.Bytes.{u16At, u16sAt, rowSizeOf, countOf, usedOf, unusedOf, rowOf, rowsOf, wholeRowsOf, rowGoodOf, tableCheckedOf, rowSize, depCount, usedAt, rowsAt, tableOf, numbersGood, zeros, tableChecked}
 use Rattle.tables.specs.Table.{Row, noRow, rows, hashOf, depsOf, GoodTable, indexIn, rowNumber, held}
 use Rattle.tables.specs.declared.check.Checked.the-variants.{Good, Refused}
+use Rattle.tables.proofs.Today.{rowAt, rowGood}
 use Rattle.rules.specs.declared.refusal.Refusal.the-variants.{BadRow}
 use Rattle.tables.proofs.CheckLaws.{fewer, accepted, good-is-accepted}
 

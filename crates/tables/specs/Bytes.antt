@@ -99,20 +99,11 @@ depCount s i = countOf (sizes .dependencies) s i
 abbrev pub usedAt : List ℕ → ℕ → List ℕ
 usedAt s i = usedOf (sizes .dependencies) s i
 
-abbrev pub unusedAt : List ℕ → ℕ → List ℕ
-unusedAt s i = unusedOf (sizes .dependencies) s i
-
-abbrev pub rowAt : List ℕ → ℕ → Row
-rowAt s i = rowOf (sizes .dependencies) s i
-
 abbrev pub rowsAt : List ℕ → ℕ → ℕ → List Row
 rowsAt s i count = rowsOf (sizes .dependencies) s i count
 
 abbrev pub tableOf : List ℕ → List Row
 tableOf s = wholeRowsOf (sizes .dependencies) s
-
-abbrev pub rowGood : List ℕ → ℕ → Bool
-rowGood s i = rowGoodOf (sizes .dependencies) s i
 
 abbrev pub tableChecked : List ℕ → Checked
 tableChecked s = tableCheckedOf (sizes .dependencies) (sizes .rows) s
@@ -185,20 +176,11 @@ waitingSize = waitingSizeOf (sizes .dependencies)
 abbrev pub asksCount : List ℕ → ℕ → ℕ
 asksCount s i = asksCountOf (sizes .dependencies) s i
 
-abbrev pub asksPlace : ℕ → ℕ
-asksPlace i = asksPlaceOf (sizes .dependencies) i
-
-abbrev pub waitingAt : List ℕ → ℕ → Waiting
-waitingAt s i = waitingRowOf (sizes .dependencies) s i
-
 abbrev pub waitingsAt : List ℕ → ℕ → ℕ → List Waiting
 waitingsAt s i count = waitingRowsOf (sizes .dependencies) s i count
 
 abbrev pub waitingOf : List ℕ → List Waiting
 waitingOf s = wholeWaitingOf (sizes .dependencies) s
-
-abbrev pub waitingGood : List Row → List ℕ → ℕ → Bool
-waitingGood t s i = waitingGoodOf (sizes .dependencies) t s i
 
 abbrev pub waitingChecked : List Row → List ℕ → Checked
 waitingChecked t s = waitingCheckedOf (sizes .dependencies) t s

@@ -10,7 +10,7 @@ ghost use mathlib.Core.Path.{_≡_};
 ghost use Prim.Native.Nat.{_+_, _*_, _≤_};
 ghost use lib.ListN.{length};
 ghost use Rattle.rules.specs.Sizes.{sizes};
-ghost use Rattle.tables.specs.Bytes.{rowSize, depCount, usedAt, unusedAt, numbersGood, zeros, rowGood, firstBad, tableChecked};
+ghost use Rattle.tables.specs.Bytes.{rowSize, depCount, usedAt, unusedOf, numbersGood, zeros, rowGoodOf, firstBad, tableChecked};
 
 // A good table's number of rows, or the refusal.
 pub enum Checked {
@@ -43,7 +43,7 @@ fn numbers_good(table: &[u8], i: usize) -> bool
 // Whether the other numbers of row i are 0.
 fn zeros_good(table: &[u8], i: usize) -> bool
     requires { ⌜ ((i + 1) * rowSize ≤ length (now table)) × (depCount (now table) i ≤ sizes .dependencies) ⌝ }
-    ensures { λ r. ⌜ r ≡ zeros (unusedAt (now (table .entry)) i) ⌝ }
+    ensures { λ r. ⌜ r ≡ zeros (unusedOf (sizes .dependencies) (now (table .entry)) i) ⌝ }
 {
     let mut j = dep_count(table, i);
     while j < DEPENDENCIES {
@@ -58,7 +58,7 @@ fn zeros_good(table: &[u8], i: usize) -> bool
 // Whether row i is good: its count, its numbers, and a hash that no earlier row has.
 pub fn row_good(table: &[u8], i: usize) -> bool
     requires { ⌜ (i + 1) * rowSize ≤ length (now table) ⌝ }
-    ensures { λ r. ⌜ r ≡ rowGood (now (table .entry)) i ⌝ }
+    ensures { λ r. ⌜ r ≡ rowGoodOf (sizes .dependencies) (now (table .entry)) i ⌝ }
 {
     if DEPENDENCIES < dep_count(table, i) {
         return false;
@@ -75,7 +75,7 @@ pub fn row_good(table: &[u8], i: usize) -> bool
 // The first of the first n rows that isn't good, or n.
 fn first_bad_row(table: &[u8], n: usize) -> usize
     requires { ⌜ n * rowSize ≤ length (now table) ⌝ }
-    ensures { λ r. ⌜ r ≡ firstBad (rowGood (now (table .entry))) 0 n ⌝ }
+    ensures { λ r. ⌜ r ≡ firstBad (rowGoodOf (sizes .dependencies) (now (table .entry))) 0 n ⌝ }
 {
     let mut i = 0;
     while i < n {

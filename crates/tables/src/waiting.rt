@@ -12,8 +12,9 @@ use rules::sizes::WAITING_ROWS;
 ghost use mathlib.Core.Path.{_≡_};
 ghost use Prim.Native.Nat.{_+_, _*_, _≤_};
 ghost use lib.ListN.{length};
+ghost use Rattle.rules.specs.Sizes.{sizes};
 ghost use Rattle.tables.specs.Calls.{tablesChecked};
-ghost use Rattle.tables.specs.Bytes.{rowSize, rowsAt, waitingSize, asksCount, bytesAt, zeros, waitingGood, firstBad, waitingChecked};
+ghost use Rattle.tables.specs.Bytes.{rowSize, rowsAt, waitingSize, asksCount, bytesAt, zeros, waitingGoodOf, firstBad, waitingChecked};
 
 // How many hashes waiting row i says that it asks for.
 pub fn asks_count(waiting: &[u8], i: usize) -> usize
@@ -42,7 +43,7 @@ fn zero_bytes(bytes: &[u8], at: usize, count: usize) -> bool
 // the change table has.
 fn waiting_good(table: &[u8], n: usize, waiting: &[u8], i: usize) -> bool
     requires { ⌜ (n * rowSize ≤ length (now table)) × ((i + 1) * waitingSize ≤ length (now waiting)) ⌝ }
-    ensures { λ r. ⌜ r ≡ waitingGood (rowsAt (now (table .entry)) 0 n) (now (waiting .entry)) i ⌝ }
+    ensures { λ r. ⌜ r ≡ waitingGoodOf (sizes .dependencies) (rowsAt (now (table .entry)) 0 n) (now (waiting .entry)) i ⌝ }
 {
     let start = i * WAITING_SIZE;
     let count = asks_count(waiting, i);
@@ -68,7 +69,7 @@ fn waiting_good(table: &[u8], n: usize, waiting: &[u8], i: usize) -> bool
 // The first of the first m waiting rows that isn't good, or m.
 fn first_bad_waiting(table: &[u8], n: usize, waiting: &[u8], m: usize) -> usize
     requires { ⌜ (n * rowSize ≤ length (now table)) × (m * waitingSize ≤ length (now waiting)) ⌝ }
-    ensures { λ r. ⌜ r ≡ firstBad (waitingGood (rowsAt (now (table .entry)) 0 n) (now (waiting .entry))) 0 m ⌝ }
+    ensures { λ r. ⌜ r ≡ firstBad (waitingGoodOf (sizes .dependencies) (rowsAt (now (table .entry)) 0 n) (now (waiting .entry))) 0 m ⌝ }
 {
     let mut i = 0;
     while i < m {

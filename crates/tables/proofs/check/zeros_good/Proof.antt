@@ -5,7 +5,8 @@ use borrow.Author.Needs.{needs}
 use mathlib.Core.Path.{_≡_, sym, _∙_}
 use native.Mathlib.Omega.{arith}
 use Rattle.rules.specs.Sizes.{sizes}
-use Rattle.tables.specs.Bytes.{unusedAt, zeros}
+use Rattle.tables.specs.Bytes.{zeros}
+use Rattle.tables.proofs.Today.{unusedAt}
 use Rattle.tables.proofs.RowLaws.{zeroing, zero-starts, zero-fails, zero-on, zero-ends}
 use Rattle.tables.proofs.check.zeros_good.Statement.{statement}
 use Rattle.tables.proofs.check.zeros_good.Tie as tie
