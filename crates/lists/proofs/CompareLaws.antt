@@ -14,7 +14,7 @@ use Rattle.rules.proofs.Cases.{split}
 use Rattle.rules.proofs.Hash.{length-hashes-at}
 use Rattle.tables.specs.Bytes.{rowsAt}
 use Rattle.tables.specs.Table.{rows, indexIn, held}
-use Rattle.tables.proofs.TableLaws.{member-of-place, stranger-of-place, place-at-most, length-rows, length-rows-at}
+use Rattle.tables.proofs.TableLaws.{member-of-index, unknown-of-index, index-at-most, length-rows, length-rows-at}
 use Rattle.lists.specs.Lists.{same}
 use Rattle.lists.proofs.Lists.{same-equal}
 
@@ -123,8 +123,8 @@ module _ (table : List ℕ) (n h r : ℕ) (found : r ≡ indexIn (rows (rowsAt t
 
   pub found-held : r < n → held (rowsAt table 0 n) h ≡ true
   unfolding held
-  found-held l = member-of-place (rows (rowsAt table 0 n)) h (omega (arith, long))
+  found-held l = member-of-index (rows (rowsAt table 0 n)) h (omega (arith, long))
 
   pub found-unknown : n ≤ r → held (rowsAt table 0 n) h ≡ false
   unfolding held
-  found-unknown l = stranger-of-place (rows (rowsAt table 0 n)) h (omega (arith, long, place-at-most (rows (rowsAt table 0 n)) h))
+  found-unknown l = unknown-of-index (rows (rowsAt table 0 n)) h (omega (arith, long, index-at-most (rows (rowsAt table 0 n)) h))
