@@ -2,8 +2,9 @@
 use answers::answer::refusal_words;
 use rules::refusal::Refusal;
 use saved::saved::Loaded;
+use session_words::words::session_words;
 ghost use mathlib.Core.Path.{_≡_};
-ghost use Rattle.state_calls.specs.SessionWords.{goodWords, loadedWords};
+ghost use Rattle.state_calls.specs.SessionWords.{goodWords, loadedWords, loadedSession};
 
 pub fn good_words(good: bool) -> [u64; 4]
     ensures { λ w. ⌜ w ≡ goodWords good ⌝ }
@@ -20,5 +21,15 @@ pub fn loaded_words(l: Loaded) -> [u64; 4]
     match l {
         Loaded::Session(session) => [0, session.shared_heads as u64, 0, 0],
         Loaded::Refused(r) => refusal_words(r),
+    }
+}
+
+// The session that was read, else the one that was lent.
+pub fn loaded_session(loaded: Loaded, before: [u64; 16]) -> [u64; 16]
+    ensures { λ w. ⌜ w ≡ loadedSession loaded before ⌝ }
+{
+    match loaded {
+        Loaded::Session(session) => session_words(session),
+        Loaded::Refused(_) => before,
     }
 }

@@ -1,17 +1,18 @@
 // Calls of the crates `state`, `lent` and `saved`.
 use crate::answer::good_words;
+use crate::answer::loaded_session;
 use crate::answer::loaded_words;
-use crate::session_words::loaded_session;
-use crate::session_words::session_of;
-use crate::session_words::session_words;
 use answers::answer::write_words;
+use session_words::words::session_of;
+use session_words::words::session_words;
 use state::session::Session;
 ghost use mathlib.Core.Path.{_≡_};
 ghost use Rattle.lent.specs.Good.{lentOf, sessionGood};
 ghost use Rattle.saved.specs.Saved.{stateOutput};
 ghost use Rattle.state.specs.Counts.{freshCounts, freshReadOnlyCounts, setReadOnlyCounts};
 ghost use Rattle.answers.specs.Answer.{Answered};
-ghost use Rattle.state_calls.specs.SessionWords.{flagOf, sessionWords, sessionOf, goodWords, StateRead};
+ghost use Rattle.session_words.specs.Words.{flagOf, sessionWords, sessionOf};
+ghost use Rattle.state_calls.specs.SessionWords.{goodWords, StateRead};
 
 // Writes the words of a session in which nothing was said yet.
 #[no_mangle]

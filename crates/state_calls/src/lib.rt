@@ -1,4 +1,3 @@
 // Exported calls of the crates `state`, `lent` and `saved`. A session passes as sixteen words.
 pub mod answer;
 pub mod calls;
-pub mod session_words;

@@ -1,7 +1,7 @@
--- `state_calls::session_words::loaded_session` meets its contract: one case for each variant. Assumes nothing.
+-- `state_calls::answer::loaded_session` meets its contract: one case for each variant. Assumes nothing.
 use borrow.Author.Needs.{needs}
-use Rattle.state_calls.proofs.session_words.loaded_session.Statement.{statement}
-use Rattle.state_calls.proofs.session_words.loaded_session.Tie as tie
+use Rattle.state_calls.proofs.answer.loaded_session.Statement.{statement}
+use Rattle.state_calls.proofs.answer.loaded_session.Tie as tie
 
 enum-known-loaded : tie.Need-enum-known-loaded
 enum-known-loaded c = search needs

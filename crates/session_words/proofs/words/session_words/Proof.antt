@@ -1,8 +1,8 @@
--- `state_calls::session_words::session_words` meets its contract: word for word. Assumes nothing.
+-- `session_words::words::session_words` meets its contract: word for word. Assumes nothing.
 use borrow.Author.Needs.{needs}
-use Rattle.state_calls.proofs.SessionWords.{words-made}
-use Rattle.state_calls.proofs.session_words.session_words.Statement.{statement}
-use Rattle.state_calls.proofs.session_words.session_words.Tie as tie
+use Rattle.session_words.proofs.WordLaws.{words-made}
+use Rattle.session_words.proofs.words.session_words.Statement.{statement}
+use Rattle.session_words.proofs.words.session_words.Tie as tie
 
 heard-present-requires : tie.Need-heard-present-requires
 heard-present-requires c κs = search needs
@@ -22,15 +22,6 @@ heard-present-requires-3 c κs = search needs
 heard-count-requires-3 : tie.Need-heard-count-requires-3
 heard-count-requires-3 c κs = search needs
 
-cast-t14 : tie.Need-cast-t14
-cast-t14 c = search needs
-
-cast-t15 : tie.Need-cast-t15
-cast-t15 c = search needs
-
-cast-t16 : tie.Need-cast-t16
-cast-t16 c = search needs
-
 cast-t17 : tie.Need-cast-t17
 cast-t17 c = search needs
 
@@ -42,6 +33,15 @@ cast-t19 c = search needs
 
 cast-t20 : tie.Need-cast-t20
 cast-t20 c = search needs
+
+cast-t21 : tie.Need-cast-t21
+cast-t21 c = search needs
+
+cast-t22 : tie.Need-cast-t22
+cast-t22 c = search needs
+
+cast-t23 : tie.Need-cast-t23
+cast-t23 c = search needs
 
 returns : tie.Need-returns
 returns c =
@@ -61,11 +61,11 @@ session-words-spec =
     heard-count-requires-2
     heard-present-requires-3
     heard-count-requires-3
-    cast-t14
-    cast-t15
-    cast-t16
     cast-t17
     cast-t18
     cast-t19
     cast-t20
+    cast-t21
+    cast-t22
+    cast-t23
     returns)

@@ -1,9 +1,9 @@
 // A session as sixteen words, which is how exported calls are lent it.
-use saved::saved::Loaded;
 use state::session::Heard;
 use state::session::Session;
+use state::session::heard_count;
 ghost use mathlib.Core.Path.{_≡_};
-ghost use Rattle.state_calls.specs.SessionWords.{heardPresent, heardCount, heardOf, sessionWords, sessionOf, loadedSession};
+ghost use Rattle.session_words.specs.Words.{heardPresent, heardOf, sessionWords, sessionOf};
 
 // 1 for a list that is there.
 fn heard_present(heard: Heard) -> u64
@@ -12,16 +12,6 @@ fn heard_present(heard: Heard) -> u64
     match heard {
         Heard::Nothing => 0,
         Heard::Count(_) => 1,
-    }
-}
-
-// How many it has, 0 where it is absent.
-fn heard_count(heard: Heard) -> u64
-    ensures { λ r. ⌜ r ≡ heardCount heard ⌝ }
-{
-    match heard {
-        Heard::Nothing => 0,
-        Heard::Count(n) => n as u64,
     }
 }
 
@@ -44,11 +34,11 @@ pub fn session_words(session: Session) -> [u64; 16]
         session.shared_heads as u64,
         session.last_sent_heads as u64,
         heard_present(heads),
-        heard_count(heads),
+        heard_count(heads) as u64,
         heard_present(need),
-        heard_count(need),
+        heard_count(need) as u64,
         heard_present(have),
-        heard_count(have),
+        heard_count(have) as u64,
         session.sent_hashes as u64,
         session.in_flight as u64,
         session.have_responded as u64,
@@ -81,15 +71,5 @@ pub fn session_of(words: [u64; 16]) -> Session
         read_only: words[13] != 0,
         peer_read_only: words[14] != 0,
         needs_reset: words[15] != 0,
-    }
-}
-
-// The session that was read, else the one that was lent.
-pub fn loaded_session(loaded: Loaded, before: [u64; 16]) -> [u64; 16]
-    ensures { λ w. ⌜ w ≡ loadedSession loaded before ⌝ }
-{
-    match loaded {
-        Loaded::Session(session) => session_words(session),
-        Loaded::Refused(_) => before,
     }
 }

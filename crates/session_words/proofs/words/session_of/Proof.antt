@@ -1,7 +1,7 @@
--- `state_calls::session_words::session_of` meets its contract: word for word. Assumes nothing.
+-- `session_words::words::session_of` meets its contract: word for word. Assumes nothing.
 use borrow.Author.Needs.{needs}
-use Rattle.state_calls.proofs.session_words.session_of.Statement.{statement}
-use Rattle.state_calls.proofs.session_words.session_of.Tie as tie
+use Rattle.session_words.proofs.words.session_of.Statement.{statement}
+use Rattle.session_words.proofs.words.session_of.Tie as tie
 
 array-read-heard-of : tie.Need-array-read-heard-of
 array-read-heard-of c = search needs
