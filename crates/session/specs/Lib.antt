@@ -1,3 +1,4 @@
+pub mod Counts
 pub mod Laid
 pub mod Plan
 pub mod Receive
