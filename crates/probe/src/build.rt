@@ -74,7 +74,7 @@ fn add_hashes(field: &mut [u8], probes: u64, hashes: &[u8], n: usize)
 }
 
 // Clears a field and adds the hashes of a list to it.
-fn fill(field: &mut [u8], probes: u64, hashes: &[u8], n: usize)
+pub fn fill(field: &mut [u8], probes: u64, hashes: &[u8], n: usize)
     requires { ⌜ (n ≤ 8 * length (now field)) × (length (now field) ≤ sizes .field) × (sizes .hash * n ≤ length (now hashes)) ⌝ }
     ensures { λ _. ⌜ now (field .exit) ≡ addHashes probes (replicate (length (now (field .entry))) 0) (hashesAt (now (hashes .entry)) 0 n) ⌝ }
 {

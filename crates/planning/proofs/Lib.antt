@@ -1,0 +1,8 @@
+-- Laws that the crates above cite.
+pub mod BodyLaws
+pub mod FieldLaws
+pub mod HeardLaws
+pub mod RoomLaws
+pub mod SentLaws
+pub mod SyncLaws
+pub mod TestLaws

@@ -1,0 +1,24 @@
+-- Room for marked rows: they are as many as the rows at most, and a list with room for a whole table has room for them.
+use Prim.Native.Nat.{ℕ, _+_, _*_, _≤_}
+use mathlib.Core.Bool.{Bool}
+use mathlib.Core.List.{List}
+use mathlib.Core.Path.{_≡_}
+use native.Mathlib.Omega.{arith}
+use lib.ListN.{length, replicate, length-replicate}
+use Rattle.graph.specs.Marks.{marked}
+use Rattle.graph.proofs.PickLaws.{marked-most}
+use Rattle.rules.specs.Sizes.{sizes}
+
+module _ (n : ℕ) (marks : List Bool) where
+  pub marked-room : (room : ℕ) → sizes .hash * n ≤ room → 0 + sizes .hash * marked n marks ≤ room
+  marked-room room h = omega (arith, marked-most n marks)
+
+  pub marked-few : (count : ℕ) → count ≡ marked n marks → n ≤ sizes .rows → count ≤ sizes .rows
+  marked-few count e h = omega (arith, marked-most n marks)
+
+module _ (n : ℕ) where
+  pub rows-room : n ≤ sizes .rows → sizes .hash * n ≤ length (replicate {A = ℕ} (sizes .hash * sizes .rows) 0)
+  rows-room h = omega (arith, length-replicate {A = ℕ} (sizes .hash * sizes .rows) 0)
+
+  pub same-room : (room same : ℕ) → sizes .hash * n ≤ room → same ≡ room → sizes .hash * n ≤ same
+  same-room room same h e = omega arith

@@ -1,0 +1,34 @@
+-- What internal contracts speak of: parts of a plan that were computed into buffers. No rule of 01 stands here.
+use Prim.Native.Nat.{ℕ, _/_, _≤_}
+use mathlib.Core.Bool.{true}
+use mathlib.Core.List.{List, _++_}
+use mathlib.Core.Path.{_≡_}
+use lib.ListN.{length, take}
+use Rattle.bloom.specs.Filter.{fieldSize, filterRules}
+use Rattle.lists.specs.Lists.{UpTo}
+use Rattle.probe.specs.Build.{filterOf}
+use Rattle.rules.specs.Hash.{hashesAt}
+use Rattle.rules.specs.Order.{ascend}
+use Rattle.rules.specs.Output.{Gathered}
+use Rattle.rules.specs.Sizes.{sizes}
+use Rattle.session.specs.Plan.{Body}
+use Rattle.planning.specs.declared.body.Body.{Body as Counted}
+
+-- Bits and probes with which a filter over any rows of a table keeps the filter rules.
+pub record Setting (bits probes : ℕ) : Type 0 where
+  pub each : (n : ℕ) → n ≤ sizes .rows → filterRules n bits probes (fieldSize n bits) ≡ true
+
+-- The filter of some hashes: how many they are, and its field at the start of a buffer.
+pub record FieldMade (bits probes : ℕ) (hs field : List ℕ) (entries : ℕ) : Type 0 where
+  pub many : entries ≡ length hs
+  pub is : take (fieldSize entries bits) field ≡ filterOf bits probes hs .field
+
+-- A body: its hashes at the start of a list, and whether they go as the document.
+pub record BodyMade (b : Body) (list : List ℕ) (r : Counted) : Type 0 where
+  pub document : r .document ≡ b .document
+  pub hashes : Gathered (b .hashes) list (r .hashes)
+
+-- Hashes joined to those that were sent, as many as a buffer of so many bytes holds.
+pub record SentMade (hs sent : List ℕ) (room : ℕ) (after : List ℕ) (count : ℕ) : Type 0 where
+  pub many : count ≡ length (hashesAt after 0 count)
+  pub are : UpTo (room / sizes .hash) (ascend (hs ++ sent)) (hashesAt after 0 count)

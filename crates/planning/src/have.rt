@@ -1,0 +1,72 @@
+// The have that a unit gives, and whether the peer's first have is one that can be answered.
+use bloom::have::sync_count;
+use bloom::have::sync_place;
+use bloom::rule::bits_capacity;
+use graph::beyond::mark_at_or_below;
+use graph::heads::LIST_SIZE;
+use graph::marked::count_marked;
+use graph::marked::put_marked;
+use graph::marks::flip;
+use lists::compare::all_held;
+use lists::compare::all_in;
+use probe::build::fill;
+use rules::sizes::ROWS;
+use state::session::Heard;
+use state::session::heard_count;
+ghost use mathlib.Core.Bool.{true};
+ghost use mathlib.Core.Path.{_≡_};
+ghost use Prim.Native.Nat.{_*_, _≤_};
+ghost use lib.ListN.{length};
+ghost use Rattle.lent.specs.Good.{heardGood, havesGood};
+ghost use Rattle.rules.specs.Hash.{hashesAt};
+ghost use Rattle.rules.specs.Order.{member, every};
+ghost use Rattle.rules.specs.Sizes.{sizes};
+ghost use Rattle.session.specs.Plan.{heard, unknownSync};
+ghost use Rattle.state.specs.Value.{heardHashes, heardHaves};
+ghost use Rattle.tables.specs.Bytes.{rowsAt, GoodRows};
+ghost use Rattle.graph.specs.Graph.{beyond};
+ghost use Rattle.planning.specs.Made.{Setting, FieldMade};
+
+// Whether each hash that is asked for is a head that was heard.
+pub fn gives_have(need: &[u8], count: usize, their_heads: &[u8], heads: Heard) -> bool
+    requires { ⌜ (sizes .hash * count ≤ length (now need)) × (heardGood (now «their_heads») heads ≡ true) ⌝ }
+    ensures { λ r. ⌜ r ≡ every (λ h. member h (heard (heardHashes (now («their_heads» .entry)) heads))) (hashesAt (now (need .entry)) 0 count) ⌝ }
+{
+    all_in(need, 0, count, their_heads, 0, heard_count(heads))
+}
+
+// Builds the field of the filter over the rows beyond the shared heads, at the start of a buffer that is long enough for any, and returns how many rows
+// these are.
+pub fn make_field(
+    bits: u64,
+    probes: u64,
+    table: &[u8],
+    n: usize,
+    shared: &[u8],
+    count: usize,
+    field: &mut [u8],
+) -> usize
+    requires { ⌜ GoodRows (now table) n × (sizes .hash * count ≤ length (now shared)) × Setting bits probes × (sizes .field ≤ length (now field)) ⌝ }
+    ensures { λ r. ⌜ FieldMade bits probes (beyond (rowsAt (now (table .entry)) 0 n) (hashesAt (now (shared .entry)) 0 count)) (now (field .exit)) r ⌝ }
+{
+    let mut marks = [false; ROWS];
+    mark_at_or_below(table, n, shared, 0, count, &mut marks);
+    flip(n, &mut marks);
+    let mut list = [0u8; LIST_SIZE];
+    put_marked(table, n, &marks, &mut list, 0);
+    let entries = count_marked(n, &marks);
+    let size = bits_capacity(entries as u64, bits) as usize;
+    fill(&mut field[..size], probes, &list, entries);
+    entries
+}
+
+// Whether the first have that was heard, if there is one, names a last-sync hash that isn't held.
+pub fn unknown_sync(table: &[u8], n: usize, bytes: &[u8], haves: &[u64], have: Heard) -> bool
+    requires { ⌜ GoodRows (now table) n × (havesGood (now bytes) (now haves) have ≡ true) ⌝ }
+    ensures { λ r. ⌜ r ≡ unknownSync (rowsAt (now (table .entry)) 0 n) (heardHaves (now (bytes .entry)) (now (haves .entry)) have) ⌝ }
+{
+    if heard_count(have) == 0 {
+        return false;
+    }
+    !all_held(table, n, bytes, sync_place(haves, 0), sync_count(haves, 0))
+}
