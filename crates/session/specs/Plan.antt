@@ -194,3 +194,10 @@ plan bits probes t w s =
     cond (ltb (sizes .hashes) (length (needOf t w (s .readOnly) (heard (s .theirHeads)))))
     (refused (PastSize 0))
     (planReset bits probes t w s)
+
+-- The session after planning: a message's, and after anything else as it was.
+abbrev pub after : Planned → State → State
+after (refused r) s = s
+after silent s = s
+after (reset p) s = s
+after (says p s′) s = s′

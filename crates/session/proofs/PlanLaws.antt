@@ -1,0 +1,280 @@
+-- What planning does, piece by piece, so that callers open none of its definitions: the body and its hashes, the hashes sent, what a message asks for
+-- and says, and one law for each way through the stages.
+use Prim.Native.Nat.{ℕ, _+_, _/_, _≤_, _<_}
+use mathlib.Core.Bool.{Bool, true, false, cond, not, _&&_, _||_}
+use mathlib.Core.List.{List, [], _∷_, _++_}
+use mathlib.Core.Option.{Option, none, some}
+use mathlib.Core.Path.{_≡_, refl, sym, _∙_}
+use native.Mathlib.Omega.{arith}
+use borrow.Author.Tests.{ltb-true, ltb-false, lt-ltb, le-ltb}
+use lib.Dec.{ltb}
+use lib.ListN.{length}
+use Rattle.bloom.specs.Have.{Have}
+use Rattle.missing.specs.Missing.{missing}
+use Rattle.rules.specs.Hash.{AreHashes}
+use Rattle.rules.specs.Order.{member, every, ascends, ascend}
+use Rattle.rules.specs.Sizes.{sizes}
+use Rattle.rules.specs.declared.refusal.Refusal.{Refusal}
+use Rattle.rules.specs.declared.refusal.Refusal.the-variants.{PastSize}
+use Rattle.rules.proofs.Cases.{split, both, true-false}
+use Rattle.rules.proofs.KeepLaws.{every-one}
+use Rattle.rules.proofs.OrderLaws.{ascend-ascends, ascend-members, member-append}
+use Rattle.selection.specs.ToSend.{toSendLess}
+use Rattle.selection.proofs.SelectLaws.{less-few, less-held, less-hashes}
+use Rattle.state.specs.Session.{State}
+use Rattle.tables.specs.Table.{Row, GoodTable, rows, held}
+use Rattle.tables.specs.Waiting.{Waiting}
+use Rattle.tables.proofs.TableLaws.{length-rows}
+use Rattle.session.specs.Plan.{
+  Body,
+  Plan,
+  Planned,
+  heard,
+  heardAs,
+  needOf,
+  haveOf,
+  havesFor,
+  unknownSync,
+  listOf,
+  documentOf,
+  documentPart,
+  listOrDocument,
+  bodyFor,
+  bodyHeard,
+  bodyOf,
+  empty,
+  silence,
+  sentAfter,
+  flagsFor,
+  planOf,
+  planned,
+  resetOf,
+  planSent,
+  planSilence,
+  planReset,
+  plan,
+  after,
+}
+
+-- ---- the body
+
+module _ (t : List Row) (s : State) (P : Body → Type 0) where
+  -- A body is nothing, the document for a peer that knows V2, or the hashes to send for what was heard, less those that were sent.
+  pub record Bodies : Type 0 where
+    pub nothing : P (listOf [])
+    pub document : s .supportsV2 ≡ true → P (documentOf t)
+    pub list : (haves : List Have) (need : List ℕ) → s .theirHave ≡ some haves → s .theirNeed ≡ some need
+        → P (listOf (toSendLess t haves need (s .sentHashes)))
+
+  for-heard : Bodies → (haves : List Have) (need : List ℕ) → s .theirHave ≡ some haves → s .theirNeed ≡ some need → (v2 lost : Bool)
+      → (v2 ≡ true → s .supportsV2 ≡ true) → P (bodyFor t v2 lost haves need (s .sentHashes))
+  unfolding bodyFor listOrDocument
+  for-heard b haves need p q true true f = b .document (f refl)
+  for-heard b haves need p q true false f =
+      split (ltb (length t / documentPart) (length (toSendLess t haves need (s .sentHashes))))
+      (λ e. rw e (b .document (f refl)))
+      (λ e. rw e (b .list haves need p q))
+  for-heard b haves need p q false lost f = b .list haves need p q
+
+  heard-body : Bodies → (have : Option (List Have)) (need : Option (List ℕ)) → s .theirHave ≡ have → s .theirNeed ≡ need
+      → P (bodyHeard t (s .supportsV2) (heardAs [] (s .theirHeads)) have need (s .sentHashes))
+  unfolding bodyHeard
+  heard-body b none need p q = b .nothing
+  heard-body b (some haves) none p q = b .nothing
+  heard-body b (some haves) (some need) p q = for-heard b haves need p q (s .supportsV2) (heardAs [] (s .theirHeads)) (λ e. e)
+
+  pub body-cases : Bodies → P (bodyOf t s)
+  unfolding bodyOf
+  body-cases b = split (s .peerReadOnly) (λ e. rw e (b .nothing)) (λ e. rw e (heard-body b (s .theirHave) (s .theirNeed) refl refl))
+
+-- every hash of a body is a row
+pub planned-held : (t : List Row) → GoodTable t → (s : State) → every (held t) (bodyOf t s .hashes) ≡ true
+unfolding held every
+planned-held t good s =
+    body-cases t s (λ b. every (held t) (b .hashes) ≡ true)
+    (record {
+      nothing = refl;
+      document = λ e. every-one (held t) (rows t) (λ h m. m);
+      list = λ haves need p q. every-one (held t) (toSendLess t haves need (s .sentHashes)) (less-held t haves need (s .sentHashes) good);
+    })
+
+-- only a peer that knows V2 gets the document
+pub document-v2 : (t : List Row) (s : State) → bodyOf t s .document ≡ true → s .supportsV2 ≡ true
+document-v2 t s =
+    body-cases t s (λ b. b .document ≡ true → s .supportsV2 ≡ true)
+    (record {
+      nothing = λ d. absurd (true-false false d refl);
+      document = λ e d. e;
+      list = λ haves need p q d. absurd (true-false false d refl);
+    })
+
+-- and the document is all rows
+pub document-whole : (t : List Row) (s : State) → bodyOf t s .document ≡ true → bodyOf t s .hashes ≡ rows t
+document-whole t s =
+    body-cases t s (λ b. b .document ≡ true → b .hashes ≡ rows t)
+    (record {
+      nothing = λ d. absurd (true-false false d refl);
+      document = λ e d. refl;
+      list = λ haves need p q d. absurd (true-false false d refl);
+    })
+
+rows-told : (t : List Row) → 0 < length t → empty (rows t) ≡ false
+unfolding rows
+rows-told [] h = absurd (omega arith)
+rows-told (r ∷ rs) h = refl
+
+-- so there is something to tell in it where there is a row
+pub document-not-empty : (t : List Row) (s : State) → bodyOf t s .document ≡ true → 0 < length t → empty (bodyOf t s .hashes) ≡ false
+document-not-empty t s d h = rw (document-whole t s d) (rows-told t h)
+
+fit : (a b c most : ℕ) → a ≤ b + c → b ≤ sizes .hashes → c ≤ sizes .rows → sizes .hashes + sizes .rows ≤ most → a ≤ most
+fit a b c most h k l m = omega arith
+
+-- no more hashes than may be sent at once
+pub list-few : (t : List Row) (s : State) → length t ≤ sizes .rows → ((need : List ℕ) → s .theirNeed ≡ some need → length need ≤ sizes .hashes)
+    → length (bodyOf t s .hashes) ≤ sizes .hashesToSend
+list-few t s h f =
+    body-cases t s (λ b. length (b .hashes) ≤ sizes .hashesToSend)
+    (record {
+      nothing = omega arith;
+      document = λ e. rw (length-rows t) (fit (length t) 0 (length t) (sizes .hashesToSend) (omega arith) (omega arith) h (omega arith));
+      list = λ haves need p q. fit _ _ _ _ (less-few t haves need (s .sentHashes)) (f need q) h (omega arith);
+    })
+
+pub body-hashes : (t : List Row) → GoodTable t → (s : State) → AreHashes (rows t) → AreHashes (bodyOf t s .hashes)
+unfolding AreHashes
+body-hashes t good s a =
+    body-cases t s (λ b. AreHashes (b .hashes))
+    (record { nothing = tt; document = λ e. a; list = λ haves need p q. less-hashes t haves need (s .sentHashes) good a })
+
+-- ---- the hashes sent
+
+module _ (t : List Row) (s : State) where
+  pub sent-ascends : ascends (sentAfter t s) ≡ true
+  unfolding sentAfter
+  sent-ascends = ascend-ascends (bodyOf t s .hashes ++ s .sentHashes)
+
+  -- those of the body and those of before, and no others
+  pub sent-members : (h : ℕ) → member h (sentAfter t s) ≡ (member h (bodyOf t s .hashes) || member h (s .sentHashes))
+  unfolding sentAfter
+  sent-members h = ascend-members h (bodyOf t s .hashes ++ s .sentHashes) ∙ member-append h (bodyOf t s .hashes) (s .sentHashes)
+
+-- ---- what a message says
+
+-- a read-only unit asks for nothing
+pub need-none-read-only : (t : List Row) (w : List Waiting) (l : List ℕ) → needOf t w true l ≡ []
+unfolding needOf
+need-none-read-only t w l = refl
+
+-- another asks for what is missing from the heads that were heard
+pub need-missing : (t : List Row) (w : List Waiting) (l : List ℕ) → needOf t w false l ≡ missing t w l
+unfolding needOf
+need-missing t w l = refl
+
+module _ (bits probes : ℕ) (t : List Row) (need theirHeads lastSync : List ℕ) where
+  pub have-one : every (λ h. member h theirHeads) need ≡ true → havesFor bits probes t need theirHeads lastSync ≡ haveOf bits probes t lastSync ∷ []
+  unfolding havesFor
+  have-one e = rw e
+
+  pub have-none : every (λ h. member h theirHeads) need ≡ false → havesFor bits probes t need theirHeads lastSync ≡ []
+  unfolding havesFor
+  have-none e = rw e
+
+  -- at most one have
+  pub have-or-none : length (havesFor bits probes t need theirHeads lastSync) ≤ 1
+  have-or-none =
+      split (every (λ h. member h theirHeads) need) (λ e. rw (have-one e) (omega arith)) (λ e. rw (have-none e) (omega arith))
+
+-- flags that a flags section can carry
+pub said-flags : (readOnlyUnit forget : Bool) → flagsFor readOnlyUnit forget .0 < 0x80
+unfolding flagsFor
+said-flags true true = omega arith
+said-flags true false = omega arith
+said-flags false true = omega arith
+said-flags false false = omega arith
+
+-- ---- the stages
+
+-- a message is none of the other answers
+refused-unsaid : {A : Type 0} {r : Refusal} {q : Plan} {s : State} → Planned.refused r ≡ Planned.says q s → A
+refused-unsaid e = absurd (let z : _≡_ {A = ℕ} 0 1 = cc in omega arith)
+
+reset-unsaid : {A : Type 0} {p q : Plan} {s : State} → Planned.reset p ≡ Planned.says q s → A
+reset-unsaid e = absurd (let z : _≡_ {A = ℕ} 0 1 = cc in omega arith)
+
+silent-unsaid : {A : Type 0} {q : Plan} {s : State} → Planned.silent ≡ Planned.says q s → A
+silent-unsaid e = absurd (let z : _≡_ {A = ℕ} 0 1 = cc in omega arith)
+
+module _ (bits probes : ℕ) (t : List Row) (w : List Waiting) (s : State) where
+  abbrev need : List ℕ
+  need = needOf t w (s .readOnly) (heard (s .theirHeads))
+
+  pub plan-need-past : sizes .hashes < length need → plan bits probes t w s ≡ Planned.refused (PastSize 0)
+  unfolding plan
+  plan-need-past h = rw (lt-ltb _ _ h)
+
+  module _ (few : length need ≤ sizes .hashes) where
+    pub plan-resets : unknownSync t (s .theirHave) ≡ true → plan bits probes t w s ≡ Planned.reset (resetOf t)
+    unfolding plan planReset
+    plan-resets e = rw (le-ltb _ _ few, e)
+
+    module _ (known : unknownSync t (s .theirHave) ≡ false) where
+      pub plan-silent : silence t s ≡ true → plan bits probes t w s ≡ Planned.silent
+      unfolding plan planReset planSilence
+      plan-silent e = rw (le-ltb _ _ few, known, e)
+
+      module _ (speaks : silence t s ≡ false) where
+        pub plan-sent-past : sizes .sentHashes < length (sentAfter t s) → plan bits probes t w s ≡ Planned.refused (PastSize 0)
+        unfolding plan planReset planSilence planSent
+        plan-sent-past h = rw (le-ltb _ _ few, known, speaks, lt-ltb _ _ h)
+
+        pub plan-is : length (sentAfter t s) ≤ sizes .sentHashes → plan bits probes t w s ≡ Planned.says (planOf bits probes t w s) (planned t s)
+        unfolding plan planReset planSilence planSent
+        plan-is h = rw (le-ltb _ _ few, known, speaks, le-ltb _ _ h)
+
+  -- What stands where a message is said.
+  pub record Saying (q : Plan) (s′ : State) : Type 0 where
+    pub few : length need ≤ sizes .hashes
+    pub known : unknownSync t (s .theirHave) ≡ false
+    pub speaks : silence t s ≡ false
+    pub sentFew : length (sentAfter t s) ≤ sizes .sentHashes
+    pub message : q ≡ planOf bits probes t w s
+    pub session : s′ ≡ planned t s
+
+  pub plan-saying : (q : Plan) (s′ : State) → plan bits probes t w s ≡ Planned.says q s′ → Saying q s′
+  plan-saying q s′ e =
+      split (ltb (sizes .hashes) (length need))
+      (λ a. refused-unsaid (sym (plan-need-past (ltb-true _ _ a)) ∙ e))
+      (λ a.
+      let few : length need ≤ sizes .hashes = ltb-false _ _ a in
+      split (unknownSync t (s .theirHave))
+      (λ b. reset-unsaid (sym (plan-resets few b) ∙ e))
+      (λ b.
+      split (silence t s)
+      (λ c. silent-unsaid (sym (plan-silent few b c) ∙ e))
+      (λ c.
+      split (ltb (sizes .sentHashes) (length (sentAfter t s)))
+      (λ d. refused-unsaid (sym (plan-sent-past few b c (ltb-true _ _ d)) ∙ e))
+      (λ d.
+      let sent : length (sentAfter t s) ≤ sizes .sentHashes = ltb-false _ _ d in
+      let is : Planned.says q s′ ≡ Planned.says (planOf bits probes t w s) (planned t s) = sym e ∙ plan-is few b c sent in
+      record { few = few; known = b; speaks = c; sentFew = sent; message = cc; session = cc }))))
+
+  -- a message that is said is this one, and the session after it this
+  pub plan-says : (q : Plan) (s′ : State) → plan bits probes t w s ≡ Planned.says q s′ → (q ≡ planOf bits probes t w s) × (s′ ≡ planned t s)
+  plan-says q s′ e = let p = plan-saying q s′ e in (p .message, p .session)
+
+-- own filters never enter the session: it is the same whatever bits and probes they have
+pub own-filters : (bits probes bits′ probes′ : ℕ) (t : List Row) (w : List Waiting) (s : State)
+    → after (plan bits probes t w s) s ≡ after (plan bits′ probes′ t w s) s
+unfolding plan planReset planSilence planSent
+own-filters bits probes bits′ probes′ t w s =
+    split (ltb (sizes .hashes) (length (needOf t w (s .readOnly) (heard (s .theirHeads)))))
+    (λ a. rw a)
+    (λ a.
+    split (unknownSync t (s .theirHave))
+    (λ b. rw (a, b))
+    (λ b.
+    split (silence t s)
+    (λ c. rw (a, b, c))
+    (λ c. split (ltb (sizes .sentHashes) (length (sentAfter t s))) (λ d. rw (a, b, c, d)) (λ d. rw (a, b, c, d)))))
