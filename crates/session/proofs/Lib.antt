@@ -1,3 +1,4 @@
 -- Laws that the crates above cite.
 pub mod LaidLaws
 pub mod PlanLaws
+pub mod ReceiveLaws
