@@ -1,4 +1,5 @@
 -- Laws that the crates above cite.
+pub mod GoodLaws
 pub mod LaidLaws
 pub mod PlanLaws
 pub mod ReceiveLaws

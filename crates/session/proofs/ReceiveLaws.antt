@@ -101,11 +101,11 @@ keep-ascends p (x ∷ xs) a =
     (λ e. rw e (ascends-cons x (keep p xs) rest (λ y m. ascends-first x xs a y (both (p y) (member y xs) (sym (keep-member p xs y) ∙ m) .1))))
     (λ e. rw e rest)
 
-flagged-ascends : (flags : Section) (sent : List ℕ) → ascends sent ≡ true → ascends (sentFlagged flags sent) ≡ true
+pub flagged-ascends : (flags : Section) (sent : List ℕ) → ascends sent ≡ true → ascends (sentFlagged flags sent) ≡ true
 unfolding sentFlagged ascends
 flagged-ascends flags sent a = split (told (λ f. hasFlag f syncReset) flags false) (λ e. rw e) (λ e. rw e a)
 
-flagged-few : (flags : Section) (sent : List ℕ) → length (sentFlagged flags sent) ≤ length sent
+pub flagged-few : (flags : Section) (sent : List ℕ) → length (sentFlagged flags sent) ≤ length sent
 unfolding sentFlagged
 flagged-few flags sent = split (told (λ f. hasFlag f syncReset) flags false) (λ e. rw e (omega arith)) (λ e. rw e (omega arith))
 
