@@ -1,25 +1,31 @@
 -- A good session stays good under both steps, whatever is planned or received, and a message that was read is one that a session can take.
 use Prim.Native.Nat.{ℕ, zero, suc, _+_, _≤_, _<_}
-use mathlib.Core.Bool.{Bool, true, false, not, _&&_, _||_}
+use mathlib.Core.Bool.{Bool, true, false, not, _&&_}
 use mathlib.Core.List.{List, [], _∷_}
 use mathlib.Core.Logic.{_⊎_, inl, inr}
-use mathlib.Core.Option.{none, some}
+use mathlib.Core.Option.{Option, none, some}
 use mathlib.Core.Path.{_≡_, refl, sym, ap, _∙_}
+use native.Mathlib.Nat.{le-trans}
 use native.Mathlib.Omega.{arith}
 use borrow.Author.Tests.{leb-true, ltb-true, ltb-false}
 use lib.Dec.{leb, ltb}
-use lib.ListN.{length, take}
-use Rattle.bloom.specs.Filter.{filterRules}
+use lib.ListN.{length, take, length-replicate}
+use Rattle.bloom.specs.Filter.{fieldSize, filterRules, defaultBits, defaultProbes}
 use Rattle.bloom.specs.Have.{haveCount, haveIn, havesFrom, havesOf, syncPlace, syncCount, numbersIn, filterGood, filterWith}
 use Rattle.bloom.proofs.HaveLaws.{PassedHaves, passed-haves}
+use Rattle.bloom.proofs.Rules.{rules-default}
 use Rattle.decode.specs.Read.{Reading, messageAt, messageOf}
 use Rattle.decode.specs.declared.parse.Places.{Places}
 use Rattle.decode.proofs.Messages.{message-words, haves-good}
-use Rattle.graph.specs.Graph.{heads}
+use Rattle.graph.specs.Graph.{heads, beyond}
+use Rattle.graph.proofs.BelowLaws.{beyond-few}
 use Rattle.graph.proofs.HeadLaws.{heads-few, heads-hashes}
 use Rattle.lists.specs.Lists.{same}
-use Rattle.message.specs.Sound.{Each, SoundHashes, SoundHave}
+use Rattle.message.specs.Sound.{Each, SoundHashes, SoundHave, SaidFilter, SaidHave}
 use Rattle.message.specs.declared.flags.Section.{Section}
+use Rattle.missing.specs.Missing.{missing}
+use Rattle.probe.specs.Build.{addHashes, filterOf}
+use Rattle.probe.proofs.FieldLaws.{length-add-hashes}
 use Rattle.rules.specs.Hash.{Bytes, AreHashes, hashesAt}
 use Rattle.rules.specs.Order.{member, every, ascends}
 use Rattle.rules.specs.Sizes.{sizes}
@@ -32,11 +38,27 @@ use Rattle.state.specs.Session.{State, fresh, freshReadOnly, restored, setReadO
 use Rattle.state.proofs.SessionLaws.{switch-same, switch-on, switch-off}
 use Rattle.tables.specs.Table.{Row, rows, held}
 use Rattle.tables.specs.Waiting.{Waiting}
-use Rattle.session.specs.Good.{SoundTable, SoundHaves, GoodState, SoundSaid}
-use Rattle.session.specs.Plan.{Plan, Planned, empty, bodyOf, sentAfter, planned, plan, after}
+use Rattle.session.specs.Good.{SoundTable, SoundHaves, WhereHeard, GoodState, SoundSaid}
+use Rattle.session.specs.Plan.{
+  Plan,
+  Planned,
+  heard,
+  needOf,
+  haveOf,
+  havesFor,
+  empty,
+  bodyOf,
+  sentAfter,
+  headsFor,
+  planOf,
+  planned,
+  plan,
+  after,
+}
 use Rattle.session.specs.Receive.{
   Said,
   saidIn,
+  saidBy,
   Received,
   sentFlagged,
   flagged,
@@ -51,7 +73,17 @@ use Rattle.session.specs.Receive.{
   receive,
   receiveBytes,
 }
-use Rattle.session.proofs.PlanLaws.{body-hashes, sent-ascends, sent-members, plan-saying}
+use Rattle.session.proofs.PlanLaws.{
+  list-few,
+  body-hashes,
+  sent-ascends,
+  sent-members,
+  need-none-read-only,
+  need-missing,
+  have-one,
+  have-none,
+  plan-saying,
+}
 use Rattle.session.proofs.ReceiveLaws.{
   join-members,
   advance-members,
@@ -157,6 +189,17 @@ sent-hashes t w s g =
     (λ e. hashes-member (bodyOf t s .hashes) (body-hashes t (w .good) s (w .are)) h e)
     (λ e. hashes-member (s .sentHashes) (g .sentAre) h e))
 
+-- what holds where something was heard holds of what was
+pub where-heard : {A : Type 0} (P : A → Type 0) (o : Option A) → WhereHeard P o → (x : A) → o ≡ some x → P x
+where-heard P none h x e = absurd (let z : _≡_ {A = ℕ} 0 1 = cc in omega arith)
+where-heard P (some y) h x e =
+    let is : y ≡ x = cc in
+    rw (← is) h
+
+-- no more hashes than may be sent at once
+pub body-few : (t : List Row) (s : State) → SoundTable t → GoodState s → length (bodyOf t s .hashes) ≤ sizes .hashesToSend
+body-few t s w g = list-few t s (w .few) (λ need e. where-heard SoundHashes (s .theirNeed) (g .theirNeed) need e .few)
+
 module _ (bits probes : ℕ) (t : List Row) (w : List Waiting) (s : State) (sound : SoundTable t) (g : GoodState s) where
   good-after : length (sentAfter t s) ≤ sizes .sentHashes → GoodState (planned t s)
   unfolding planned
@@ -187,6 +230,61 @@ module _ (bits probes : ℕ) (t : List Row) (w : List Waiting) (s : State) (soun
   -- and so does planning, whatever it answers
   pub after-good : GoodState (after (plan bits probes t w s) s)
   after-good = answer-good (plan bits probes t w s) refl
+
+-- ---- messages that are planned with the filters of the setting
+
+module _ (t : List Row) (sound : SoundTable t) where
+  have-sound : (l : List ℕ) → SoundHashes l → SoundHave (haveOf defaultBits defaultProbes t l)
+  unfolding haveOf filterOf
+  have-sound l h =
+      let few : length (beyond t l) ≤ sizes .rows = le-trans (beyond-few t l) (sound .few) in
+      record { lastSync = h; filter = rw (length-add-hashes, length-replicate) (rules-default (length (beyond t l)) few) }
+
+  haves-sound : (need theirHeads l : List ℕ) → SoundHashes l → SoundHaves (havesFor defaultBits defaultProbes t need theirHeads l)
+  unfolding Each
+  haves-sound need theirHeads l h =
+      split (every (λ x. member x theirHeads) need)
+      (λ e. rw (have-one defaultBits defaultProbes t need theirHeads l e) (record { few = omega arith; each = (have-sound l h, tt) }))
+      (λ e. rw (have-none defaultBits defaultProbes t need theirHeads l e) no-haves)
+
+  told-sound : (needsReset supportsReset : Bool) → SoundHashes (headsFor needsReset supportsReset (heads t))
+  unfolding headsFor
+  told-sound needsReset supportsReset = split (needsReset && not supportsReset) (λ e. rw e no-hashes) (λ e. rw e (heads-sound t sound))
+
+  need-hashes : (w : List Waiting) (readOnlyUnit : Bool) (l : List ℕ) → AreHashes (missing t w l) → AreHashes (needOf t w readOnlyUnit l)
+  unfolding AreHashes
+  need-hashes w true l a = rw (need-none-read-only t w l) tt
+  need-hashes w false l a = rw (need-missing t w l) a
+
+  -- a message that is said is one that a session can take, if what is missing are hashes
+  pub said-sound : (w : List Waiting) (s : State) → GoodState s → AreHashes (missing t w (heard (s .theirHeads)))
+      → (q : Plan) (s′ : State) → plan defaultBits defaultProbes t w s ≡ Planned.says q s′
+      → SoundSaid (saidBy q)
+  unfolding saidBy planOf
+  said-sound w s g a q s′ e =
+      let p = plan-saying defaultBits defaultProbes t w s q s′ e in
+      rw (p .message)
+      (record {
+        heads = told-sound (s .needsReset) (s .supportsReset);
+        need = record { few = p .few; are = need-hashes w (s .readOnly) (heard (s .theirHeads)) a };
+        haves = haves-sound _ _ (s .sharedHeads) (g .shared);
+      })
+
+filter-said : (hs : List ℕ) → SaidFilter (filterOf defaultBits defaultProbes hs)
+unfolding filterOf fieldSize addHashes
+filter-said [] = SaidFilter.default refl
+filter-said (h ∷ hs) = SaidFilter.entries (omega arith)
+
+-- and its have is read back as it was written: a filter over no rows is the default
+pub said-back : (t : List Row) (w : List Waiting) (s : State) → Each SaidHave (planOf defaultBits defaultProbes t w s .haves)
+unfolding planOf haveOf Each
+said-back t w s =
+    let need : List ℕ = needOf t w (s .readOnly) (heard (s .theirHeads)) in
+    split (every (λ x. member x (heard (s .theirHeads))) need)
+    (λ e.
+    rw (have-one defaultBits defaultProbes t need (heard (s .theirHeads)) (s .sharedHeads) e)
+    (filter-said (beyond t (s .sharedHeads)), tt))
+    (λ e. rw (have-none defaultBits defaultProbes t need (heard (s .theirHeads)) (s .sharedHeads) e) tt)
 
 -- ---- receiving
 
@@ -318,12 +416,12 @@ read-sound bytes all p haves chunks e =
       haves = sound-haves bytes haves all (passed-haves bytes haves (good .0) (good .1));
     }
 
-module _ (loaded : Bool) (before : ℕ) (t : List Row) (s : State) (bytes : List ℕ) (all : Bytes bytes) (are : AreHashes (rows t)) (g : GoodState s) where
-  -- What receiving leaves of a session is good.
-  pub record LeavesGood (x : Received) : Type 0 where
-    pub took : (s′ : State) → x ≡ Received.took s′ → GoodState s′
-    pub refused : (r : Refusal) (s′ : State) → x ≡ Received.refused r s′ → GoodState s′
+-- What receiving leaves of a session is good.
+pub record LeavesGood (x : Received) : Type 0 where
+  pub took : (s′ : State) → x ≡ Received.took s′ → GoodState s′
+  pub refused : (r : Refusal) (s′ : State) → x ≡ Received.refused r s′ → GoodState s′
 
+module _ (loaded : Bool) (before : ℕ) (t : List Row) (s : State) (bytes : List ℕ) (all : Bytes bytes) (are : AreHashes (rows t)) (g : GoodState s) where
   as-was : (x : Received) (r : Refusal) → x ≡ Received.refused r s → LeavesGood x
   as-was x r e =
       record {

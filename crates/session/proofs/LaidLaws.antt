@@ -1,15 +1,14 @@
 -- Haves that were laid out are read back, and pass as haves that are handed over do. Records and bytes are laid one have after the other, so
 -- both are taken apart from the first have on: what is left of the records is the rest laid from where its bytes start.
-use Prim.Native.Nat.{ℕ, zero, suc, _+_, _*_, _%_, _≤_, min}
+use Prim.Native.Nat.{ℕ, suc, _+_, _*_, _%_, _≤_, min}
 use mathlib.Core.Bool.{true}
 use mathlib.Core.List.{List, [], _∷_, _++_}
 use mathlib.Core.Path.{_≡_, refl, sym, ap, ap₂, _∙_}
-use native.Mathlib.Nat.{zero-add, add-zero}
+use native.Mathlib.Nat.{add-zero}
 use native.Mathlib.Omega.{arith}
 use borrow.Author.Tests.{le-leb, eq-eqb}
 use lib.ListN.{length, getD, take, drop, length-append, length-take}
-use lib.Seq.{sets, slice, take-length, drop-drop, getD-drop, length-sets}
-use Rattle.bloom.specs.Filter.{filterRules}
+use lib.Seq.{sets, slice, take-length, drop-drop, getD-drop}
 use Rattle.bloom.specs.Have.{
   Have,
   haveWords,
@@ -50,7 +49,7 @@ laid-length-words vs = length-from 0 vs
 pub laid-length-bytes : (v : Have) (vs : List Have)
     → length (laidBytes (v ∷ vs)) ≡ sizes .hash * length (v .lastSync) + (length (v .filter .field) + length (laidBytes vs))
 unfolding laidBytes
-laid-length-bytes v vs = rw (length-append, length-append, length-hashes-bytes)
+laid-length-bytes v vs = rw (length-append, length-append, length-hashes-bytes) (omega arith)
 
 -- ---- the first have of those that are left
 
@@ -163,7 +162,10 @@ module _ (s : List ℕ) (vs : List Have) (starts : StartsLaid s vs) where
       let whole : length (laidWords vs) % haveWords ≡ 0 = rw (laid-length-words vs) (omega arith) in
       let most : min (length vs) (sizes .haves) ≡ length vs = omega arith in
       let end : ℕ = length (laidBytes vs) in
-      (rw (eq-eqb _ _ whole, many, most) (good-from s (laidWords vs) end starts-within vs 0 0 all-left g), rw (many, le-leb _ _ few) (few-from s (laidWords vs) end vs 0 0 all-left g))
+      let good : passedGood s (laidWords vs) ≡ true =
+      rw (eq-eqb _ _ whole, many, most) (good-from s (laidWords vs) end starts-within vs 0 0 all-left g)
+      in
+      (good, rw (many, le-leb _ _ few) (few-from s (laidWords vs) end vs 0 0 all-left g))
 
 -- haves that were laid out are the haves again
 pub laid-haves : (vs : List Have) → Each (λ (v : Have). AreHashes (v .lastSync)) vs → havesOf (laidBytes vs) (laidWords vs) ≡ vs

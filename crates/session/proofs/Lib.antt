@@ -2,4 +2,5 @@
 pub mod GoodLaws
 pub mod LaidLaws
 pub mod PlanLaws
+pub mod Promises
 pub mod ReceiveLaws

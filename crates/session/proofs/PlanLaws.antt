@@ -1,7 +1,7 @@
 -- What planning does, piece by piece, so that callers open none of its definitions: the body and its hashes, the hashes sent, what a message asks for
 -- and says, and one law for each way through the stages.
 use Prim.Native.Nat.{ℕ, _+_, _/_, _≤_, _<_}
-use mathlib.Core.Bool.{Bool, true, false, cond, not, _&&_, _||_}
+use mathlib.Core.Bool.{Bool, true, false, _&&_, _||_}
 use mathlib.Core.List.{List, [], _∷_, _++_}
 use mathlib.Core.Option.{Option, none, some}
 use mathlib.Core.Path.{_≡_, refl, sym, _∙_}
@@ -10,13 +10,15 @@ use borrow.Author.Tests.{ltb-true, ltb-false, lt-ltb, le-ltb}
 use lib.Dec.{ltb}
 use lib.ListN.{length}
 use Rattle.bloom.specs.Have.{Have}
+use Rattle.graph.specs.Graph.{heads}
+use Rattle.lists.specs.Lists.{same}
 use Rattle.missing.specs.Missing.{missing}
 use Rattle.rules.specs.Hash.{AreHashes}
-use Rattle.rules.specs.Order.{member, every, ascends, ascend}
+use Rattle.rules.specs.Order.{member, every, ascends}
 use Rattle.rules.specs.Sizes.{sizes}
 use Rattle.rules.specs.declared.refusal.Refusal.{Refusal}
 use Rattle.rules.specs.declared.refusal.Refusal.the-variants.{PastSize}
-use Rattle.rules.proofs.Cases.{split, both, true-false}
+use Rattle.rules.proofs.Cases.{split, true-false, and-false}
 use Rattle.rules.proofs.KeepLaws.{every-one}
 use Rattle.rules.proofs.OrderLaws.{ascend-ascends, ascend-members, member-append}
 use Rattle.selection.specs.ToSend.{toSendLess}
@@ -87,6 +89,16 @@ module _ (t : List Row) (s : State) (P : Body → Type 0) where
   unfolding bodyOf
   body-cases b = split (s .peerReadOnly) (λ e. rw e (b .nothing)) (λ e. rw e (heard-body b (s .theirHave) (s .theirNeed) refl refl))
 
+for-list : (t : List Row) (v2 lost : Bool) (haves : List Have) (need sent : List ℕ) → bodyFor t v2 lost haves need sent .document ≡ false
+    → bodyFor t v2 lost haves need sent .hashes ≡ toSendLess t haves need sent
+unfolding bodyFor listOrDocument
+for-list t true true haves need sent = λ d. absurd (true-false true refl d)
+for-list t true false haves need sent =
+    split (ltb (length t / documentPart) (length (toSendLess t haves need sent)))
+    (λ e. rw e (λ d. absurd (true-false true refl d)))
+    (λ e. rw e (λ d. refl))
+for-list t false lost haves need sent = λ d. refl
+
 -- every hash of a body is a row
 pub planned-held : (t : List Row) → GoodTable t → (s : State) → every (held t) (bodyOf t s .hashes) ≡ true
 unfolding held every
@@ -97,6 +109,19 @@ planned-held t good s =
       document = λ e. every-one (held t) (rows t) (λ h m. m);
       list = λ haves need p q. every-one (held t) (toSendLess t haves need (s .sentHashes)) (less-held t haves need (s .sentHashes) good);
     })
+
+-- a peer that takes no changes gets none
+pub body-read-only : (t : List Row) (s : State) → s .peerReadOnly ≡ true → bodyOf t s ≡ listOf []
+unfolding bodyOf
+body-read-only t s e = rw e
+
+-- the hashes of any other body that isn't the document are those to send for what was heard, less those that were sent
+pub list-hashes : (t : List Row) (s : State) (haves : List Have) (need : List ℕ) → s .peerReadOnly ≡ false → s .theirHave ≡ some haves
+    → s .theirNeed ≡ some need
+    → bodyOf t s .document ≡ false
+    → bodyOf t s .hashes ≡ toSendLess t haves need (s .sentHashes)
+unfolding bodyOf bodyHeard
+list-hashes t s haves need p q r = rw (p, q, r) (for-list t (s .supportsV2) (heardAs [] (s .theirHeads)) haves need (s .sentHashes))
 
 -- only a peer that knows V2 gets the document
 pub document-v2 : (t : List Row) (s : State) → bodyOf t s .document ≡ true → s .supportsV2 ≡ true
@@ -192,6 +217,57 @@ said-flags true true = omega arith
 said-flags true false = omega arith
 said-flags false true = omega arith
 said-flags false false = omega arith
+
+-- ---- silence
+
+-- the six tests of silence, and how each of them breaks it
+unfoldable quiet : Bool → Bool → Bool → Bool → Bool → Bool → Bool
+quiet told answered heard readOnly nothing inFlight = (told && answered) && (((heard || readOnly) && nothing) || inFlight)
+
+module _ (a b c d e f : Bool) where
+  untold : a ≡ false → quiet a b c d e f ≡ false
+  unfolding quiet
+  untold p = rw p
+
+  unanswered : b ≡ false → quiet a b c d e f ≡ false
+  unfolding quiet
+  unanswered p = rw (p, and-false a)
+
+  something : f ≡ false → e ≡ false → quiet a b c d e f ≡ false
+  unfolding quiet
+  something q p = rw (q, p, and-false (c || d)) (and-false (a && b))
+
+  apart : f ≡ false → c ≡ false → d ≡ false → quiet a b c d e f ≡ false
+  unfolding quiet
+  apart q p r = rw (q, p, r) (and-false (a && b))
+
+module _ (t : List Row) (s : State) where
+  abbrev told : Bool
+  told = same (s .lastSentHeads) (heads t)
+
+  abbrev nothing : Bool
+  nothing = empty (bodyOf t s .hashes)
+
+  silence-is : silence t s ≡ quiet told (s .haveResponded) (heardAs (heads t) (s .theirHeads)) (s .readOnly) nothing (s .inFlight)
+  unfolding silence quiet
+  silence-is = refl
+
+  -- nobody is silent about heads that changed
+  pub speaks-heads : same (s .lastSentHeads) (heads t) ≡ false → silence t s ≡ false
+  speaks-heads e = silence-is ∙ untold _ _ _ _ _ _ e
+
+  -- or before the first answer
+  pub speaks-first : s .haveResponded ≡ false → silence t s ≡ false
+  speaks-first e = silence-is ∙ unanswered _ _ _ _ _ _ e
+
+  module _ (lands : s .inFlight ≡ false) where
+    -- or with something to tell, once nothing is in flight
+    pub speaks-body : empty (bodyOf t s .hashes) ≡ false → silence t s ≡ false
+    speaks-body e = silence-is ∙ something _ _ _ _ _ _ lands e
+
+    -- or to a peer of other heads, if this unit takes changes
+    pub speaks-apart : heardAs (heads t) (s .theirHeads) ≡ false → s .readOnly ≡ false → silence t s ≡ false
+    speaks-apart e f = silence-is ∙ apart _ _ _ _ _ _ lands e f
 
 -- ---- the stages
 

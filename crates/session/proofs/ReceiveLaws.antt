@@ -4,13 +4,12 @@ use Prim.Native.Nat.{ℕ, _≤_, _<_}
 use mathlib.Core.Bool.{Bool, true, false, not, _&&_, _||_}
 use mathlib.Core.List.{List, [], _∷_, _++_}
 use mathlib.Core.Logic.{_⊎_, inl, inr, ⊎-elim}
-use mathlib.Core.Option.{Option}
 use mathlib.Core.Path.{_≡_, refl, sym, _∙_}
+use native.Mathlib.Nat.{le-trans}
 use native.Mathlib.Omega.{arith}
 use borrow.Author.Tests.{ltb-true, ltb-false, lt-ltb, le-ltb}
 use lib.Dec.{ltb}
 use lib.ListN.{length}
-use Rattle.bloom.specs.Have.{Have}
 use Rattle.decode.specs.Read.{Reading, messageAt, messageOf}
 use Rattle.decode.specs.declared.parse.Places.{Places}
 use Rattle.graph.specs.Graph.{below}
@@ -51,7 +50,7 @@ use Rattle.session.specs.Receive.{
 module _ (t : List Row) (theirHeads shared : List ℕ) where
   pub join-ascends : ascends (join t theirHeads shared) ≡ true
   unfolding join
-  join-ascends = ascend-ascends (keep (held t) theirHeads ++ shared)
+  join-ascends = ascend-ascends _
 
   pub join-once : Once (join t theirHeads shared)
   join-once = once-ascends (join t theirHeads shared) join-ascends
@@ -59,12 +58,14 @@ module _ (t : List Row) (theirHeads shared : List ℕ) where
   -- the message's heads that are held and the shared ones, and no others
   pub join-members : (h : ℕ) → member h (join t theirHeads shared) ≡ ((held t h && member h theirHeads) || member h shared)
   unfolding join
-  join-members h = ascend-members h (keep (held t) theirHeads ++ shared) ∙ rw (member-append h (keep (held t) theirHeads) shared, keep-member (held t) theirHeads h)
+  join-members h =
+      ascend-members h (keep (held t) theirHeads ++ shared)
+      ∙ rw (member-append h (keep (held t) theirHeads) shared, keep-member (held t) theirHeads h)
 
 module _ (headsBefore headsNow shared : List ℕ) where
   pub advance-ascends : ascends (advance headsBefore headsNow shared) ≡ true
   unfolding advance
-  advance-ascends = ascend-ascends (keep (λ h. not (member h headsBefore)) headsNow ++ keep (λ h. member h headsNow) shared)
+  advance-ascends = ascend-ascends _
 
   -- heads that are new, and shared ones that are heads still
   pub advance-members : (h : ℕ)
@@ -120,7 +121,7 @@ module _ (t : List Row) (s : State) (m : Said) where
   left-ascends a =
       split (empty (m .heads))
       (λ e. rw e)
-      (λ e. rw e (keep-ascends (λ h. not (below t (m .heads) h)) _ (flagged-ascends (m .flags) (s .sentHashes) a)))
+      (λ e. rw e (keep-ascends _ _ (flagged-ascends (m .flags) (s .sentHashes) a)))
 
   -- no more than there were
   pub left-few : length (sentLeft t s m) ≤ length (s .sentHashes)
@@ -128,9 +129,7 @@ module _ (t : List Row) (s : State) (m : Said) where
   left-few =
       split (empty (m .heads))
       (λ e. rw e (omega arith))
-      (λ e.
-      rw e
-      (omega (arith, keep-most (λ h. not (below t (m .heads) h)) (sentFlagged (m .flags) (s .sentHashes)), flagged-few (m .flags) (s .sentHashes))))
+      (λ e. rw e (le-trans (keep-most _ (sentFlagged (m .flags) (s .sentHashes))) (flagged-few (m .flags) (s .sentHashes))))
 
   -- just those that the peer doesn't have by now, and none for a peer without heads
   pub left-members : (h : ℕ)
@@ -269,7 +268,8 @@ module _ (loaded : Bool) (before : ℕ) (t : List Row) (s : State) (bytes : List
     unfolding receiveBytes receiveRead
     bytes-read p haves chunks e = rw (le-ltb _ _ inside, e)
 
-  reading-keeps : before ≤ length t → (x : Reading) → messageAt bytes ≡ x → (r : Refusal) (s′ : State) → receiveBytes loaded before t s bytes ≡ Received.refused r s′
+  reading-keeps : before ≤ length t → (x : Reading) → messageAt bytes ≡ x
+      → (r : Refusal) (s′ : State) → receiveBytes loaded before t s bytes ≡ Received.refused r s′
       → (r ≡ LoadFailed) ⊎ (s′ ≡ s)
   reading-keeps inside (Reading.read p haves chunks) q r s′ e =
       ⊎-elim (λ f. inl (f .0)) inr

@@ -1,6 +1,6 @@
 -- Sessions, messages and tables that keep every size. 01, Sizes, and Refusal numbers, 10: a session that is lent is one of these, and so is what the two
 -- steps make of it, so that calls can follow each other for ever.
-use Prim.Native.Nat.{ℕ, _≤_}
+use Prim.Native.Nat.{_≤_}
 use mathlib.Core.Bool.{true}
 use mathlib.Core.List.{List}
 use mathlib.Core.Option.{Option, none, some}

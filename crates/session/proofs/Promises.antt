@@ -1,0 +1,30 @@
+-- What is promised of this crate and cited nowhere in it or above: a law that stands here can't be taken out or renamed unseen.
+pub use Rattle.session.proofs.GoodLaws.{body-few, restored-good, fresh-read-only-good, set-read-only-good, after-good, said-sound, said-back, bytes-good}
+pub use Rattle.session.proofs.LaidLaws.{laid-haves, laid-read, laid-good, sound-syncs}
+pub use Rattle.session.proofs.PlanLaws.{
+  planned-held,
+  body-read-only,
+  list-hashes,
+  document-v2,
+  document-not-empty,
+  have-or-none,
+  said-flags,
+  speaks-heads,
+  speaks-first,
+  speaks-body,
+  speaks-apart,
+  plan-says,
+  own-filters,
+}
+pub use Rattle.session.proofs.ReceiveLaws.{
+  join-once,
+  advance-ascends,
+  shared-few,
+  flagged-keeps,
+  flagged-lands,
+  flagged-sent,
+  flagged-forgets,
+  receive-took,
+  load-failed,
+  refused-keeps,
+}
