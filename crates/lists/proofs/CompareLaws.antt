@@ -1,10 +1,10 @@
 -- A list from one of its hashes on, and what is found there: each law is one turn of a loop, with its test as a hypothesis.
-use Prim.Native.Nat.{ℕ, zero, suc, _+_, _-_, _*_, _≤_, _<_}
-use mathlib.Core.Bool.{Bool, true, false}
+use Prim.Native.Nat.{ℕ, suc, _+_, _-_, _*_, _≤_, _<_}
+use mathlib.Core.Bool.{Bool, true, false, not}
 use mathlib.Core.List.{List, [], _∷_}
-use mathlib.Core.Path.{_≡_, refl, sym, ap, _∙_}
-use native.Mathlib.Nat.{add-zero}
+use mathlib.Core.Path.{_≡_, sym, ap, _∙_}
 use native.Mathlib.Omega.{arith}
+use borrow.Author.Tests.{not-true, not-false}
 use lib.Dec.{eqb}
 use lib.ListN.{length}
 use Rattle.rules.specs.Hash.{hashAt, hashesAt}
@@ -68,6 +68,20 @@ module _ (h : ℕ) (s : List ℕ) (place count : ℕ) where
   unfolding member
   seek-ends k l = rw (onward-ends s place count k l)
 
+-- what was answered, as its callers test it
+module _ (h : ℕ) (l : List ℕ) (r : Bool) (told : r ≡ member h l) where
+  pub told-in : not r ≡ false → member h l ≡ true
+  told-in e = sym told ∙ not-false r e
+
+  pub told-out : not r ≡ true → member h l ≡ false
+  told-out e = sym told ∙ not-true r e
+
+  pub told-old : r ≡ true → not (member h l) ≡ false
+  told-old e = rw (sym told, e)
+
+  pub told-new : r ≡ false → not (member h l) ≡ true
+  told-new e = rw (sym told, e)
+
 -- ---- whether every one passes a test
 
 module _ (p : ℕ → Bool) (s : List ℕ) (place count : ℕ) where
@@ -101,19 +115,19 @@ module _ (a b : List ℕ) (i j m n : ℕ) where
   pub same-starts : same (onward a i m 0) (onward b j n 0) ≡ same (hashesAt a i m) (hashesAt b j n)
   same-starts = rw (onward-starts a i m, onward-starts b j n)
 
-  pub same-fails : (k : ℕ) → m ≡ n → k < m → eqb (hashAt a (i + sizes .hash * k)) (hashAt b (j + sizes .hash * k)) ≡ false
+  pub same-fails : (k : ℕ) → k < m → k < n → eqb (hashAt a (i + sizes .hash * k)) (hashAt b (j + sizes .hash * k)) ≡ false
       → same (onward a i m k) (onward b j n k) ≡ false
   unfolding same
-  same-fails k q l e = rw (onward-first a i m k l, onward-first b j n k (omega arith), e)
+  same-fails k l f e = rw (onward-first a i m k l, onward-first b j n k f, e)
 
-  pub same-on : (k : ℕ) → m ≡ n → k < m → eqb (hashAt a (i + sizes .hash * k)) (hashAt b (j + sizes .hash * k)) ≡ true
+  pub same-on : (k : ℕ) → k < m → k < n → eqb (hashAt a (i + sizes .hash * k)) (hashAt b (j + sizes .hash * k)) ≡ true
       → same (onward a i m k) (onward b j n k) ≡ same (onward a i m (k + 1)) (onward b j n (k + 1))
   unfolding same
-  same-on k q l e = rw (onward-first a i m k l, onward-first b j n k (omega arith), e)
+  same-on k l f e = rw (onward-first a i m k l, onward-first b j n k f, e)
 
-  pub same-ends : (k : ℕ) → m ≡ n → m ≤ k → same (onward a i m k) (onward b j n k) ≡ true
+  pub same-ends : (k : ℕ) → m ≤ k → n ≤ k → same (onward a i m k) (onward b j n k) ≡ true
   unfolding same
-  same-ends k q l = rw (onward-ends a i m k l, onward-ends b j n k (omega arith))
+  same-ends k l f = rw (onward-ends a i m k l, onward-ends b j n k f)
 
 -- ---- the row of a hash tells whether it is held
 

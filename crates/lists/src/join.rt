@@ -4,7 +4,7 @@ use crate::compare::is_in;
 use rules::hashes::insert_hash;
 use rules::sizes::HASH_SIZE;
 use tables::find::find_row;
-ghost use mathlib.Core.Bool.{not, cond};
+ghost use mathlib.Core.Bool.{not};
 ghost use Prim.Native.Nat.{_+_, _*_, _≤_};
 ghost use lib.ListN.{length};
 ghost use Rattle.rules.specs.Hash.{hashesAt};

@@ -3,10 +3,9 @@ use Prim.Native.Nat.{_-_, _≤_}
 use mathlib.Core.Path.{_≡_, sym, _∙_}
 use native.Mathlib.Omega.{arith}
 use borrow.Author.Needs.{needs}
-use borrow.Author.Tests.{not-true, not-false}
 use Rattle.rules.specs.Hash.{hashesAt}
 use Rattle.rules.specs.Order.{member, every}
-use Rattle.lists.proofs.CompareLaws.{onward, test-starts, test-fails, test-on, test-ends}
+use Rattle.lists.proofs.CompareLaws.{onward, test-starts, test-fails, test-on, test-ends, told-in, told-out}
 use Rattle.lists.proofs.compare.all_in.Statement.{statement}
 use Rattle.lists.proofs.compare.all_in.Tie as tie
 
@@ -35,7 +34,7 @@ is-in-requires c κs = search needs
 returns : tie.Need-returns Inv-loop μ-loop
 returns c =
     let t = c .before in
-    sym (test-fails _ _ _ _ _ (t .before .loop-test .taken) (sym (t .is-in .ensures) ∙ not-true _ (c .if1 .taken)))
+    sym (test-fails _ _ _ _ _ (t .before .loop-test .taken) (told-out _ _ _ (t .is-in .ensures) (c .if1 .taken)))
     ∙ t .before .before .loop .inv .rest
 
 add-k : tie.Need-add-k Inv-loop μ-loop
@@ -50,7 +49,7 @@ loop-again c =
     record {
       upto = omega (arith, t .before .loop-test .taken);
       rest =
-          sym (test-on _ _ _ _ _ (t .before .loop-test .taken) (sym (t .is-in .ensures) ∙ not-false _ (c .if1 .left)))
+          sym (test-on _ _ _ _ _ (t .before .loop-test .taken) (told-in _ _ _ (t .is-in .ensures) (c .if1 .left)))
           ∙ t .before .before .loop .inv .rest;
     }
 

@@ -41,7 +41,8 @@ returns-2 : tie.Need-returns-2 Inv-loop μ-loop
 returns-2 c =
     let t = c .before in
     let l = t .before .before in
-    sym (same-fails _ _ _ _ _ _ _ (l .before .if1 .left) (t .before .loop-test .taken) (sym (t .same-hash .ensures) ∙ not-true _ (c .if2 .taken)))
+    let some = t .before .loop-test .taken in
+    sym (same-fails _ _ _ _ _ _ _ some (omega (arith, some, l .before .if1 .left)) (sym (t .same-hash .ensures) ∙ not-true _ (c .if2 .taken)))
     ∙ l .loop .inv .rest
 
 add-k : tie.Need-add-k Inv-loop μ-loop
@@ -54,15 +55,18 @@ loop-again : tie.Need-loop-again Inv-loop μ-loop
 loop-again c =
     let t = c .before in
     let l = t .before .before in
+    let some = t .before .loop-test .taken in
     record {
-      upto = omega (arith, t .before .loop-test .taken);
+      upto = omega (arith, some);
       rest =
-          sym (same-on _ _ _ _ _ _ _ (l .before .if1 .left) (t .before .loop-test .taken) (sym (t .same-hash .ensures) ∙ not-false _ (c .if2 .left)))
+          sym (same-on _ _ _ _ _ _ _ some (omega (arith, some, l .before .if1 .left)) (sym (t .same-hash .ensures) ∙ not-false _ (c .if2 .left)))
           ∙ l .loop .inv .rest;
     }
 
 returns-3 : tie.Need-returns-3 Inv-loop μ-loop
-returns-3 c = sym (same-ends _ _ _ _ _ _ _ (c .before .before .if1 .left) (c .loop-test .left)) ∙ c .before .loop .inv .rest
+returns-3 c =
+    let none = c .loop-test .left in
+    sym (same-ends _ _ _ _ _ _ _ none (omega (arith, none, c .before .before .if1 .left))) ∙ c .before .loop .inv .rest
 
 pub same-list-spec : {M : Type 1} → statement M
 same-list-spec =

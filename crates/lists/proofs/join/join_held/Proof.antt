@@ -1,6 +1,6 @@
 -- `lists::join::join_held` meets its contract: at each hash those behind it that are held are joined (JoinLaws). Assumes nothing.
 use Prim.Native.Nat.{_≤_}
-use mathlib.Core.Path.{_≡_, refl, sym, _∙_}
+use mathlib.Core.Path.{_≡_, refl, _∙_}
 use native.Mathlib.Omega.{arith}
 use borrow.Author.Needs.{needs}
 use lib.ListN.{length}
@@ -50,7 +50,9 @@ loop-again c =
     record {
       upto = omega (arith, b .loop .inv .upto);
       long = b .loop .inv .long;
-      so = pick-passed _ _ _ _ _ _ _ _ _ (b .loop .inv .so) (l .loop-test .taken) (b .loop .inv .upto) (found-unknown _ _ _ _ (t .find-row .ensures) (c .if1 .taken));
+      so =
+          pick-passed _ _ _ _ _ _ _ _ _ (b .loop .inv .so) (l .loop-test .taken) (b .loop .inv .upto)
+          (found-unknown _ _ _ _ (t .find-row .ensures) (omega (arith, c .if1 .taken)));
     }
 
 insert-hash-requires : tie.Need-insert-hash-requires Inv-loop μ-loop
@@ -74,7 +76,9 @@ loop-again-2 c =
       upto = omega (arith, b .loop .inv .upto);
       long = put .insert-hash .kept .0 ∙ b .loop .inv .long;
       so =
-          pick-taken _ _ _ _ _ _ _ _ _ (b .loop .inv .so) _ _ (l .loop-test .taken) (b .loop .inv .upto) (found-held _ _ _ _ (t .find-row .ensures) (e .if1 .left)) (b .loop .inv .long)
+          pick-taken _ _ _ _ _ _ _ _ _ (b .loop .inv .so) _ _ (l .loop-test .taken) (b .loop .inv .upto)
+          (found-held _ _ _ _ (t .find-row .ensures) (e .if1 .left))
+          (b .loop .inv .long)
           (put .insert-hash .ensures);
     }
 
