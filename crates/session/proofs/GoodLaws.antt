@@ -373,7 +373,7 @@ refused-good loaded before t s m g r s′ e =
 
 -- ---- messages that were read
 
-sound-hashes : (s : List ℕ) (place count : ℕ) → Bytes s → count ≤ sizes .hashes → SoundHashes (hashesAt s place count)
+pub sound-hashes : (s : List ℕ) (place count : ℕ) → Bytes s → count ≤ sizes .hashes → SoundHashes (hashesAt s place count)
 sound-hashes s place count all few =
     record { few = rw (length-hashes-at s place count) few; are = hashes-are-hashes s place count all }
 
@@ -397,7 +397,7 @@ module _ (s haves : List ℕ) (all : Bytes s) (p : PassedHaves s haves) where
       let rest = sound-from count (suc i) (omega arith) in
       (ap suc (rest .0), (sound-have i (omega arith), rest .1))
 
-  sound-haves : SoundHaves (havesOf s haves)
+  pub sound-haves : SoundHaves (havesOf s haves)
   unfolding havesOf
   sound-haves =
       let w = sound-from (haveCount haves) 0 (omega arith) in

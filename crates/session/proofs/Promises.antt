@@ -1,6 +1,6 @@
 -- What is promised of this crate and cited nowhere in it or above: a law that stands here can't be taken out or renamed unseen.
-pub use Rattle.session.proofs.GoodLaws.{body-few, restored-good, fresh-read-only-good, set-read-only-good, after-good, said-sound, said-back, bytes-good}
-pub use Rattle.session.proofs.LaidLaws.{laid-haves, laid-read, laid-good, sound-syncs}
+pub use Rattle.session.proofs.GoodLaws.{body-few, restored-good, fresh-read-only-good, set-read-only-good, after-good, said-sound, said-back}
+pub use Rattle.session.proofs.LaidLaws.{laid-haves}
 pub use Rattle.session.proofs.PlanLaws.{
   planned-held,
   body-read-only,

@@ -1,0 +1,5 @@
+-- Laws that the crates above cite.
+pub mod Calls
+pub mod Promises
+pub mod Sessions
+pub mod Stands
