@@ -1,0 +1,4 @@
+-- Laws that the crates above cite.
+pub mod Loading
+pub mod Parts
+pub mod Tables
