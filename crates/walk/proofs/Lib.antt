@@ -1,4 +1,8 @@
 -- Laws that the crates above cite.
+pub mod Between
+pub mod Loaded
 pub mod Loading
+pub mod Offers
 pub mod Parts
+pub mod Rounds
 pub mod Tables
