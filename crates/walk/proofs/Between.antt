@@ -5,7 +5,7 @@ use Prim.Native.Nat.{ℕ}
 use mathlib.Core.Bool.{Bool, true, false, not, _||_}
 use mathlib.Core.List.{List, [], _∷_}
 use mathlib.Core.Logic.{_⊎_, inl, inr}
-use mathlib.Core.Path.{_≡_, refl, sym, ap, _∙_}
+use mathlib.Core.Path.{_≡_, refl, sym, _∙_}
 use native.Mathlib.Omega.{arith}
 use lib.ListN.{length}
 use Rattle.rules.specs.Order.{member, keep, every}
@@ -47,7 +47,8 @@ left J b w = length (keep (unsent b w) (rows J))
 
 module _ {J b : List Row} {w : List Waiting} {sent : List ℕ} (inv : Between J b w sent) where
   -- a dependency of a waiting row that isn't held
-  lacks : (h : ℕ) → member h (waiting w) ≡ true → record { d : ℕ; asked : member d (asks w h) ≡ true; dep : member d (deps J h) ≡ true; out : held b d ≡ false }
+  lacks : (h : ℕ) → member h (waiting w) ≡ true
+      → record { d : ℕ; asked : member d (asks w h) ≡ true; dep : member d (deps J h) ≡ true; out : held b d ≡ false }
   lacks h m =
       let (d, k, n) = not-every (held b) (asks w h) (inv .stuck h m) in
       record { d = d; asked = k; dep = sym (inv .beside .ask h d m) ∙ k; out = n }

@@ -4,5 +4,8 @@ pub mod Loaded
 pub mod Loading
 pub mod Offers
 pub mod Parts
+pub mod Promises
 pub mod Rounds
 pub mod Tables
+pub mod Theorem1
+pub mod Walk01

@@ -1,19 +1,20 @@
 -- What loading leaves of a part and of the rows that wait beside it. A move adds a row whose dependencies are the whole's and are held, so a part stays
 -- a part; and a hash is held or waits afterwards just if it was held, waited or came. Assumes nothing.
-use Prim.Native.Nat.{ℕ, _≤_, _<_}
-use mathlib.Core.Bool.{Bool, true, false, not, _||_, _&&_}
-use mathlib.Core.List.{List, [], _∷_, _++_, map}
-use mathlib.Core.Path.{_≡_, refl, sym, ap, _∙_}
+use Prim.Native.Nat.{ℕ}
+use mathlib.Core.Bool.{true, false, _||_}
+use mathlib.Core.List.{List, [], _∷_, _++_}
+use mathlib.Core.Path.{_≡_, sym, ap, _∙_}
 use native.Mathlib.Omega.{arith}
 use borrow.Author.Tests.{eqb-true}
 use lib.Dec.{eqb}
-use Rattle.rules.specs.Order.{member, every, often, Once}
-use Rattle.rules.proofs.Cases.{split, true-false, same-truth, either, or-left, or-right}
-use Rattle.tables.specs.Table.{Row, GoodTable, hashOf, held, deps}
+use Rattle.rules.specs.Order.{member, every, Once}
+use Rattle.rules.proofs.Cases.{split, same-truth, either, or-left, or-right}
+use Rattle.tables.specs.Table.{Row, GoodTable, held, deps}
 use Rattle.tables.specs.Waiting.{Waiting, waiting, asks}
 use Rattle.tables.proofs.ExtendLaws.{good-append, deps-stay}
-use Rattle.walk.specs.Round.{Part, Joins, Moves, Settles, done, step, Loads}
-use Rattle.walk.proofs.Loading.{Asked, move-held, move-fewer, move-other, move-asked, settles-more, settles-fewer, settles-stuck, settles-asked, settles-moved, settles-least}
+use Rattle.walk.specs.Round.{Part, Moves, Settles, done, step, Loads}
+use Rattle.walk.proofs.Loading.{Asked, move-held, move-fewer, move-other, move-asked}
+use Rattle.walk.proofs.Loading.{settles-more, settles-fewer, settles-stuck, settles-moved, settles-least}
 use Rattle.walk.proofs.Tables.{held-added, added-deps}
 
 -- A part, and rows of the whole that wait beside it.

@@ -1,25 +1,24 @@
 -- Loading has an outcome and, as sets, one. A move takes a row out of those that wait, so moves end; what can move does so sooner or later in whatever
 -- order, since what was held stays held. So what is held afterwards is the least set that has what was held and every waiting row whose dependencies
 -- it has, and what waits is the rest. A part stays a part: the row that moves has its dependencies in it. Assumes nothing.
-use Prim.Native.Nat.{ℕ, zero, suc, _≤_, _<_}
+use Prim.Native.Nat.{ℕ, zero, suc, _<_}
 use mathlib.Core.Bool.{Bool, true, false, not, _||_, _&&_}
 use mathlib.Core.List.{List, [], _∷_, _++_, map}
 use mathlib.Core.Path.{_≡_, refl, sym, ap, _∙_}
 use native.Mathlib.Omega.{arith}
-use borrow.Author.Tests.{eqb-true, eqb-false, eq-eqb, ne-eqb, not-true}
+use borrow.Author.Tests.{eqb-true, eq-eqb, not-true}
 use lib.Dec.{eqb}
 use lib.ListN.{length}
-use Rattle.rules.specs.Order.{member, keep, every, often, Once, ascends, ascend}
-use Rattle.rules.proofs.Cases.{split, both, true-false, same-truth, either, or-left, or-right, and-true}
-use Rattle.rules.proofs.KeepLaws.{member-long, keep-member, keep-parts, every-member, every-one, not-every, often-keep, once-ascends}
+use Rattle.rules.specs.Order.{member, keep, every, ascend}
+use Rattle.rules.proofs.Cases.{split, both, true-false, same-truth, either, or-left, or-right}
+use Rattle.rules.proofs.KeepLaws.{member-long, keep-member, keep-parts, every-member, not-every, often-keep, once-ascends}
 use Rattle.rules.proofs.OrderLaws.{ascend-ascends, ascend-members, member-append}
-use Rattle.tables.specs.Table.{Row, GoodTable, hashOf, rowNumber, held, deps}
+use Rattle.tables.specs.Table.{Row, hashOf, rowNumber, held, deps}
 use Rattle.tables.specs.Waiting.{Waiting, waiting, asks}
-use Rattle.tables.proofs.ExtendLaws.{good-append, deps-stay}
 use Rattle.tables.proofs.TableLaws.{row-of-held, hash-of-held}
 use Rattle.graph.proofs.BelowLaws.{member-map, map-member}
-use Rattle.walk.specs.Round.{Part, Joins, Moves, Settles, done, step, Loads}
-use Rattle.walk.proofs.Tables.{held-added, added-deps, waitingFor, waiting-for, asks-for}
+use Rattle.walk.specs.Round.{Joins, Moves, Settles, done, step, Loads}
+use Rattle.walk.proofs.Tables.{held-added, waitingFor, waiting-for, asks-for}
 
 -- The waiting rows ask for what their rows depend on in A.
 abbrev pub Asked : List Row → List Waiting → Type 0

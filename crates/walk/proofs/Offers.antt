@@ -1,19 +1,18 @@
 -- What an end X offers to one that catches up: rows of X that are neither held there nor wait. A need is so by what missing means. A row of S is not
 -- held: what B holds beyond its last-sync hashes is in the filter, and what it holds is closed under dependencies, so no dependent of a row that it
 -- lacks is held. What waits is in T, which is taken off. And T loses only what B holds. Assumes nothing.
-use Prim.Native.Nat.{ℕ, _≤_, _<_}
-use mathlib.Core.Bool.{Bool, true, false, not, _||_, _&&_}
+use Prim.Native.Nat.{ℕ, _≤_}
+use mathlib.Core.Bool.{true, false, not, _&&_}
 use mathlib.Core.List.{List, [], _∷_}
-use mathlib.Core.Path.{_≡_, refl, sym, ap, _∙_}
+use mathlib.Core.Path.{_≡_, sym, ap, _∙_}
 use native.Mathlib.Omega.{arith}
-use borrow.Author.Tests.{not-true}
 use Rattle.bloom.specs.Have.{Have}
 use Rattle.probe.specs.Contains.{contains, anyContains}
-use Rattle.rules.specs.Order.{member, keep, often, Once}
+use Rattle.rules.specs.Order.{member, often, Once}
 use Rattle.rules.proofs.Cases.{split, both, true-false, either, or-left, and-true}
 use Rattle.rules.proofs.KeepLaws.{keep-member, often-none, often-some, once-ascends}
-use Rattle.tables.specs.Table.{Row, held, deps}
-use Rattle.tables.specs.Waiting.{Waiting, waiting, asks}
+use Rattle.tables.specs.Table.{Row, held}
+use Rattle.tables.specs.Waiting.{Waiting, waiting}
 use Rattle.graph.specs.Graph.{heads, below}
 use Rattle.graph.proofs.BelowLaws.{not-below-beyond}
 use Rattle.members.specs.Members.{lastSyncs, filters, theS}
@@ -21,7 +20,7 @@ use Rattle.members.proofs.SLaws.{last-syncs-one, filters-one, s-least}
 use Rattle.missing.specs.Missing.{missing}
 use Rattle.missing.proofs.MissingLaws.{unknown-not-held, unknown-not-waiting, missing-unknown, missing-ascends, missing-induction}
 use Rattle.selection.specs.ToSend.{toSend, toSendLess}
-use Rattle.selection.proofs.SelectLaws.{named-none, named, need-named, sent-held, less-named, less-new, less-sent, less-held, less-once}
+use Rattle.selection.proofs.SelectLaws.{named-none, named, need-named, less-named, less-new, less-sent, less-held, less-once}
 use Rattle.walk.specs.Round.{Part, Covers, Gives, one, none, trim, Picks}
 use Rattle.walk.proofs.Between.{Between}
 use Rattle.walk.proofs.Parts.{part-closed, parts-closed, below-heads, below-there}
@@ -67,7 +66,9 @@ module _ {J X b : List Row} {w : List Waiting} {sent : List ℕ} (partX : Part J
   pub trim-kept : (h : ℕ) → held b h ≡ false → member h kept ≡ member h (waiting w)
   unfolding trim
   trim-kept h e =
-      let still : below X (heads b) h ≡ false = split (below X (heads b) h) (λ k. absurd (true-false (held b h) (below-heads J X b partX partB h k) e)) (λ k. k) in
+      let still : below X (heads b) h ≡ false =
+      split (below X (heads b) h) (λ k. absurd (true-false (held b h) (below-heads J X b partX partB h k) e)) (λ k. k)
+      in
       keep-member (λ h. not (below X (heads b) h)) sent h ∙ rw still (inv .pending h e)
 
   -- and gains nothing

@@ -1,7 +1,7 @@
 -- A dependency-closed part of a table: it has what its rows depend on in the whole, and two parts agree on the rows that both hold. So ancestors of
 -- what a part holds are in it, whichever part they are looked up in. Assumes nothing.
 use Prim.Native.Nat.{ℕ}
-use mathlib.Core.Bool.{Bool, true, false}
+use mathlib.Core.Bool.{true}
 use mathlib.Core.List.{List}
 use mathlib.Core.Path.{_≡_, refl, sym, _∙_}
 use Rattle.rules.specs.Order.{member}

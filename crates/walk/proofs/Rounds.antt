@@ -4,11 +4,10 @@
 -- Assumes nothing.
 use Prim.Native.Nat.{ℕ, zero, suc, _+_, _≤_, _<_}
 use mathlib.Core.Bool.{Bool, true, false, not, _||_, _&&_}
-use mathlib.Core.List.{List, [], _∷_, _++_}
+use mathlib.Core.List.{List, [], _++_}
 use mathlib.Core.Logic.{_⊎_, inl, inr}
-use mathlib.Core.Path.{_≡_, refl, sym, ap, ap₂, _∙_}
+use mathlib.Core.Path.{_≡_, refl, sym, ap, _∙_}
 use native.Mathlib.Omega.{arith}
-use lib.Dec.{leb}
 use lib.ListN.{length, length-append}
 use Rattle.bloom.specs.Have.{Have}
 use Rattle.graph.specs.Graph.{heads}
@@ -19,11 +18,11 @@ use Rattle.rules.proofs.Cases.{split, both, true-false, same-truth, either, and
 use Rattle.rules.proofs.KeepLaws.{member-long, keep-member, keep-keep, keep-same, keep-parts, keep-none, once-none, once-keep, once-append, once-same}
 use Rattle.rules.proofs.OrderLaws.{member-append, member-none}
 use Rattle.tables.specs.Table.{Row, GoodTable, rows, held}
-use Rattle.tables.specs.Waiting.{Waiting, waiting, asks}
+use Rattle.tables.specs.Waiting.{Waiting, waiting}
 use Rattle.walk.specs.Round.{Part, Gives, trim, Picks, Loads}
 use Rattle.walk.specs.Walk.{At, starting, offerTo, lacking}
 use Rattle.walk.proofs.Between.{cases, Between, unsent, left, none-left, some-missing}
-use Rattle.walk.proofs.Loaded.{Beside, loads-beside, loads-more, loads-stuck, loads-all}
+use Rattle.walk.proofs.Loaded.{loads-beside, loads-more, loads-stuck, loads-all}
 use Rattle.walk.proofs.Offers.{trim-kept, reply-held, reply-out, reply-new, reply-once, need-answered}
 
 -- ---- a round in a whole

@@ -1,7 +1,7 @@
 -- Tables one row on, and waiting tables that are made from a list of hashes. A new row takes the next number, so its dependencies are the hashes at its
 -- row numbers, and those are the old rows'. Assumes nothing.
-use Prim.Native.Nat.{ℕ, zero, suc, _≤_, _<_}
-use mathlib.Core.Bool.{Bool, true, false, cond, not, _||_}
+use Prim.Native.Nat.{ℕ, zero, suc, _<_}
+use mathlib.Core.Bool.{Bool, true, false, _||_}
 use mathlib.Core.List.{List, [], _∷_, _++_, map}
 use mathlib.Core.Path.{_≡_, refl, sym, ap, ap₂, _∙_}
 use native.Mathlib.Nat.{not-suc-le-zero}
@@ -12,7 +12,7 @@ use lib.Seq.{getD-append-seam}
 use Rattle.rules.specs.Order.{member}
 use Rattle.rules.proofs.OrderLaws.{member-here, member-there}
 use Rattle.tables.specs.Table.{Row, rows, hashOf, depsOf, GoodTable, rowNumber, held, deps, indexIn}
-use Rattle.tables.specs.Waiting.{Waiting, noWaiting, waiting, asks, asksOf}
+use Rattle.tables.specs.Waiting.{Waiting, waiting, asks, asksOf}
 use Rattle.tables.proofs.ExtendLaws.{rows-append, held-append, hash-stays, last-deps}
 use Rattle.tables.proofs.TableLaws.{length-rows, number-of-row, index-of-member, entry-at-index}
 

@@ -1,8 +1,8 @@
 -- The catch-up walk, and what the user wants of it (demand 3). 01, The catch-up walk. Nothing here assumes a setting of filters, a choice of last-sync
 -- hashes or an order of loading: `Walk` leaves them free each round, and `Walk01` is the walk as 01 tells it.
 use Prim.Native.Nat.{ℕ, zero, suc, _≤_}
-use mathlib.Core.Bool.{Bool, true, false, cond, not, _&&_}
-use mathlib.Core.List.{List, [], _∷_, _++_}
+use mathlib.Core.Bool.{Bool, true, false, not, _&&_}
+use mathlib.Core.List.{List, [], _++_}
 use mathlib.Core.Path.{_≡_}
 use lib.ListN.{length}
 use Rattle.bloom.specs.Have.{Have}
