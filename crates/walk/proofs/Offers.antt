@@ -19,9 +19,10 @@ use Rattle.members.specs.Members.{lastSyncs, filters, theS}
 use Rattle.members.proofs.SLaws.{last-syncs-one, filters-one, s-least}
 use Rattle.missing.specs.Missing.{missing}
 use Rattle.missing.proofs.MissingLaws.{unknown-not-held, unknown-not-waiting, missing-unknown, missing-ascends, missing-induction}
-use Rattle.selection.specs.ToSend.{toSend, toSendLess}
-use Rattle.selection.proofs.SelectLaws.{named-none, named, need-named, less-named, less-new, less-sent, less-held, less-once}
+use Rattle.selection.specs.ToSend.{toSend}
+use Rattle.selection.proofs.SelectLaws.{named-none, named, need-named, sent-held, less-named, less-new, less-sent, less-once}
 use Rattle.walk.specs.Round.{Part, Covers, Gives, one, none, trim, Picks}
+use Rattle.walk.specs.Walk.{At, needAt, offerTo}
 use Rattle.walk.proofs.Between.{Between}
 use Rattle.walk.proofs.Parts.{part-closed, parts-closed, below-heads, below-there}
 
@@ -33,34 +34,48 @@ few-member a b f h m = split (member h b) (λ e. e) (λ e. absurd (omega (arith,
 pub picks-whole : (offer : List ℕ) → Picks offer offer
 picks-whole offer = record { few = λ h. omega arith; some = λ x m. (x, m) }
 
-module _ {J X b : List Row} {w : List Waiting} {sent : List ℕ} (partX : Part J X) (inv : Between J b w sent)
+module _ {J X : List Row} (partX : Part J X) (s : At) (inv : Between J (s .table) (s .waits) (s .sent))
     (heard : List ℕ) (known : (h : ℕ) → member h heard ≡ true → held X h ≡ true) where
+  abbrev b : List Row
+  b = s .table
+
+  abbrev w : List Waiting
+  w = s .waits
+
   abbrev partB : Part J b
   partB = inv .beside .part
 
-  abbrev need : List ℕ
-  need = missing b w heard
-
   -- ---- needs
 
-  pub need-once : Once need
-  need-once = once-ascends need (missing-ascends b w heard)
+  abbrev need : List ℕ
+  need = needAt heard s
 
-  pub need-held : (x : ℕ) → member x need ≡ true → held X x ≡ true
-  need-held =
+  -- what is missing from what was heard is needed, and nothing else
+  missing-needed : (x : ℕ) → member x (missing b w heard) ≡ true → member x need ≡ true
+  missing-needed x m = m
+
+  need-missing : (x : ℕ) → member x need ≡ true → member x (missing b w heard) ≡ true
+  need-missing x m = m
+
+  need-once : Once need
+  need-once = once-ascends need (missing-ascends b w _)
+
+  need-held : (x : ℕ) → member x need ≡ true → held X x ≡ true
+  need-held x m =
       missing-induction b w (inv .beside .once) (λ h. held X h ≡ true) heard known
-      (λ g m e p d k. part-closed J X partX g d p (sym (inv .beside .ask g d m) ∙ k))
+      (λ g n e p d k. part-closed J X partX g d p (sym (inv .beside .ask g d n) ∙ k))
+      x (need-missing x m)
 
-  pub need-out : (x : ℕ) → member x need ≡ true → held b x ≡ false
-  need-out x m = unknown-not-held b w x (missing-unknown b w heard x m)
+  need-out : (x : ℕ) → member x need ≡ true → held b x ≡ false
+  need-out x m = unknown-not-held b w x (missing-unknown b w heard x (need-missing x m))
 
-  pub need-new : (x : ℕ) → member x need ≡ true → member x (waiting w) ≡ false
-  need-new x m = unknown-not-waiting b w x (missing-unknown b w heard x m)
+  need-new : (x : ℕ) → member x need ≡ true → member x (waiting w) ≡ false
+  need-new x m = unknown-not-waiting b w x (missing-unknown b w heard x (need-missing x m))
 
   -- ---- T
 
   abbrev kept : List ℕ
-  kept = trim X (heads b) sent
+  kept = trim X (heads b) (s .sent)
 
   -- T loses only what is held
   pub trim-kept : (h : ℕ) → held b h ≡ false → member h kept ≡ member h (waiting w)
@@ -69,12 +84,7 @@ module _ {J X b : List Row} {w : List Waiting} {sent : List ℕ} (partX : Part J
       let still : below X (heads b) h ≡ false =
       split (below X (heads b) h) (λ k. absurd (true-false (held b h) (below-heads J X b partX partB h k) e)) (λ k. k)
       in
-      keep-member (λ h. not (below X (heads b) h)) sent h ∙ rw still (inv .pending h e)
-
-  -- and gains nothing
-  pub trim-fewer : (h : ℕ) → member h kept ≡ true → member h sent ≡ true
-  unfolding trim
-  trim-fewer h m = both (not (below X (heads b) h)) (member h sent) (sym (keep-member (λ h. not (below X (heads b) h)) sent h) ∙ m) .1
+      keep-member (λ h. not (below X (heads b) h)) (s .sent) h ∙ rw still (inv .pending h e)
 
   -- ---- S
 
@@ -111,16 +121,24 @@ module _ {J X b : List Row} {w : List Waiting} {sent : List ℕ} (partX : Part J
 
   module _ (haves : List Have) (gives : Gives b w heard haves) (last : (h : ℕ) → member h (lastSyncs haves) ≡ true → held X h ≡ true) where
     abbrev offer : List ℕ
-    offer = toSendLess X haves need kept
+    offer = offerTo X heard s haves
 
-    offer-out : (h : ℕ) → member h offer ≡ true → held b h ≡ false
-    offer-out h m = send-out haves gives last h (less-sent X haves need kept h m)
+    -- the hashes to send that T doesn't have, and all of them
+    offer-sent : (h : ℕ) → member h offer ≡ true → member h (toSend X haves need) ≡ true
+    offer-sent h m = less-sent X haves need _ h m
+
+    offer-untold : (h : ℕ) → member h offer ≡ true → member h kept ≡ false
+    offer-untold h m = less-new X haves need _ h m
+
+    offer-has : (h : ℕ) → member h kept ≡ false → member h (toSend X haves need) ≡ true → member h offer ≡ true
+    offer-has h e m = less-named X haves need kept h ∙ and-true _ _ (ap not e) m
+
+    offer-once : Once offer
+    offer-once = less-once X haves need _ (partX .good) need-once
 
     -- a need is offered
-    pub need-offered : (x : ℕ) → member x need ≡ true → member x offer ≡ true
-    need-offered x m =
-        less-named X haves need kept x
-        ∙ and-true _ _ (ap not (trim-kept x (need-out x m) ∙ need-new x m)) (need-named X (partX .good) haves need x (need-held x m) m)
+    need-offered : (x : ℕ) → member x need ≡ true → member x offer ≡ true
+    need-offered x m = offer-has x (trim-kept x (need-out x m) ∙ need-new x m) (need-named X (partX .good) haves need x (need-held x m) m)
 
     module _ (reply : List ℕ) (picks : Picks offer reply) where
       offered : (h : ℕ) → member h reply ≡ true → member h offer ≡ true
@@ -128,20 +146,20 @@ module _ {J X b : List Row} {w : List Waiting} {sent : List ℕ} (partX : Part J
 
       -- a reply has rows of X
       pub reply-held : (h : ℕ) → member h reply ≡ true → held X h ≡ true
-      reply-held h m = less-held X haves need kept (partX .good) h (offered h m)
+      reply-held h m = sent-held X (partX .good) haves need h (offer-sent h (offered h m))
 
       -- that aren't held
       pub reply-out : (h : ℕ) → member h reply ≡ true → held b h ≡ false
-      reply-out h m = offer-out h (offered h m)
+      reply-out h m = send-out haves gives last h (offer-sent h (offered h m))
 
       -- and don't wait
       pub reply-new : (h : ℕ) → member h reply ≡ true → member h (waiting w) ≡ false
-      reply-new h m = sym (trim-kept h (reply-out h m)) ∙ less-new X haves need kept h (offered h m)
+      reply-new h m = sym (trim-kept h (reply-out h m)) ∙ offer-untold h (offered h m)
 
       -- each once
       pub reply-once : Once reply
-      reply-once h = omega (arith, picks .few h, less-once X haves need kept (partX .good) need-once h)
+      reply-once h = omega (arith, picks .few h, offer-once h)
 
-      -- and where something is needed, something goes
-      pub need-answered : (x : ℕ) → member x need ≡ true → (y : ℕ) × (member y reply ≡ true)
-      need-answered x m = picks .some x (need-offered x m)
+      -- and where something is missing, something goes
+      pub missing-answered : (x : ℕ) → member x (missing b w heard) ≡ true → (y : ℕ) × (member y reply ≡ true)
+      missing-answered x m = picks .some x (need-offered x (missing-needed x m))

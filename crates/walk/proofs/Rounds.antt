@@ -11,6 +11,7 @@ use native.Mathlib.Omega.{arith}
 use lib.ListN.{length, length-append}
 use Rattle.bloom.specs.Have.{Have}
 use Rattle.graph.specs.Graph.{heads}
+use Rattle.graph.proofs.MarkLaws.{or-false}
 use Rattle.members.specs.Members.{lastSyncs}
 use Rattle.missing.specs.Missing.{missing}
 use Rattle.rules.specs.Order.{member, keep, Once}
@@ -23,7 +24,7 @@ use Rattle.walk.specs.Round.{Part, Gives, trim, Picks, Loads}
 use Rattle.walk.specs.Walk.{At, starting, offerTo, lacking}
 use Rattle.walk.proofs.Between.{cases, Between, unsent, left, none-left, some-missing}
 use Rattle.walk.proofs.Loaded.{loads-beside, loads-more, loads-stuck, loads-all}
-use Rattle.walk.proofs.Offers.{trim-kept, reply-held, reply-out, reply-new, reply-once, need-answered}
+use Rattle.walk.proofs.Offers.{trim-kept, reply-held, reply-out, reply-new, reply-once, missing-answered}
 
 -- ---- a round in a whole
 
@@ -55,9 +56,8 @@ pub data Runs (J B : List Row) (q : ℕ) : ℕ → At → Type 0 where
 
 -- ---- tests
 
-or-false : (a b : Bool) → b ≡ false → (a || b) ≡ a
-or-false true b e = refl
-or-false false b e = e
+or-out : (a b : Bool) → b ≡ false → (a || b) ≡ a
+or-out a b e = rw e (or-false a)
 
 -- what is left when a reply has come
 rest-left : (w r b : Bool) → not ((w || r) || b) ≡ (not (w || b) && not r)
@@ -88,16 +88,16 @@ module _ {J : List Row} (good : GoodTable J) {X : List Row} {heard : List ℕ} {
     (r : Step J X heard s haves reply s′) (inv : Between J (s .table) (s .waits) (s .sent)) where
   -- rows that neither are held nor wait, each once
   pub step-ours : (h : ℕ) → member h reply ≡ true → held J h ≡ true
-  step-ours h m = r .sender .within h (reply-held (r .sender) inv heard (r .known) haves (r .gives) (r .last) reply (r .picks) h m)
+  step-ours h m = r .sender .within h (reply-held (r .sender) s inv heard (r .known) haves (r .gives) (r .last) reply (r .picks) h m)
 
   pub step-out : (h : ℕ) → member h reply ≡ true → held (s .table) h ≡ false
-  step-out = reply-out (r .sender) inv heard (r .known) haves (r .gives) (r .last) reply (r .picks)
+  step-out = reply-out (r .sender) s inv heard (r .known) haves (r .gives) (r .last) reply (r .picks)
 
   pub step-new : (h : ℕ) → member h reply ≡ true → member h (waiting (s .waits)) ≡ false
-  step-new = reply-new (r .sender) inv heard (r .known) haves (r .gives) (r .last) reply (r .picks)
+  step-new = reply-new (r .sender) s inv heard (r .known) haves (r .gives) (r .last) reply (r .picks)
 
   pub step-once : Once reply
-  step-once = reply-once (r .sender) inv heard (r .known) haves (r .gives) (r .last) reply (r .picks)
+  step-once = reply-once (r .sender) s inv heard (r .known) haves (r .gives) (r .last) reply (r .picks)
 
   still-out : (h : ℕ) → held (s′ .table) h ≡ false → held (s .table) h ≡ false
   still-out h e = split (held (s .table) h) (λ k. absurd (true-false (held (s′ .table) h) (loads-more (r .loads) h k) e)) (λ k. k)
@@ -108,10 +108,10 @@ module _ {J : List Row} (good : GoodTable J) {X : List Row} {heard : List ℕ} {
       let kept : List ℕ = trim X (heads (s .table)) (s .sent) in
       ap (member h) (r .sends)
       ∙ member-append h kept reply
-      ∙ ap (λ (x : Bool). x || member h reply) (trim-kept (r .sender) inv heard (r .known) h out)
-      ∙ sym (or-false (member h (waiting (s .waits)) || member h reply) (held (s .table) h) out)
+      ∙ ap (λ (x : Bool). x || member h reply) (trim-kept (r .sender) s inv heard (r .known) h out)
+      ∙ sym (or-out (member h (waiting (s .waits)) || member h reply) (held (s .table) h) out)
       ∙ sym (loads-all (r .loads) h)
-      ∙ or-false (member h (waiting (s′ .waits))) (held (s′ .table) h) e
+      ∙ or-out (member h (waiting (s′ .waits))) (held (s′ .table) h) e
 
   pub step-between : Between J (s′ .table) (s′ .waits) (s′ .sent)
   step-between =
@@ -155,7 +155,7 @@ module _ {J : List Row} (good : GoodTable J) {X : List Row} {heard : List ℕ} {
       (λ f. inl (λ h e. either (held B h) (held (hears .said) h) (hears .rich h e) (since h) (f h)))
       (λ f.
       let there : member (f .0) (missing (s .table) (s .waits) heard) ≡ true = rw (hears .are) (f .1) in
-      let a = need-answered (r .sender) inv heard (r .known) haves (r .gives) (r .last) reply (r .picks) (f .0) there in
+      let a = missing-answered (r .sender) s inv heard (r .known) haves (r .gives) (r .last) reply (r .picks) (f .0) there in
       inr (omega (arith, step-left, member-long (a .0) reply (a .1))))
 
 -- where all is held, nothing is left
@@ -167,6 +167,7 @@ held-none-left J b w f = ap length (keep-none (unsent b w) (rows J) (λ h m. ap 
 
 -- Where a run from B stands.
 pub record Stands (J B : List Row) (q k : ℕ) (s : At) : Type 0 where
+  -- B, W and T stand as they do between two rounds
   pub between : Between J (s .table) (s .waits) (s .sent)
   -- what B held is held
   pub kept : (h : ℕ) → held B h ≡ true → held (s .table) h ≡ true

@@ -1,7 +1,7 @@
 -- Tables one row on, and waiting tables that are made from a list of hashes. A new row takes the next number, so its dependencies are the hashes at its
 -- row numbers, and those are the old rows'. Assumes nothing.
 use Prim.Native.Nat.{ℕ, zero, suc, _<_}
-use mathlib.Core.Bool.{Bool, true, false, _||_}
+use mathlib.Core.Bool.{Bool, true, _||_}
 use mathlib.Core.List.{List, [], _∷_, _++_, map}
 use mathlib.Core.Path.{_≡_, refl, sym, ap, ap₂, _∙_}
 use native.Mathlib.Nat.{not-suc-le-zero}
@@ -11,14 +11,11 @@ use lib.ListN.{length, getD, length-append}
 use lib.Seq.{getD-append-seam}
 use Rattle.rules.specs.Order.{member}
 use Rattle.rules.proofs.OrderLaws.{member-here, member-there}
+use Rattle.graph.proofs.MarkLaws.{or-false}
 use Rattle.tables.specs.Table.{Row, rows, hashOf, depsOf, GoodTable, rowNumber, held, deps, indexIn}
 use Rattle.tables.specs.Waiting.{Waiting, waiting, asks, asksOf}
 use Rattle.tables.proofs.ExtendLaws.{rows-append, held-append, hash-stays, last-deps}
 use Rattle.tables.proofs.TableLaws.{length-rows, number-of-row, index-of-member, entry-at-index}
-
-or-nothing : (a : Bool) → (a || false) ≡ a
-or-nothing true = refl
-or-nothing false = refl
 
 -- functions that agree on a list's members give the same list
 map-same : (f g : ℕ → ℕ) (l : List ℕ) → ((k : ℕ) → member k l ≡ true → f k ≡ g k) → map f l ≡ map g l
@@ -29,7 +26,7 @@ map-same f g (k ∷ l) e = ap₂ _∷_ (e k (member-here k l)) (map-same f g l (
 
 pub held-added : (t : List Row) (r : Row) (h : ℕ) → held (t ++ r ∷ []) h ≡ (held t h || eqb h (r .hash))
 unfolding held rows member
-held-added t r h = held-append t (r ∷ []) h ∙ ap (λ (b : Bool). member h (map (λ (r : Row). r .hash) t) || b) (or-nothing (eqb h (r .hash)))
+held-added t r h = held-append t (r ∷ []) h ∙ ap (λ (b : Bool). member h (map (λ (r : Row). r .hash) t) || b) (or-false (eqb h (r .hash)))
 
 last-hash : (t : List Row) (r : Row) → hashOf (t ++ r ∷ []) (length t) ≡ r .hash
 unfolding hashOf rows

@@ -1,23 +1,26 @@
 -- 01's own walk is a walk: the filter over B's rows beyond L contains them, whatever its bits and probes are, since an added hash is contained; and the
--- whole offer is a pick. Assumes nothing.
-use Prim.Native.Nat.{ℕ}
+-- whole offer is a pick. So what is promised of walks is promised of it. Assumes nothing.
+use Prim.Native.Nat.{ℕ, suc, _≤_}
 use mathlib.Core.Bool.{true}
-use mathlib.Core.List.{List}
-use mathlib.Core.Path.{_≡_, sym, subst}
+use mathlib.Core.List.{List, _++_}
+use mathlib.Core.Path.{_≡_, refl, sym, subst}
+use lib.ListN.{length}
 use Rattle.bloom.specs.Have.{Have}
-use Rattle.graph.specs.Graph.{beyond}
+use Rattle.graph.specs.Graph.{heads, beyond}
 use Rattle.missing.specs.Missing.{missing}
 use Rattle.probe.proofs.FieldLaws.{added-contained}
 use Rattle.rules.specs.Order.{member, every}
 use Rattle.rules.proofs.Cases.{split}
 use Rattle.session.specs.Plan.{haveOf, havesFor}
-use Rattle.tables.specs.Table.{Row, held}
+use Rattle.tables.specs.Table.{Row, GoodTable, held}
 use Rattle.tables.specs.Waiting.{Waiting}
-use Rattle.walk.specs.Round.{Covers, Gives, one, none, Picks}
-use Rattle.walk.specs.Walk.{At, Round, Walk, Round01, Walk01, Walk01Walks, offerTo}
+use Rattle.walk.specs.Round.{Part, Covers, Gives, one, none, trim, Picks}
+use Rattle.walk.specs.Walk.{At, Round, Walk, Round01, Walk01, Walk01Walks, heardIn, needAt, offerTo, holdsAll, lacking}
+use Rattle.walk.proofs.Loading.{loads-outcome}
 use Rattle.walk.proofs.Offers.{picks-whole}
+use Rattle.walk.proofs.Theorem1.{theorem-1}
 
--- M-107 in a line: a have of any bits and probes covers.
+-- A have covers, whatever its bits and probes are.
 pub have-covers : (bits probes : ℕ) (t : List Row) (l : List ℕ) → ((h : ℕ) → member h l ≡ true → held t h ≡ true) → Covers t (haveOf bits probes t l)
 unfolding haveOf
 have-covers bits probes t l holds = record { holds = holds; covers = added-contained bits probes (beyond t l) }
@@ -47,3 +50,24 @@ walks (Walk01.round haves reply walk r) = Walk.round haves reply (walks walk) (r
 
 pub walk01-walks : Walk01Walks
 walk01-walks bits probes L A B good part k s walk = walks walk
+
+-- So it ends: after m + 1 rounds B holds A, and the replies have named m rows.
+pub walk01-ends : (bits probes : ℕ → ℕ) (L : ℕ → List ℕ) (A B : List Row) → GoodTable A → Part A B → (k : ℕ) (s : At) → Walk01 bits probes L A B k s
+    → suc (lacking A B) ≤ k
+    → (holdsAll A (s .table) ≡ true) × (length (s .named) ≡ lacking A B)
+walk01-ends bits probes L A B good part k s walk e =
+    let promised = theorem-1 A B good part in
+    let all = promised .ends k s (walks walk) e in
+    (all, promised .count k s (walks walk) all)
+
+-- And it can always go on, with any last-sync hashes that B holds.
+pub walk01-goes : (bits probes : ℕ → ℕ) (L : ℕ → List ℕ) (A B : List Row) (k : ℕ) (s : At) → Walk01 bits probes L A B k s
+    → ((h : ℕ) → member h (L k) ≡ true → held (s .table) h ≡ true)
+    → (s′ : At) × Walk01 bits probes L A B (suc k) s′
+walk01-goes bits probes L A B k s walk holds =
+    let haves : List Have = havesFor (bits k) (probes k) (s .table) (needAt (heardIn k A) s) (heardIn k A) (L k) in
+    let reply : List ℕ = offerTo A (heardIn k A) s haves in
+    let (b′, w′, l) = loads-outcome A (s .table) (s .waits) reply in (
+      record { table = b′; waits = w′; sent = trim A (heads (s .table)) (s .sent) ++ reply; named = s .named ++ reply },
+      Walk01.round haves reply walk (record { holds = holds; have = refl; whole = refl; loads = l; sends = refl; names = refl }),
+    )
