@@ -1,5 +1,6 @@
 -- Laws that the crates above cite.
 pub mod Between
+pub mod Example
 pub mod Loaded
 pub mod Loading
 pub mod Offers
