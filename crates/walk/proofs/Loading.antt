@@ -1,6 +1,6 @@
 -- Loading has an outcome and, as sets, one. A move takes a row out of those that wait, so moves end; what can move does so sooner or later in whatever
 -- order, since what was held stays held. So what is held afterwards is the least set that has what was held and every waiting row whose dependencies
--- it has, and what waits is the rest. A part stays a part: the row that moves has its dependencies in it. Assumes nothing.
+-- it has, and what waits is the rest. Assumes nothing.
 use Prim.Native.Nat.{ℕ, zero, suc, _<_}
 use mathlib.Core.Bool.{Bool, true, false, not, _||_, _&&_}
 use mathlib.Core.List.{List, [], _∷_, _++_, map}
@@ -33,7 +33,7 @@ module _ {b : List Row} {w : List Waiting} {b′ : List Row} {w′ : List Waitin
   pub move-more : (h : ℕ) → held b h ≡ true → held b′ h ≡ true
   move-more h e = move-held h ∙ or-left (held b h) (eqb h (m .hash)) e
 
-  -- the row that moves is held, and so is what it asks for
+  -- the row that moves is held
   pub move-arrives : held b′ (m .hash) ≡ true
   move-arrives = move-held (m .hash) ∙ or-right (held b (m .hash)) _ (eq-eqb (m .hash) (m .hash) refl)
 
