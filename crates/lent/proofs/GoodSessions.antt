@@ -85,16 +85,16 @@ haves-parts s haves count e =
       syncs = λ i h. passed .each i h .there;
     }
 
--- every test of a good session, apart
-record SessionTests (s : Session) (l : Lent) : Type 0 where
-  shared : listGood (l .shared) (s .«shared_heads») ≡ true
-  lastSent : listGood (l .lastSent) (s .«last_sent_heads») ≡ true
-  theirHeads : heardGood (l .theirHeads) (s .«their_heads») ≡ true
-  theirNeed : heardGood (l .theirNeed) (s .«their_need») ≡ true
-  theirHave : havesGood (l .bytes) (l .haves) (s .«their_have») ≡ true
-  sent : sentGood (l .sent) (s .«sent_hashes») ≡ true
+-- Every test of a good session, apart.
+pub record SessionTests (s : Session) (l : Lent) : Type 0 where
+  pub shared : listGood (l .shared) (s .«shared_heads») ≡ true
+  pub lastSent : listGood (l .lastSent) (s .«last_sent_heads») ≡ true
+  pub theirHeads : heardGood (l .theirHeads) (s .«their_heads») ≡ true
+  pub theirNeed : heardGood (l .theirNeed) (s .«their_need») ≡ true
+  pub theirHave : havesGood (l .bytes) (l .haves) (s .«their_have») ≡ true
+  pub sent : sentGood (l .sent) (s .«sent_hashes») ≡ true
 
-session-tests : (s : Session) (l : Lent) → sessionGood s l ≡ true → SessionTests s l
+pub session-tests : (s : Session) (l : Lent) → sessionGood s l ≡ true → SessionTests s l
 unfolding sessionGood
 session-tests s l e =
     let a : Bool = listGood (l .shared) (s .«shared_heads») in
@@ -159,7 +159,7 @@ pub record Within (v : State) : Type 0 where
   pub sent : length (v .sentHashes) ≤ sizes .sentHashes
   pub ascending : ascends (v .sentHashes) ≡ true
 
-heard-within : (s : List ℕ) (h : Heard) → heardGood s h ≡ true → (hs : List ℕ) → heardHashes s h ≡ some hs → length hs ≤ sizes .hashes
+pub heard-within : (s : List ℕ) (h : Heard) → heardGood s h ≡ true → (hs : List ℕ) → heardHashes s h ≡ some hs → length hs ≤ sizes .hashes
 unfolding heardGood heardHashes
 heard-within s Nothing e hs q = absurd (let z : _≡_ {A = ℕ} 0 1 = cc in omega arith)
 heard-within s (Count n) e hs q =

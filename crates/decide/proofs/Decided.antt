@@ -1,0 +1,202 @@
+-- What is decided from the numbers of a plan is what is planned on values, as counts: stage by stage, in the order of the refusals. Assumes nothing.
+use Prim.Native.Nat.{ℕ, _+_, _*_, _/_, _≤_, _<_}
+use mathlib.Core.Bool.{Bool, true, false, cond, _&&_, not}
+use mathlib.Core.List.{List, [], _∷_, _++_}
+use mathlib.Core.Path.{_≡_, refl, sym, ap, _∙_}
+use native.Mathlib.Omega.{arith}
+use borrow.Author.Tests.{ltb-true, ltb-false, lt-ltb, le-ltb}
+use lib.Dec.{ltb}
+use lib.ListN.{length, length-replicate}
+use Rattle.bloom.specs.Filter.{fieldSize}
+use Rattle.bloom.specs.Have.{numbersOf}
+use Rattle.bloom.specs.declared.have.FilterNumbers.{FilterNumbers}
+use Rattle.graph.specs.Graph.{heads}
+use Rattle.message.specs.declared.flags.MessageFlags.{MessageFlags}
+use Rattle.message.specs.declared.version.MessageVersion.{MessageVersion}
+use Rattle.missing.specs.Ask.{Found}
+use Rattle.probe.specs.Build.{filterOf}
+use Rattle.probe.proofs.FieldLaws.{length-add-hashes}
+use Rattle.rules.specs.Hash.{hashesAt}
+use Rattle.rules.specs.Order.{member, every, ascend}
+use Rattle.rules.specs.Output.{Gathered}
+use Rattle.rules.specs.Sizes.{sizes}
+use Rattle.rules.specs.declared.refusal.Refusal.the-variants.{PastSize}
+use Rattle.rules.proofs.Cases.{split}
+use Rattle.rules.proofs.Hash.{length-hashes-at}
+use Rattle.session.specs.Plan.{Planned, heard, needOf, haveOf, havesFor, sentAfter, headsFor, planOf, planned, resetOf, planSent, planSilence, planReset, plan}
+use Rattle.state.specs.Value.{Lent, valueOf}
+use Rattle.state.specs.declared.session.Session.{Session}
+use Rattle.tables.specs.Table.{Row}
+use Rattle.tables.specs.Waiting.{Waiting}
+use Rattle.planning.specs.Made.{FieldMade, SentMade}
+use Rattle.decide.specs.Call.{syncsOf, filterNumbers, statedOf, answerOf, messageRoom, sessionRoom, afterRoom, roomed}
+use Rattle.decide.specs.Draft.{Parts, DraftMade, headsCount, countIf, filterIf, drafted, resetStated, ifRoom, saysWith, decided}
+use Rattle.decide.specs.declared.answer.Planned.{Planned as Answer}
+use Rattle.decide.specs.declared.answer.Planned.the-variants.{Refused, Reset}
+use Rattle.decide.specs.declared.answer.Room.{Room}
+use Rattle.decide.specs.declared.answer.Room.the-variants.{Enough, Short}
+use Rattle.decide.specs.declared.answer.Rooms.{Rooms}
+use Rattle.decide.specs.declared.answer.Stated.{Stated}
+use Rattle.decide.specs.declared.decide.Draft.{Draft}
+
+-- ---- counts of parts
+
+-- room is asked before the answer is counted, or after
+room-answers : (s : Session) (x : Room) (q : Planned) → ifRoom x (answerOf s q) ≡ answerOf s (afterRoom x q)
+unfolding ifRoom answerOf afterRoom
+room-answers s Enough q = refl
+room-answers s (Short wanted) q = refl
+
+-- a test decides the same on both sides
+both-ways : (f : Planned → Answer) (b : Bool) {x y : Answer} {p q : Planned} → x ≡ f p → y ≡ f q → cond b x y ≡ f (cond b p q)
+both-ways f true e g = e
+both-ways f false e g = g
+
+heads-count : (needs supports : Bool) (hs : List ℕ) → length (headsFor needs supports hs) ≡ headsCount needs supports (length hs)
+unfolding headsFor headsCount
+heads-count needs supports hs = split (needs && not supports) (λ e. rw e) (λ e. rw e)
+
+module _ (bits probes : ℕ) (hs field : List ℕ) (entries : ℕ) (f : FieldMade bits probes hs field entries) where
+  pub field-long : length (filterOf bits probes hs .field) ≡ fieldSize entries bits
+  unfolding filterOf
+  field-long = length-add-hashes probes _ hs ∙ length-replicate _ _ ∙ ap (λ (n : ℕ). fieldSize n bits) (sym (f .many))
+
+-- ---- lists with room for one more than there may be
+
+module _ {l after : List ℕ} {most count : ℕ} (f : Found l (most + 1) after count) where
+  pub found-many : most < count → most < length l
+  found-many h = omega (arith, f .full (omega (arith, f .within)))
+
+  pub found-all : count ≤ most → Gathered l after count
+  found-all h = f .all (omega arith)
+
+one-more : (most : ℕ) → sizes .hash * (most + 1) / sizes .hash ≡ most + 1
+one-more most = omega arith
+
+module _ {hs sent after : List ℕ} {count : ℕ} (most : ℕ) (f : SentMade hs sent (sizes .hash * (most + 1)) after count) where
+  pub sent-many : most < count → most < length (ascend (hs ++ sent))
+  sent-many h =
+      let e = f .many in
+      let u = f .are in
+      let z = one-more most in
+      omega (arith, u .full (omega (arith, u .within)))
+
+  pub sent-all : count ≤ most → Gathered (ascend (hs ++ sent)) after count
+  sent-all h =
+      let e = f .many in
+      let z = one-more most in
+      let q : hashesAt after 0 count ≡ ascend (hs ++ sent) = f .are .all (omega arith) in
+      record { many = rw q at e; list = q }
+
+-- ---- the counts of a message
+
+abbrev counted : MessageVersion → MessageFlags → Bool → ℕ → ℕ → ℕ → ℕ → FilterNumbers → ℕ → Stated
+counted version flags document heads need haves syncs filter hashes =
+    record {
+      version = version;
+      flags = flags;
+      document = document;
+      heads = heads;
+      need = need;
+      haves = haves;
+      syncs = syncs;
+      filter = filter;
+      hashes = hashes;
+    }
+
+counted-same : {version : MessageVersion} {flags : MessageFlags} {b b′ : Bool} {h h′ n n′ v v′ s s′ : ℕ} {f f′ : FilterNumbers} {k k′ : ℕ}
+    → b ≡ b′ → h ≡ h′ → n ≡ n′ → v ≡ v′ → s ≡ s′ → f ≡ f′ → k ≡ k′
+    → counted version flags b h n v s f k ≡ counted version flags b′ h′ n′ v′ s′ f′ k′
+counted-same b h n v s f k = rw (b, h, n, v, s, f, k)
+
+numbers-same : {bits probes e e′ p p′ z z′ : ℕ} → e ≡ e′ → p ≡ p′ → z ≡ z′ → numbersOf e bits probes p z ≡ numbersOf e′ bits probes p′ z′
+numbers-same e p z = rw (e, p, z)
+
+module _ (bits probes : ℕ) (t : List Row) (w : List Waiting) (s : Session) (l : Lent) (ready : Parts) (d : Draft)
+    (m : DraftMade bits probes t w (valueOf s l) ready d) where
+  abbrev theirs : List ℕ
+  theirs = heard (valueOf s l .theirHeads)
+
+  abbrev needs : List ℕ
+  needs = needOf t w (s .«read_only») theirs
+
+  abbrev shared : List ℕ
+  shared = valueOf s l .sharedHeads
+
+  module _ (few : d .need ≤ sizes .hashes) where
+    gives-every : every (λ h. member h theirs) needs ≡ d .gives
+    gives-every = sym (rw (found-all (m .need) few .list) at (m .gives))
+
+    pub have-given : d .gives ≡ true → havesFor bits probes t needs theirs shared ≡ haveOf bits probes t shared ∷ []
+    unfolding havesFor
+    have-given e = rw (gives-every ∙ e)
+
+    pub have-none : d .gives ≡ false → havesFor bits probes t needs theirs shared ≡ []
+    unfolding havesFor
+    have-none e = rw (gives-every ∙ e)
+
+    given-numbers : d .gives ≡ true
+        → filterNumbers (haveOf bits probes t shared ∷ [])
+        ≡ numbersOf (d .entries) bits probes (sizes .hash * s .«shared_heads») (fieldSize (d .entries) bits)
+    unfolding haveOf filterOf
+    given-numbers e =
+        let f = m .field .made e in
+        numbers-same (sym (f .many)) (ap (λ (n : ℕ). sizes .hash * n) (length-hashes-at (l .shared) 0 (s .«shared_heads»)))
+        (field-long bits probes _ _ _ f)
+
+    given-syncs : syncsOf (haveOf bits probes t shared ∷ []) ≡ s .«shared_heads»
+    unfolding haveOf
+    given-syncs = length-hashes-at (l .shared) 0 (s .«shared_heads»)
+
+    pub stated-drafted : statedOf (planOf bits probes t w (valueOf s l)) ≡ drafted s d bits probes
+    unfolding planOf countIf filterIf
+    stated-drafted =
+        split (d .gives)
+        (λ e. rw (e, have-given e)
+        (counted-same (sym (m .body .document)) (heads-count _ _ _ ∙ ap (headsCount (s .«needs_reset») (s .«supports_reset»)) (sym (m .heads .many)))
+        (sym (found-all (m .need) few .many)) refl given-syncs (given-numbers e) (sym (m .body .hashes .many))))
+        (λ e. rw (e, have-none e)
+        (counted-same (sym (m .body .document)) (heads-count _ _ _ ∙ ap (headsCount (s .«needs_reset») (s .«supports_reset»)) (sym (m .heads .many)))
+        (sym (found-all (m .need) few .many)) refl refl refl (sym (m .body .hashes .many))))
+
+  -- ---- the stages
+
+  module _ (r : Rooms) where
+    abbrev answer : Planned → Answer
+    answer q = answerOf s (roomed r q)
+
+    says-decided : d .need ≤ sizes .hashes → d .sent ≤ sizes .sentHashes
+        → saysWith s d bits probes r ≡ answer (Planned.says (planOf bits probes t w (valueOf s l)) (planned t (valueOf s l)))
+    unfolding saysWith roomed planned sentAfter answerOf
+    says-decided few some =
+        let p = planOf bits probes t w (valueOf s l) in
+        let q : Planned = Planned.says p (planned t (valueOf s l)) in
+        let x : Room = sessionRoom (length (heads t)) (length (sentAfter t (valueOf s l))) r in
+        rw (sym (stated-drafted few), m .heads .many, sent-all (sizes .sentHashes) (m .sent) some .many)
+        (ap (λ (a : Answer). ifRoom (messageRoom (statedOf p) r) a) (room-answers s x q) ∙ room-answers s (messageRoom (statedOf p) r) (afterRoom x q))
+
+    sent-decided : d .need ≤ sizes .hashes
+        → cond (ltb (sizes .sentHashes) (d .sent)) (Refused (PastSize 0)) (saysWith s d bits probes r) ≡ answer (planSent bits probes t w (valueOf s l))
+    unfolding planSent sentAfter roomed answerOf
+    sent-decided few =
+        split (ltb (sizes .sentHashes) (d .sent))
+        (λ e. rw (e, lt-ltb _ _ (sent-many (sizes .sentHashes) (m .sent) (ltb-true _ _ e))))
+        (λ e.
+        let some : d .sent ≤ sizes .sentHashes = ltb-false _ _ e in
+        let room : length (sentAfter t (valueOf s l)) ≤ sizes .sentHashes = omega (arith, sent-all (sizes .sentHashes) (m .sent) some .many) in
+        rw (e, le-ltb _ _ room) (says-decided few some))
+
+    reset-decided : ifRoom (messageRoom (resetStated (d .heads)) r) (Reset (resetStated (d .heads))) ≡ answer (Planned.reset (resetOf t))
+    unfolding roomed resetOf answerOf
+    reset-decided = rw (m .heads .many) (room-answers s (messageRoom (resetStated (length (heads t))) r) (Planned.reset (resetOf t)))
+
+    pub plan-decided : decided s d bits probes r ≡ answer (plan bits probes t w (valueOf s l))
+    unfolding decided plan planReset planSilence roomed answerOf
+    plan-decided =
+        split (ltb (sizes .hashes) (d .need))
+        (λ e. rw (e, lt-ltb _ _ (found-many (m .need) (ltb-true _ _ e))))
+        (λ e.
+        let few : d .need ≤ sizes .hashes = ltb-false _ _ e in
+        let asked : length needs ≤ sizes .hashes = omega (arith, found-all (m .need) few .many) in
+        rw (e, le-ltb _ _ asked, sym (m .unknown), sym (m .silent))
+        (both-ways (λ q. answerOf s (roomed r q)) (d .unknown) reset-decided (both-ways (λ q. answerOf s (roomed r q)) (d .silent) refl (sent-decided few))))

@@ -1,0 +1,208 @@
+-- What is computed is small, starts with the bytes of what is said, and so gives what the call promises. Assumes nothing.
+use Prim.Native.Nat.{ℕ, _/_, _≤_}
+use mathlib.Core.Bool.{Bool, true, false, cond, _&&_, not}
+use mathlib.Core.List.{List, [], _++_, append-nil}
+use mathlib.Core.Path.{_≡_, refl, ap, _∙_}
+use native.Mathlib.Omega.{arith}
+use borrow.Author.Tests.{ltb-true, ltb-false}
+use lib.Dec.{ltb}
+use lib.ListN.{length, take}
+use Rattle.bloom.proofs.Rules.{ruled}
+use Rattle.graph.specs.Graph.{heads}
+use Rattle.graph.proofs.BelowLaws.{beyond-few}
+use Rattle.graph.proofs.HeadLaws.{heads-few}
+use Rattle.lent.specs.Good.{sessionGood}
+use Rattle.lent.proofs.GoodSessions.{session-parts, good-within}
+use Rattle.probe.proofs.BuildLaws.{rules-field}
+use Rattle.rules.specs.Hash.{hashesAt, hashesBytes}
+use Rattle.rules.specs.Output.{Gathered}
+use Rattle.rules.specs.Sizes.{sizes}
+use Rattle.rules.specs.declared.refusal.Refusal.the-variants.{PastSize}
+use Rattle.rules.proofs.Cases.{split}
+use Rattle.rules.proofs.Hash.{length-hashes-at}
+use Rattle.selection.specs.ToSend.{toSendLess}
+use Rattle.selection.proofs.SelectLaws.{sent-most, less-most}
+use Rattle.session.specs.Laid.{laidBytes}
+use Rattle.session.specs.Plan.{Planned, listOf, heard, needOf, haveOf, havesFor, listOrDocument, bodyFor, bodyHeard, bodyOf, silence, sentAfter}
+use Rattle.session.specs.Plan.{headsFor, planOf, planned, resetOf, planSent, planSilence, planReset, plan, unknownSync, documentPart}
+use Rattle.state.specs.Session.{State}
+use Rattle.state.specs.Value.{Lent, valueOf}
+use Rattle.state.specs.declared.session.Session.{Session}
+use Rattle.tables.specs.Table.{Row, rows}
+use Rattle.tables.specs.Waiting.{Waiting}
+use Rattle.tables.proofs.TableLaws.{length-rows}
+use Rattle.bloom.specs.Have.{Have}
+use mathlib.Core.Option.{Option, none, some}
+use Rattle.planning.specs.Made.{Setting}
+use Rattle.decide.specs.Call.{Buffers, syncsOf, filterNumbers, answerOf, roomed, roomsIn, PlanCalled}
+use Rattle.decide.specs.Draft.{Parts, DraftMade, SmallDraft, decided, putsOf, allPut}
+use Rattle.decide.specs.declared.answer.Planned.{Planned as Answer}
+use Rattle.decide.specs.declared.decide.Draft.{Draft}
+use Rattle.decide.specs.declared.put.Puts.{Puts}
+use Rattle.decide.proofs.Decided.{found-many, found-all, sent-many, sent-all, field-long, have-given, have-none, plan-decided}
+use Rattle.decide.proofs.PutLaws.{Starts, put-as-said, refused-starts, silent-starts, roomed-starts}
+
+-- ---- no more hashes than are sent at once
+
+module _ (t : List Row) (few : length t ≤ sizes .rows) where
+  all-rows : length (rows t) ≤ sizes .hashesToSend
+  all-rows = omega (arith, length-rows t)
+
+  list-few : (v2 : Bool) (l : List ℕ) → length l ≤ sizes .hashesToSend → length (listOrDocument t v2 l .hashes) ≤ sizes .hashesToSend
+  unfolding listOrDocument
+  list-few v2 l h = split (v2 && ltb (length t / documentPart) (length l)) (λ e. rw e all-rows) (λ e. rw e h)
+
+  for-few : (v2 lost : Bool) (haves : List Have) (need sent : List ℕ) → length need ≤ sizes .hashes
+      → length (bodyFor t v2 lost haves need sent .hashes) ≤ sizes .hashesToSend
+  unfolding bodyFor
+  for-few v2 lost haves need sent h =
+      let most : length (toSendLess t haves need sent) ≤ sizes .hashesToSend = omega (arith, less-most t haves need sent, sent-most t haves need few h) in
+      split (v2 && lost) (λ e. rw e all-rows) (λ e. rw e (list-few v2 _ most))
+
+  heard-few : (v2 lost : Bool) (haves : Option (List Have)) (need : Option (List ℕ)) (sent : List ℕ)
+      → ((l : List ℕ) → need ≡ some l → length l ≤ sizes .hashes)
+      → length (bodyHeard t v2 lost haves need sent .hashes) ≤ sizes .hashesToSend
+  unfolding bodyHeard
+  heard-few v2 lost none need sent h = omega arith
+  heard-few v2 lost (some haves) none sent h = omega arith
+  heard-few v2 lost (some haves) (some need) sent h = for-few v2 lost haves need sent (h need refl)
+
+  pub carried-few : (closed v2 lost : Bool) (haves : Option (List Have)) (need : Option (List ℕ)) (sent : List ℕ)
+      → ((l : List ℕ) → need ≡ some l → length l ≤ sizes .hashes)
+      → length (cond closed (listOf []) (bodyHeard t v2 lost haves need sent) .hashes) ≤ sizes .hashesToSend
+  carried-few true v2 lost haves need sent h = omega arith
+  carried-few false v2 lost haves need sent h = heard-few v2 lost haves need sent h
+
+  body-few : (s : State) → ((l : List ℕ) → s .theirNeed ≡ some l → length l ≤ sizes .hashes) → length (bodyOf t s .hashes) ≤ sizes .hashesToSend
+  unfolding bodyOf
+  body-few s h = carried-few (s .peerReadOnly) _ _ _ _ _ h
+
+-- ---- small
+
+module _ (bits probes : ℕ) (t : List Row) (w : List Waiting) (s : Session) (l : Lent) (ready : Parts) (d : Draft)
+    (m : DraftMade bits probes t w (valueOf s l) ready d) where
+  module _ (few : length t ≤ sizes .rows) (good : sessionGood s l ≡ true) (setting : Setting bits probes) where
+    entries-few : d .entries ≤ sizes .rows
+    entries-few =
+        split (d .gives)
+        (λ e. omega (arith, m .field .made e .many, beyond-few t (valueOf s l .sharedHeads)))
+        (λ e. omega (arith, m .field .none e))
+
+    pub small-made : SmallDraft s d bits
+    small-made =
+        record {
+          heads = omega (arith, m .heads .many, heads-few t);
+          need = m .need .within;
+          shared = session-parts s l good .shared .few;
+          entries = entries-few;
+          few = ruled 0 bits probes _ (setting .each 0 (omega arith)) .bits;
+          field = rules-field (d .entries) bits probes (setting .each _ entries-few) .1;
+          hashes = omega (arith, m .body .hashes .many, body-few t few (valueOf s l) (good-within s l good .theirNeed));
+          sent = omega (arith, m .sent .many, m .sent .are .within);
+        }
+
+-- ---- what stands ready starts with the bytes of what is said
+
+gathered-start : {hs part : List ℕ} {count : ℕ} → Gathered hs part count → hashesAt part 0 (length hs) ≡ hs
+gathered-start g = rw (← g .many) (g .list)
+
+heads-start : (needs supports : Bool) (hs part : List ℕ) → hashesAt part 0 (length hs) ≡ hs
+    → hashesAt part 0 (length (headsFor needs supports hs)) ≡ headsFor needs supports hs
+unfolding headsFor hashesAt
+heads-start needs supports hs part e = split (needs && not supports) (λ b. rw b) (λ b. rw b e)
+
+test-starts : (b : Bool) (p q : Planned) (ready : Parts) → (b ≡ true → Starts p ready) → (b ≡ false → Starts q ready) → Starts (cond b p q) ready
+test-starts true p q ready f g = f refl
+test-starts false p q ready f g = g refl
+
+module _ (bits probes : ℕ) (t : List Row) (w : List Waiting) (s : Session) (l : Lent) (ready : Parts) (d : Draft)
+    (m : DraftMade bits probes t w (valueOf s l) ready d) (same : ready .shared ≡ l .shared) where
+  our-heads : hashesAt (ready .heads) 0 (length (heads t)) ≡ heads t
+  our-heads = gathered-start (m .heads)
+
+  shared-start : hashesAt (ready .shared) 0 (length (valueOf s l .sharedHeads)) ≡ valueOf s l .sharedHeads
+  shared-start =
+      ap (hashesAt (ready .shared) 0) (length-hashes-at (l .shared) 0 (s .«shared_heads»))
+      ∙ ap (λ (z : List ℕ). hashesAt z 0 (s .«shared_heads»)) same
+
+  given-start : (field : List ℕ) (n : ℕ) → take n (ready .field) ≡ field → length field ≡ n
+      → hashesBytes (hashesAt (ready .shared) 0 (length (valueOf s l .sharedHeads))) ++ take (length field) (ready .field)
+      ≡ hashesBytes (valueOf s l .sharedHeads) ++ (field ++ [])
+  given-start field n e q = rw (shared-start, q, e, append-nil field)
+
+  -- the have that is said, or none
+  abbrev ours : List Have
+  ours = havesFor bits probes t (needOf t w (s .«read_only») (heard (valueOf s l .theirHeads))) (heard (valueOf s l .theirHeads)) (valueOf s l .sharedHeads)
+
+  have-start : d .need ≤ sizes .hashes
+      → hashesBytes (hashesAt (ready .shared) 0 (syncsOf ours)) ++ take (filterNumbers ours .size) (ready .field) ≡ laidBytes ours
+  unfolding haveOf hashesAt hashesBytes laidBytes
+  have-start few =
+      split (d .gives)
+      (λ e.
+      let f = m .field .made e in
+      rw (have-given bits probes t w s l ready d m few e) (given-start _ _ (f .is) (field-long bits probes _ _ _ f)))
+      (λ e. rw (have-none bits probes t w s l ready d m few e))
+
+  says-start : d .need ≤ sizes .hashes → d .sent ≤ sizes .sentHashes
+      → Starts (Planned.says (planOf bits probes t w (valueOf s l)) (planned t (valueOf s l))) ready
+  unfolding planOf planned sentAfter
+  says-start few sent =
+      record {
+        heads = heads-start (s .«needs_reset») (s .«supports_reset») (heads t) (ready .heads) our-heads;
+        need = gathered-start (found-all (m .need) few);
+        have = have-start few;
+        list = gathered-start (m .body .hashes);
+        lastSent = our-heads;
+        sent = gathered-start (sent-all (sizes .sentHashes) (m .sent) sent);
+      }
+
+  reset-start : Starts (Planned.reset (resetOf t)) ready
+  unfolding resetOf hashesAt hashesBytes laidBytes
+  reset-start = record { heads = our-heads; need = refl; have = refl; list = refl; lastSent = refl; sent = refl }
+
+  few-asked : length (needOf t w (s .«read_only») (heard (valueOf s l .theirHeads))) ≤ sizes .hashes → d .need ≤ sizes .hashes
+  few-asked h =
+      split (ltb (sizes .hashes) (d .need))
+      (λ e. absurd (omega (arith, found-many {most = sizes .hashes} (m .need) (ltb-true _ _ e))))
+      (λ e. ltb-false _ _ e)
+
+  few-sent : length (sentAfter t (valueOf s l)) ≤ sizes .sentHashes → d .sent ≤ sizes .sentHashes
+  unfolding sentAfter
+  few-sent h =
+      split (ltb (sizes .sentHashes) (d .sent))
+      (λ e. absurd (omega (arith, sent-many (sizes .sentHashes) (m .sent) (ltb-true _ _ e))))
+      (λ e. ltb-false _ _ e)
+
+  sent-starts : d .need ≤ sizes .hashes → Starts (planSent bits probes t w (valueOf s l)) ready
+  unfolding planSent
+  sent-starts few =
+      test-starts (ltb (sizes .sentHashes) (length (sentAfter t (valueOf s l)))) (Planned.refused (PastSize 0)) _ ready
+      (λ e. refused-starts _ ready)
+      (λ e. says-start few (few-sent (ltb-false _ _ e)))
+
+  silence-starts : d .need ≤ sizes .hashes → Starts (planSilence bits probes t w (valueOf s l)) ready
+  unfolding planSilence
+  silence-starts few =
+      test-starts (silence t (valueOf s l)) Planned.silent _ ready (λ e. silent-starts ready) (λ e. sent-starts few)
+
+  reset-starts : d .need ≤ sizes .hashes → Starts (planReset bits probes t w (valueOf s l)) ready
+  unfolding planReset
+  reset-starts few =
+      test-starts (unknownSync t (valueOf s l .theirHave)) (Planned.reset (resetOf t)) _ ready (λ e. reset-start) (λ e. silence-starts few)
+
+  pub plan-starts : Starts (plan bits probes t w (valueOf s l)) ready
+  unfolding plan
+  plan-starts =
+      test-starts (ltb (sizes .hashes) (length (needOf t w (s .«read_only») (heard (valueOf s l .theirHeads))))) (Planned.refused (PastSize 0)) _ ready
+      (λ e. refused-starts _ ready)
+      (λ e. reset-starts (few-asked (ltb-false _ _ e)))
+
+  -- So the call does what it promises.
+  pub plan-called : (before after : Buffers) (a : Answer) (k : Puts) → a ≡ decided s d bits probes (roomsIn before) → k ≡ putsOf a
+      → after ≡ allPut k ready before → PlanCalled s (plan bits probes t w (valueOf s l)) before after a
+  plan-called before after a k e c p =
+      let q : Planned = roomed (roomsIn before) (plan bits probes t w (valueOf s l)) in
+      let is : a ≡ answerOf s q = e ∙ plan-decided bits probes t w s l ready d m (roomsIn before) in
+      let put : after ≡ allPut (putsOf (answerOf s q)) ready before = rw (c, is) at p in
+      record { answer = is; buffers = put ∙ put-as-said s ready before q (roomed-starts (roomsIn before) _ ready plan-starts) }

@@ -1,0 +1,206 @@
+-- What internal contracts speak of: numbers of a plan before it is decided, and what stands ready to be put. No rule of 01 stands here.
+use Prim.Native.Nat.{ℕ, _+_, _*_, _≤_}
+use mathlib.Core.Bool.{Bool, true, false, cond, _&&_, not}
+use mathlib.Core.List.{List}
+use mathlib.Core.Path.{_≡_}
+use lib.Dec.{ltb}
+use lib.ListN.{length, take}
+use lib.Seq.{sets}
+use Rattle.bloom.specs.Filter.{fieldSize, defaultBits, defaultProbes}
+use Rattle.bloom.specs.Have.{numbersOf}
+use Rattle.bloom.specs.declared.have.FilterNumbers.{FilterNumbers}
+use Rattle.graph.specs.Graph.{heads, beyond}
+use Rattle.message.specs.Flags.{flagsOf, supportsSyncReset}
+use Rattle.message.specs.declared.version.MessageVersion.the-variants.{V1}
+use Rattle.numbers.specs.Number.{mostFilter}
+use Rattle.missing.specs.Ask.{Found}
+use Rattle.planning.specs.Made.{FieldMade, BodyMade, SentMade}
+use Rattle.rules.specs.Hash.{hashesAt, hashesBytes}
+use Rattle.rules.specs.Order.{member, every}
+use Rattle.rules.specs.Output.{Gathered}
+use Rattle.rules.specs.Sizes.{sizes}
+use Rattle.rules.specs.declared.refusal.Refusal.the-variants.{PastSize, NoRoom}
+use Rattle.session.specs.Plan.{heard, needOf, unknownSync, bodyOf, silence, versionFor, flagsFor}
+use Rattle.state.specs.Session.{State}
+use Rattle.state.specs.declared.session.Session.{Session}
+use Rattle.tables.specs.Table.{Row}
+use Rattle.tables.specs.Waiting.{Waiting}
+use Rattle.decide.specs.Call.{Buffers, messageRoom, sessionRoom, plannedCounts}
+use Rattle.decide.specs.declared.answer.Planned.{Planned as Answer}
+use Rattle.decide.specs.declared.answer.Planned.the-variants.{Refused, Silent, Reset, Says}
+use Rattle.decide.specs.declared.answer.Room.{Room}
+use Rattle.decide.specs.declared.answer.Room.the-variants.{Enough, Short}
+use Rattle.decide.specs.declared.answer.Rooms.{Rooms}
+use Rattle.decide.specs.declared.answer.Stated.{Stated}
+use Rattle.decide.specs.declared.decide.Draft.{Draft}
+use Rattle.decide.specs.declared.put.Puts.{Puts}
+
+-- ---- what is decided
+
+-- How many heads a message has: none where the peer is to think that all was lost here.
+unfoldable pub headsCount : Bool → Bool → ℕ → ℕ
+headsCount needsReset supportsReset n = cond (needsReset && not supportsReset) 0 n
+
+-- So many, or none.
+unfoldable pub countIf : Bool → ℕ → ℕ
+countIf given n = cond given n 0
+
+-- The numbers of a filter behind so many last-sync hashes, or zeros.
+unfoldable pub filterIf : Bool → ℕ → ℕ → ℕ → ℕ → FilterNumbers
+filterIf given syncs entries bits probes =
+    cond given (numbersOf entries bits probes (sizes .hash * syncs) (fieldSize entries bits)) (numbersOf 0 0 0 0 0)
+
+-- A message of so many heads, with a have or without one.
+abbrev pub drafted : Session → Draft → ℕ → ℕ → Stated
+drafted s d bits probes =
+    record {
+      version = versionFor (s .«supports_v2»);
+      flags = flagsFor (s .«read_only») (s .«needs_reset» && s .«supports_reset»);
+      document = d .body .document;
+      heads = headsCount (s .«needs_reset») (s .«supports_reset») (d .heads);
+      need = d .need;
+      haves = countIf (d .gives) 1;
+      syncs = countIf (d .gives) (s .«shared_heads»);
+      filter = filterIf (d .gives) (s .«shared_heads») (d .entries) bits probes;
+      hashes = d .body .hashes;
+    }
+
+-- Small enough for its bytes to be counted.
+pub record SmallStated (p : Stated) : Type 0 where
+  pub heads : p .heads ≤ sizes .rows
+  pub need : p .need ≤ sizes .hashes + 1
+  pub syncs : p .syncs ≤ sizes .hashes
+  pub field : p .filter .size ≤ sizes .field
+  pub hashes : p .hashes ≤ sizes .hashesToSend
+
+pub record SmallDraft (s : Session) (d : Draft) (bits : ℕ) : Type 0 where
+  pub heads : d .heads ≤ sizes .rows
+  pub need : d .need ≤ sizes .hashes + 1
+  pub shared : s .«shared_heads» ≤ sizes .hashes
+  pub entries : d .entries ≤ sizes .rows
+  pub few : bits ≤ mostFilter
+  pub field : fieldSize (d .entries) bits ≤ sizes .field
+  pub hashes : d .body .hashes ≤ sizes .hashesToSend
+  pub sent : d .sent ≤ sizes .sentHashes + 1
+
+abbrev pub resetStated : ℕ → Stated
+resetStated heads =
+    record {
+      version = V1;
+      flags = flagsOf supportsSyncReset;
+      document = false;
+      heads = heads;
+      need = 0;
+      haves = 1;
+      syncs = 0;
+      filter = numbersOf 0 defaultBits defaultProbes 0 0;
+      hashes = 0;
+    }
+
+unfoldable pub ifRoom : Room → Answer → Answer
+ifRoom Enough a = a
+ifRoom (Short wanted) a = Refused (NoRoom wanted)
+
+-- The message, where there is room.
+unfoldable pub saysWith : Session → Draft → ℕ → ℕ → Rooms → Answer
+saysWith s d bits probes r =
+    ifRoom (messageRoom (drafted s d bits probes) r)
+    (ifRoom (sessionRoom (d .heads) (d .sent) r) (Says (drafted s d bits probes) (plannedCounts s (d .heads) (d .sent))))
+
+-- What is decided from the numbers, in the order of the refusals.
+unfoldable pub decided : Session → Draft → ℕ → ℕ → Rooms → Answer
+decided s d bits probes r =
+    cond (ltb (sizes .hashes) (d .need))
+    (Refused (PastSize 0))
+    (cond (d .unknown)
+    (ifRoom (messageRoom (resetStated (d .heads)) r) (Reset (resetStated (d .heads))))
+    (cond (d .silent)
+    Silent
+    (cond (ltb (sizes .sentHashes) (d .sent)) (Refused (PastSize 0)) (saysWith s d bits probes r))))
+
+-- ---- what is computed
+
+-- What stands ready to be put.
+pub record Parts : Type 0 where
+  pub heads : List ℕ
+  pub need : List ℕ
+  pub shared : List ℕ
+  pub field : List ℕ
+  pub list : List ℕ
+  pub sent : List ℕ
+
+-- The field of a have, if one is given.
+pub record GivenMade (bits probes : ℕ) (given : Bool) (hs field : List ℕ) (entries : ℕ) : Type 0 where
+  pub made : given ≡ true → FieldMade bits probes hs field entries
+  pub none : given ≡ false → entries ≡ 0
+
+-- The parts of a plan and its numbers. Of needs and sent hashes there is room for one more than there may be, so that too many show.
+pub record DraftMade (bits probes : ℕ) (t : List Row) (w : List Waiting) (s : State) (ready : Parts) (d : Draft) : Type 0 where
+  pub heads : Gathered (heads t) (ready .heads) (d .heads)
+  pub need : Found (needOf t w (s .readOnly) (heard (s .theirHeads))) (sizes .hashes + 1) (ready .need) (d .need)
+  pub unknown : d .unknown ≡ unknownSync t (s .theirHave)
+  pub gives : d .gives ≡ every (λ h. member h (heard (s .theirHeads))) (hashesAt (ready .need) 0 (d .need))
+  pub field : GivenMade bits probes (d .gives) (beyond t (s .sharedHeads)) (ready .field) (d .entries)
+  pub body : BodyMade (bodyOf t s) (ready .list) (d .body)
+  pub silent : d .silent ≡ silence t s
+  pub sent : SentMade (bodyOf t s .hashes) (s .sentHashes) (sizes .hash * (sizes .sentHashes + 1)) (ready .sent) (d .sent)
+
+-- How many hashes and bytes are put into each buffer.
+abbrev pub noPuts : Puts
+noPuts = record { heads = 0; need = 0; syncs = 0; field = 0; hashes = 0; «last_sent» = 0; sent = 0 }
+
+abbrev pub putsFor : Stated → ℕ → ℕ → Puts
+putsFor p lastSent sent =
+    record {
+      heads = p .heads;
+      need = p .need;
+      syncs = p .syncs;
+      field = p .filter .size;
+      hashes = p .hashes;
+      «last_sent» = lastSent;
+      sent = sent;
+    }
+
+unfoldable pub putsOf : Answer → Puts
+putsOf (Refused r) = noPuts
+putsOf Silent = noPuts
+putsOf (Reset p) = putsFor p 0 0
+putsOf (Says p s) = putsFor p (s .«last_sent_heads») (s .«sent_hashes»)
+
+-- So many hashes stand in a part, and there is room for them.
+pub record HashesFit (n : ℕ) (part buffer : List ℕ) : Type 0 where
+  pub there : sizes .hash * n ≤ length part
+  pub room : sizes .hash * n ≤ length buffer
+
+-- The same for the hashes of a have and the field behind them.
+pub record HaveFits (n : ℕ) (shared : List ℕ) (size : ℕ) (field buffer : List ℕ) : Type 0 where
+  pub hashes : sizes .hash * n ≤ length shared
+  pub bytes : size ≤ length field
+  pub room : sizes .hash * n + size ≤ length buffer
+
+pub record Fits (p : Puts) (ready : Parts) (b : Buffers) : Type 0 where
+  pub heads : HashesFit (p .heads) (ready .heads) (b .heads)
+  pub need : HashesFit (p .need) (ready .need) (b .need)
+  pub have : HaveFits (p .syncs) (ready .shared) (p .field) (ready .field) (b .have)
+  pub list : HashesFit (p .hashes) (ready .list) (b .list)
+  pub lastSent : HashesFit (p .«last_sent») (ready .heads) (b .lastSent)
+  pub sent : HashesFit (p .sent) (ready .sent) (b .sent)
+
+-- The first hashes of a part put at the start of a buffer, and so many bytes of a field behind them.
+abbrev pub startPut : ℕ → List ℕ → List ℕ → List ℕ
+startPut n part buffer = sets buffer 0 (hashesBytes (hashesAt part 0 n))
+
+abbrev pub havePut : ℕ → List ℕ → ℕ → List ℕ → List ℕ → List ℕ
+havePut n shared size field buffer = sets (startPut n shared buffer) (sizes .hash * n) (take size field)
+
+-- All of it put.
+abbrev pub allPut : Puts → Parts → Buffers → Buffers
+allPut p ready b =
+    record {
+      heads = startPut (p .heads) (ready .heads) (b .heads);
+      need = startPut (p .need) (ready .need) (b .need);
+      have = havePut (p .syncs) (ready .shared) (p .field) (ready .field) (b .have);
+      list = startPut (p .hashes) (ready .list) (b .list);
+      lastSent = startPut (p .«last_sent») (ready .heads) (b .lastSent);
+      sent = startPut (p .sent) (ready .sent) (b .sent);
+    }

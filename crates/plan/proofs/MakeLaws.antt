@@ -1,0 +1,221 @@
+-- The parts of a plan: what each asks for follows from the tests before planning, and together they are the plan. Assumes nothing.
+use Prim.Native.Nat.{ℕ, _+_, _*_, _/_, _≤_}
+use mathlib.Core.Bool.{Bool, true, false, cond, _&&_, _||_}
+use mathlib.Core.List.{List, [], _∷_}
+use mathlib.Core.Option.{Option}
+use mathlib.Core.Path.{_≡_, refl}
+use native.Mathlib.Omega.{arith}
+use borrow.Author.Tests.{ne-eqb}
+use lib.Dec.{eqb}
+use lib.ListN.{length}
+use Rattle.bloom.specs.Filter.{defaultBits, defaultProbes}
+use Rattle.bloom.proofs.Rules.{rules-default}
+use Rattle.decide.specs.Call.{Buffers, roomsIn, PlanCalled}
+use Rattle.decide.specs.Draft.{Parts, GivenMade, DraftMade, SmallDraft, decided, putsOf, allPut}
+use Rattle.decide.specs.declared.answer.Planned.{Planned as Answer}
+use Rattle.decide.specs.declared.decide.Draft.{Draft}
+use Rattle.decide.specs.declared.put.Puts.{Puts}
+use Rattle.decide.proofs.MadeLaws.{small-made, carried-few, plan-called}
+use Rattle.decide.proofs.PutLaws.{Long}
+use Rattle.graph.specs.Graph.{heads, beyond}
+use Rattle.graph.proofs.HeadLaws.{heads-few}
+use Rattle.lent.specs.Good.{havesGood}
+use Rattle.lent.proofs.GoodSessions.{session-tests, session-parts, heard-within}
+use Rattle.lists.specs.Lists.{same}
+use Rattle.missing.specs.Ask.{Found}
+use Rattle.planning.specs.Made.{Setting, FieldMade, BodyMade, SentMade}
+use Rattle.planning.specs.declared.body.Body.{Body as Counted}
+use Rattle.rules.specs.Hash.{hashesAt}
+use Rattle.rules.specs.Order.{member, every}
+use Rattle.rules.specs.Output.{Gathered}
+use Rattle.rules.specs.Sizes.{sizes}
+use Rattle.rules.proofs.Cases.{true-false}
+use Rattle.session.specs.Plan.{heard, heardAs, listOf, needOf, unknownSync, bodyHeard, bodyOf, empty, silence, plan}
+use Rattle.state.specs.Value.{Lent, heardHashes, heardHaves, valueOf}
+use Rattle.state.specs.declared.session.Session.{Session}
+use Rattle.tables.specs.Bytes.{rowsAt}
+use Rattle.tables.specs.Table.{Row}
+use Rattle.tables.specs.Waiting.{Waiting}
+use Rattle.tables.proofs.TableLaws.{length-rows-at}
+use Rattle.plan.specs.Checks.{Checked}
+use Rattle.plan.specs.Make.{ReadyRooms, AskReady, AskedMade, CarryReady, CarriedMade, QuietReady, quiet}
+use Rattle.plan.specs.declared.make.Asked.{Asked}
+use Rattle.plan.specs.declared.make.Carried.{Carried}
+
+-- ---- what is asked for
+
+module _ {bits probes : ℕ} {gives : Bool} {hs field : List ℕ} where
+  pub nothing-given : gives ≡ false → GivenMade bits probes gives hs field 0
+  nothing-given e = record { made = λ t. absurd (true-false gives t e); none = λ f. refl }
+
+  pub field-given : {entries : ℕ} → gives ≡ true → FieldMade bits probes hs field entries → GivenMade bits probes gives hs field entries
+  field-given e f = record { made = λ t. f; none = λ n. absurd (true-false gives e n) }
+
+-- The buffer has room for one hash more than there may be.
+pub asked-made : (bits probes : ℕ) (t : List Row) (w : List Waiting) (reads : Bool) (theirs : Option (List ℕ)) (lastSync list field : List ℕ) (a : Asked)
+    (room : ℕ)
+    → room ≡ sizes .hash * (sizes .hashes + 1)
+    → Found (needOf t w reads (heard theirs)) (room / sizes .hash) list (a .need)
+    → a .gives ≡ every (λ h. member h (heard theirs)) (hashesAt list 0 (a .need))
+    → GivenMade bits probes (a .gives) (beyond t lastSync) field (a .entries)
+    → AskedMade bits probes t w reads theirs lastSync list field a
+asked-made bits probes t w reads theirs lastSync list field a room e f g m = record { need = rw e at f; gives = g; made = m }
+
+-- ---- what is carried
+
+module _ {table : List ℕ} {n : ℕ} {s : Session} {theirHeads theirNeed haves bytes sent : List ℕ} {room next : ℕ}
+    (c : CarryReady table n s theirHeads theirNeed haves bytes sent room next) where
+  -- the hashes fit
+  pub body-there : (lost : Bool) (list : List ℕ) (r : Counted)
+      → BodyMade (cond (s .«peer_read_only») (listOf [])
+      (bodyHeard (rowsAt table 0 n) (s .«supports_v2») lost (heardHaves bytes haves (s .«their_have»)) (heardHashes theirNeed (s .«their_need»))
+      (hashesAt sent 0 (s .«sent_hashes»)))) list r
+      → r .hashes ≤ sizes .hashesToSend
+  body-there lost list r b =
+      let rows : length (rowsAt table 0 n) ≤ sizes .rows = rw (length-rows-at table 0 n) (c .rows .few) in
+      omega (
+        arith,
+        b .hashes .many,
+        carried-few (rowsAt table 0 n) rows (s .«peer_read_only») (s .«supports_v2») lost (heardHaves bytes haves (s .«their_have»))
+            (heardHashes theirNeed (s .«their_need»)) (hashesAt sent 0 (s .«sent_hashes»)) (heard-within theirNeed (s .«their_need») (c .need)),
+      )
+
+  -- The peer is heard to have no heads; the hashes of the body join those that were sent.
+  pub carried-made : (lost : Bool) (list after : List ℕ) (k : Carried)
+      → lost ≡ heardAs (hashesAt theirHeads 0 0) (heardHashes theirHeads (s .«their_heads»))
+      → BodyMade (cond (s .«peer_read_only») (listOf [])
+      (bodyHeard (rowsAt table 0 n) (s .«supports_v2») lost (heardHaves bytes haves (s .«their_have»)) (heardHashes theirNeed (s .«their_need»))
+      (hashesAt sent 0 (s .«sent_hashes»)))) list (k .body)
+      → SentMade (hashesAt list 0 (k .body .hashes)) (hashesAt sent 0 (s .«sent_hashes»)) next after (k .sent)
+      → CarriedMade (cond (s .«peer_read_only») (listOf [])
+      (bodyHeard (rowsAt table 0 n) (s .«supports_v2») (heardAs [] (heardHashes theirHeads (s .«their_heads»))) (heardHaves bytes haves (s .«their_have»))
+      (heardHashes theirNeed (s .«their_need»)) (hashesAt sent 0 (s .«sent_hashes»)))) (hashesAt sent 0 (s .«sent_hashes»)) list after k
+  unfolding hashesAt
+  carried-made lost list after k e b m =
+      let there = rw e at b in
+      let joined = rw (c .sentRoom) at m in
+      record { body = there; sent = rw (there .hashes .list) at joined }
+
+-- ---- silence
+
+pub quiet-is : (s : Session) (lastSent theirHeads ours : List ℕ) (hashes : ℕ) (told equal r : Bool)
+    → told ≡ (same (hashesAt lastSent 0 (s .«last_sent_heads»)) ours && s .«have_responded»)
+    → equal ≡ heardAs ours (heardHashes theirHeads (s .«their_heads»))
+    → r ≡ (told && (((equal || s .«read_only») && eqb hashes 0) || s .«in_flight»))
+    → r ≡ quiet s lastSent theirHeads ours hashes
+unfolding quiet
+quiet-is s lastSent theirHeads ours hashes told equal r t e q = rw (t, e) at q
+
+-- none is an empty list
+none-empty : (n : ℕ) (l : List ℕ) → n ≡ length l → eqb n 0 ≡ empty l
+none-empty n [] e = rw e
+none-empty n (h ∷ hs) e = ne-eqb n 0 (λ z. omega arith)
+
+-- ---- all of it
+
+module _ {table : List ℕ} {n : ℕ} {waiting : List ℕ} {m : ℕ} {s : Session} {l : Lent} (k : Checked table n waiting m s l) where
+  pub have-good : havesGood (l .bytes) (l .haves) (s .«their_have») ≡ true
+  have-good = session-tests s l (k .session) .theirHave
+
+  pub ask-ready : {needs size : ℕ} → needs ≡ sizes .hash * (sizes .hashes + 1) → size ≡ sizes .field
+      → AskReady table n waiting m s (l .shared) (l .theirHeads) needs size
+  ask-ready e f =
+      record {
+        rows = k .rows;
+        waitingRows = k .waitingRows;
+        heads = session-tests s l (k .session) .theirHeads;
+        syncs = session-parts s l (k .session) .shared .there;
+        room = e;
+        fieldRoom = f;
+      }
+
+  pub carry-ready : {room next : ℕ} → room ≡ sizes .hash * sizes .hashesToSend → next ≡ sizes .hash * (sizes .sentHashes + 1)
+      → CarryReady table n s (l .theirHeads) (l .theirNeed) (l .haves) (l .bytes) (l .sent) room next
+  carry-ready e f =
+      let t = session-tests s l (k .session) in
+      let p = session-parts s l (k .session) in
+      record {
+        rows = k .rows;
+        heads = t .theirHeads;
+        need = t .theirNeed;
+        have = t .theirHave;
+        there = p .sent .there;
+        few = p .sent .few;
+        ascending = p .sent .ascending;
+        listRoom = e;
+        sentRoom = f;
+      }
+
+  -- the heads fit
+  pub heads-there : (list : List ℕ) (count : ℕ) → Gathered (heads (rowsAt table 0 n)) list count → count ≤ sizes .rows
+  heads-there list count g = omega (arith, g .many, heads-few (rowsAt table 0 n), length-rows-at table 0 n, k .rows .few)
+
+  pub quiet-ready : (list : List ℕ) (count : ℕ) → Gathered (heads (rowsAt table 0 n)) list count → length list ≡ sizes .hash * sizes .rows
+      → QuietReady s (l .lastSent) (l .theirHeads) list count
+  quiet-ready list count g e =
+      record {
+        told = session-parts s l (k .session) .lastSent .there;
+        theirs = session-tests s l (k .session) .theirHeads;
+        ours = omega (arith, heads-there list count g);
+      }
+
+  pub small-checked : {bits probes : ℕ} {w : List Waiting} {ready : Parts} {d : Draft} → Setting bits probes
+      → DraftMade bits probes (rowsAt table 0 n) w (valueOf s l) ready d
+      → SmallDraft s d bits
+  small-checked setting made =
+      let rows : length (rowsAt table 0 n) ≤ sizes .rows = rw (length-rows-at table 0 n) (k .rows .few) in
+      small-made _ _ _ _ s l _ _ made rows (k .session) setting
+
+  pub long-ready : (ready : Parts) → ready .shared ≡ l .shared
+      → ReadyRooms (length (ready .heads)) (length (ready .need)) (length (ready .field)) (length (ready .list)) (length (ready .sent))
+      → Long s ready
+  long-ready ready e r =
+      record {
+        heads = omega (arith, r .headsRoom);
+        need = omega (arith, r .needRoom);
+        shared = rw e (session-parts s l (k .session) .shared .there);
+        field = omega (arith, r .fieldRoom);
+        list = omega (arith, r .listRoom);
+        sent = omega (arith, r .sentRoom);
+      }
+
+  -- What was made, decided and put is what the call promises.
+  pub checked-called : {bits probes : ℕ} {w : List Waiting} {ready : Parts} {d : Draft} {before after : Buffers} {a : Answer} {p : Puts}
+      → DraftMade bits probes (rowsAt table 0 n) w (valueOf s l) ready d
+      → ready .shared ≡ l .shared
+      → a ≡ decided s d bits probes (roomsIn before)
+      → p ≡ putsOf a
+      → after ≡ allPut p ready before
+      → PlanCalled s (plan bits probes (rowsAt table 0 n) w (valueOf s l)) before after a
+  checked-called m e q c p = plan-called _ _ _ _ s l _ _ m e _ _ _ _ q c p
+
+module _ (bits probes : ℕ) (t : List Row) (w : List Waiting) (s : Session) (l : Lent) (ready : Parts) (count : ℕ) (a : Asked) (unknown : Bool) (k : Carried)
+    (silent : Bool) where
+  pub draft-made : Gathered (heads t) (ready .heads) count
+      → AskedMade bits probes t w (s .«read_only») (heardHashes (l .theirHeads) (s .«their_heads»)) (hashesAt (l .shared) 0 (s .«shared_heads»)) (ready .need)
+      (ready .field) a
+      → unknown ≡ unknownSync t (heardHaves (l .bytes) (l .haves) (s .«their_have»))
+      → CarriedMade (cond (s .«peer_read_only») (listOf [])
+      (bodyHeard t (s .«supports_v2») (heardAs [] (heardHashes (l .theirHeads) (s .«their_heads»))) (heardHaves (l .bytes) (l .haves) (s .«their_have»))
+      (heardHashes (l .theirNeed) (s .«their_need»)) (hashesAt (l .sent) 0 (s .«sent_hashes»)))) (hashesAt (l .sent) 0 (s .«sent_hashes»)) (ready .list)
+      (ready .sent) k
+      → silent ≡ quiet s (l .lastSent) (l .theirHeads) (hashesAt (ready .heads) 0 count) (k .body .hashes)
+      → DraftMade bits probes t w (valueOf s l) ready
+      (record { heads = count; need = a .need; unknown = unknown; gives = a .gives; entries = a .entries; body = k .body; silent = silent; sent = k .sent })
+  unfolding bodyOf silence quiet
+  draft-made h q u c e =
+      let nothing : eqb (k .body .hashes) 0 ≡ empty (bodyOf t (valueOf s l) .hashes) = none-empty _ (bodyOf t (valueOf s l) .hashes) (c .body .hashes .many) in
+      record {
+        heads = h;
+        need = q .need;
+        unknown = u;
+        gives = q .gives;
+        field = q .made;
+        body = c .body;
+        silent = rw (h .list, nothing) at e;
+        sent = c .sent;
+      }
+
+-- The filter rules hold with the default's bits and probes over any rows.
+pub default-setting : Setting defaultBits defaultProbes
+default-setting = record { each = rules-default }

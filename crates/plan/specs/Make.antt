@@ -1,0 +1,80 @@
+-- What internal contracts speak of: the parts of a plan. No rule of 01 stands here.
+use Prim.Native.Nat.{ℕ, _+_, _*_, _≤_}
+use mathlib.Core.Bool.{Bool, true, _&&_, _||_}
+use mathlib.Core.List.{List}
+use mathlib.Core.Option.{Option}
+use mathlib.Core.Path.{_≡_}
+use lib.Dec.{eqb}
+use lib.ListN.{length}
+use Rattle.decide.specs.Draft.{GivenMade}
+use Rattle.graph.specs.Graph.{beyond}
+use Rattle.lent.specs.Good.{heardGood, havesGood}
+use Rattle.lists.specs.Lists.{same}
+use Rattle.missing.specs.Ask.{Found}
+use Rattle.planning.specs.Made.{BodyMade, SentMade}
+use Rattle.rules.specs.Hash.{hashesAt}
+use Rattle.rules.specs.Order.{member, every, ascends}
+use Rattle.rules.specs.Sizes.{sizes}
+use Rattle.session.specs.Plan.{Body, heard, heardAs, needOf}
+use Rattle.state.specs.Value.{heardHashes}
+use Rattle.state.specs.declared.session.Session.{Session}
+use Rattle.tables.specs.Bytes.{GoodRows, rowsAt, waitingChecked}
+use Rattle.tables.specs.Table.{Row}
+use Rattle.tables.specs.Waiting.{Waiting}
+use Rattle.tables.specs.declared.check.Checked.the-variants.{Good}
+use Rattle.plan.specs.declared.make.Asked.{Asked}
+use Rattle.plan.specs.declared.make.Carried.{Carried}
+
+-- The lengths of the buffers: room for any plan, with one hash more than there may be where too many are to show.
+pub record ReadyRooms (heads need field list sent : ℕ) : Type 0 where
+  pub headsRoom : heads ≡ sizes .hash * sizes .rows
+  pub needRoom : need ≡ sizes .hash * (sizes .hashes + 1)
+  pub fieldRoom : field ≡ sizes .field
+  pub listRoom : list ≡ sizes .hash * sizes .hashesToSend
+  pub sentRoom : sent ≡ sizes .hash * (sizes .sentHashes + 1)
+
+-- ---- what is asked for
+
+pub record AskReady (table : List ℕ) (n : ℕ) (waiting : List ℕ) (m : ℕ) (s : Session) (shared theirHeads : List ℕ) (needs size : ℕ) : Type 0 where
+  pub rows : GoodRows table n
+  pub waitingRows : waitingChecked (rowsAt table 0 n) waiting ≡ Good m
+  pub heads : heardGood theirHeads (s .«their_heads») ≡ true
+  pub syncs : sizes .hash * s .«shared_heads» ≤ length shared
+  pub room : needs ≡ sizes .hash * (sizes .hashes + 1)
+  pub fieldRoom : size ≡ sizes .field
+
+pub record AskedMade (bits probes : ℕ) (t : List Row) (w : List Waiting) (readOnlyUnit : Bool) (theirs : Option (List ℕ)) (lastSync list field : List ℕ)
+    (a : Asked) : Type 0 where
+  pub need : Found (needOf t w readOnlyUnit (heard theirs)) (sizes .hashes + 1) list (a .need)
+  pub gives : a .gives ≡ every (λ h. member h (heard theirs)) (hashesAt list 0 (a .need))
+  pub made : GivenMade bits probes (a .gives) (beyond t lastSync) field (a .entries)
+
+-- ---- what is carried
+
+pub record CarryReady (table : List ℕ) (n : ℕ) (s : Session) (theirHeads theirNeed haves bytes sent : List ℕ) (room next : ℕ) : Type 0 where
+  pub rows : GoodRows table n
+  pub heads : heardGood theirHeads (s .«their_heads») ≡ true
+  pub need : heardGood theirNeed (s .«their_need») ≡ true
+  pub have : havesGood bytes haves (s .«their_have») ≡ true
+  pub there : sizes .hash * s .«sent_hashes» ≤ length sent
+  pub few : s .«sent_hashes» ≤ sizes .sentHashes
+  pub ascending : ascends (hashesAt sent 0 (s .«sent_hashes»)) ≡ true
+  pub listRoom : room ≡ sizes .hash * sizes .hashesToSend
+  pub sentRoom : next ≡ sizes .hash * (sizes .sentHashes + 1)
+
+pub record CarriedMade (b : Body) (before list after : List ℕ) (k : Carried) : Type 0 where
+  pub body : BodyMade b list (k .body)
+  pub sent : SentMade (b .hashes) before (sizes .hash * (sizes .sentHashes + 1)) after (k .sent)
+
+-- ---- silence
+
+pub record QuietReady (s : Session) (lastSent theirHeads heads : List ℕ) (n : ℕ) : Type 0 where
+  pub told : sizes .hash * s .«last_sent_heads» ≤ length lastSent
+  pub theirs : heardGood theirHeads (s .«their_heads») ≡ true
+  pub ours : sizes .hash * n ≤ length heads
+
+-- Nothing is to be said with these heads, and so many hashes to send.
+unfoldable pub quiet : Session → List ℕ → List ℕ → List ℕ → ℕ → Bool
+quiet s lastSent theirHeads ours hashes =
+    (same (hashesAt lastSent 0 (s .«last_sent_heads»)) ours && s .«have_responded»)
+    && (((heardAs ours (heardHashes theirHeads (s .«their_heads»)) || s .«read_only») && eqb hashes 0) || s .«in_flight»)

@@ -1,0 +1,62 @@
+// The tests that come before planning.
+use lent::good::session_good;
+use rules::refusal::Refusal;
+use state::session::Session;
+use tables::check::Checked;
+use tables::check::check_table;
+use tables::waiting::check_waiting;
+ghost use mathlib.Core.Path.{_≡_};
+ghost use Rattle.plan.specs.Checks.{checkedPlan};
+
+// Tables of so many rows and waiting rows beside a session that is good, or the first refusal.
+pub enum Checks {
+    Good { rows: usize, waiting_rows: usize },
+    Refused(Refusal),
+}
+
+// 10, then 4 and 6, then 4 and 9.
+pub fn check_plan(
+    session: Session,
+    shared: &[u8],
+    last_sent: &[u8],
+    their_heads: &[u8],
+    their_need: &[u8],
+    haves: &[u64],
+    bytes: &[u8],
+    sent: &[u8],
+    table: &[u8],
+    waiting: &[u8],
+) -> Checks
+    ensures { λ r. ⌜ r ≡ checkedPlan session (record {
+      shared = now (shared .entry);
+      lastSent = now («last_sent» .entry);
+      theirHeads = now («their_heads» .entry);
+      theirNeed = now («their_need» .entry);
+      haves = now (haves .entry);
+      bytes = now (bytes .entry);
+      sent = now (sent .entry);
+    }) (now (table .entry)) (now (waiting .entry)) ⌝ }
+{
+    if !session_good(
+        session,
+        shared,
+        last_sent,
+        their_heads,
+        their_need,
+        haves,
+        bytes,
+        sent,
+    ) {
+        return Checks::Refused(Refusal::BadNumbers);
+    }
+    match check_table(table) {
+        Checked::Refused(r) => Checks::Refused(r),
+        Checked::Good(n) => match check_waiting(table, n, waiting) {
+            Checked::Refused(r) => Checks::Refused(r),
+            Checked::Good(m) => Checks::Good {
+                rows: n,
+                waiting_rows: m,
+            },
+        },
+    }
+}

@@ -1,0 +1,291 @@
+// All parts of a plan, each computed into a buffer that is long enough for any.
+use decide::decide::Draft;
+use graph::heads::collect_heads;
+use planning::body::Body;
+use planning::body::make_body;
+use planning::have::gives_have;
+use planning::have::make_field;
+use planning::have::unknown_sync;
+use planning::need::make_need;
+use planning::sent::make_sent;
+use planning::silence::heard_as;
+use planning::silence::is_silent;
+use planning::silence::is_told;
+use state::session::Session;
+ghost use mathlib.Core.Bool.{cond};
+ghost use mathlib.Core.List.{[]};
+ghost use mathlib.Core.Path.{_≡_};
+ghost use Prim.Native.Nat.{_*_, _≤_};
+ghost use lib.ListN.{length};
+ghost use Rattle.decide.specs.Draft.{GivenMade, DraftMade};
+ghost use Rattle.graph.specs.Graph.{beyond};
+ghost use Rattle.planning.specs.Made.{Setting};
+ghost use Rattle.rules.specs.Hash.{hashesAt};
+ghost use Rattle.rules.specs.Sizes.{sizes};
+ghost use Rattle.session.specs.Plan.{heardAs, listOf, bodyHeard};
+ghost use Rattle.state.specs.Value.{heardHashes, heardHaves, valueOf};
+ghost use Rattle.tables.specs.Bytes.{rowsAt, waitingOf, GoodRows};
+ghost use Rattle.plan.specs.Checks.{Checked};
+ghost use Rattle.plan.specs.Make.{AskReady, AskedMade, CarryReady, CarriedMade, QuietReady, quiet, ReadyRooms};
+
+// How many hashes are asked for, whether a have is given, and the entries of its filter.
+pub struct Asked {
+    pub need: usize,
+    pub gives: bool,
+    pub entries: usize,
+}
+
+// What a message carries, and how many hashes are sent then.
+pub struct Carried {
+    pub body: Body,
+    pub sent: usize,
+}
+
+// The field of the have's filter, if one is given, and how many entries it has.
+fn make_have(
+    gives: bool,
+    bits: u64,
+    probes: u64,
+    table: &[u8],
+    n: usize,
+    shared: &[u8],
+    count: usize,
+    field: &mut [u8],
+) -> usize
+    requires { ⌜ GoodRows (now table) n × (sizes .hash * count ≤ length (now shared)) × Setting bits probes × (sizes .field ≤ length (now field)) ⌝ }
+    ensures { λ r. ⌜ GivenMade bits probes gives (beyond (rowsAt (now (table .entry)) 0 n) (hashesAt (now (shared .entry)) 0 count)) (now (field .exit)) r ⌝ }
+{
+    if !gives {
+        return 0;
+    }
+    make_field(bits, probes, table, n, shared, count, field)
+}
+
+// What is asked for, and the have that is given.
+fn make_asked(
+    bits: u64,
+    probes: u64,
+    session: Session,
+    table: &[u8],
+    n: usize,
+    waiting: &[u8],
+    m: usize,
+    shared: &[u8],
+    their_heads: &[u8],
+    ready_need: &mut [u8],
+    field: &mut [u8],
+) -> Asked
+    requires { ⌜ AskReady (now table) n (now waiting) m session (now shared) (now «their_heads») (length (now «ready_need»)) (length (now field))
+        × Setting bits probes ⌝ }
+    ensures { λ r. ⌜ AskedMade bits probes (rowsAt (now (table .entry)) 0 n) (waitingOf (now (waiting .entry))) (session .«read_only»)
+        (heardHashes (now («their_heads» .entry)) (session .«their_heads»)) (hashesAt (now (shared .entry)) 0 (session .«shared_heads»))
+        (now («ready_need» .exit)) (now (field .exit)) r ⌝ }
+{
+    let heard = session.their_heads;
+    let need = make_need(
+        table,
+        n,
+        waiting,
+        m,
+        session.read_only,
+        their_heads,
+        heard,
+        ready_need,
+    );
+    let gives = gives_have(ready_need, need, their_heads, heard);
+    let entries = make_have(
+        gives,
+        bits,
+        probes,
+        table,
+        n,
+        shared,
+        session.shared_heads,
+        field,
+    );
+    Asked {
+        need,
+        gives,
+        entries,
+    }
+}
+
+// What the message carries, and the hashes that are sent then.
+fn make_carried(
+    session: Session,
+    table: &[u8],
+    n: usize,
+    their_heads: &[u8],
+    their_need: &[u8],
+    haves: &[u64],
+    bytes: &[u8],
+    sent: &[u8],
+    ready_list: &mut [u8],
+    ready_sent: &mut [u8],
+) -> Carried
+    requires { ⌜ CarryReady (now table) n session (now «their_heads») (now «their_need») (now haves) (now bytes) (now sent)
+        (length (now «ready_list»)) (length (now «ready_sent»)) ⌝ }
+    ensures { λ r. ⌜ CarriedMade (cond (session .«peer_read_only») (listOf []) (bodyHeard (rowsAt (now (table .entry)) 0 n) (session .«supports_v2»)
+        (heardAs [] (heardHashes (now («their_heads» .entry)) (session .«their_heads»)))
+        (heardHaves (now (bytes .entry)) (now (haves .entry)) (session .«their_have»)) (heardHashes (now («their_need» .entry)) (session .«their_need»))
+        (hashesAt (now (sent .entry)) 0 (session .«sent_hashes»)))) (hashesAt (now (sent .entry)) 0 (session .«sent_hashes»))
+        (now («ready_list» .exit)) (now («ready_sent» .exit)) r ⌝ }
+{
+    let heard = session.their_heads;
+    let have = session.their_have;
+    let need = session.their_need;
+    let lost = heard_as(their_heads, 0, their_heads, heard);
+    let body = make_body(
+        table,
+        n,
+        session.peer_read_only,
+        session.supports_v2,
+        lost,
+        bytes,
+        haves,
+        have,
+        their_need,
+        need,
+        sent,
+        session.sent_hashes,
+        ready_list,
+    );
+    let count = make_sent(
+        sent,
+        session.sent_hashes,
+        ready_list,
+        body.hashes,
+        ready_sent,
+    );
+    Carried { body, sent: count }
+}
+
+// Whether there is nothing to say with these heads, and so many hashes to send.
+fn is_quiet(
+    session: Session,
+    last_sent: &[u8],
+    their_heads: &[u8],
+    ready_heads: &[u8],
+    heads: usize,
+    hashes: usize,
+) -> bool
+    requires { ⌜ QuietReady session (now «last_sent») (now «their_heads») (now «ready_heads») heads ⌝ }
+    ensures { λ r. ⌜ r ≡ quiet session (now («last_sent» .entry)) (now («their_heads» .entry)) (hashesAt (now («ready_heads» .entry)) 0 heads) hashes ⌝ }
+{
+    let heard = session.their_heads;
+    let told = is_told(
+        session.have_responded,
+        last_sent,
+        session.last_sent_heads,
+        ready_heads,
+        heads,
+    );
+    let equal = heard_as(ready_heads, heads, their_heads, heard);
+    is_silent(
+        told,
+        equal,
+        session.read_only,
+        hashes == 0,
+        session.in_flight,
+    )
+}
+
+// The whole plan, and what stands ready of it.
+pub fn make_plan(
+    bits: u64,
+    probes: u64,
+    session: Session,
+    table: &[u8],
+    n: usize,
+    waiting: &[u8],
+    m: usize,
+    shared: &[u8],
+    last_sent: &[u8],
+    their_heads: &[u8],
+    their_need: &[u8],
+    haves: &[u64],
+    bytes: &[u8],
+    sent: &[u8],
+    ready_heads: &mut [u8],
+    ready_need: &mut [u8],
+    field: &mut [u8],
+    ready_list: &mut [u8],
+    ready_sent: &mut [u8],
+) -> Draft
+    requires { ⌜ Checked (now table) n (now waiting) m session (record {
+      shared = now shared;
+      lastSent = now «last_sent»;
+      theirHeads = now «their_heads»;
+      theirNeed = now «their_need»;
+      haves = now haves;
+      bytes = now bytes;
+      sent = now sent;
+    }) × Setting bits probes
+        × ReadyRooms (length (now «ready_heads»)) (length (now «ready_need»)) (length (now field)) (length (now «ready_list»)) (length (now «ready_sent»)) ⌝ }
+    ensures { λ r. ⌜ DraftMade bits probes (rowsAt (now (table .entry)) 0 n) (waitingOf (now (waiting .entry)))
+        (valueOf session (record {
+          shared = now (shared .entry);
+          lastSent = now («last_sent» .entry);
+          theirHeads = now («their_heads» .entry);
+          theirNeed = now («their_need» .entry);
+          haves = now (haves .entry);
+          bytes = now (bytes .entry);
+          sent = now (sent .entry);
+        }))
+        (record {
+          heads = now («ready_heads» .exit);
+          need = now («ready_need» .exit);
+          shared = now (shared .entry);
+          field = now (field .exit);
+          list = now («ready_list» .exit);
+          sent = now («ready_sent» .exit);
+        }) r ⌝ }
+{
+    let have = session.their_have;
+    let heads = collect_heads(table, n, ready_heads);
+    let asked = make_asked(
+        bits,
+        probes,
+        session,
+        table,
+        n,
+        waiting,
+        m,
+        shared,
+        their_heads,
+        ready_need,
+        field,
+    );
+    let unknown = unknown_sync(table, n, bytes, haves, have);
+    let carried = make_carried(
+        session,
+        table,
+        n,
+        their_heads,
+        their_need,
+        haves,
+        bytes,
+        sent,
+        ready_list,
+        ready_sent,
+    );
+    let body = carried.body;
+    let silent = is_quiet(
+        session,
+        last_sent,
+        their_heads,
+        ready_heads,
+        heads,
+        body.hashes,
+    );
+    Draft {
+        heads,
+        need: asked.need,
+        unknown,
+        gives: asked.gives,
+        entries: asked.entries,
+        body,
+        silent,
+        sent: carried.sent,
+    }
+}

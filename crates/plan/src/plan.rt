@@ -1,0 +1,290 @@
+// The plan: checked, computed, decided, put.
+use crate::check::Checks;
+use crate::check::check_plan;
+use crate::make::make_plan;
+use bloom::parse::BITS_PER_ENTRY;
+use bloom::parse::NUM_PROBES;
+use decide::answer::Planned;
+use decide::answer::Rooms;
+use decide::decide::decide;
+use decide::put::put;
+use decide::put::puts_of;
+use graph::heads::LIST_SIZE;
+use rules::sizes::FIELD_SIZE;
+use rules::sizes::HASH_SIZE;
+use rules::sizes::HASHES;
+use rules::sizes::HASHES_TO_SEND;
+use rules::sizes::SENT_HASHES;
+use state::session::Session;
+ghost use Rattle.bloom.specs.Filter.{defaultBits, defaultProbes};
+ghost use Rattle.decide.specs.Call.{planWith, PlanCalled};
+ghost use Rattle.planning.specs.Made.{Setting};
+ghost use Rattle.session.specs.Plan.{plan as planFor};
+ghost use Rattle.state.specs.Value.{valueOf};
+ghost use Rattle.tables.specs.Bytes.{rowsAt, waitingOf};
+ghost use Rattle.plan.specs.Checks.{Checked};
+
+// Room for one hash more than a list may have, so that too many show.
+const NEED_SIZE: usize = HASH_SIZE * (HASHES + 1);
+
+const SENT_SIZE: usize = HASH_SIZE * (SENT_HASHES + 1);
+// Room for any hashes to send.
+const SEND_SIZE: usize = HASH_SIZE * HASHES_TO_SEND;
+
+// The plan for a session and tables that have been checked.
+fn plan_checked(
+    bits: u64,
+    probes: u64,
+    session: Session,
+    table: &[u8],
+    n: usize,
+    waiting: &[u8],
+    m: usize,
+    shared: &[u8],
+    last_sent: &mut [u8],
+    their_heads: &[u8],
+    their_need: &[u8],
+    haves: &[u64],
+    bytes: &[u8],
+    sent: &mut [u8],
+    heads: &mut [u8],
+    need: &mut [u8],
+    have: &mut [u8],
+    list: &mut [u8],
+) -> Planned
+    requires { ⌜ Checked (now table) n (now waiting) m session (record {
+      shared = now shared;
+      lastSent = now «last_sent»;
+      theirHeads = now «their_heads»;
+      theirNeed = now «their_need»;
+      haves = now haves;
+      bytes = now bytes;
+      sent = now sent;
+    }) × Setting bits probes ⌝ }
+    ensures { λ r. ⌜ PlanCalled session (planFor bits probes (rowsAt (now (table .entry)) 0 n) (waitingOf (now (waiting .entry)))
+        (valueOf session (record {
+          shared = now (shared .entry);
+          lastSent = now («last_sent» .entry);
+          theirHeads = now («their_heads» .entry);
+          theirNeed = now («their_need» .entry);
+          haves = now (haves .entry);
+          bytes = now (bytes .entry);
+          sent = now (sent .entry);
+        })))
+        (record {
+          heads = now (heads .entry);
+          need = now (need .entry);
+          have = now (have .entry);
+          list = now (list .entry);
+          lastSent = now («last_sent» .entry);
+          sent = now (sent .entry);
+        })
+        (record {
+          heads = now (heads .exit);
+          need = now (need .exit);
+          have = now (have .exit);
+          list = now (list .exit);
+          lastSent = now («last_sent» .exit);
+          sent = now (sent .exit);
+        }) r ⌝ }
+{
+    let mut ready_heads = [0u8; LIST_SIZE];
+    let mut ready_need = [0u8; NEED_SIZE];
+    let mut field = [0u8; FIELD_SIZE];
+    let mut ready_list = [0u8; SEND_SIZE];
+    let mut ready_sent = [0u8; SENT_SIZE];
+    let draft = make_plan(
+        bits,
+        probes,
+        session,
+        table,
+        n,
+        waiting,
+        m,
+        shared,
+        last_sent,
+        their_heads,
+        their_need,
+        haves,
+        bytes,
+        sent,
+        &mut ready_heads,
+        &mut ready_need,
+        &mut field,
+        &mut ready_list,
+        &mut ready_sent,
+    );
+    let rooms = Rooms {
+        heads: heads.len(),
+        need: need.len(),
+        have: have.len(),
+        list: list.len(),
+        last_sent: last_sent.len(),
+        sent: sent.len(),
+    };
+    let planned = decide(session, draft, bits, probes, rooms);
+    let puts = puts_of(planned);
+    put(
+        puts,
+        &ready_heads,
+        &ready_need,
+        shared,
+        &field,
+        &ready_list,
+        &ready_sent,
+        heads,
+        need,
+        have,
+        list,
+        last_sent,
+        sent,
+    );
+    planned
+}
+
+// The plan with a filter of these bits and probes.
+pub fn plan(
+    bits: u64,
+    probes: u64,
+    session: Session,
+    table: &[u8],
+    waiting: &[u8],
+    shared: &[u8],
+    last_sent: &mut [u8],
+    their_heads: &[u8],
+    their_need: &[u8],
+    haves: &[u64],
+    bytes: &[u8],
+    sent: &mut [u8],
+    heads: &mut [u8],
+    need: &mut [u8],
+    have: &mut [u8],
+    list: &mut [u8],
+) -> Planned
+    requires { ⌜ Setting bits probes ⌝ }
+    ensures { λ r. ⌜ PlanCalled session (planWith bits probes session (record {
+      shared = now (shared .entry);
+      lastSent = now («last_sent» .entry);
+      theirHeads = now («their_heads» .entry);
+      theirNeed = now («their_need» .entry);
+      haves = now (haves .entry);
+      bytes = now (bytes .entry);
+      sent = now (sent .entry);
+    })
+        (now (table .entry)) (now (waiting .entry)))
+        (record {
+          heads = now (heads .entry);
+          need = now (need .entry);
+          have = now (have .entry);
+          list = now (list .entry);
+          lastSent = now («last_sent» .entry);
+          sent = now (sent .entry);
+        })
+        (record {
+          heads = now (heads .exit);
+          need = now (need .exit);
+          have = now (have .exit);
+          list = now (list .exit);
+          lastSent = now («last_sent» .exit);
+          sent = now (sent .exit);
+        }) r ⌝ }
+{
+    match check_plan(
+        session,
+        shared,
+        last_sent,
+        their_heads,
+        their_need,
+        haves,
+        bytes,
+        sent,
+        table,
+        waiting,
+    ) {
+        Checks::Refused(r) => Planned::Refused(r),
+        Checks::Good { rows, waiting_rows } => plan_checked(
+            bits,
+            probes,
+            session,
+            table,
+            rows,
+            waiting,
+            waiting_rows,
+            shared,
+            last_sent,
+            their_heads,
+            their_need,
+            haves,
+            bytes,
+            sent,
+            heads,
+            need,
+            have,
+            list,
+        ),
+    }
+}
+
+// What a unit says next, its filter as 01 has it.
+pub fn generate_sync_message(
+    session: Session,
+    table: &[u8],
+    waiting: &[u8],
+    shared: &[u8],
+    last_sent: &mut [u8],
+    their_heads: &[u8],
+    their_need: &[u8],
+    haves: &[u64],
+    bytes: &[u8],
+    sent: &mut [u8],
+    heads: &mut [u8],
+    need: &mut [u8],
+    have: &mut [u8],
+    list: &mut [u8],
+) -> Planned
+    ensures { λ r. ⌜ PlanCalled session (planWith defaultBits defaultProbes session (record {
+      shared = now (shared .entry);
+      lastSent = now («last_sent» .entry);
+      theirHeads = now («their_heads» .entry);
+      theirNeed = now («their_need» .entry);
+      haves = now (haves .entry);
+      bytes = now (bytes .entry);
+      sent = now (sent .entry);
+    })
+        (now (table .entry)) (now (waiting .entry)))
+        (record {
+          heads = now (heads .entry);
+          need = now (need .entry);
+          have = now (have .entry);
+          list = now (list .entry);
+          lastSent = now («last_sent» .entry);
+          sent = now (sent .entry);
+        })
+        (record {
+          heads = now (heads .exit);
+          need = now (need .exit);
+          have = now (have .exit);
+          list = now (list .exit);
+          lastSent = now («last_sent» .exit);
+          sent = now (sent .exit);
+        }) r ⌝ }
+{
+    plan(
+        BITS_PER_ENTRY,
+        NUM_PROBES,
+        session,
+        table,
+        waiting,
+        shared,
+        last_sent,
+        their_heads,
+        their_need,
+        haves,
+        bytes,
+        sent,
+        heads,
+        need,
+        have,
+        list,
+    )
+}
