@@ -31,14 +31,14 @@ use Rattle.tables.proofs.ExtendLaws.{good-append}
 use Rattle.walk.specs.Round.{Part, trim, Moves, done, step, Loads}
 use Rattle.walk.specs.Walk.{At, starting, Walk01, heardIn, needAt, offerTo, holdsAll, lacking}
 
-abbrev a : ℕ
+abbrev pub a : ℕ
 a = wordsHash 1 2 3
 
 -- Two hashes with the same first words.
-abbrev b : ℕ
+abbrev pub b : ℕ
 b = wordsHash 1 0 0
 
-abbrev c : ℕ
+abbrev pub c : ℕ
 c = wordsHash 1 0 0 + 1
 
 abbrev rowA : Row
@@ -50,16 +50,16 @@ rowB = record { hash = b; deps = 0 ∷ [] }
 abbrev rowC : Row
 rowC = record { hash = c; deps = 1 ∷ [] }
 
-abbrev one : List Row
+abbrev pub one : List Row
 one = rowA ∷ []
 
 abbrev two : List Row
 two = rowA ∷ rowB ∷ []
 
-abbrev three : List Row
+abbrev pub three : List Row
 three = rowA ∷ rowB ∷ rowC ∷ []
 
-abbrev cWaits : List Waiting
+abbrev pub cWaits : List Waiting
 cWaits = record { hash = c; asks = b ∷ [] } ∷ []
 
 abbrev bothWait : List Waiting
@@ -67,7 +67,7 @@ bothWait = record { hash = c; asks = b ∷ [] } ∷ record { hash = b; asks = a 
 
 -- ---- the tables are good
 
-only : (x i : ℕ) → member i (x ∷ []) ≡ true → i ≡ x
+pub only : (x i : ℕ) → member i (x ∷ []) ≡ true → i ≡ x
 unfolding member
 only x i m = either (eqb i x) false m (λ e. eqb-true i x e) (λ e. absurd (true-false false e refl))
 
@@ -99,7 +99,7 @@ part-one =
 -- ---- what is loaded
 
 -- nothing comes
-load-none : Loads three one [] [] one []
+pub load-none : Loads three one [] [] one []
 unfolding waiting member
 load-none =
     record {
@@ -117,7 +117,7 @@ c-stuck : (h : ℕ) → member h (waiting cWaits) ≡ true → every (held one) 
 unfolding waiting member asks asksOf indexIn every held rows bigEndian
 c-stuck h m = rw (only c h m)
 
-load-c : Loads three one [] (c ∷ []) one cWaits
+pub load-c : Loads three one [] (c ∷ []) one cWaits
 unfolding waiting member
 load-c =
     record {
@@ -180,7 +180,7 @@ c-moves =
       ask = λ h m. absurd (member-none h m);
     }
 
-load-both : Loads three one cWaits (b ∷ []) three []
+pub load-both : Loads three one cWaits (b ∷ []) three []
 unfolding waiting member bigEndian
 load-both =
     record {

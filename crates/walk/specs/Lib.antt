@@ -1,2 +1,3 @@
 pub mod Round
+pub mod Talk
 pub mod Walk
