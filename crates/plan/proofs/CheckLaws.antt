@@ -1,11 +1,13 @@
 -- The tests before planning: what the code finds is what they say, and what they say is what is planned. Assumes nothing.
-use Prim.Native.Nat.{ℕ}
+use Prim.Native.Nat.{ℕ, _*_, _≤_}
 use mathlib.Core.Bool.{Bool, true, false, cond, not}
 use mathlib.Core.List.{List}
-use mathlib.Core.Path.{_≡_, refl}
+use mathlib.Core.Path.{_≡_, refl, sym, _∙_}
 use native.Mathlib.Omega.{arith}
+use lib.ListN.{length}
 use Rattle.decide.specs.Call.{Buffers, afterTables, planWith, answerOf, roomed, putInto, PlanCalled}
 use Rattle.decide.specs.declared.answer.Planned.the-variants as answer
+use Rattle.draft.specs.Make.{Checked}
 use Rattle.lent.specs.Good.{sessionGood}
 use Rattle.rules.specs.Hash.{hashesBytes}
 use Rattle.rules.specs.declared.refusal.Refusal.{Refusal}
@@ -14,37 +16,44 @@ use Rattle.session.specs.Laid.{laidBytes}
 use Rattle.session.specs.Plan.{Planned, plan}
 use Rattle.state.specs.Value.{Lent, valueOf}
 use Rattle.state.specs.declared.session.Session.{Session}
-use Rattle.tables.specs.Bytes.{rowsAt, tableOf, waitingOf, tableChecked, waitingChecked}
+use Rattle.tables.specs.Bytes.{rowSize, rowsAt, tableOf, waitingOf, tableChecked, waitingChecked}
 use Rattle.tables.specs.Calls.{passedOn, tablesChecked}
 use Rattle.tables.specs.Table.{Row}
 use Rattle.tables.specs.declared.check.Checked.{Checked as TableChecked}
 use Rattle.tables.specs.declared.check.Checked.the-variants as tables
 use Rattle.tables.proofs.GoodLaws.{accepted-rows}
 use Rattle.tables.proofs.TableLaws.{table-good}
-use Rattle.plan.specs.Checks.{besideChecked, afterTable, checkedPlan, Checked}
+use Rattle.plan.specs.Checks.{besideChecked, afterTable, checkedPlan}
 use Rattle.plan.specs.declared.check.Checks.{Checks}
 use Rattle.plan.specs.declared.check.Checks.the-variants.{Good, Refused}
 
 -- ---- what the code finds
 
-module _ (s : Session) (l : Lent) (table waiting : List ℕ) where
-  pub bad-session : sessionGood s l ≡ false → Refused BadNumbers ≡ checkedPlan s l table waiting
+module _ (s : Session) (l : Lent) (table waiting : List ℕ) {found : Bool} (is : found ≡ sessionGood s l) where
+  pub bad-session : found ≡ false → Refused BadNumbers ≡ checkedPlan s l table waiting
   unfolding checkedPlan
-  bad-session e = rw e
+  bad-session e = rw (sym is ∙ e)
 
-  module _ (good : sessionGood s l ≡ true) where
-    pub bad-table : (r : Refusal) → tableChecked table ≡ tables.Refused r → Refused r ≡ checkedPlan s l table waiting
+  module _ (good : found ≡ true) {rows : TableChecked} (those : rows ≡ tableChecked table) where
+    pub bad-table : (r : Refusal) → rows ≡ tables.Refused r → Refused r ≡ checkedPlan s l table waiting
     unfolding checkedPlan afterTable
-    bad-table r e = rw (good, e)
+    bad-table r e = rw (sym is ∙ good, sym those ∙ e)
 
-    module _ (n : ℕ) (there : tableChecked table ≡ tables.Good n) where
-      pub bad-waiting : (r : Refusal) → waitingChecked (rowsAt table 0 n) waiting ≡ tables.Refused r → Refused r ≡ checkedPlan s l table waiting
-      unfolding checkedPlan afterTable besideChecked
-      bad-waiting r e = rw (good, there, table-good table n there .is, e)
+    module _ (n : ℕ) (there : rows ≡ tables.Good n) {beside : TableChecked} (others : beside ≡ waitingChecked (rowsAt table 0 n) waiting) where
+      same : tableOf table ≡ rowsAt table 0 n
+      same = table-good table n (sym those ∙ there) .is
 
-      pub both-good : (m : ℕ) → waitingChecked (rowsAt table 0 n) waiting ≡ tables.Good m → Good n m ≡ checkedPlan s l table waiting
+      pub bad-waiting : (r : Refusal) → beside ≡ tables.Refused r → Refused r ≡ checkedPlan s l table waiting
       unfolding checkedPlan afterTable besideChecked
-      both-good m e = rw (good, there, table-good table n there .is, e)
+      bad-waiting r e = rw (sym is ∙ good, sym those ∙ there, same, sym others ∙ e)
+
+      pub both-good : (m : ℕ) → beside ≡ tables.Good m → Good n m ≡ checkedPlan s l table waiting
+      unfolding checkedPlan afterTable besideChecked
+      both-good m e = rw (sym is ∙ good, sym those ∙ there, same, sym others ∙ e)
+
+-- the first rows stand there
+pub rows-there : (table : List ℕ) (n : ℕ) {rows : TableChecked} → rows ≡ tableChecked table → rows ≡ tables.Good n → n * rowSize ≤ length table
+rows-there table n those there = omega (arith, table-good table n (sym those ∙ there) .whole)
 
 -- ---- what is planned then
 
@@ -90,10 +99,10 @@ good-checks : (good : Bool) (table waiting : List ℕ) (n m : ℕ) → checks go
 good-checks true table waiting n m e = (refl, after-good (tableChecked table) (tableOf table) waiting n m e)
 good-checks false table waiting n m e = absurd (no-good BadNumbers n m e)
 
-module _ (s : Session) (l : Lent) (table waiting : List ℕ) (n m : ℕ) (e : checkedPlan s l table waiting ≡ Good n m) where
+module _ (s : Session) (l : Lent) (table waiting : List ℕ) (n m : ℕ) {found : Checks} (is : found ≡ checkedPlan s l table waiting) (good : found ≡ Good n m) where
   parts : (sessionGood s l ≡ true) × ((tableChecked table ≡ tables.Good n) × (waitingChecked (tableOf table) waiting ≡ tables.Good m))
   unfolding checkedPlan
-  parts = good-checks (sessionGood s l) table waiting n m e
+  parts = good-checks (sessionGood s l) table waiting n m (sym is ∙ good)
 
   same-rows : tableOf table ≡ rowsAt table 0 n
   same-rows = table-good table n (parts .1 .0) .is
@@ -125,7 +134,7 @@ module _ (bits probes : ℕ) (s : Session) (l : Lent) (table waiting : List ℕ)
   refused-plans false r e = let same : BadNumbers ≡ r = cc in rw same
 
   -- A refusal passes on, and leaves the buffers.
-  pub refused-called : (b : Buffers) (r : Refusal) → checkedPlan s l table waiting ≡ Refused r
+  pub refused-called : (b : Buffers) (r : Refusal) {found : Checks} → found ≡ checkedPlan s l table waiting → found ≡ Refused r
       → PlanCalled s (planWith bits probes s l table waiting) b b (answer.Refused r)
   unfolding checkedPlan planWith answerOf roomed putInto hashesBytes laidBytes
-  refused-called b r e = rw (refused-plans (sessionGood s l) r e) (record { answer = refl; buffers = refl })
+  refused-called b r is e = rw (refused-plans (sessionGood s l) r (sym is ∙ e)) (record { answer = refl; buffers = refl })

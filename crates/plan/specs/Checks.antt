@@ -1,13 +1,12 @@
 -- What internal contracts speak of: the tests before planning. No rule of 01 stands here.
 use Prim.Native.Nat.{ℕ}
-use mathlib.Core.Bool.{true, cond, not}
+use mathlib.Core.Bool.{cond, not}
 use mathlib.Core.List.{List}
-use mathlib.Core.Path.{_≡_}
 use Rattle.lent.specs.Good.{sessionGood}
 use Rattle.rules.specs.declared.refusal.Refusal.the-variants.{BadNumbers}
 use Rattle.state.specs.Value.{Lent}
 use Rattle.state.specs.declared.session.Session.{Session}
-use Rattle.tables.specs.Bytes.{GoodRows, rowsAt, tableOf, tableChecked, waitingChecked}
+use Rattle.tables.specs.Bytes.{tableOf, tableChecked, waitingChecked}
 use Rattle.tables.specs.Table.{Row}
 use Rattle.tables.specs.declared.check.Checked.{Checked as TableChecked}
 use Rattle.tables.specs.declared.check.Checked.the-variants as tables
@@ -26,9 +25,3 @@ afterTable (tables.Refused r) t waiting = Refused r
 unfoldable pub checkedPlan : Session → Lent → List ℕ → List ℕ → Checks
 checkedPlan s l table waiting =
     cond (not (sessionGood s l)) (Refused BadNumbers) (afterTable (tableChecked table) (tableOf table) waiting)
-
--- What follows from them: tables of so many rows and waiting rows beside a session that is good.
-pub record Checked (table : List ℕ) (n : ℕ) (waiting : List ℕ) (m : ℕ) (s : Session) (l : Lent) : Type 0 where
-  pub rows : GoodRows table n
-  pub waitingRows : waitingChecked (rowsAt table 0 n) waiting ≡ tables.Good m
-  pub session : sessionGood s l ≡ true

@@ -4,5 +4,4 @@
 //
 // Everything is computed into memory of its own and tested there, the room too; what is lent is written last, all of it or nothing.
 pub mod check;
-pub mod make;
 pub mod plan;

@@ -1,7 +1,6 @@
 // The plan: checked, computed, decided, put.
 use crate::check::Checks;
 use crate::check::check_plan;
-use crate::make::make_plan;
 use bloom::parse::BITS_PER_ENTRY;
 use bloom::parse::NUM_PROBES;
 use decide::answer::Planned;
@@ -9,6 +8,7 @@ use decide::answer::Rooms;
 use decide::decide::decide;
 use decide::put::put;
 use decide::put::puts_of;
+use draft::make::make_plan;
 use graph::heads::LIST_SIZE;
 use rules::sizes::FIELD_SIZE;
 use rules::sizes::HASH_SIZE;
@@ -22,7 +22,7 @@ ghost use Rattle.planning.specs.Made.{Setting};
 ghost use Rattle.session.specs.Plan.{plan as planFor};
 ghost use Rattle.state.specs.Value.{valueOf};
 ghost use Rattle.tables.specs.Bytes.{rowsAt, waitingOf};
-ghost use Rattle.plan.specs.Checks.{Checked};
+ghost use Rattle.draft.specs.Make.{Checked};
 
 // Room for one hash more than a list may have, so that too many show.
 const NEED_SIZE: usize = HASH_SIZE * (HASHES + 1);

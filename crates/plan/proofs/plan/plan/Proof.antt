@@ -1,5 +1,4 @@
 -- `plan::plan::plan` meets its contract: a refusal passes on and leaves the buffers, else the plan is that of what was checked. Assumes nothing.
-use mathlib.Core.Path.{sym, _∙_}
 use Rattle.plan.proofs.CheckLaws.{refused-called, checked, good-plans}
 use borrow.Author.Needs.{needs}
 use Rattle.plan.proofs.plan.plan.Statement.{statement}
@@ -18,7 +17,7 @@ plan-checked-requires : tie.Need-plan-checked-requires
 plan-checked-requires c κs =
     let n = c .before .before .before .before .before .before .before in
     let check = n .before .before in
-    (checked _ _ _ _ _ _ (sym (check .check-plan .ensures) ∙ n .rows .given .1), check .before .before .before .before .before .before .before .before .before .before .before .before .before .before .before .before .pre)
+    (checked _ _ _ _ _ _ (check .check-plan .ensures) (n .rows .given .1), check .before .before .before .before .before .before .before .before .before .before .before .before .before .before .before .before .pre)
 
 same-length : tie.Need-same-length
 same-length c = search needs
@@ -29,7 +28,7 @@ same-length-2 c = search needs
 returns : tie.Need-returns
 returns c =
     let check = c .before .before .before in
-    refused-called _ _ _ _ _ _ _ _ (sym (check .check-plan .ensures) ∙ c .before .r .given .1)
+    refused-called _ _ _ _ _ _ _ _ (check .check-plan .ensures) (c .before .r .given .1)
 
 same-length-3 : tie.Need-same-length-3
 same-length-3 c = search needs
@@ -54,7 +53,7 @@ returns-2 c =
     let p = c .before .before .before .before .before .before .before .before .before .before .before .before in
     let n = p .before .before .before .before .before .before .before .before in
     let check = n .before .before in
-    rw (good-plans _ _ _ _ _ _ (sym (check .check-plan .ensures) ∙ n .rows .given .1) _ _) (p .plan-checked .ensures)
+    rw (good-plans _ _ _ _ _ _ (check .check-plan .ensures) (n .rows .given .1) _ _) (p .plan-checked .ensures)
 
 pub plan-spec : {M : Type 1} → statement M
 plan-spec =

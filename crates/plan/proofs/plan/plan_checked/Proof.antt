@@ -1,7 +1,7 @@
 -- `plan::plan::plan_checked` meets its contract: what was made is small and stands ready, so what is decided fits, and what is put is what is
 -- said. Assumes nothing.
 use mathlib.Core.Path.{refl}
-use Rattle.plan.proofs.MakeLaws.{small-checked, long-ready, checked-called}
+use Rattle.plan.proofs.CallLaws.{small-checked, long-ready, checked-called}
 use Rattle.decide.proofs.PutLaws.{puts-fit}
 use borrow.Author.Needs.{needs}
 use Rattle.plan.proofs.plan.plan_checked.Statement.{statement}

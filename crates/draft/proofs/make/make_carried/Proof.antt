@@ -1,9 +1,9 @@
--- `plan::make::make_carried` meets its contract: the hashes of any body fit, and they join those that were sent. Assumes nothing.
+-- `draft::make::make_carried` meets its contract: the hashes of any body fit, and they join those that were sent. Assumes nothing.
 use native.Mathlib.Omega.{arith}
-use Rattle.plan.proofs.MakeLaws.{body-there, carried-made}
+use Rattle.draft.proofs.MakeLaws.{body-there, carried-made}
 use borrow.Author.Needs.{needs}
-use Rattle.plan.proofs.make.make_carried.Statement.{statement}
-use Rattle.plan.proofs.make.make_carried.Tie as tie
+use Rattle.draft.proofs.make.make_carried.Statement.{statement}
+use Rattle.draft.proofs.make.make_carried.Tie as tie
 
 heard-as-requires : tie.Need-heard-as-requires
 heard-as-requires c κs = search needs

@@ -8,7 +8,7 @@ use lib.Dec.{eqb}
 use lib.ListN.{length}
 use Rattle.decide.specs.Draft.{GivenMade}
 use Rattle.graph.specs.Graph.{beyond}
-use Rattle.lent.specs.Good.{heardGood, havesGood}
+use Rattle.lent.specs.Good.{heardGood, havesGood, sessionGood}
 use Rattle.lists.specs.Lists.{same}
 use Rattle.missing.specs.Ask.{Found}
 use Rattle.planning.specs.Made.{BodyMade, SentMade}
@@ -16,14 +16,20 @@ use Rattle.rules.specs.Hash.{hashesAt}
 use Rattle.rules.specs.Order.{member, every, ascends}
 use Rattle.rules.specs.Sizes.{sizes}
 use Rattle.session.specs.Plan.{Body, heard, heardAs, needOf}
-use Rattle.state.specs.Value.{heardHashes}
+use Rattle.state.specs.Value.{Lent, heardHashes}
 use Rattle.state.specs.declared.session.Session.{Session}
 use Rattle.tables.specs.Bytes.{GoodRows, rowsAt, waitingChecked}
 use Rattle.tables.specs.Table.{Row}
 use Rattle.tables.specs.Waiting.{Waiting}
 use Rattle.tables.specs.declared.check.Checked.the-variants.{Good}
-use Rattle.plan.specs.declared.make.Asked.{Asked}
-use Rattle.plan.specs.declared.make.Carried.{Carried}
+use Rattle.draft.specs.declared.make.Asked.{Asked}
+use Rattle.draft.specs.declared.make.Carried.{Carried}
+
+-- What was checked: tables of so many rows and waiting rows, beside a session that is good.
+pub record Checked (table : List ℕ) (n : ℕ) (waiting : List ℕ) (m : ℕ) (s : Session) (l : Lent) : Type 0 where
+  pub rows : GoodRows table n
+  pub waitingRows : waitingChecked (rowsAt table 0 n) waiting ≡ Good m
+  pub session : sessionGood s l ≡ true
 
 -- The lengths of the buffers: room for any plan, with one hash more than there may be where too many are to show.
 pub record ReadyRooms (heads need field list sent : ℕ) : Type 0 where

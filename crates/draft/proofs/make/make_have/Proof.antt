@@ -1,9 +1,9 @@
--- `plan::make::make_have` meets its contract: no entries where no have is given, else the field that is made. Assumes nothing.
+-- `draft::make::make_have` meets its contract: no entries where no have is given, else the field that is made. Assumes nothing.
 use borrow.Author.Tests.{not-true, not-false}
-use Rattle.plan.proofs.MakeLaws.{nothing-given, field-given}
+use Rattle.draft.proofs.MakeLaws.{nothing-given, field-given}
 use borrow.Author.Needs.{needs}
-use Rattle.plan.proofs.make.make_have.Statement.{statement}
-use Rattle.plan.proofs.make.make_have.Tie as tie
+use Rattle.draft.proofs.make.make_have.Statement.{statement}
+use Rattle.draft.proofs.make.make_have.Tie as tie
 
 returns : tie.Need-returns
 returns c = nothing-given (not-true _ (c .if1 .taken))

@@ -8,39 +8,31 @@ use native.Mathlib.Omega.{arith}
 use borrow.Author.Tests.{ne-eqb}
 use lib.Dec.{eqb}
 use lib.ListN.{length}
-use Rattle.bloom.specs.Filter.{defaultBits, defaultProbes}
-use Rattle.bloom.proofs.Rules.{rules-default}
-use Rattle.decide.specs.Call.{Buffers, roomsIn, PlanCalled}
-use Rattle.decide.specs.Draft.{Parts, GivenMade, DraftMade, SmallDraft, decided, putsOf, allPut}
-use Rattle.decide.specs.declared.answer.Planned.{Planned as Answer}
-use Rattle.decide.specs.declared.decide.Draft.{Draft}
-use Rattle.decide.specs.declared.put.Puts.{Puts}
-use Rattle.decide.proofs.MadeLaws.{small-made, carried-few, plan-called}
-use Rattle.decide.proofs.PutLaws.{Long}
+use Rattle.decide.specs.Draft.{Parts, GivenMade, DraftMade}
+use Rattle.decide.proofs.MadeLaws.{carried-few}
 use Rattle.graph.specs.Graph.{heads, beyond}
 use Rattle.graph.proofs.HeadLaws.{heads-few}
 use Rattle.lent.specs.Good.{havesGood}
 use Rattle.lent.proofs.GoodSessions.{session-tests, session-parts, heard-within}
 use Rattle.lists.specs.Lists.{same}
 use Rattle.missing.specs.Ask.{Found}
-use Rattle.planning.specs.Made.{Setting, FieldMade, BodyMade, SentMade}
+use Rattle.planning.specs.Made.{FieldMade, BodyMade, SentMade}
 use Rattle.planning.specs.declared.body.Body.{Body as Counted}
 use Rattle.rules.specs.Hash.{hashesAt}
 use Rattle.rules.specs.Order.{member, every}
 use Rattle.rules.specs.Output.{Gathered}
 use Rattle.rules.specs.Sizes.{sizes}
 use Rattle.rules.proofs.Cases.{true-false}
-use Rattle.session.specs.Plan.{heard, heardAs, listOf, needOf, unknownSync, bodyHeard, bodyOf, empty, silence, plan}
+use Rattle.session.specs.Plan.{heard, heardAs, listOf, needOf, unknownSync, bodyHeard, bodyOf, empty, silence}
 use Rattle.state.specs.Value.{Lent, heardHashes, heardHaves, valueOf}
 use Rattle.state.specs.declared.session.Session.{Session}
 use Rattle.tables.specs.Bytes.{rowsAt}
 use Rattle.tables.specs.Table.{Row}
 use Rattle.tables.specs.Waiting.{Waiting}
 use Rattle.tables.proofs.TableLaws.{length-rows-at}
-use Rattle.plan.specs.Checks.{Checked}
-use Rattle.plan.specs.Make.{ReadyRooms, AskReady, AskedMade, CarryReady, CarriedMade, QuietReady, quiet}
-use Rattle.plan.specs.declared.make.Asked.{Asked}
-use Rattle.plan.specs.declared.make.Carried.{Carried}
+use Rattle.draft.specs.Make.{Checked, AskReady, AskedMade, CarryReady, CarriedMade, QuietReady, quiet}
+use Rattle.draft.specs.declared.make.Asked.{Asked}
+use Rattle.draft.specs.declared.make.Carried.{Carried}
 
 -- ---- what is asked for
 
@@ -159,36 +151,6 @@ module _ {table : List ℕ} {n : ℕ} {waiting : List ℕ} {m : ℕ} {s : Sessio
         ours = omega (arith, heads-there list count g);
       }
 
-  pub small-checked : {bits probes : ℕ} {w : List Waiting} {ready : Parts} {d : Draft} → Setting bits probes
-      → DraftMade bits probes (rowsAt table 0 n) w (valueOf s l) ready d
-      → SmallDraft s d bits
-  small-checked setting made =
-      let rows : length (rowsAt table 0 n) ≤ sizes .rows = rw (length-rows-at table 0 n) (k .rows .few) in
-      small-made _ _ _ _ s l _ _ made rows (k .session) setting
-
-  pub long-ready : (ready : Parts) → ready .shared ≡ l .shared
-      → ReadyRooms (length (ready .heads)) (length (ready .need)) (length (ready .field)) (length (ready .list)) (length (ready .sent))
-      → Long s ready
-  long-ready ready e r =
-      record {
-        heads = omega (arith, r .headsRoom);
-        need = omega (arith, r .needRoom);
-        shared = rw e (session-parts s l (k .session) .shared .there);
-        field = omega (arith, r .fieldRoom);
-        list = omega (arith, r .listRoom);
-        sent = omega (arith, r .sentRoom);
-      }
-
-  -- What was made, decided and put is what the call promises.
-  pub checked-called : {bits probes : ℕ} {w : List Waiting} {ready : Parts} {d : Draft} {before after : Buffers} {a : Answer} {p : Puts}
-      → DraftMade bits probes (rowsAt table 0 n) w (valueOf s l) ready d
-      → ready .shared ≡ l .shared
-      → a ≡ decided s d bits probes (roomsIn before)
-      → p ≡ putsOf a
-      → after ≡ allPut p ready before
-      → PlanCalled s (plan bits probes (rowsAt table 0 n) w (valueOf s l)) before after a
-  checked-called m e q c p = plan-called _ _ _ _ s l _ _ m e _ _ _ _ q c p
-
 module _ (bits probes : ℕ) (t : List Row) (w : List Waiting) (s : Session) (l : Lent) (ready : Parts) (count : ℕ) (a : Asked) (unknown : Bool) (k : Carried)
     (silent : Bool) where
   pub draft-made : Gathered (heads t) (ready .heads) count
@@ -215,7 +177,3 @@ module _ (bits probes : ℕ) (t : List Row) (w : List Waiting) (s : Session) (l 
         silent = rw (h .list, nothing) at e;
         sent = c .sent;
       }
-
--- The filter rules hold with the default's bits and probes over any rows.
-pub default-setting : Setting defaultBits defaultProbes
-default-setting = record { each = rules-default }

@@ -25,8 +25,7 @@ ghost use Rattle.rules.specs.Sizes.{sizes};
 ghost use Rattle.session.specs.Plan.{heardAs, listOf, bodyHeard};
 ghost use Rattle.state.specs.Value.{heardHashes, heardHaves, valueOf};
 ghost use Rattle.tables.specs.Bytes.{rowsAt, waitingOf, GoodRows};
-ghost use Rattle.plan.specs.Checks.{Checked};
-ghost use Rattle.plan.specs.Make.{AskReady, AskedMade, CarryReady, CarriedMade, QuietReady, quiet, ReadyRooms};
+ghost use Rattle.draft.specs.Make.{Checked, AskReady, AskedMade, CarryReady, CarriedMade, QuietReady, quiet, ReadyRooms};
 
 // How many hashes are asked for, whether a have is given, and the entries of its filter.
 pub struct Asked {

@@ -1,9 +1,9 @@
--- `plan::make::make_plan` meets its contract: what each part asks for was tested, and the parts together are the plan. Assumes nothing.
+-- `draft::make::make_plan` meets its contract: what each part asks for was tested, and the parts together are the plan. Assumes nothing.
 use mathlib.Core.Path.{_∙_}
-use Rattle.plan.proofs.MakeLaws.{ask-ready, have-good, carry-ready, quiet-ready, draft-made}
+use Rattle.draft.proofs.MakeLaws.{ask-ready, have-good, carry-ready, quiet-ready, draft-made}
 use borrow.Author.Needs.{needs}
-use Rattle.plan.proofs.make.make_plan.Statement.{statement}
-use Rattle.plan.proofs.make.make_plan.Tie as tie
+use Rattle.draft.proofs.make.make_plan.Statement.{statement}
+use Rattle.draft.proofs.make.make_plan.Tie as tie
 
 collect-heads-requires : tie.Need-collect-heads-requires
 collect-heads-requires c κs = search needs

@@ -1,8 +1,8 @@
--- `plan::make::make_asked` meets its contract: its buffer has room for one hash more than may be asked for. Assumes nothing.
-use Rattle.plan.proofs.MakeLaws.{asked-made}
+-- `draft::make::make_asked` meets its contract: its buffer has room for one hash more than may be asked for. Assumes nothing.
+use Rattle.draft.proofs.MakeLaws.{asked-made}
 use borrow.Author.Needs.{needs}
-use Rattle.plan.proofs.make.make_asked.Statement.{statement}
-use Rattle.plan.proofs.make.make_asked.Tie as tie
+use Rattle.draft.proofs.make.make_asked.Statement.{statement}
+use Rattle.draft.proofs.make.make_asked.Tie as tie
 
 make-need-requires : tie.Need-make-need-requires
 make-need-requires c κs = search needs

@@ -1,8 +1,8 @@
--- `plan::make::is_quiet` meets its contract, part by part. Assumes nothing.
-use Rattle.plan.proofs.MakeLaws.{quiet-is}
+-- `draft::make::is_quiet` meets its contract, part by part. Assumes nothing.
+use Rattle.draft.proofs.MakeLaws.{quiet-is}
 use borrow.Author.Needs.{needs}
-use Rattle.plan.proofs.make.is_quiet.Statement.{statement}
-use Rattle.plan.proofs.make.is_quiet.Tie as tie
+use Rattle.draft.proofs.make.is_quiet.Statement.{statement}
+use Rattle.draft.proofs.make.is_quiet.Tie as tie
 
 is-told-requires : tie.Need-is-told-requires
 is-told-requires c κs = search needs

@@ -1,0 +1,61 @@
+-- What was made for a session and tables that were checked is small and stands ready, and what is put of it is what the call promises. Assumes nothing.
+use Prim.Native.Nat.{ℕ, _≤_}
+use mathlib.Core.List.{List}
+use mathlib.Core.Path.{_≡_}
+use native.Mathlib.Omega.{arith}
+use lib.ListN.{length}
+use Rattle.bloom.specs.Filter.{defaultBits, defaultProbes}
+use Rattle.bloom.proofs.Rules.{rules-default}
+use Rattle.decide.specs.Call.{Buffers, roomsIn, PlanCalled}
+use Rattle.decide.specs.Draft.{Parts, DraftMade, SmallDraft, decided, putsOf, allPut}
+use Rattle.decide.specs.declared.answer.Planned.{Planned as Answer}
+use Rattle.decide.specs.declared.decide.Draft.{Draft}
+use Rattle.decide.specs.declared.put.Puts.{Puts}
+use Rattle.decide.proofs.MadeLaws.{small-made, plan-called}
+use Rattle.decide.proofs.PutLaws.{Long}
+use Rattle.graph.specs.Graph.{heads}
+use Rattle.lent.proofs.GoodSessions.{session-parts}
+use Rattle.planning.specs.Made.{Setting}
+use Rattle.rules.specs.Sizes.{sizes}
+use Rattle.session.specs.Plan.{plan}
+use Rattle.state.specs.Value.{Lent, valueOf}
+use Rattle.state.specs.declared.session.Session.{Session}
+use Rattle.tables.specs.Bytes.{rowsAt}
+use Rattle.tables.specs.Waiting.{Waiting}
+use Rattle.tables.proofs.TableLaws.{length-rows-at}
+use Rattle.draft.specs.Make.{Checked, ReadyRooms}
+
+module _ {table : List ℕ} {n : ℕ} {waiting : List ℕ} {m : ℕ} {s : Session} {l : Lent} (k : Checked table n waiting m s l) where
+  pub small-checked : {bits probes : ℕ} {w : List Waiting} {ready : Parts} {d : Draft} → Setting bits probes
+      → DraftMade bits probes (rowsAt table 0 n) w (valueOf s l) ready d
+      → SmallDraft s d bits
+  small-checked setting made =
+      let rows : length (rowsAt table 0 n) ≤ sizes .rows = rw (length-rows-at table 0 n) (k .rows .few) in
+      small-made _ _ _ _ s l _ _ made rows (k .session) setting
+
+  pub long-ready : (ready : Parts) → ready .shared ≡ l .shared
+      → ReadyRooms (length (ready .heads)) (length (ready .need)) (length (ready .field)) (length (ready .list)) (length (ready .sent))
+      → Long s ready
+  long-ready ready e r =
+      record {
+        heads = omega (arith, r .headsRoom);
+        need = omega (arith, r .needRoom);
+        shared = rw e (session-parts s l (k .session) .shared .there);
+        field = omega (arith, r .fieldRoom);
+        list = omega (arith, r .listRoom);
+        sent = omega (arith, r .sentRoom);
+      }
+
+  -- What was made, decided and put is what the call promises.
+  pub checked-called : {bits probes : ℕ} {w : List Waiting} {ready : Parts} {d : Draft} {before after : Buffers} {a : Answer} {p : Puts}
+      → DraftMade bits probes (rowsAt table 0 n) w (valueOf s l) ready d
+      → ready .shared ≡ l .shared
+      → a ≡ decided s d bits probes (roomsIn before)
+      → p ≡ putsOf a
+      → after ≡ allPut p ready before
+      → PlanCalled s (plan bits probes (rowsAt table 0 n) w (valueOf s l)) before after a
+  checked-called m e q c p = plan-called _ _ _ _ s l _ _ m e _ _ _ _ q c p
+
+-- The filter rules hold with the default's bits and probes over any rows.
+pub default-setting : Setting defaultBits defaultProbes
+default-setting = record { each = rules-default }
