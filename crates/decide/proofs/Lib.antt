@@ -2,4 +2,6 @@
 pub mod DecideLaws
 pub mod Decided
 pub mod MadeLaws
+pub mod Once
+pub mod Promises
 pub mod PutLaws
