@@ -4,9 +4,10 @@
 
 use crate::measure::{line, Line};
 use bisquetower::raw;
-use compare::inputs::selection::{lend, OwnHave};
+use compare::inputs::selection::lend;
 use compare::inputs::table::{table_bytes, Likeness, Shape};
 use compare::inputs::Random;
+use compare::model::have::OwnHave;
 use compare::model::table::{Hash, HASH};
 use compare::published;
 use compare::tables::document;

@@ -4,6 +4,7 @@
 pub mod filter;
 pub mod message;
 pub mod selection;
+pub mod session;
 pub mod table;
 
 use crate::model::{number_bytes, prefixed_bytes};

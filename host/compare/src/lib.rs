@@ -29,9 +29,13 @@ pub mod model;
 pub mod published;
 pub mod samples;
 pub mod selections;
+pub mod sessions;
 pub mod stack;
 pub mod states;
 pub mod tables;
+pub mod talks;
+pub mod tally;
+pub mod units;
 pub mod wire;
 pub mod writes;
 

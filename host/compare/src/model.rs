@@ -5,7 +5,10 @@
 pub mod filter;
 pub mod have;
 pub mod message;
+pub mod plan;
+pub mod receive;
 pub mod selection;
+pub mod session;
 pub mod state;
 pub mod table;
 

@@ -3,25 +3,16 @@
 //! over the stand-in document, whose graph rests on document 01.
 
 use crate::guarded::{Fill, Guarded, FILLS};
-use crate::inputs::selection::{lend, Case, OwnHave};
+use crate::inputs::selection::{lend, Case};
 use crate::inputs::Random;
 use crate::model::selection::hashes_to_send;
 use crate::model::table::{Hash, HASH};
 use crate::model::{self, Refused};
-use crate::published;
 use crate::same_answer;
+use crate::sessions::published::haves as published_haves;
 use crate::tables::{document, Rooms};
 use bisquetower::raw::{self, Batch};
-use crate_under_test::facade::{self, ChangeHash, Have};
-
-/// The crate's haves.
-fn published_haves(haves: &[OwnHave]) -> Vec<Have> {
-    let have = |one: &OwnHave| Have {
-        last_sync: one.last_sync.iter().copied().map(ChangeHash).collect(),
-        bloom: published::filter(&one.filter()).expect("the crate has every filter"),
-    };
-    haves.iter().map(have).collect()
-}
+use crate_under_test::facade::{self, ChangeHash};
 
 /// What the crate chooses.
 pub fn published(case: &Case) -> Vec<Hash> {

@@ -6,3 +6,7 @@
 mod messages;
 #[path = "model/selections.rs"]
 mod selections;
+#[path = "model/sessions.rs"]
+mod sessions;
+#[path = "model/talks.rs"]
+mod talks;

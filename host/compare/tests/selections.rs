@@ -15,9 +15,10 @@ mod random;
 mod refusals;
 
 use bisquetower::raw;
-use compare::inputs::selection::{lend, Case, OwnHave};
+use compare::inputs::selection::{lend, Case};
 use compare::inputs::table::{table_bytes, Row};
 use compare::inputs::Random;
+use compare::model::have::OwnHave;
 use compare::model::table::{Hash, HASH};
 use compare::selections::{compare, compare_cases, Selection, Tally};
 use compare::tables::Rooms;

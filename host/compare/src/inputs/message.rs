@@ -1,9 +1,10 @@
 //! Messages that are worth trying: drafts, good or bad, random ones, and a few
 //! good ones of telling shapes to be cut and damaged.
 
-use super::selection::{lend, OwnHave};
+use super::selection::lend;
 use super::{overlong, Random};
 use crate::model::filter::field_size;
+use crate::model::have::OwnHave;
 use crate::model::message::Parts;
 use crate::model::table::{Hash, HASH};
 use crate::model::{number_bytes, prefixed_bytes};

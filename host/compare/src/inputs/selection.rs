@@ -3,49 +3,11 @@
 
 use super::filter::hash_of;
 use super::Random;
-use crate::inputs::table::{table_bytes, waiting_bytes, LIKENESSES, SHAPES};
-use crate::model::filter::{built, field_size, Filter};
-use crate::model::have::HAVE_WORDS;
+use crate::inputs::table::{table_bytes, waiting_bytes, Row, LIKENESSES, SHAPES};
+use crate::model::filter::field_size;
+use crate::model::have::{OwnHave, HAVE_WORDS};
 use crate::model::table::{Hash, HASH};
 use std::ops::Range;
-
-/// A have with what it owns.
-#[derive(Clone, Debug)]
-pub struct OwnHave {
-    pub last_sync: Vec<Hash>,
-    /// Entries, bits, probes.
-    pub numbers: [u64; 3],
-    pub field: Vec<u8>,
-}
-
-impl OwnHave {
-    /// With the filter of these hashes.
-    pub fn over(last_sync: Vec<Hash>, bits: u64, probes: u64, hashes: &[Hash]) -> OwnHave {
-        let field = built(bits, probes, &hashes.concat()).expect("a good filter");
-        OwnHave {
-            last_sync,
-            numbers: [hashes.len() as u64, bits, probes],
-            field,
-        }
-    }
-
-    pub fn filter(&self) -> Filter<'_> {
-        let [entries, bits, probes] = self.numbers;
-        let field = &self.field;
-        Filter {
-            entries,
-            bits,
-            probes,
-            field,
-        }
-    }
-
-    /// The bytes of its filter's string, with 0 entries spelt as numbers too.
-    pub fn filter_string(&self) -> Vec<u8> {
-        let numbers = self.numbers.map(crate::model::number_bytes).concat();
-        [numbers, self.field.clone()].concat()
-    }
-}
 
 /// What hashes to send are chosen from, and waiting rows, whose hashes may be
 /// needed but aren't held.
@@ -56,6 +18,32 @@ pub struct Case {
     pub haves: Vec<OwnHave>,
     pub need: Vec<Hash>,
 }
+
+/// Rows, and strangers: changes that wait, and unknown ones.
+#[derive(Clone, Debug)]
+pub struct Graph {
+    pub rows: Vec<Row>,
+    /// Those of the rows first, then the strangers'.
+    pub hashes: Vec<Hash>,
+}
+
+impl Graph {
+    pub fn held(&self) -> &[Hash] {
+        &self.hashes[..self.rows.len()]
+    }
+
+    pub fn waits(&self) -> &[Hash] {
+        &self.hashes[self.rows.len()..][..WAITS]
+    }
+
+    pub fn unknown(&self) -> &[Hash] {
+        &self.hashes[self.rows.len() + WAITS..]
+    }
+}
+
+/// How many changes may wait, of the strangers.
+const WAITS: usize = 4;
+const STRANGERS: usize = 8;
 
 /// Haves over one buffer, in any order and with other bytes between them.
 pub fn lend(haves: &[OwnHave], random: &mut Random) -> (Vec<u8>, Vec<u64>) {
@@ -97,23 +85,29 @@ impl Random {
         (0..count).map(|_| one()).collect()
     }
 
-    /// A graph of so many rows with haves and a need.
-    pub fn case(&mut self, rows: Range<usize>, haves: Range<usize>) -> Case {
+    /// A graph of so many rows, and hashes of changes that aren't held.
+    pub fn graph(&mut self, rows: Range<usize>) -> Graph {
         let count = rows.start + self.below(rows.len());
-        let strangers = 8;
+        let all = count + STRANGERS;
         let hashes = match self.below(3) {
             0 => {
                 let likeness = self.of(&LIKENESSES);
-                self.hashes(count + strangers, likeness)
+                self.hashes(all, likeness)
             }
-            1 => self.crowded_hashes(count + strangers, 4),
-            _ => self.crowded_hashes(count + strangers, 64),
+            1 => self.crowded_hashes(all, 4),
+            _ => self.crowded_hashes(all, 64),
         };
-        let (held, strangers) = hashes.split_at(count);
-        let (waits, unknown) = strangers.split_at(4);
         let shape = self.of(&SHAPES);
-        let rows = self.rows_of(held, shape);
-        let waiting = self.waiting_rows(waits, &hashes);
+        let rows = self.rows_of(&hashes[..count], shape);
+        Graph { rows, hashes }
+    }
+
+    /// A graph of so many rows with haves and a need.
+    pub fn case(&mut self, rows: Range<usize>, haves: Range<usize>) -> Case {
+        let graph = self.graph(rows);
+        let Graph { rows, hashes } = &graph;
+        let (held, waits, unknown) = (graph.held(), graph.waits(), graph.unknown());
+        let waiting = self.waiting_rows(waits, hashes);
         let haves = (0..haves.start + self.below(haves.len()))
             .map(|_| self.have_of(held, unknown))
             .collect();
@@ -128,7 +122,7 @@ impl Random {
             })
             .collect();
         Case {
-            table: table_bytes(&rows),
+            table: table_bytes(rows),
             waiting: waiting_bytes(&waiting),
             haves,
             need,
@@ -136,7 +130,7 @@ impl Random {
     }
 
     /// A have of someone who holds some of these hashes and unknown ones.
-    fn have_of(&mut self, held: &[Hash], unknown: &[Hash]) -> OwnHave {
+    pub(super) fn have_of(&mut self, held: &[Hash], unknown: &[Hash]) -> OwnHave {
         let mut last_sync = Vec::new();
         for _ in 0..self.below(4) {
             let one = match self.one_in(4) || held.is_empty() {

@@ -1,8 +1,9 @@
 //! Haves that are passed as records over lent bytes, by document 01's refusals 10
 //! and 4: as every call tests them that takes a list of haves.
 
-use super::filter::{contains, keeps_rules, Filter};
-use super::{words, Refused, HASH, HASHES};
+use super::filter::{built, contains, keeps_rules, Filter};
+use super::table::{hashes_of, Hash};
+use super::{number_bytes, words, Refused, HASH, HASHES};
 
 /// "haves 16".
 pub const HAVES: usize = 16;
@@ -16,6 +17,61 @@ pub const HAVE_WORDS: usize = 7;
 pub struct Have<'a> {
     pub last_sync: &'a [u8],
     pub filter: Filter<'a>,
+}
+
+impl Have<'_> {
+    pub fn own(&self) -> OwnHave {
+        OwnHave {
+            last_sync: hashes_of(self.last_sync),
+            numbers: [self.filter.entries, self.filter.bits, self.filter.probes],
+            field: self.filter.field.to_vec(),
+        }
+    }
+}
+
+/// A have with what it owns.
+#[derive(Clone, Debug, PartialEq, Eq)]
+pub struct OwnHave {
+    pub last_sync: Vec<Hash>,
+    /// Entries, bits, probes.
+    pub numbers: [u64; 3],
+    pub field: Vec<u8>,
+}
+
+impl OwnHave {
+    /// With the filter of these hashes.
+    pub fn over(last_sync: Vec<Hash>, bits: u64, probes: u64, hashes: &[Hash]) -> OwnHave {
+        let field = built(bits, probes, &hashes.concat()).expect("a good filter");
+        OwnHave {
+            last_sync,
+            numbers: [hashes.len() as u64, bits, probes],
+            field,
+        }
+    }
+
+    pub fn have(&self) -> Have<'_> {
+        Have {
+            last_sync: self.last_sync.as_flattened(),
+            filter: self.filter(),
+        }
+    }
+
+    pub fn filter(&self) -> Filter<'_> {
+        let [entries, bits, probes] = self.numbers;
+        let field = &self.field;
+        Filter {
+            entries,
+            bits,
+            probes,
+            field,
+        }
+    }
+
+    /// The bytes of its filter's string, with 0 entries spelt as numbers too.
+    pub fn filter_string(&self) -> Vec<u8> {
+        let numbers = self.numbers.map(number_bytes).concat();
+        [numbers, self.field.clone()].concat()
+    }
 }
 
 /// The haves of a list of records; 10 if it isn't whole records, or if of the

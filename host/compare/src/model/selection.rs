@@ -4,7 +4,7 @@
 use super::filter::contains;
 use super::have::{haves, limited, Have};
 use super::Refused;
-use crate::model::table::{hash_list, reached, table, Hash, Table, HASH};
+use crate::model::table::{hash_list, table, Hash, Table, HASH};
 use std::collections::{BTreeSet, HashSet};
 
 /// The hashes to send: "held needs outside S, then S in table order", and with no
@@ -20,15 +20,20 @@ pub fn hashes_to_send(
     let table = table(lent)?;
     let need = hash_list(need)?;
     limited(&haves)?;
+    Ok(chosen(&table, &haves, &need))
+}
+
+/// What is chosen from a good table, for good haves and a need.
+pub(super) fn chosen(table: &Table, haves: &[Have], need: &[Hash]) -> Vec<Hash> {
     let sent = match haves.is_empty() {
         true => BTreeSet::new(),
-        false => missed(&table, &haves),
+        false => missed(table, haves),
     };
     // "Held needs in request order, repeats kept."
     let held = need.iter().filter_map(|hash| table.row_of.get(hash));
     let outside = held.filter(|row| !sent.contains(row));
     let rows = outside.chain(&sent);
-    Ok(rows.map(|&row| table.rows[row].hash).collect())
+    rows.map(|&row| table.rows[row].hash).collect()
 }
 
 /// S, "every candidate missed by all filters, plus its direct and indirect
@@ -40,7 +45,7 @@ fn missed(table: &Table, haves: &[Have]) -> BTreeSet<usize> {
         .flat_map(|have| have.last_sync.chunks(HASH))
         .map(|hash| hash.try_into().expect("a hash's bytes"))
         .collect();
-    let known: HashSet<usize> = reached(table, &last_sync);
+    let known: HashSet<usize> = table.reached(&last_sync);
     let candidates = (0..table.rows.len()).filter(|row| !known.contains(row));
     let candidates: Vec<usize> = candidates.collect();
     let missed = |&row: &usize| {

@@ -121,7 +121,12 @@ pub(crate) fn hash_list(lent: &[u8]) -> Result<Vec<Hash>, Refused> {
     if cut > 0 {
         return Err((1, (lent.len() - cut) as u64));
     }
-    Ok(lent.chunks(HASH).map(as_hash).collect())
+    Ok(hashes_of(lent))
+}
+
+/// The hashes that stand one after the other in these bytes.
+pub(crate) fn hashes_of(bytes: &[u8]) -> Vec<Hash> {
+    bytes.chunks(HASH).map(as_hash).collect()
 }
 
 fn as_hash(bytes: &[u8]) -> Hash {
@@ -138,66 +143,83 @@ pub fn check_tables(lent: &[u8], waiting_lent: &[u8]) -> Result<usize, Refused> 
     Ok(waiting(&table(lent)?, waiting_lent)?.len())
 }
 
-/// "Heads: rows that no row depends on, ascending bytes", of the first rows
-/// alone; 11 if there are fewer.
-pub fn heads(lent: &[u8], before: usize) -> Result<Vec<Hash>, Refused> {
-    let table = table(lent)?;
-    let first = table.rows.get(..before).ok_or((11, 0))?;
-    let depended_on: HashSet<usize> = first
-        .iter()
-        .flat_map(|row| row.dependencies.iter().copied())
-        .collect();
-    let heads = (0..before).filter(|row| !depended_on.contains(row));
-    let heads: BTreeSet<Hash> = heads.map(|row| first[row].hash).collect();
-    Ok(heads.into_iter().collect())
+impl Table {
+    pub(crate) fn holds(&self, hash: &Hash) -> bool {
+        self.row_of.contains_key(hash)
+    }
+
+    /// "Heads: rows that no row depends on, ascending bytes", of the first rows
+    /// alone; none if there are fewer.
+    pub(crate) fn heads(&self, before: usize) -> Option<Vec<Hash>> {
+        let first = self.rows.get(..before)?;
+        let depended_on: HashSet<usize> = first
+            .iter()
+            .flat_map(|row| row.dependencies.iter().copied())
+            .collect();
+        let heads = (0..before).filter(|row| !depended_on.contains(row));
+        let heads: BTreeSet<Hash> = heads.map(|row| first[row].hash).collect();
+        Some(heads.into_iter().collect())
+    }
+
+    /// "Rows beyond L: rows neither in L nor ancestors of it, in table order;
+    /// unknown hashes in L are ignored".
+    pub(crate) fn beyond(&self, list: &[Hash]) -> Vec<Hash> {
+        let reached = self.reached(list);
+        let beyond = (0..self.rows.len()).filter(|row| !reached.contains(row));
+        beyond.map(|row| self.rows[row].hash).collect()
+    }
+
+    /// The rows of a list and their ancestors.
+    pub(crate) fn reached(&self, list: &[Hash]) -> HashSet<usize> {
+        let held = list.iter().filter_map(|hash| self.row_of.get(hash));
+        let mut open: Vec<usize> = held.copied().collect();
+        let mut reached = HashSet::new();
+        while let Some(row) = open.pop() {
+            if reached.insert(row) {
+                open.extend(&self.rows[row].dependencies);
+            }
+        }
+        reached
+    }
+
+    /// "Missing from H: a held hash gives nothing, an unknown one gives itself; a
+    /// waiting change asks its dependency list, and the list asks each change in
+    /// turn. Each hash once, ascending; a cycle gives nothing new". More of them
+    /// than a list may have are 4.
+    pub(crate) fn missing(&self, waiting: &Waiting, list: &[Hash]) -> Result<Vec<Hash>, Refused> {
+        let mut open = list.to_vec();
+        let mut asked = HashSet::new();
+        let mut missing = BTreeSet::new();
+        while let Some(hash) = open.pop() {
+            if self.holds(&hash) || !asked.insert(hash) {
+                continue;
+            }
+            match waiting.get(&hash) {
+                Some(dependencies) => open.extend(dependencies),
+                None => {
+                    missing.insert(hash);
+                }
+            }
+        }
+        if missing.len() > HASHES {
+            return Err((4, 0));
+        }
+        Ok(missing.into_iter().collect())
+    }
 }
 
-/// "Rows beyond L: rows neither in L nor ancestors of it, in table order; unknown
-/// hashes in L are ignored".
+/// The heads of the first rows; 11 if there are fewer.
+pub fn heads(lent: &[u8], before: usize) -> Result<Vec<Hash>, Refused> {
+    table(lent)?.heads(before).ok_or((11, 0))
+}
+
 pub fn beyond(lent: &[u8], list: &[u8]) -> Result<Vec<Hash>, Refused> {
     let table = table(lent)?;
-    let list = hash_list(list)?;
-    let reached = reached(&table, &list);
-    let beyond = (0..table.rows.len()).filter(|row| !reached.contains(row));
-    Ok(beyond.map(|row| table.rows[row].hash).collect())
+    Ok(table.beyond(&hash_list(list)?))
 }
 
-/// The rows of a list and their ancestors.
-pub(crate) fn reached(table: &Table, list: &[Hash]) -> HashSet<usize> {
-    let held = list.iter().filter_map(|hash| table.row_of.get(hash));
-    let mut open: Vec<usize> = held.copied().collect();
-    let mut reached = HashSet::new();
-    while let Some(row) = open.pop() {
-        if reached.insert(row) {
-            open.extend(&table.rows[row].dependencies);
-        }
-    }
-    reached
-}
-
-/// "Missing from H: a held hash gives nothing, an unknown one gives itself; a
-/// waiting change asks its dependency list, and the list asks each change in
-/// turn. Each hash once, ascending; a cycle gives nothing new". More of them than
-/// a list may have are 4.
 pub fn missing(lent: &[u8], waiting_lent: &[u8], list: &[u8]) -> Result<Vec<Hash>, Refused> {
     let table = table(lent)?;
     let waiting = waiting(&table, waiting_lent)?;
-    let mut open = hash_list(list)?;
-    let mut asked = HashSet::new();
-    let mut missing = BTreeSet::new();
-    while let Some(hash) = open.pop() {
-        if table.row_of.contains_key(&hash) || !asked.insert(hash) {
-            continue;
-        }
-        match waiting.get(&hash) {
-            Some(dependencies) => open.extend(dependencies),
-            None => {
-                missing.insert(hash);
-            }
-        }
-    }
-    if missing.len() > HASHES {
-        return Err((4, 0));
-    }
-    Ok(missing.into_iter().collect())
+    table.missing(&waiting, &hash_list(list)?)
 }

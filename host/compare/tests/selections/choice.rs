@@ -1,9 +1,10 @@
 //! What is chosen from random graphs and from graphs at their limits.
 
 use crate::random_cases;
-use compare::inputs::selection::{Case, OwnHave};
+use compare::inputs::selection::Case;
 use compare::inputs::table::{table_bytes, Likeness, Shape, SHAPES};
 use compare::inputs::{Random, Seed};
+use compare::model::have::OwnHave;
 use compare::model::table::{Hash, HASH};
 use compare::selections::{compare_cases, Tally};
 

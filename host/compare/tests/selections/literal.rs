@@ -1,7 +1,7 @@
 //! The smallest graphs at which readings of 01 part, as literals.
 
 use crate::{chosen, diamond, hash};
-use compare::inputs::selection::OwnHave;
+use compare::model::have::OwnHave;
 use compare::model::table::Hash;
 
 /// P12: no last sync and only b missed; need c: c, b, d; need d: b, d; need c, c:

@@ -1,0 +1,260 @@
+//! Document 01's "Writing follows `generate_sync_message` step by step": what a unit
+//! says next, the session after it, and the buffers and words of the call.
+
+use super::filter::{DEFAULT_BITS, DEFAULT_PROBES};
+use super::have::{Have, OwnHave};
+use super::selection::chosen;
+use super::session::{laid, put, short, Value};
+use super::state::{
+    Lists, HAVE_RESPONDED, IN_FLIGHT, NEEDS_RESET, PEER_READ_ONLY, READ_ONLY, RESET, V2, WORDS,
+};
+use super::table::{self, Hash, Table, Waiting, HASHES};
+use super::Refused;
+
+/// "reset 1, read-only 2, supports reset 4".
+pub const FLAG_RESET: u64 = 1;
+pub const FLAG_READ_ONLY: u64 = 2;
+pub const FLAG_SUPPORTS_RESET: u64 = 4;
+
+/// Words of an answer.
+pub const ANSWER_WORDS: usize = 16;
+
+/// What the second word of an answer says.
+pub const NOTHING: u64 = 0;
+pub const A_RESET: u64 = 1;
+pub const A_MESSAGE: u64 = 2;
+
+/// A message but for its chunks: the hashes of the body, and whether that is the
+/// document.
+#[derive(Clone, Debug, PartialEq, Eq)]
+pub struct Plan {
+    pub version: u64,
+    pub flags: u64,
+    pub heads: Vec<Hash>,
+    pub need: Vec<Hash>,
+    /// One or none.
+    pub haves: Vec<OwnHave>,
+    pub document: bool,
+    pub hashes: Vec<Hash>,
+}
+
+/// What is said, and the session after a message; the others leave it.
+#[derive(Clone, Debug, PartialEq, Eq)]
+pub enum Planned {
+    Nothing,
+    Reset(Plan),
+    Message(Plan, Value),
+}
+
+/// What is planned over good tables: 4 for a need that is too long, "even before a
+/// reset or silence", and for too many sent hashes only where something is said.
+pub fn planned(table: &Table, waiting: &Waiting, s: &Value) -> Result<Planned, Refused> {
+    let heads = table.heads(table.rows.len()).expect("all rows");
+    let heard = s.their_heads.clone().unwrap_or_default();
+    let need = match s.is(READ_ONLY) {
+        true => Vec::new(),
+        false => table.missing(waiting, &heard)?,
+    };
+    if forgotten(table, s) {
+        return Ok(Planned::Reset(reset(heads)));
+    }
+    let (document, hashes) = body(table, s);
+    let told = s.last_sent == heads && s.is(HAVE_RESPONDED);
+    let equal = s.their_heads.as_ref() == Some(&heads);
+    let idle = (equal || s.is(READ_ONLY)) && hashes.is_empty();
+    if told && (idle || s.is(IN_FLIGHT)) {
+        return Ok(Planned::Nothing);
+    }
+
+    let mut after = s.clone();
+    after.sent.extend(&hashes);
+    if after.sent.len() > HASHES {
+        return Err((4, 0));
+    }
+    after.last_sent.clone_from(&heads);
+    after.flags[IN_FLIGHT] = true;
+    after.flags[HAVE_RESPONDED] = true;
+    after.flags[NEEDS_RESET] = false;
+
+    let mut flags = FLAG_SUPPORTS_RESET;
+    if s.is(READ_ONLY) {
+        flags += FLAG_READ_ONLY;
+    }
+    let mut said = heads;
+    match (s.is(NEEDS_RESET), s.is(RESET)) {
+        (true, true) => flags += FLAG_RESET,
+        // As if all was lost here.
+        (true, false) => said.clear(),
+        (false, _) => {}
+    }
+    let gives = need.iter().all(|hash| heard.contains(hash));
+    let plan = Plan {
+        version: if s.is(V2) { 2 } else { 1 },
+        flags,
+        heads: said,
+        need,
+        haves: gives.then(|| own_have(table, s)).into_iter().collect(),
+        document,
+        hashes,
+    };
+    Ok(Planned::Message(plan, after))
+}
+
+/// "an unknown hash in the first have's last-sync".
+fn forgotten(table: &Table, s: &Value) -> bool {
+    let first = s.their_have.as_ref().and_then(|haves| haves.first());
+    first.is_some_and(|have| !have.last_sync.iter().all(|hash| table.holds(hash)))
+}
+
+fn reset(heads: Vec<Hash>) -> Plan {
+    let claims_nothing = OwnHave {
+        last_sync: Vec::new(),
+        numbers: [0, DEFAULT_BITS, DEFAULT_PROBES],
+        field: Vec::new(),
+    };
+    Plan {
+        version: 1,
+        flags: FLAG_SUPPORTS_RESET,
+        heads,
+        need: Vec::new(),
+        haves: vec![claims_nothing],
+        document: false,
+        hashes: Vec::new(),
+    }
+}
+
+/// The shared heads as they stand, and a filter over the rows beyond them.
+fn own_have(table: &Table, s: &Value) -> OwnHave {
+    let beyond = table.beyond(&s.shared);
+    OwnHave::over(s.shared.clone(), DEFAULT_BITS, DEFAULT_PROBES, &beyond)
+}
+
+/// "none, a list, or the whole document (list longer than rows / 3 rounded down and
+/// V2 known, or their heads empty and V2 known)": whether it is the document, and
+/// the hashes. Nothing goes to a read-only peer, nor before a have and a need were
+/// heard.
+fn body(table: &Table, s: &Value) -> (bool, Vec<Hash>) {
+    let rows = || table.rows.iter().map(|row| row.hash).collect();
+    let (Some(haves), Some(need), false) = (&s.their_have, &s.their_need, s.is(PEER_READ_ONLY))
+    else {
+        return (false, Vec::new());
+    };
+    if s.is(V2) && s.their_heads.as_ref().is_some_and(Vec::is_empty) {
+        return (true, rows());
+    }
+    let haves: Vec<Have> = haves.iter().map(OwnHave::have).collect();
+    let mut list = chosen(table, &haves, need);
+    list.retain(|hash| !s.sent.contains(hash));
+    match s.is(V2) && list.len() > table.rows.len() / 3 {
+        true => (true, rows()),
+        false => (false, list),
+    }
+}
+
+/// The same for what is lent: "10, 6, 9", each table's 4 just before its rows.
+pub fn of_lent(
+    words: &[u64; WORDS],
+    lists: &Lists,
+    table: &[u8],
+    waiting: &[u8],
+) -> Result<Planned, Refused> {
+    let s = Value::of(words, lists)?;
+    let table = table::table(table)?;
+    let waiting = table::waiting(&table, waiting)?;
+    planned(&table, &waiting, &s)
+}
+
+/// The buffers that a call writes, in the order in which their room is tested.
+pub struct Buffers<'a> {
+    pub heads: &'a mut [u8],
+    pub need: &'a mut [u8],
+    pub have: &'a mut [u8],
+    pub list: &'a mut [u8],
+    pub last_sent: &'a mut [u8],
+    pub sent: &'a mut [u8],
+}
+
+/// How long each of the buffers has to be, in their order.
+pub fn wants(planned: &Planned) -> [usize; 6] {
+    let all = match planned {
+        Planned::Nothing => return [0; 6],
+        Planned::Reset(plan) => stated(plan, None),
+        Planned::Message(plan, after) => stated(plan, Some(after)),
+    };
+    all.map(|bytes| bytes.len())
+}
+
+/// The bytes for each of the buffers, in their order.
+fn stated(plan: &Plan, after: Option<&Value>) -> [Vec<u8>; 6] {
+    let (_, have) = laid(&plan.haves);
+    [
+        plan.heads.concat(),
+        plan.need.concat(),
+        have,
+        plan.hashes.concat(),
+        after.map_or(Vec::new(), |after| after.last_sent.concat()),
+        after.map_or(Vec::new(), Value::sent_bytes),
+    ]
+}
+
+/// What the call answers, and leaves in the session's words and the buffers.
+pub fn put_all(
+    planned: &Result<Planned, Refused>,
+    words: &mut [u64; WORDS],
+    buffers: &mut Buffers,
+) -> [u64; ANSWER_WORDS] {
+    let mut answer = [0; ANSWER_WORDS];
+    let done = match planned {
+        Err(refused) => Err(*refused),
+        Ok(Planned::Nothing) => Ok(()),
+        Ok(Planned::Reset(plan)) => put_plan(plan, None, buffers),
+        Ok(Planned::Message(plan, after)) => put_plan(plan, Some(after), buffers),
+    };
+    if let Err((number, value)) = done {
+        answer[..2].copy_from_slice(&[number, value]);
+        return answer;
+    }
+    match planned {
+        Ok(Planned::Reset(plan)) => answer = answer_words(A_RESET, plan),
+        Ok(Planned::Message(plan, after)) => {
+            answer = answer_words(A_MESSAGE, plan);
+            *words = after.counts().words();
+        }
+        _ => answer[1] = NOTHING,
+    }
+    answer
+}
+
+/// 7 "names the first too short: the message's lists in wire order, then the
+/// session's".
+fn put_plan(plan: &Plan, after: Option<&Value>, buffers: &mut Buffers) -> Result<(), Refused> {
+    let all = stated(plan, after);
+    let mut buffers = [
+        &mut *buffers.heads,
+        &mut *buffers.need,
+        &mut *buffers.have,
+        &mut *buffers.list,
+        &mut *buffers.last_sent,
+        &mut *buffers.sent,
+    ];
+    let rooms = buffers.iter().zip(&all);
+    let rooms: Vec<(usize, usize)> = rooms.map(|(to, from)| (to.len(), from.len())).collect();
+    short(&rooms)?;
+    for (to, from) in buffers.iter_mut().zip(&all) {
+        put(to, from);
+    }
+    Ok(())
+}
+
+fn answer_words(what: u64, plan: &Plan) -> [u64; ANSWER_WORDS] {
+    let (record, _) = laid(&plan.haves);
+    let mut words = [0; ANSWER_WORDS];
+    words[1..4].copy_from_slice(&[what, plan.version, plan.flags]);
+    words[4] = u64::from(plan.document);
+    words[5] = plan.heads.len() as u64;
+    words[6] = plan.need.len() as u64;
+    words[7] = plan.haves.len() as u64;
+    put(&mut words[8..15], &record);
+    words[15] = plan.hashes.len() as u64;
+    words
+}
