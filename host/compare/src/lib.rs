@@ -28,6 +28,7 @@ pub mod messages;
 pub mod model;
 pub mod published;
 pub mod samples;
+pub mod scenarios;
 pub mod selections;
 pub mod sessions;
 pub mod stack;

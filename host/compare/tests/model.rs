@@ -4,6 +4,8 @@
 
 #[path = "model/messages.rs"]
 mod messages;
+#[path = "model/scenarios.rs"]
+mod scenarios;
 #[path = "model/selections.rs"]
 mod selections;
 #[path = "model/sessions.rs"]

@@ -1,0 +1,3 @@
+//! The scenarios, with units of the model.
+
+compare::scenarios!(compare::units::modelled);
