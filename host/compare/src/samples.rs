@@ -2,8 +2,8 @@
 //! the intended differences are left out.
 //!
 //! Those of wire items are bytes (`wire`), for the proved program crates/replay, which
-//! has them as its standard input. Those of messages, saved states, hashes to send
-//! and filters are text, a file of host/compare/samples for each:
+//! has them as its standard input. Those of messages, saved states, hashes to send,
+//! filters and steps of a session are text, a file of host/compare/samples for each:
 //!
 //! ```text
 //!   # 60 records: what the columns are
@@ -18,9 +18,12 @@
 pub mod filters;
 pub mod messages;
 pub mod selections;
+pub mod sessions;
 pub mod states;
 pub mod wire;
 
+use crate::inputs::table::Row;
+use crate::model::table::{table, DEPENDENCIES};
 use crate::model::Refused;
 use std::path::{Path, PathBuf};
 
@@ -65,7 +68,7 @@ pub fn path(name: &str) -> PathBuf {
     root.join(name)
 }
 
-pub fn files() -> [File; 5] {
+pub fn files() -> [File; 6] {
     let records = wire::sample();
     let wire = File {
         name: wire::FILE,
@@ -78,6 +81,7 @@ pub fn files() -> [File; 5] {
         file::<states::Record>(),
         file::<selections::Record>(),
         file::<filters::Record>(),
+        file::<sessions::Record>(),
     ]
 }
 
@@ -155,6 +159,33 @@ fn list_of<T>(column: &str, item: impl Fn(&str) -> Option<T>) -> Option<Vec<T>> 
         NOTHING => Some(Vec::new()),
         _ => column.split(',').map(item).collect(),
     }
+}
+
+/// A row: its hash, and after a colon the rows that it depends on.
+fn row_item(row: &Row) -> String {
+    let on = row.dependencies.iter().map(|row| format!("{row:x}"));
+    let on: Vec<String> = on.collect();
+    format!("{}:{}", bytes_column(&row.hash), on.join("."))
+}
+
+fn row_of(item: &str) -> Option<Row> {
+    let (hash, on) = item.split_once(':')?;
+    let on = on.split('.').filter(|number| !number.is_empty());
+    let on = on.map(|number| number_of(number)?.try_into().ok());
+    let dependencies: Vec<usize> = on.collect::<Option<_>>()?;
+    let hash = bytes_of(hash)?.try_into().ok()?;
+    let few = dependencies.len() <= DEPENDENCIES;
+    few.then_some(Row { hash, dependencies })
+}
+
+/// The rows of a good table.
+fn rows_of(lent: &[u8]) -> Vec<Row> {
+    let table = table(lent).expect("a good table");
+    let rows = table.rows.into_iter().map(|row| Row {
+        hash: row.hash,
+        dependencies: row.dependencies,
+    });
+    rows.collect()
 }
 
 fn number_of(column: &str) -> Option<u64> {

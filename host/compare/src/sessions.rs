@@ -3,6 +3,7 @@
 //! document, which loads a message's changes itself; the model is told what was
 //! loaded, as a host tells it.
 
+pub mod lent;
 pub mod published;
 
 use crate::inputs::session::{Hearing, Saying};
@@ -104,6 +105,7 @@ fn count_taken(tally: &mut Tally, said: &Said, table: &Table, before: usize) {
 /// A message that the crate took or couldn't load: its session after it, and what a
 /// host tells.
 pub struct Outcome {
+    pub taken: bool,
     pub state: State,
     pub table: Vec<u8>,
     pub before: usize,
@@ -117,17 +119,14 @@ pub fn publish(hearing: &Hearing) -> Option<Outcome> {
     let before = document.rows().len();
     let mut state = published::state(&hearing.session);
     let looked_at = !message.changes.is_empty() && !hearing.session.is(READ_ONLY);
-    let taken = document.receive_sync_message(&mut state, message);
-    assert!(looked_at || taken.is_ok(), "nothing was to be loaded");
+    let taken = document.receive_sync_message(&mut state, message).is_ok();
+    assert!(looked_at || taken, "nothing was to be loaded");
     Some(Outcome {
+        taken,
         state,
         table: table_of(&document),
         before,
-        loaded: if looked_at {
-            taken.is_ok()
-        } else {
-            hearing.loaded
-        },
+        loaded: if looked_at { taken } else { hearing.loaded },
     })
 }
 

@@ -7,6 +7,8 @@ mod filters;
 mod messages;
 #[path = "samples/selections.rs"]
 mod selections;
+#[path = "samples/sessions.rs"]
+mod sessions;
 #[path = "samples/states.rs"]
 mod states;
 #[path = "samples/stored.rs"]

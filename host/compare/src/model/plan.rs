@@ -246,7 +246,8 @@ fn put_plan(plan: &Plan, after: Option<&Value>, buffers: &mut Buffers) -> Result
     Ok(())
 }
 
-fn answer_words(what: u64, plan: &Plan) -> [u64; ANSWER_WORDS] {
+/// The words of what is said.
+pub fn answer_words(what: u64, plan: &Plan) -> [u64; ANSWER_WORDS] {
     let (record, _) = laid(&plan.haves);
     let mut words = [0; ANSWER_WORDS];
     words[1..4].copy_from_slice(&[what, plan.version, plan.flags]);

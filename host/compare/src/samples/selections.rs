@@ -3,10 +3,10 @@
 //! it is asked over is the stand-in's.
 
 use super::{bytes_column, bytes_of, list_column, list_of, number_of};
+use super::{row_item, row_of, rows_of};
 use crate::inputs::selection::{lend, Case};
 use crate::inputs::table::{table_bytes, Row};
 use crate::inputs::Random;
-use crate::model::table::{table, DEPENDENCIES};
 use crate::selections::published;
 
 #[derive(Clone, Debug)]
@@ -63,22 +63,6 @@ impl super::Record for Record {
     }
 }
 
-fn row_item(row: &Row) -> String {
-    let on = row.dependencies.iter().map(|row| format!("{row:x}"));
-    let on: Vec<String> = on.collect();
-    format!("{}:{}", bytes_column(&row.hash), on.join("."))
-}
-
-fn row_of(item: &str) -> Option<Row> {
-    let (hash, on) = item.split_once(':')?;
-    let on = on.split('.').filter(|number| !number.is_empty());
-    let on = on.map(|number| number_of(number)?.try_into().ok());
-    let dependencies: Vec<usize> = on.collect::<Option<_>>()?;
-    let hash = bytes_of(hash)?.try_into().ok()?;
-    let few = dependencies.len() <= DEPENDENCIES;
-    few.then_some(Row { hash, dependencies })
-}
-
 /// A graph without waiting rows, so that a record says all that the crate saw.
 fn record(random: &mut Random) -> Record {
     let case = Case {
@@ -86,13 +70,8 @@ fn record(random: &mut Random) -> Record {
         ..random.case(0..ROWS, 0..HAVES)
     };
     let (s, haves) = lend(&case.haves, random);
-    let table = table(&case.table).expect("a good table");
-    let rows = table.rows.into_iter().map(|row| Row {
-        hash: row.hash,
-        dependencies: row.dependencies,
-    });
     Record {
-        rows: rows.collect(),
+        rows: rows_of(&case.table),
         s,
         haves,
         need: case.need.concat(),

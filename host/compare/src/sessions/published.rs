@@ -10,8 +10,8 @@ use crate::model::table::Hash;
 use crate::published;
 use crate::states::words_of;
 use crate::units::chunks_for;
-use crate_under_test::facade::{self, Automerge, Capability, ChangeHash, Have, Message};
-use crate_under_test::facade::{ChunkList, MessageVersion, State};
+use crate_under_test::facade::{self, Automerge, Capability, Change, ChangeHash, ChunkList};
+use crate_under_test::facade::{Have, Message, MessageVersion, State};
 
 /// The crate's session with these lists and flags. Where nothing is known of the
 /// peer, its capabilities are absent.
@@ -62,6 +62,26 @@ pub fn message(plan: &Plan, document: &Automerge) -> Message {
             2 => MessageVersion::V2,
             _ => MessageVersion::V1,
         },
+    }
+}
+
+/// What the crate's message says: of its chunks, the changes in them. A saved document
+/// of the stand-in begins with a byte of its own.
+pub fn plan_of(message: &Message) -> Plan {
+    let records: Vec<u8> = message.changes.iter().flatten().copied().collect();
+    let changes = Change::read_all(&records).expect("chunks are records");
+    let flags = message.flags.expect("every message has flags");
+    Plan {
+        version: match message.version {
+            MessageVersion::V1 => 1,
+            MessageVersion::V2 => 2,
+        },
+        flags: u64::from(facade::flags_value(flags)),
+        heads: bare(&message.heads),
+        need: bare(&message.need),
+        haves: message.have.iter().map(own_have).collect(),
+        document: records.first() == Some(&0),
+        hashes: changes.iter().map(|change| change.hash().0).collect(),
     }
 }
 
