@@ -84,7 +84,10 @@ const RECEIVE: &str = "receive";
 
 impl super::Record for Record {
     const FILE: &'static str = "host/compare/samples/sessions.txt";
-    const COLUMNS: &'static str = "session (words; shared; last sent; their heads; their need; haves; bytes; sent); rows (hash:row.row, with the rows it depends on); `plan`, waiting rows (hash:hash.hash), answer, heads, need, have, hashes; or `receive`, rows before, loaded, message, answer; the session afterwards";
+    const COLUMNS: &'static str = "session (words; shared; last sent; their heads; \
+        their need; haves; bytes; sent); rows (hash:row.row, with the rows it depends on); \
+        `plan`, waiting rows (hash:hash.hash), answer, heads, need, have, hashes; or \
+        `receive`, rows before, loaded, message, answer; the session afterwards";
 
     fn sample() -> Vec<Record> {
         let mut random = Random(0x7365_7373_696f_6e73);
