@@ -1,0 +1,78 @@
+-- Numbers of parts, one law for each way out, with the code's tests as hypotheses; and room for the parts. Assumes nothing.
+use Prim.Native.Nat.{ℕ, _*_, _≤_, _<_}
+use mathlib.Core.Bool.{Bool, true, false, not, _&&_}
+use mathlib.Core.List.{List}
+use mathlib.Core.Path.{_≡_}
+use borrow.Author.Tests.{lt-ltb, le-ltb, eq-eqb, ne-eqb}
+use lib.Dec.{ltb, eqb}
+use Rattle.lists.specs.Lists.{same}
+use Rattle.rules.specs.Sizes.{sizes}
+use native.Mathlib.Omega.{arith}
+use Rattle.rules.specs.Hash.{hashesAt}
+use Rattle.rules.specs.Order.{keep}
+use Rattle.rules.specs.Output.{Gathered}
+use Rattle.rules.proofs.Cases.{split}
+use Rattle.receiving.specs.Made.{SharedMade}
+use Rattle.drafting.specs.Made.{toldHeads, lastSentCount, keptHashes, sharedRoom, sentRoom}
+
+-- ---- numbers of parts
+
+pub no-changes : (chunks : ℕ) (readOnly : Bool) → chunks ≤ 0 → ltb 0 chunks ≡ (ltb 0 chunks && not readOnly)
+no-changes chunks readOnly h = rw (le-ltb 0 chunks h)
+
+pub some-changes : (chunks : ℕ) (readOnly : Bool) → 0 < chunks → not readOnly ≡ (ltb 0 chunks && not readOnly)
+some-changes chunks readOnly h = rw (lt-ltb 0 chunks h)
+
+module _ (chunks count : ℕ) (hs old : List ℕ) where
+  pub brings-some : 0 < chunks → 0 ≡ toldHeads chunks count hs old
+  unfolding toldHeads
+  brings-some h = rw (lt-ltb 0 chunks h)
+
+  pub is-told : chunks ≤ 0 → same hs old ≡ true → count ≡ toldHeads chunks count hs old
+  unfolding toldHeads
+  is-told h e = rw (le-ltb 0 chunks h, e)
+
+  pub not-told : chunks ≤ 0 → same hs old ≡ false → 0 ≡ toldHeads chunks count hs old
+  unfolding toldHeads
+  not-told h e = rw (le-ltb 0 chunks h, e)
+
+module _ (heads told before : ℕ) where
+  pub last-none : heads ≡ 0 → 0 ≡ lastSentCount heads told before
+  unfolding lastSentCount
+  last-none e = rw (eq-eqb heads 0 e)
+
+  pub last-told : (heads ≡ 0 → ⊥) → 0 < told → told ≡ lastSentCount heads told before
+  unfolding lastSentCount
+  last-told f h = rw (ne-eqb heads 0 f, lt-ltb 0 told h)
+
+  pub last-stays : (heads ≡ 0 → ⊥) → told ≤ 0 → before ≡ lastSentCount heads told before
+  unfolding lastSentCount
+  last-stays f h = rw (ne-eqb heads 0 f, le-ltb 0 told h)
+
+pub kept-none : (heads sent : ℕ) → heads ≡ 0 → 0 ≡ keptHashes heads sent
+unfolding keptHashes
+kept-none heads sent e = rw (eq-eqb heads 0 e)
+
+pub kept-all : (heads sent : ℕ) → (heads ≡ 0 → ⊥) → sent ≡ keptHashes heads sent
+unfolding keptHashes
+kept-all heads sent f = rw (ne-eqb heads 0 f)
+
+-- ---- room for the parts
+
+pub kept-most : (heads sent : ℕ) → keptHashes heads sent ≤ sent
+unfolding keptHashes
+kept-most heads sent = split (eqb heads 0) (λ e. rw e (omega arith)) (λ e. rw e (omega arith))
+
+-- hashes that are gone through are there
+pub keeps-there : (heads sent keeps room : ℕ) → keeps ≡ keptHashes heads sent → sizes .hash * sent ≤ room → sizes .hash * keeps ≤ room
+keeps-there heads sent keeps room e h = omega (arith, kept-most heads sent)
+
+pub keeps-fit : (heads sent keeps room : ℕ) → keeps ≡ keptHashes heads sent → sent ≤ sizes .sentHashes → room ≡ sentRoom → sizes .hash * keeps ≤ room
+keeps-fit heads sent keeps room e h q = omega (arith, kept-most heads sent)
+
+pub keeps-gathered : (p : ℕ → Bool) (s : List ℕ) (heads sent keeps : ℕ) (after : List ℕ) (count : ℕ) → keeps ≡ keptHashes heads sent
+    → Gathered (keep p (hashesAt s 0 keeps)) after count → Gathered (keep p (hashesAt s 0 (keptHashes heads sent))) after count
+keeps-gathered p s heads sent keeps after count e g = rw (← e) g
+
+pub shared-room : (hs after : List ℕ) (room count : ℕ) → room ≡ sharedRoom → SharedMade hs room after count → SharedMade hs sharedRoom after count
+shared-room hs after room count e f = rw (← e) f

@@ -1,0 +1,115 @@
+-- What internal contracts speak of: what a message says by its places, and a session after it as numbers and parts that stand ready. No rule of 01
+-- stands here.
+use Prim.Native.Nat.{ℕ, _+_, _*_, _≤_}
+use mathlib.Core.Bool.{Bool, cond, not, _&&_}
+use mathlib.Core.List.{List}
+use mathlib.Core.Path.{_≡_}
+use lib.Dec.{ltb, eqb}
+use lib.ListN.{length, take}
+use Rattle.bloom.specs.Have.{haveWords, havesOf}
+use Rattle.decode.specs.Read.{messageAt, decodedOf}
+use Rattle.decode.specs.declared.parse.Decoded.the-variants.{Message as Placed}
+use Rattle.decode.specs.declared.parse.Places.{Places}
+use Rattle.graph.specs.Graph.{heads, below}
+use Rattle.items.specs.Items.{haveItem, manyAt, wordsOf}
+use Rattle.lists.specs.Lists.{same}
+use Rattle.rules.specs.Hash.{Bytes, hashesAt}
+use Rattle.rules.specs.Order.{keep, every}
+use Rattle.rules.specs.Output.{Gathered}
+use Rattle.rules.specs.Sizes.{sizes}
+use Rattle.session.specs.Laid.{laidBytes}
+use Rattle.session.specs.Receive.{Said, advance, join}
+use Rattle.state.specs.declared.session.Session.{Session}
+use Rattle.tables.specs.Bytes.{rowsAt, GoodRows}
+use Rattle.tables.specs.Table.{held}
+use Rattle.receiving.specs.Made.{SharedMade}
+use Rattle.taking.specs.declared.decide.Draft.{Draft}
+use Rattle.taking.specs.Draft.{Parts}
+
+-- ---- what a message says, by its places
+
+-- The words of its haves.
+abbrev pub havesWords : List ℕ → Places → List ℕ
+havesWords s p = wordsOf (manyAt (haveItem s) (p .haves .count) (p .haves .start))
+
+abbrev pub saidAt : List ℕ → Places → Said
+saidAt s p =
+    record {
+      heads = hashesAt s (p .heads .start) (p .heads .count);
+      need = hashesAt s (p .need .start) (p .need .count);
+      haves = havesOf s (havesWords s p);
+      flags = p .flags;
+      chunks = ltb 0 (p .chunks .count);
+    }
+
+-- ---- what is computed
+
+-- Room for one shared head more than there may be, so that too many show; for all sent hashes, and for the records of any haves.
+abbrev pub sharedRoom : ℕ
+sharedRoom = sizes .hash * (sizes .hashes + 1)
+
+abbrev pub sentRoom : ℕ
+sentRoom = sizes .hash * sizes .sentHashes
+
+abbrev pub wordsRoom : ℕ
+wordsRoom = haveWords * sizes .haves
+
+pub record Long (ready : Parts) : Type 0 where
+  pub shared : length (ready .shared) ≡ sharedRoom
+  pub sent : length (ready .sent) ≡ sentRoom
+  pub words : length (ready .words) ≡ wordsRoom
+
+-- Parts that stand ready: buffers that are long enough, and bytes.
+pub record Stands (ready : Parts) : Type 0 where
+  pub long : Long ready
+  pub shared : Bytes (ready .shared)
+  pub sent : Bytes (ready .sent)
+
+-- A message that was read, beside a table that was checked, and the lists of a session that is good.
+pub record Makes (s : Session) (table : List ℕ) (n before : ℕ) (message : List ℕ) (p : Places) (oldShared oldSent : List ℕ) : Type 0 where
+  pub rows : GoodRows table n
+  pub upTo : before ≤ n
+  pub placed : decodedOf (messageAt message) ≡ Placed p
+  pub shared : sizes .hash * s .«shared_heads» ≤ length oldShared
+  pub sent : sizes .hash * s .«sent_hashes» ≤ length oldSent
+  pub few : s .«sent_hashes» ≤ sizes .sentHashes
+
+-- How many of the message's heads become the ones sent last, and how many these are then.
+unfoldable pub toldHeads : ℕ → ℕ → List ℕ → List ℕ → ℕ
+toldHeads chunks count hs old = cond (not (ltb 0 chunks) && same hs old) count 0
+
+unfoldable pub lastSentCount : ℕ → ℕ → ℕ → ℕ
+lastSentCount heads told before = cond (eqb heads 0) 0 (cond (ltb 0 told) told before)
+
+-- How many sent hashes are gone through: none where the peer has no heads.
+unfoldable pub keptHashes : ℕ → ℕ → ℕ
+keptHashes heads sent = cond (eqb heads 0) 0 sent
+
+-- The words of a message's haves, and how many bytes these take.
+pub record WordsMade (message : List ℕ) (p : Places) (ready : List ℕ) (size : ℕ) : Type 0 where
+  pub words : take (haveWords * p .haves .count) ready ≡ havesWords message p
+  pub bytes : size ≡ length (laidBytes (saidAt message p .haves))
+
+-- The numbers of a session after a message, the counts of before having the message's flags taken; and what stands ready.
+pub record DraftMade (loads : Bool) (s : Session) (table : List ℕ) (n before : ℕ) (message : List ℕ) (p : Places) (oldShared oldSent : List ℕ) (ready : Parts)
+    (d : Draft) : Type 0 where
+  pub shared : SharedMade
+      (cond (every (held (rowsAt table 0 n)) (saidAt message p .heads))
+      (saidAt message p .heads)
+      (join (rowsAt table 0 n) (saidAt message p .heads)
+      (cond loads
+      (advance (heads (take before (rowsAt table 0 n))) (heads (rowsAt table 0 n)) (hashesAt oldShared 0 (s .«shared_heads»)))
+      (hashesAt oldShared 0 (s .«shared_heads»)))))
+      sharedRoom
+      (ready .shared)
+      (d .shared)
+  pub sent : Gathered
+      (keep (λ h. not (below (rowsAt table 0 n) (saidAt message p .heads) h)) (hashesAt oldSent 0 (keptHashes (p .heads .count) (s .«sent_hashes»))))
+      (ready .sent)
+      (d .sent)
+  pub told : d .told ≡ toldHeads (p .chunks .count) (p .heads .count) (saidAt message p .heads) (heads (rowsAt table 0 before))
+  pub lastSent : d .«last_sent» ≡ lastSentCount (p .heads .count) (d .told) (s .«last_sent_heads»)
+  pub heads : d .heads ≡ p .heads .count
+  pub need : d .need ≡ p .need .count
+  pub haves : d .haves ≡ p .haves .count
+  pub words : WordsMade message p (ready .words) (d .bytes)

@@ -1,0 +1,61 @@
+// The tests that come before a message is taken, and the message read.
+use decode::parse::Decoded;
+use decode::parse::Places;
+use decode::parse::parse;
+use lent::good::session_good;
+use rules::refusal::Refusal;
+use state::session::Session;
+use tables::check::Checked;
+use tables::check::check_table;
+ghost use mathlib.Core.Path.{_≡_};
+ghost use Rattle.lent.specs.Good.{lentOf};
+ghost use Rattle.drafting.specs.Checks.{checked};
+
+// A table of so many rows beside a session that is good, and where a message's parts stand; or the first refusal.
+pub enum Checks {
+    Good { rows: usize, places: Places },
+    Refused(Refusal),
+}
+
+// 10, then 4 and 6, then 11, then the message from its first byte.
+pub fn check_receive(
+    session: Session,
+    shared: &[u8],
+    last_sent: &[u8],
+    their_heads: &[u8],
+    their_need: &[u8],
+    haves: &[u64],
+    bytes: &[u8],
+    sent: &[u8],
+    table: &[u8],
+    before: usize,
+    message: &[u8],
+) -> Checks
+    ensures { λ r. ⌜ r ≡ checked session (lentOf (now (shared .entry)) (now («last_sent» .entry)) (now («their_heads» .entry)) (now («their_need» .entry))
+        (now (haves .entry)) (now (bytes .entry)) (now (sent .entry))) (now (table .entry)) before (now (message .entry)) ⌝ }
+{
+    if !session_good(
+        session,
+        shared,
+        last_sent,
+        their_heads,
+        their_need,
+        haves,
+        bytes,
+        sent,
+    ) {
+        return Checks::Refused(Refusal::BadNumbers);
+    }
+    match check_table(table) {
+        Checked::Refused(r) => Checks::Refused(r),
+        Checked::Good(n) => {
+            if n < before {
+                return Checks::Refused(Refusal::BadRowsBefore);
+            }
+            match parse(message) {
+                Decoded::Refused(r) => Checks::Refused(r),
+                Decoded::Message(places) => Checks::Good { rows: n, places },
+            }
+        }
+    }
+}

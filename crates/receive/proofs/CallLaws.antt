@@ -1,0 +1,192 @@
+-- The call's promise, from what its parts ensure: where a test before fails, and where all of them passed. Assumes nothing.
+use Prim.Native.Nat.{ℕ, _≤_}
+use mathlib.Core.Bool.{Bool, true, false, cond, not, _&&_}
+use mathlib.Core.List.{List}
+use mathlib.Core.Path.{_≡_, refl, ap, _∙_}
+use native.Mathlib.Omega.{arith}
+use borrow.Author.Tests.{ltb-false}
+use lib.Dec.{ltb}
+use lib.ListN.{length}
+use Rattle.decode.specs.Read.{Reading, messageAt, decodedOf}
+use Rattle.decode.specs.declared.parse.Decoded.{Decoded}
+use Rattle.decode.specs.declared.parse.Decoded.the-variants.{Message as Placed, Refused as NotRead}
+use Rattle.decode.specs.declared.parse.Places.{Places}
+use Rattle.decode.proofs.ReadLaws.{not-placed}
+use Rattle.lent.specs.Good.{sessionGood}
+use Rattle.lent.proofs.GoodSessions.{session-parts}
+use Rattle.message.specs.Flags.{syncReset, hasFlag}
+use Rattle.rules.specs.Hash.{Bytes}
+use Rattle.rules.specs.declared.refusal.Refusal.{Refusal}
+use Rattle.rules.specs.declared.refusal.Refusal.the-variants.{BadNumbers, BadRowsBefore}
+use Rattle.rules.proofs.Cases.{split}
+use Rattle.session.specs.Receive.{Received, told, received, receive, receiveRead, receiveBytes}
+use Rattle.state.specs.Value.{Lent, valueOf}
+use Rattle.state.specs.declared.session.Session.{Session}
+use Rattle.tables.specs.Bytes.{rowsAt, tableOf, tableChecked}
+use Rattle.tables.specs.declared.check.Checked.{Checked}
+use Rattle.tables.specs.declared.check.Checked.the-variants as tables
+use Rattle.tables.proofs.GoodLaws.{accepted-rows}
+use Rattle.tables.proofs.TableLaws.{table-good}
+use Rattle.receiving.specs.Made.{flaggedCounts}
+use Rattle.receive.specs.Call.{afterTable, receiveWith, roomed, refusalAnswer, answerOf, keptIn, roomsIn, ReceiveCalled}
+use Rattle.drafting.specs.Checks.{besideRows, afterRows, checked, Accepted}
+use Rattle.drafting.specs.Made.{saidAt, Stands, Makes, DraftMade}
+use Rattle.taking.specs.Draft.{receivedCounts, decided, SmallDraft, Parts, putsOf, Fits, allPut}
+use Rattle.taking.specs.declared.answer.Received.{Received as Answer}
+use Rattle.taking.specs.declared.answer.Received.the-variants.{Refused}
+use Rattle.drafting.specs.declared.check.Checks.the-variants as checks
+use Rattle.taking.specs.declared.decide.Draft.{Draft}
+use Rattle.receive.proofs.DraftLaws.{draft-small}
+use Rattle.receive.proofs.OtherLaws.{Other, message-other, table-other}
+use Rattle.receive.proofs.Outcomes.{Outcome, outcome, same-answer}
+use Rattle.receive.proofs.KeptLaws.{puts-fit, puts-kept}
+use Rattle.drafting.proofs.SaidLaws.{read-receives}
+
+-- ---- the tests before, taken apart
+
+refused-not-good : {A : Type 0} {r : Refusal} {n : ℕ} {p : Places} → checks.Refused r ≡ checks.Good n p → A
+refused-not-good e = absurd (let z : _≡_ {A = ℕ} 0 1 = cc in omega arith)
+
+good-not-refused : {A : Type 0} {r : Refusal} {n : ℕ} {p : Places} → checks.Good n p ≡ checks.Refused r → A
+good-not-refused e = absurd (let z : _≡_ {A = ℕ} 0 1 = cc in omega arith)
+
+module _ (s : Session) (l : Lent) (table : List ℕ) (before : ℕ) (message : List ℕ) where
+  module _ (loaded : Bool) where
+    abbrev result : Received
+    result = receiveWith loaded before s l table message
+
+    as-refused : (r : Refusal) → Other r → result ≡ Received.refused r (valueOf s l) → ReceiveCalled s result l l (Refused r)
+    unfolding roomed answerOf refusalAnswer keptIn
+    as-refused r o e = record { answer = rw (e, o); lists = rw e }
+
+    module _ (good : sessionGood s l ≡ true) (r : Refusal) where
+      -- 11, and the message's own
+      beside : (n : ℕ) → tableChecked table ≡ tables.Good n → (x : Decoded) → decodedOf (messageAt message) ≡ x
+          → cond (ltb n before) (checks.Refused BadRowsBefore) (besideRows n x) ≡ checks.Refused r → ReceiveCalled s result l l (Refused r)
+      unfolding receiveWith afterTable besideRows receiveBytes receiveRead
+      beside n rows x is e =
+          let long : length (tableOf table) ≡ n = table-good table n rows .long in
+          split (ltb n before)
+          (λ t.
+          let f : checks.Refused BadRowsBefore ≡ checks.Refused r = rw t at e in
+          let same : BadRowsBefore ≡ r = cc in
+          rw (← same) (as-refused BadRowsBefore refl (rw (good, rows, long, t))))
+          (λ t. go x is t (rw t at e))
+        where
+          go : (x : Decoded) → decodedOf (messageAt message) ≡ x → ltb n before ≡ false → besideRows n x ≡ checks.Refused r → ReceiveCalled s result l l (Refused r)
+          go (Placed p) is t e = good-not-refused e
+          go (NotRead f) is t e =
+              let same : f ≡ r = cc in
+              let q : messageAt message ≡ Reading.refused f = not-placed (messageAt message) f is in
+              let long : length (tableOf table) ≡ n = table-good table n rows .long in
+              rw (← same) (as-refused f (message-other message f q) (rw (good, rows, long, t, q)))
+
+      -- 4 and 6 before these
+      after : (x : Checked) → tableChecked table ≡ x → afterRows x before message ≡ checks.Refused r → ReceiveCalled s result l l (Refused r)
+      unfolding afterRows receiveWith afterTable
+      after (tables.Good n) is e = beside n is (decodedOf (messageAt message)) refl e
+      after (tables.Refused f) is e =
+          let same : f ≡ r = cc in
+          rw (← same) (as-refused f (table-other table f is) (rw (good, is)))
+
+    -- a test that fails is the answer, and everything lent stays
+    pub refused-called : (r : Refusal) → checked s l table before message ≡ checks.Refused r → ReceiveCalled s result l l (Refused r)
+    unfolding checked receiveWith
+    refused-called r e =
+        split (sessionGood s l)
+        (λ t. after t r (tableChecked table) refl (rw t at e))
+        (λ t.
+        let f : checks.Refused BadNumbers ≡ checks.Refused r = rw t at e in
+        let same : BadNumbers ≡ r = cc in
+        rw (← same) (as-refused BadNumbers refl (rw t)))
+
+  module _ (n : ℕ) (p : Places) where
+    beside-good : (k : ℕ) (x : Decoded) → besideRows k x ≡ checks.Good n p → (k ≡ n) × (x ≡ Placed p)
+    unfolding besideRows
+    beside-good k (Placed f) e = (cc, cc)
+    beside-good k (NotRead r) e = refused-not-good e
+
+    after-good : sessionGood s l ≡ true → (x : Checked) → tableChecked table ≡ x → afterRows x before message ≡ checks.Good n p
+        → Accepted s l table n before message p
+    unfolding afterRows
+    after-good good (tables.Good k) is e =
+        split (ltb k before)
+        (λ t. refused-not-good (let f : checks.Refused BadRowsBefore ≡ checks.Good n p = rw t at e in f))
+        (λ t.
+        let f = beside-good k (decodedOf (messageAt message)) (rw t at e) in
+        record { good = good; rows = is ∙ ap tables.Good (f .0); inside = omega (arith, f .0, ltb-false k before t); read = f .1 })
+    after-good good (tables.Refused r) is e = refused-not-good e
+
+    -- all of them passed
+    pub accepted : checked s l table before message ≡ checks.Good n p → Accepted s l table n before message p
+    unfolding checked
+    accepted e =
+        split (sessionGood s l)
+        (λ t. after-good t (tableChecked table) refl (rw t at e))
+        (λ t. refused-not-good (let f : checks.Refused BadNumbers ≡ checks.Good n p = rw t at e in f))
+
+-- ---- all tests passed
+
+sent-least : (b : Bool) (n : ℕ) → cond b 0 n ≤ n
+sent-least true n = omega arith
+sent-least false n = omega arith
+
+module _ (s : Session) (l : Lent) (table : List ℕ) (n before : ℕ) (message : List ℕ) (p : Places) (ok : Accepted s l table n before message p) where
+  -- what computing asks
+  pub can-make : (flagged : Session) → flagged ≡ flaggedCounts (p .flags) s → Makes flagged table n before message p (l .shared) (l .sent)
+  can-make flagged e =
+      let g = session-parts s l (ok .good) in
+      let least = sent-least (told (λ f. hasFlag f syncReset) (p .flags) false) (s .«sent_hashes») in
+      rw e
+      (record {
+        rows = accepted-rows table n (ok .rows);
+        upTo = ok .inside;
+        placed = ok .read;
+        shared = g .shared .there;
+        sent = omega (arith, g .sent .there);
+        few = omega (arith, g .sent .few);
+      })
+
+  module _ (loads : Bool) (flagged : Session) (ready : Parts) (d : Draft)
+      (flags : flagged ≡ flaggedCounts (p .flags) s)
+      (loading : loads ≡ (ltb 0 (p .chunks .count) && not (s .«read_only»)))
+      (made : DraftMade loads flagged table n before message p (l .shared) (l .sent) ready d)
+    where
+      whole : DraftMade (ltb 0 (p .chunks .count) && not (s .«read_only»)) (flaggedCounts (p .flags) s) table n before message p (l .shared) (l .sent) ready d
+      whole = rw (← loading, ← flags) made
+
+      -- what deciding asks
+      pub is-small : SmallDraft d
+      is-small = draft-small s l (ok .good) table n before (ok .inside) message p (ok .read) ready d whole
+
+      module _ (loaded failed : Bool) (a : Answer) (failing : failed ≡ (loads && not loaded)) (decides : a ≡ decided flagged failed d (roomsIn l)) where
+        is-decided : a ≡ decided (flaggedCounts (p .flags) s) ((ltb 0 (p .chunks .count) && not (s .«read_only»)) && not loaded) d (roomsIn l)
+        is-decided = rw (← loading, ← failing, ← flags) decides
+
+        abbrev values : Received
+        values = roomed (roomsIn l) (valueOf s l) (receive loaded before (rowsAt table 0 n) (valueOf s l) (saidAt message p))
+
+        together : Outcome d (roomsIn l) (receivedCounts (flaggedCounts (p .flags) s) d) (received before (rowsAt table 0 n) (valueOf s l) (saidAt message p)) a values
+        together = rw is-decided (outcome s l (ok .good) table n before (ok .inside) message p (ok .read) ready d whole loaded (roomsIn l))
+
+        result-is : receiveWith loaded before s l table message ≡ receive loaded before (rowsAt table 0 n) (valueOf s l) (saidAt message p)
+        unfolding receiveWith afterTable
+        result-is =
+            let t = table-good table n (ok .rows) in
+            let inside : before ≤ length (tableOf table) = omega (arith, t .long, ok .inside) in
+            rw (ok .good, ok .rows, read-receives message p (ok .read) loaded before (tableOf table) (valueOf s l) inside, t .is)
+
+        module _ (stands : Stands ready) (all : Bytes message) where
+          -- what putting asks
+          pub has-room : (puts : Draft) → puts ≡ putsOf a d → Fits puts message (p .heads .start) (p .need .start) ready l
+          has-room puts is = rw is (puts-fit s l (ok .good) table n before (ok .inside) message p (ok .read) ready d whole (stands .long) all a values together)
+
+          -- and the promise
+          pub received-called : (puts : Draft) (after : Lent) → Bytes (l .lastSent) → puts ≡ putsOf a d → after ≡ allPut puts message (p .heads .start) (p .need .start) ready l
+              → ReceiveCalled s (receiveWith loaded before s l table message) l after a
+          received-called puts after last is put =
+              rw result-is
+              (record {
+                answer = same-answer _ _ _ _ a values together;
+                lists = put ∙ rw is (puts-kept s l (ok .good) table n before (ok .inside) message p (ok .read) ready d whole (stands .long) all a values together last (stands .shared) (stands .sent));
+              })

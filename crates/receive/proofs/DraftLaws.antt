@@ -1,0 +1,269 @@
+-- What was computed is what the definitions of receiving give, part by part, and its numbers are their counts. Assumes nothing.
+use Prim.Native.Nat.{ℕ, zero, suc, _+_, _*_, _/_, _≤_, _<_}
+use mathlib.Core.Bool.{Bool, true, false, cond, not, _&&_}
+use mathlib.Core.List.{List, []}
+use mathlib.Core.Option.{Option, none, some}
+use mathlib.Core.Path.{_≡_, refl, sym, ap, _∙_}
+use native.Mathlib.Omega.{arith}
+use borrow.Author.Tests.{ltb-true, lt-ltb, ne-eqb}
+use lib.Dec.{ltb, eqb}
+use lib.ListN.{length, take}
+use Rattle.bloom.specs.Have.{haveWords}
+use Rattle.decode.specs.Read.{messageAt, decodedOf}
+use Rattle.decode.specs.declared.parse.Decoded.the-variants.{Message as Placed}
+use Rattle.decode.specs.declared.parse.Places.{Places}
+use Rattle.graph.specs.Graph.{heads, below}
+use Rattle.lent.specs.Good.{sessionGood}
+use Rattle.lent.proofs.GoodSessions.{session-parts}
+use Rattle.lists.specs.Lists.{same}
+use Rattle.message.specs.Flags.{syncReset, hasFlag}
+use Rattle.message.specs.declared.flags.Section.{Section}
+use Rattle.rules.specs.Hash.{hashesAt}
+use Rattle.rules.specs.Order.{keep}
+use Rattle.rules.specs.Output.{Gathered}
+use Rattle.rules.specs.Sizes.{sizes}
+use Rattle.rules.proofs.Cases.{split}
+use Rattle.rules.proofs.Hash.{length-hashes-at}
+use Rattle.rules.proofs.KeepLaws.{keep-most}
+use Rattle.session.specs.Counts.{countHeard, countsOf}
+use Rattle.session.specs.Plan.{empty}
+use Rattle.session.specs.Receive.{Said, told, sentFlagged, flagged, loads, sharedLoaded, sharedAfter, sentLeft, lastSentAfter, received}
+use Rattle.state.specs.Session.{State}
+use Rattle.state.specs.Value.{Lent, heardHashes, heardHaves, valueOf}
+use Rattle.state.specs.declared.session.Heard.{Heard}
+use Rattle.state.specs.declared.session.Heard.the-variants.{Nothing, Count}
+use Rattle.state.specs.declared.session.Session.{Session}
+use Rattle.state.proofs.ValueLaws.{kept-length}
+use Rattle.tables.specs.Bytes.{rowsAt}
+use Rattle.tables.specs.Table.{Row}
+use Rattle.tables.proofs.TableLaws.{take-rows-at}
+use Rattle.receiving.specs.Made.{flaggedCounts, SharedMade}
+use Rattle.receive.specs.Call.{shortFor, orShort}
+use Rattle.drafting.specs.Made.{saidAt, sharedRoom, toldHeads, lastSentCount, keptHashes, DraftMade}
+use Rattle.taking.specs.Draft.{SmallDraft, receivedCounts, orWanted, shortWith}
+use Rattle.taking.specs.declared.answer.Rooms.{Rooms}
+use Rattle.taking.specs.declared.decide.Draft.{Draft}
+use Rattle.drafting.proofs.SaidLaws.{read-words, haves-many}
+use Rattle.drafting.proofs.MakeLaws.{kept-most}
+
+-- ---- counts of a good session
+
+hashes-count : (s : List ℕ) (h : Heard) → countHeard (heardHashes s h) ≡ h
+unfolding heardHashes
+hashes-count s Nothing = refl
+hashes-count s (Count n) = ap Count (length-hashes-at s 0 n)
+
+haves-count : (s haves : List ℕ) (h : Heard) → ((n : ℕ) → h ≡ Count n → haveWords * n ≤ length haves) → countHeard (heardHaves s haves h) ≡ h
+unfolding heardHaves
+haves-count s haves Nothing f = refl
+haves-count s haves (Count n) f = ap Count (kept-length s haves n (f n refl))
+
+flagged-count : (flags : Section) (s : List ℕ) (n : ℕ)
+    → length (sentFlagged flags (hashesAt s 0 n)) ≡ cond (told (λ f. hasFlag f syncReset) flags false) 0 n
+unfolding sentFlagged
+flagged-count flags s n = split (told (λ f. hasFlag f syncReset) flags false) (λ e. rw e) (λ e. rw e (length-hashes-at s 0 n))
+
+-- the counts that a failed load leaves
+pub flagged-counts : (s : Session) (l : Lent) → sessionGood s l ≡ true → (flags : Section)
+    → countsOf (flagged flags (valueOf s l)) ≡ flaggedCounts flags s
+unfolding flagged
+flagged-counts s l good flags =
+    let g = session-parts s l good in
+    rw (length-hashes-at (l .shared) 0 (s .«shared_heads»), length-hashes-at (l .lastSent) 0 (s .«last_sent_heads»), hashes-count (l .theirHeads) (s .«their_heads»), hashes-count (l .theirNeed) (s .«their_need»), haves-count (l .bytes) (l .haves) (s .«their_have») (λ n e. g .theirHave n e .there), flagged-count flags (l .sent) (s .«sent_hashes»))
+
+-- ---- lists of the message's heads, which may be none
+
+not-none : (n : ℕ) → eqb (suc n) 0 ≡ false
+not-none n = ne-eqb (suc n) 0 (λ e. omega arith)
+
+some-more : (n : ℕ) → ltb 0 (suc n) ≡ true
+some-more n = lt-ltb 0 (suc n) (omega arith)
+
+-- sent hashes that are gone through, none where there are no heads
+left-is : (p : ℕ → Bool) (message : List ℕ) (place count : ℕ) (b : Bool) (sent : List ℕ) (n : ℕ)
+    → keep p (hashesAt sent 0 (keptHashes count (cond b 0 n)))
+    ≡ cond (empty (hashesAt message place count)) [] (keep p (cond b [] (hashesAt sent 0 n)))
+unfolding keptHashes hashesAt keep
+left-is p message place zero b sent n = refl
+left-is p message place (suc count) true sent n = rw (not-none count)
+left-is p message place (suc count) false sent n = rw (not-none count)
+
+last-is : (message : List ℕ) (place count : ℕ) (b : Bool) (lastSent : List ℕ) (n : ℕ)
+    → lastSentCount count (cond b count 0) n
+    ≡ length (cond (empty (hashesAt message place count)) [] (cond b (hashesAt message place count) (hashesAt lastSent 0 n)))
+unfolding lastSentCount hashesAt
+last-is message place zero b lastSent n = refl
+last-is message place (suc count) true lastSent n = rw (not-none count, some-more count) (sym (ap suc (length-hashes-at message (place + sizes .hash) count)))
+last-is message place (suc count) false lastSent n = rw (not-none count) (sym (length-hashes-at lastSent 0 n))
+
+last-most : (count n most : ℕ) (b : Bool) → count ≤ most → n ≤ most → lastSentCount count (cond b count 0) n ≤ most
+unfolding lastSentCount
+last-most zero n most b h k = omega arith
+last-most (suc count) n most true h k = rw (not-none count, some-more count) h
+last-most (suc count) n most false h k = rw (not-none count) k
+
+told-most : (count n : ℕ) (b : Bool) → cond b count 0 ≤ lastSentCount count (cond b count 0) n
+unfolding lastSentCount
+told-most zero n true = omega arith
+told-most zero n false = omega arith
+told-most (suc count) n true = rw (not-none count, some-more count) (omega arith)
+told-most (suc count) n false = omega arith
+
+told-least : (b : Bool) (n : ℕ) → cond b n 0 ≤ n
+told-least true n = omega arith
+told-least false n = omega arith
+
+forgets-most : (b : Bool) (n : ℕ) → cond b 0 n ≤ n
+forgets-most true n = omega arith
+forgets-most false n = omega arith
+
+-- ---- room for one more than there may be
+
+one-more : (most : ℕ) → sizes .hash * (most + 1) / sizes .hash ≡ most + 1
+one-more most = omega arith
+
+module _ {hs after : List ℕ} {count : ℕ} (f : SharedMade hs sharedRoom after count) where
+  pub shared-within : count ≤ sizes .hashes + 1
+  shared-within =
+      let z = one-more (sizes .hashes) in
+      omega (arith, f .many, f .are .within)
+
+  pub shared-many : sizes .hashes < count → sizes .hashes < length hs
+  shared-many h =
+      let e = f .many in
+      let z = one-more (sizes .hashes) in
+      omega (arith, f .are .full (omega (arith, f .are .within)))
+
+  pub shared-all : count ≤ sizes .hashes → Gathered hs after count
+  shared-all h =
+      let e = f .many in
+      let z = one-more (sizes .hashes) in
+      let q : hashesAt after 0 count ≡ hs = f .are .all (omega arith) in
+      record { many = rw q at e; list = q }
+
+-- ---- room
+
+-- 0 is no wanted length
+abbrev pub wantedOf : ℕ → Option ℕ
+wantedOf n = cond (ltb 0 n) (some n) none
+
+or-wanted : (room wanted rest : ℕ) → orShort room wanted (wantedOf rest) ≡ wantedOf (orWanted room wanted rest)
+or-wanted room wanted rest =
+    split (ltb room wanted)
+    (λ e.
+    let some′ : 0 < wanted = omega (arith, ltb-true room wanted e) in
+    rw (e, lt-ltb 0 wanted some′))
+    (λ e. rw e)
+
+or-more : (room wanted : ℕ) (rest : Option ℕ) (n : ℕ) → rest ≡ wantedOf n → orShort room wanted rest ≡ wantedOf (orWanted room wanted n)
+or-more room wanted rest n e = ap (λ (o : Option ℕ). orShort room wanted o) e ∙ or-wanted room wanted n
+
+-- the first too short list says the same on both sides
+shorts : (d : Draft) (r : Rooms)
+    → orShort (r .shared) (sizes .hash * d .shared)
+    (orShort (r .«last_sent») (sizes .hash * d .«last_sent»)
+    (orShort (r .«their_heads») (sizes .hash * d .heads)
+    (orShort (r .«their_need») (sizes .hash * d .need)
+    (orShort (r .haves) (haveWords * d .haves) (orShort (r .bytes) (d .bytes) none)))))
+    ≡ wantedOf (shortWith d r)
+unfolding shortWith
+shorts d r =
+    let bytes : ℕ = orWanted (r .bytes) (d .bytes) 0 in
+    let haves : ℕ = orWanted (r .haves) (haveWords * d .haves) bytes in
+    let need : ℕ = orWanted (r .«their_need») (sizes .hash * d .need) haves in
+    let heads : ℕ = orWanted (r .«their_heads») (sizes .hash * d .heads) need in
+    let last : ℕ = orWanted (r .«last_sent») (sizes .hash * d .«last_sent») heads in
+    or-more _ (sizes .hash * d .shared) _ last
+    (or-more _ (sizes .hash * d .«last_sent») _ heads
+    (or-more _ (sizes .hash * d .heads) _ need
+    (or-more _ (sizes .hash * d .need) _ haves
+    (or-more _ (haveWords * d .haves) _ bytes (or-wanted (r .bytes) (d .bytes) 0)))))
+
+-- ---- all parts
+
+module _ (s : Session) (l : Lent) (good : sessionGood s l ≡ true) (table : List ℕ) (n before : ℕ) (inside : before ≤ n) (message : List ℕ) (p : Places)
+    (read : decodedOf (messageAt message) ≡ Placed p) where
+  abbrev v : State
+  v = valueOf s l
+
+  abbrev t : List Row
+  t = rowsAt table 0 n
+
+  abbrev m : Said
+  m = saidAt message p
+
+  abbrev tells : Bool
+  tells = not (ltb 0 (p .chunks .count)) && same (m .heads) (heads (take before t))
+
+  module _ (ready : _) (d : Draft)
+      (made : DraftMade (ltb 0 (p .chunks .count) && not (s .«read_only»)) (flaggedCounts (p .flags) s) table n before message p (l .shared) (l .sent) ready d)
+    where
+      pub shared-made : SharedMade (sharedAfter before t v m) sharedRoom (ready .shared) (d .shared)
+      unfolding sharedAfter sharedLoaded loads
+      shared-made = made .shared
+
+      pub sent-made : Gathered (sentLeft t v m) (ready .sent) (d .sent)
+      unfolding sentLeft sentFlagged
+      sent-made =
+          rw (← left-is (λ h. not (below t (m .heads) h)) message (p .heads .start) (p .heads .count) (told (λ f. hasFlag f syncReset) (p .flags) false) (l .sent) (s .«sent_hashes»))
+          (made .sent)
+
+      pub told-made : d .told ≡ cond tells (p .heads .count) 0
+      unfolding toldHeads
+      told-made = rw (take-rows-at table 0 before n inside) (made .told)
+
+      last-made : d .«last_sent» ≡ lastSentCount (p .heads .count) (cond tells (p .heads .count) 0) (s .«last_sent_heads»)
+      last-made = rw (← told-made) (made .lastSent)
+
+      pub last-count : d .«last_sent» ≡ length (lastSentAfter before t v m)
+      unfolding lastSentAfter
+      last-count = last-made ∙ last-is message (p .heads .start) (p .heads .count) tells (l .lastSent) (s .«last_sent_heads»)
+
+      pub heads-count : d .heads ≡ length (m .heads)
+      heads-count = made .heads ∙ sym (length-hashes-at message (p .heads .start) (p .heads .count))
+
+      pub need-count : d .need ≡ length (m .need)
+      need-count = made .need ∙ sym (length-hashes-at message (p .need .start) (p .need .count))
+
+      pub haves-counted : d .haves ≡ length (m .haves)
+      haves-counted = made .haves ∙ sym (haves-many message p read)
+
+      pub told-few : d .told ≤ p .heads .count
+      told-few = rw told-made (told-least tells (p .heads .count))
+
+      -- what is told has room where the heads sent last have it
+      pub told-within : d .told ≤ d .«last_sent»
+      told-within = rw (told-made, last-made) (told-most (p .heads .count) (s .«last_sent_heads») tells)
+
+      -- sent hashes only become fewer
+      pub sent-within : d .sent ≤ s .«sent_hashes»
+      sent-within =
+          let g = made .sent in
+          let k : ℕ = cond (told (λ f. hasFlag f syncReset) (p .flags) false) 0 (s .«sent_hashes») in
+          omega (arith, g .many, keep-most (λ h. not (below t (m .heads) h)) (hashesAt (l .sent) 0 (keptHashes (p .heads .count) k)), length-hashes-at (l .sent) 0 (keptHashes (p .heads .count) k), kept-most (p .heads .count) k, forgets-most (told (λ f. hasFlag f syncReset) (p .flags) false) (s .«sent_hashes»))
+
+      pub draft-small : SmallDraft d
+      draft-small =
+          let g = session-parts s l good in
+          let w = read-words message p read in
+          record {
+            shared = shared-within shared-made;
+            lastSent = rw last-made (last-most (p .heads .count) (s .«last_sent_heads») (sizes .hashes) tells (w .fewHeads) (g .lastSent .few));
+            heads = rw (made .heads) (w .fewHeads);
+            need = rw (made .need) (w .fewNeed);
+            haves = rw (made .haves) (w .fewHaves);
+          }
+
+      module _ (few : d .shared ≤ sizes .hashes) where
+        pub shared-gathered : Gathered (sharedAfter before t v m) (ready .shared) (d .shared)
+        shared-gathered = shared-all shared-made few
+
+        -- the counts that a message leaves
+        pub received-counts : countsOf (received before t v m) ≡ receivedCounts (flaggedCounts (p .flags) s) d
+        unfolding received
+        received-counts = rw (shared-gathered .many, last-count, heads-count, need-count, haves-counted, sent-made .many)
+
+        pub short-is : (r : Rooms) → shortFor (received before t v m) r ≡ wantedOf (shortWith d r)
+        unfolding shortFor received
+        short-is r =
+            rw (← shared-gathered .many, ← last-count, ← heads-count, ← need-count, ← haves-counted, ← made .words .bytes) (shorts d r)

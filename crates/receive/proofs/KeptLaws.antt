@@ -1,0 +1,218 @@
+-- What stands ready fits where it is put, and is what the call promises to keep; after a refusal nothing is put, which is no case of its own. Assumes
+-- nothing.
+use Prim.Native.Nat.{ℕ, zero, suc, _+_, _*_, _≤_}
+use mathlib.Core.Bool.{Bool, true, false, cond, not, _&&_}
+use mathlib.Core.List.{List, [], _++_}
+use mathlib.Core.Path.{_≡_, refl, sym, ap, _∙_}
+use native.Mathlib.Nat.{add-zero, zero-add}
+use native.Mathlib.Omega.{arith}
+use borrow.Author.Tests.{ltb-true, ltb-false}
+use lib.Dec.{ltb}
+use lib.ListN.{length, take, drop, take-append-drop}
+use lib.Seq.{sets, slice, sets-eq, slice-empty, length-take-le}
+use Rattle.bloom.specs.Have.{haveWords, havesFrom, havesOf}
+use Rattle.decode.specs.Read.{messageAt, decodedOf}
+use Rattle.decode.specs.declared.parse.Decoded.the-variants.{Message as Placed}
+use Rattle.decode.specs.declared.parse.Places.{Places}
+use Rattle.graph.specs.Graph.{heads}
+use Rattle.lent.specs.Good.{sessionGood}
+use Rattle.lent.proofs.GoodSessions.{session-parts}
+use Rattle.lists.specs.Lists.{same}
+use Rattle.rules.specs.Hash.{Bytes, hashesAt, hashesBytes}
+use Rattle.rules.specs.Sizes.{sizes}
+use Rattle.rules.proofs.Cases.{split}
+use Rattle.rules.proofs.Hash.{hashes-at-bytes}
+use Rattle.rules.proofs.Outputs.{gathered-bytes}
+use Rattle.session.specs.Laid.{laidBytes, laidFrom, laidWords}
+use Rattle.session.specs.Plan.{empty}
+use Rattle.session.specs.Receive.{Said, Received, lastSentAfter, received}
+use Rattle.state.specs.Session.{State}
+use Rattle.state.specs.Value.{Lent, valueOf}
+use Rattle.state.specs.declared.session.Session.{Session}
+use Rattle.tables.specs.Bytes.{rowsAt}
+use Rattle.tables.specs.Table.{Row}
+use Rattle.receiving.specs.Made.{flaggedCounts, Layable}
+use Rattle.receive.specs.Call.{keptIn, roomsIn}
+use Rattle.drafting.specs.Made.{saidAt, havesWords, Long, DraftMade}
+use Rattle.taking.specs.Draft.{receivedCounts, orWanted, shortWith, Parts, noDraft, putsOf, Fits, allPut}
+use Rattle.taking.specs.declared.answer.Received.{Received as Answer}
+use Rattle.taking.specs.declared.answer.Rooms.{Rooms}
+use Rattle.taking.specs.declared.decide.Draft.{Draft}
+use Rattle.receive.proofs.DraftLaws.{shared-gathered, sent-made, told-made, told-few, told-within, sent-within, draft-small}
+use Rattle.receive.proofs.Outcomes.{Outcome}
+use Rattle.drafting.proofs.SaidLaws.{read-words, read-layable}
+use Rattle.taking.proofs.PutLaws.{lents-same}
+
+-- ---- nothing put
+
+none-at : (place : ℕ) (s : List ℕ) → slice place (place + 0) s ≡ []
+none-at place s = rw (add-zero, slice-empty)
+
+none-laid : (message : List ℕ) → havesOf message [] ≡ []
+unfolding havesOf havesFrom
+none-laid message = refl
+
+none-put : (message : List ℕ) (atHeads atNeed : ℕ) (ready : Parts) (l : Lent) → allPut noDraft message atHeads atNeed ready l ≡ l
+unfolding laidWords laidFrom laidBytes
+none-put message atHeads atNeed ready l = rw (none-at atHeads message, none-at atNeed message, none-laid message)
+
+none-layable : (message : List ℕ) → Layable message []
+none-layable message = record { few = omega arith; each = λ i h. absurd (omega arith); syncs = λ i h. absurd (omega arith) }
+
+-- ---- heads sent last that stay
+
+-- the first hashes of a buffer put at its start are the buffer
+stays : (s : List ℕ) (n : ℕ) → Bytes s → sizes .hash * n ≤ length s → sets s 0 (hashesBytes (hashesAt s 0 n)) ≡ s
+stays s n b h =
+    let k : ℕ = sizes .hash * n in
+    let at : hashesBytes (hashesAt s 0 n) ≡ slice 0 (0 + k) s = hashes-at-bytes s 0 n b (omega arith) in
+    let is : hashesBytes (hashesAt s 0 n) ≡ take k s = rw zero-add at at in
+    let long : length (take k s) ≡ k = length-take-le k s h in
+    let all : sets s 0 (take k s) ≡ take k s ++ drop (0 + length (take k s)) s = sets-eq (take k s) s 0 (omega arith) in
+    let end : 0 + length (take k s) ≡ k = zero-add _ ∙ long in
+    rw is (all ∙ rw end (take-append-drop k s))
+
+last-put : (message : List ℕ) (place count : ℕ) (b : Bool) (lastSent : List ℕ) (n : ℕ) → Bytes message → place + sizes .hash * count ≤ length message
+    → Bytes lastSent → sizes .hash * n ≤ length lastSent
+    → sets lastSent 0 (slice place (place + sizes .hash * cond b count 0) message)
+    ≡ sets lastSent 0 (hashesBytes (cond (empty (hashesAt message place count)) [] (cond b (hashesAt message place count) (hashesAt lastSent 0 n))))
+unfolding hashesAt hashesBytes
+last-put message place zero true lastSent n c h d k = rw (none-at place message)
+last-put message place zero false lastSent n c h d k = rw (none-at place message)
+last-put message place (suc count) true lastSent n c h d k = ap (sets lastSent 0) (sym (hashes-at-bytes message place (suc count) c h))
+last-put message place (suc count) false lastSent n c h d k = rw (none-at place message) (sym (stays lastSent n d k))
+
+-- ---- room
+
+not-short : (room wanted rest : ℕ) → orWanted room wanted rest ≡ 0 → (wanted ≤ room) × (rest ≡ 0)
+not-short room wanted rest e =
+    split (ltb room wanted)
+    (λ t. let f : wanted ≡ 0 = rw t at e in absurd (omega (arith, ltb-true room wanted t)))
+    (λ t. let f : rest ≡ 0 = rw t at e in (omega (arith, ltb-false room wanted t), f))
+
+-- Room for every list.
+pub record Roomy (d : Draft) (r : Rooms) : Type 0 where
+  pub shared : sizes .hash * d .shared ≤ r .shared
+  pub lastSent : sizes .hash * d .«last_sent» ≤ r .«last_sent»
+  pub heads : sizes .hash * d .heads ≤ r .«their_heads»
+  pub need : sizes .hash * d .need ≤ r .«their_need»
+  pub haves : haveWords * d .haves ≤ r .haves
+  pub bytes : d .bytes ≤ r .bytes
+
+roomy : (d : Draft) (r : Rooms) → shortWith d r ≡ 0 → Roomy d r
+unfolding shortWith
+roomy d r e =
+    let a = not-short _ _ _ e in
+    let b = not-short _ _ _ (a .1) in
+    let c = not-short _ _ _ (b .1) in
+    let f = not-short _ _ _ (c .1) in
+    let g = not-short _ _ _ (f .1) in
+    let h = not-short _ _ _ (g .1) in
+    record { shared = a .0; lastSent = b .0; heads = c .0; need = f .0; haves = g .0; bytes = h .0 }
+
+-- ---- all parts
+
+module _ (s : Session) (l : Lent) (good : sessionGood s l ≡ true) (table : List ℕ) (n before : ℕ) (inside : before ≤ n) (message : List ℕ) (p : Places)
+    (read : decodedOf (messageAt message) ≡ Placed p) (ready : Parts) (d : Draft)
+    (made : DraftMade (ltb 0 (p .chunks .count) && not (s .«read_only»)) (flaggedCounts (p .flags) s) table n before message p (l .shared) (l .sent) ready d)
+    (long : Long ready) (all : Bytes message) (a : Answer) (q : Received)
+    (o : Outcome d (roomsIn l) (receivedCounts (flaggedCounts (p .flags) s) d) (received before (rowsAt table 0 n) (valueOf s l) (saidAt message p)) a q)
+  where
+    abbrev v : State
+    v = valueOf s l
+
+    abbrev t : List Row
+    t = rowsAt table 0 n
+
+    abbrev m : Said
+    m = saidAt message p
+
+    words-ready : take (haveWords * d .haves) (ready .words) ≡ havesWords message p
+    words-ready = rw (made .haves) (made .words .words)
+
+    took-fits : d .shared ≤ sizes .hashes → shortWith d (roomsIn l) ≡ 0 → Fits d message (p .heads .start) (p .need .start) ready l
+    took-fits few room =
+        let g = session-parts s l good in
+        let w = read-words message p read in
+        let r = roomy d (roomsIn l) room in
+        let small = draft-small s l good table n before inside message p read ready d made in
+        let tells = told-within s l good table n before inside message p read ready d made in
+        let less = sent-within s l good table n before inside message p read ready d made in
+        record {
+          shared = omega (arith, long .shared);
+          sharedRoom = r .shared;
+          told = omega (arith, w .headsThere, told-few s l good table n before inside message p read ready d made);
+          toldRoom = omega (arith, r .lastSent);
+          heads = rw (made .heads) (w .headsThere);
+          headsRoom = r .heads;
+          need = rw (made .need) (w .needThere);
+          needRoom = r .need;
+          haves =
+              record {
+                there = omega (arith, long .words, small .haves);
+                layable = rw words-ready (read-layable message p read all);
+                room = r .haves;
+                bytesRoom = rw (words-ready, ← made .words .bytes) (r .bytes);
+              };
+          sent = omega (arith, long .sent, g .sent .few);
+          sentRoom = omega (arith, g .sent .there);
+        }
+
+    none-fits : Fits noDraft message (p .heads .start) (p .need .start) ready l
+    unfolding laidBytes
+    none-fits =
+        let w = read-words message p read in
+        record {
+          shared = omega arith;
+          sharedRoom = omega arith;
+          told = omega (arith, w .headsThere);
+          toldRoom = omega arith;
+          heads = omega (arith, w .headsThere);
+          headsRoom = omega arith;
+          need = omega (arith, w .needThere);
+          needRoom = omega arith;
+          haves = record { there = omega arith; layable = none-layable message; room = omega arith; bytesRoom = rw (none-laid message) (omega arith) };
+          sent = omega arith;
+          sentRoom = omega arith;
+        }
+
+    -- what is put has room
+    pub puts-fit : Fits (putsOf a d) message (p .heads .start) (p .need .start) ready l
+    unfolding putsOf
+    puts-fit = go o
+      where
+        go : Outcome d (roomsIn l) (receivedCounts (flaggedCounts (p .flags) s) d) (received before t v m) a q
+            → Fits (putsOf a d) message (p .heads .start) (p .need .start) ready l
+        go (Outcome.refuses refusal left e f g) = rw f none-fits
+        go (Outcome.takes few room e f g) = rw e (took-fits few room)
+
+    module _ (lastBytes : Bytes (l .lastSent)) (sharedBytes : Bytes (ready .shared)) (sentBytes : Bytes (ready .sent)) where
+      took-put : d .shared ≤ sizes .hashes → allPut d message (p .heads .start) (p .need .start) ready l ≡ keptIn (Received.took (received before t v m)) l
+      unfolding keptIn received lastSentAfter
+      took-put few =
+          let g = session-parts s l good in
+          let w = read-words message p read in
+          let small = draft-small s l good table n before inside message p read ready d made in
+          let less = sent-within s l good table n before inside message p read ready d made in
+          let tells : Bool = not (ltb 0 (p .chunks .count)) && same (m .heads) (heads (take before t)) in
+          let shared = shared-gathered s l good table n before inside message p read ready d made few in
+          let sent = sent-made s l good table n before inside message p read ready d made in
+          lents-same
+          (ap (sets (l .shared) 0) (sym (gathered-bytes shared sharedBytes (omega (arith, long .shared)))))
+          (rw (told-made s l good table n before inside message p read ready d made)
+          (last-put message (p .heads .start) (p .heads .count) tells (l .lastSent) (s .«last_sent_heads») all (w .headsThere) lastBytes (g .lastSent .there)))
+          (rw (made .heads) (ap (sets (l .theirHeads) 0) (sym (hashes-at-bytes message (p .heads .start) (p .heads .count) all (w .headsThere)))))
+          (rw (made .need) (ap (sets (l .theirNeed) 0) (sym (hashes-at-bytes message (p .need .start) (p .need .count) all (w .needThere)))))
+          (rw words-ready)
+          (rw words-ready)
+          (ap (sets (l .sent) 0) (sym (gathered-bytes sent sentBytes (omega (arith, long .sent, g .sent .few)))))
+
+      -- and is what is kept
+      pub puts-kept : allPut (putsOf a d) message (p .heads .start) (p .need .start) ready l ≡ keptIn q l
+      unfolding putsOf keptIn
+      puts-kept = go o
+        where
+          go : Outcome d (roomsIn l) (receivedCounts (flaggedCounts (p .flags) s) d) (received before t v m) a q
+              → allPut (putsOf a d) message (p .heads .start) (p .need .start) ready l ≡ keptIn q l
+          go (Outcome.refuses refusal left e f g) = rw (e, f) (none-put message (p .heads .start) (p .need .start) ready l)
+          go (Outcome.takes few room e f g) = rw (e, f) (took-put few)

@@ -1,0 +1,5 @@
+pub mod CallLaws
+pub mod DraftLaws
+pub mod KeptLaws
+pub mod OtherLaws
+pub mod Outcomes

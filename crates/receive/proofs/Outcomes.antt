@@ -1,0 +1,102 @@
+-- What is decided from the numbers is what receiving gives on values, with the room tested last: a refusal, with nothing put, or the session taken, with
+-- room for all of it. Assumes nothing.
+use Prim.Native.Nat.{ℕ, _≤_, _<_}
+use mathlib.Core.Bool.{Bool, true, cond, not, _&&_}
+use mathlib.Core.List.{List}
+use mathlib.Core.Path.{_≡_, refl, sym, ap}
+use native.Mathlib.Omega.{arith}
+use borrow.Author.Tests.{ltb-true, ltb-false, lt-ltb, le-ltb}
+use lib.Dec.{ltb}
+use lib.ListN.{length}
+use Rattle.decode.specs.Read.{messageAt, decodedOf}
+use Rattle.decode.specs.declared.parse.Decoded.the-variants.{Message as Placed}
+use Rattle.decode.specs.declared.parse.Places.{Places}
+use Rattle.lent.specs.Good.{sessionGood}
+use Rattle.rules.specs.Sizes.{sizes}
+use Rattle.rules.specs.declared.refusal.Refusal.{Refusal}
+use Rattle.rules.specs.declared.refusal.Refusal.the-variants.{PastSize, NoRoom, LoadFailed}
+use Rattle.rules.proofs.Cases.{split}
+use Rattle.session.specs.Counts.{countsOf}
+use Rattle.session.specs.Receive.{Said, Received, flagged, loads, sharedAfter, received, receiveJoined, receive}
+use Rattle.state.specs.Session.{State}
+use Rattle.state.specs.Value.{Lent, valueOf}
+use Rattle.state.specs.declared.session.Session.{Session}
+use Rattle.tables.specs.Bytes.{rowsAt}
+use Rattle.tables.specs.Table.{Row}
+use Rattle.receiving.specs.Made.{flaggedCounts}
+use Rattle.receive.specs.Call.{unlessShort, roomed, refusalAnswer, answerOf}
+use Rattle.drafting.specs.Made.{saidAt, DraftMade}
+use Rattle.taking.specs.Draft.{receivedCounts, shortWith, decided, Parts, noDraft, putsOf}
+use Rattle.taking.specs.declared.answer.Received.{Received as Answer}
+use Rattle.taking.specs.declared.answer.Received.the-variants.{Took, Failed, Refused}
+use Rattle.taking.specs.declared.answer.Rooms.{Rooms}
+use Rattle.taking.specs.declared.decide.Draft.{Draft}
+use Rattle.receive.proofs.DraftLaws.{flagged-counts, shared-made, shared-many, shared-gathered, received-counts, wantedOf, short-is}
+
+module _ (d : Draft) (r : Rooms) (after : Session) (new : State) where
+  -- The two ways that an answer and a result on values go together.
+  pub data Outcome (a : Answer) (q : Received) : Type 0 where
+    refuses : (refusal : Refusal) (left : State) → q ≡ Received.refused refusal left → putsOf a d ≡ noDraft → a ≡ answerOf q → Outcome a q
+    takes : d .shared ≤ sizes .hashes → shortWith d r ≡ 0 → a ≡ Took after → q ≡ Received.took new → a ≡ answerOf q → Outcome a q
+
+  pub same-answer : (a : Answer) (q : Received) → Outcome a q → a ≡ answerOf q
+  same-answer a q (Outcome.refuses refusal left e f g) = g
+  same-answer a q (Outcome.takes few room e f g) = g
+
+  -- room is asked last
+  room-asked : (old : State) (w : ℕ) → w ≡ shortWith d r → d .shared ≤ sizes .hashes → countsOf new ≡ after
+      → Outcome (cond (ltb 0 w) (Refused (NoRoom w)) (Took after)) (unlessShort (wantedOf w) old new)
+  unfolding unlessShort putsOf answerOf refusalAnswer
+  room-asked old w is few counts =
+      split (ltb 0 w)
+      (λ e. rw e (Outcome.refuses (NoRoom w) old refl refl refl))
+      (λ e.
+      let none : shortWith d r ≡ 0 = omega (arith, ltb-false 0 w e) in
+      rw e (Outcome.takes few none refl refl (ap Took (sym counts))))
+
+module _ (s : Session) (l : Lent) (good : sessionGood s l ≡ true) (table : List ℕ) (n before : ℕ) (inside : before ≤ n) (message : List ℕ) (p : Places)
+    (read : decodedOf (messageAt message) ≡ Placed p) (ready : Parts) (d : Draft)
+    (made : DraftMade (ltb 0 (p .chunks .count) && not (s .«read_only»)) (flaggedCounts (p .flags) s) table n before message p (l .shared) (l .sent) ready d)
+    (loaded : Bool) (r : Rooms) where
+  abbrev v : State
+  v = valueOf s l
+
+  abbrev t : List Row
+  t = rowsAt table 0 n
+
+  abbrev m : Said
+  m = saidAt message p
+
+  abbrev taken : Session
+  taken = flaggedCounts (p .flags) s
+
+  abbrev fails : Bool
+  fails = (ltb 0 (p .chunks .count) && not (s .«read_only»)) && not loaded
+
+  abbrev Of : Answer → Received → Type 0
+  Of a q = Outcome d r (receivedCounts taken d) (received before t v m) a q
+
+  joined : Of (cond (ltb (sizes .hashes) (d .shared))
+      (Refused (PastSize 0))
+      (cond (ltb 0 (shortWith d r)) (Refused (NoRoom (shortWith d r))) (Took (receivedCounts taken d))))
+      (roomed r v (receiveJoined before t v m))
+  unfolding roomed receiveJoined putsOf answerOf refusalAnswer
+  joined =
+      split (ltb (sizes .hashes) (d .shared))
+      (λ e.
+      let many : sizes .hashes < length (sharedAfter before t v m) = shared-many (shared-made s l good table n before inside message p read ready d made) (ltb-true _ _ e) in
+      rw (e, lt-ltb _ _ many) (Outcome.refuses (PastSize 0) v refl refl refl))
+      (λ e.
+      let few : d .shared ≤ sizes .hashes = ltb-false _ _ e in
+      let g = shared-gathered s l good table n before inside message p read ready d made few in
+      let fits : length (sharedAfter before t v m) ≤ sizes .hashes = omega (arith, g .many) in
+      rw (e, le-ltb _ _ fits, short-is s l good table n before inside message p read ready d made few r)
+      (room-asked d r (receivedCounts taken d) (received before t v m) v (shortWith d r) refl few
+      (received-counts s l good table n before inside message p read ready d made few)))
+
+  pub outcome : Of (decided taken fails d r) (roomed r v (receive loaded before t v m))
+  unfolding decided receive loads roomed putsOf answerOf refusalAnswer
+  outcome =
+      split fails
+      (λ e. rw e (Outcome.refuses LoadFailed (flagged (p .flags) v) refl refl (ap Failed (sym (flagged-counts s l good (p .flags))))))
+      (λ e. rw e joined)

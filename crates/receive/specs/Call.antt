@@ -1,0 +1,111 @@
+-- What the call answers, and what it leaves in the session's lists. 01, Refusal numbers: 10; 4 and 6; 11; the message from its first byte; 8; 4 for the
+-- joined heads; 7 for the first list that is too short.
+use Prim.Native.Nat.{ℕ, _*_}
+use mathlib.Core.Bool.{Bool, cond, not}
+use mathlib.Core.List.{List, []}
+use mathlib.Core.Option.{Option, none, some}
+use mathlib.Core.Path.{_≡_}
+use lib.Dec.{ltb, eqb}
+use lib.ListN.{length}
+use lib.Seq.{sets}
+use Rattle.bloom.specs.Have.{Have, haveWords}
+use Rattle.lent.specs.Good.{sessionGood}
+use Rattle.rules.specs.Hash.{hashesBytes}
+use Rattle.rules.specs.Refusal.{numberOf}
+use Rattle.rules.specs.Sizes.{sizes}
+use Rattle.rules.specs.declared.refusal.Refusal.{Refusal}
+use Rattle.rules.specs.declared.refusal.Refusal.the-variants.{BadNumbers, LoadFailed, NoRoom}
+use Rattle.session.specs.Counts.{countsOf}
+use Rattle.session.specs.Laid.{laidBytes, laidWords}
+use Rattle.session.specs.Plan.{heard}
+use Rattle.session.specs.Receive.{Received, receiveBytes}
+use Rattle.state.specs.Session.{State}
+use Rattle.state.specs.Value.{Lent, valueOf}
+use Rattle.state.specs.declared.session.Session.{Session}
+use Rattle.tables.specs.Bytes.{tableOf, tableChecked}
+use Rattle.tables.specs.declared.check.Checked.{Checked}
+use Rattle.tables.specs.declared.check.Checked.the-variants.{Good, Refused as BadTable}
+use Rattle.taking.specs.declared.answer.Received.{Received as Answer}
+use Rattle.taking.specs.declared.answer.Received.the-variants.{Took, Failed, Refused}
+use Rattle.taking.specs.declared.answer.Rooms.{Rooms}
+
+-- ---- what is received, for a session as counts with its lent lists, and a table as bytes
+
+-- 4 and 6 for the table; the rest wants its rows.
+unfoldable pub afterTable : Checked → State → Received → Received
+afterTable (Good n) s k = k
+afterTable (BadTable r) s k = Received.refused r s
+
+-- 10 comes first.
+unfoldable pub receiveWith : Bool → ℕ → Session → Lent → List ℕ → List ℕ → Received
+receiveWith loaded before s l table message =
+    cond (not (sessionGood s l))
+    (Received.refused BadNumbers (valueOf s l))
+    (afterTable (tableChecked table) (valueOf s l) (receiveBytes loaded before (tableOf table) (valueOf s l) message))
+
+-- ---- room: 7 comes last
+
+abbrev pub havesHeard : Option (List Have) → List Have
+havesHeard none = []
+havesHeard (some vs) = vs
+
+-- The length that the first too short list wants: shared, last-sent, their heads and need, the haves' records in words, then their bytes. Sent hashes
+-- only become fewer.
+abbrev pub orShort : ℕ → ℕ → Option ℕ → Option ℕ
+orShort room wanted rest = cond (ltb room wanted) (some wanted) rest
+
+unfoldable pub shortFor : State → Rooms → Option ℕ
+shortFor s r =
+    orShort (r .shared) (sizes .hash * length (s .sharedHeads))
+    (orShort (r .«last_sent») (sizes .hash * length (s .lastSentHeads))
+    (orShort (r .«their_heads») (sizes .hash * length (heard (s .theirHeads)))
+    (orShort (r .«their_need») (sizes .hash * length (heard (s .theirNeed)))
+    (orShort (r .haves) (haveWords * length (havesHeard (s .theirHave)))
+    (orShort (r .bytes) (length (laidBytes (havesHeard (s .theirHave)))) none)))))
+
+unfoldable pub unlessShort : Option ℕ → State → State → Received
+unlessShort none old new = Received.took new
+unlessShort (some wanted) old new = Received.refused (NoRoom wanted) old
+
+unfoldable pub roomed : Rooms → State → Received → Received
+roomed r old (Received.took new) = unlessShort (shortFor new r) old new
+roomed r old (Received.refused refusal left) = Received.refused refusal left
+
+-- ---- the answer, and the lists at exit: what is kept at their start, the rest as it was
+
+-- 8 alone leaves something; every other refusal leaves the session as it was passed.
+unfoldable pub refusalAnswer : Refusal → State → Answer
+refusalAnswer r s = cond (eqb (numberOf r) (numberOf LoadFailed)) (Failed (countsOf s)) (Refused r)
+
+unfoldable pub answerOf : Received → Answer
+answerOf (Received.took s) = Took (countsOf s)
+answerOf (Received.refused r s) = refusalAnswer r s
+
+unfoldable pub keptIn : Received → Lent → Lent
+keptIn (Received.took s) l =
+    record {
+      shared = sets (l .shared) 0 (hashesBytes (s .sharedHeads));
+      lastSent = sets (l .lastSent) 0 (hashesBytes (s .lastSentHeads));
+      theirHeads = sets (l .theirHeads) 0 (hashesBytes (heard (s .theirHeads)));
+      theirNeed = sets (l .theirNeed) 0 (hashesBytes (heard (s .theirNeed)));
+      haves = sets (l .haves) 0 (laidWords (havesHeard (s .theirHave)));
+      bytes = sets (l .bytes) 0 (laidBytes (havesHeard (s .theirHave)));
+      sent = sets (l .sent) 0 (hashesBytes (s .sentHashes));
+    }
+keptIn (Received.refused r s) l = l
+
+abbrev pub roomsIn : Lent → Rooms
+roomsIn l =
+    record {
+      shared = length (l .shared);
+      «last_sent» = length (l .lastSent);
+      «their_heads» = length (l .theirHeads);
+      «their_need» = length (l .theirNeed);
+      haves = length (l .haves);
+      bytes = length (l .bytes);
+    }
+
+-- What the call ensures.
+pub record ReceiveCalled (s : Session) (p : Received) (before after : Lent) (r : Answer) : Type 0 where
+  pub answer : r ≡ answerOf (roomed (roomsIn before) (valueOf s before) p)
+  pub lists : after ≡ keptIn (roomed (roomsIn before) (valueOf s before) p) before

@@ -1,0 +1,165 @@
+// The message received: tested, computed, decided, put.
+use bloom::have::HAVE_WORDS;
+use decode::parse::Places;
+use drafting::check::Checks;
+use drafting::check::check_receive;
+use drafting::make::load_failed;
+use drafting::make::loads_changes;
+use drafting::make::make_received;
+use receiving::flags::take_flags;
+use rules::sizes::HASH_SIZE;
+use rules::sizes::HASHES;
+use rules::sizes::HAVES;
+use rules::sizes::SENT_HASHES;
+use state::session::Session;
+use taking::answer::Received;
+use taking::answer::Rooms;
+use taking::decide::decide;
+use taking::put::put;
+use taking::put::puts_of;
+ghost use Rattle.lent.specs.Good.{lentOf};
+ghost use Rattle.drafting.specs.Checks.{Accepted};
+ghost use Rattle.receive.specs.Call.{receiveWith, ReceiveCalled};
+
+// Room for one hash more than a list may have, so that too many show.
+const SHARED_SIZE: usize = HASH_SIZE * (HASHES + 1);
+
+const SENT_SIZE: usize = HASH_SIZE * SENT_HASHES;
+// Room for the records of any haves.
+const RECORDS: usize = HAVE_WORDS * HAVES;
+
+// The message taken by a session and beside a table that have been checked.
+fn receive_checked(
+    session: Session,
+    table: &[u8],
+    n: usize,
+    before: usize,
+    message: &[u8],
+    places: Places,
+    loaded: bool,
+    shared: &mut [u8],
+    last_sent: &mut [u8],
+    their_heads: &mut [u8],
+    their_need: &mut [u8],
+    haves: &mut [u64],
+    bytes: &mut [u8],
+    sent: &mut [u8],
+) -> Received
+    requires { ⌜ Accepted session (lentOf (now shared) (now «last_sent») (now «their_heads») (now «their_need») (now haves) (now bytes) (now sent))
+        (now table) n before (now message) places ⌝ }
+    ensures { λ r. ⌜ ReceiveCalled session (receiveWith loaded before session
+        (lentOf (now (shared .entry)) (now («last_sent» .entry)) (now («their_heads» .entry)) (now («their_need» .entry))
+        (now (haves .entry)) (now (bytes .entry)) (now (sent .entry))) (now (table .entry)) (now (message .entry)))
+        (lentOf (now (shared .entry)) (now («last_sent» .entry)) (now («their_heads» .entry)) (now («their_need» .entry))
+        (now (haves .entry)) (now (bytes .entry)) (now (sent .entry)))
+        (lentOf (now (shared .exit)) (now («last_sent» .exit)) (now («their_heads» .exit)) (now («their_need» .exit))
+        (now (haves .exit)) (now (bytes .exit)) (now (sent .exit))) r ⌝ }
+{
+    let mut ready_shared = [0u8; SHARED_SIZE];
+    let mut ready_sent = [0u8; SENT_SIZE];
+    let mut words = [0u64; RECORDS];
+    let heads = places.heads;
+    let need = places.need;
+    let chunks = places.chunks;
+    let flags = places.flags;
+    let flagged = take_flags(session, flags);
+    let loads = loads_changes(chunks.count, session.read_only);
+    let draft = make_received(
+        flagged,
+        loads,
+        table,
+        n,
+        before,
+        message,
+        places,
+        shared,
+        sent,
+        &mut ready_shared,
+        &mut ready_sent,
+        &mut words,
+    );
+    let rooms = Rooms {
+        shared: shared.len(),
+        last_sent: last_sent.len(),
+        their_heads: their_heads.len(),
+        their_need: their_need.len(),
+        haves: haves.len(),
+        bytes: bytes.len(),
+    };
+    let received = decide(flagged, load_failed(loads, loaded), draft, rooms);
+    let puts = puts_of(received, draft);
+    put(
+        puts,
+        message,
+        heads.start,
+        need.start,
+        &words,
+        &ready_shared,
+        &ready_sent,
+        shared,
+        last_sent,
+        their_heads,
+        their_need,
+        haves,
+        bytes,
+        sent,
+    );
+    received
+}
+
+// What a message does to a session. `before`: how many rows the table had before loading; `loaded`: whether loading the message's changes went well,
+// which is looked at only where it has some and the session takes them.
+pub fn receive_sync_message(
+    session: Session,
+    table: &[u8],
+    before: usize,
+    message: &[u8],
+    loaded: bool,
+    shared: &mut [u8],
+    last_sent: &mut [u8],
+    their_heads: &mut [u8],
+    their_need: &mut [u8],
+    haves: &mut [u64],
+    bytes: &mut [u8],
+    sent: &mut [u8],
+) -> Received
+    ensures { λ r. ⌜ ReceiveCalled session (receiveWith loaded before session
+        (lentOf (now (shared .entry)) (now («last_sent» .entry)) (now («their_heads» .entry)) (now («their_need» .entry))
+        (now (haves .entry)) (now (bytes .entry)) (now (sent .entry))) (now (table .entry)) (now (message .entry)))
+        (lentOf (now (shared .entry)) (now («last_sent» .entry)) (now («their_heads» .entry)) (now («their_need» .entry))
+        (now (haves .entry)) (now (bytes .entry)) (now (sent .entry)))
+        (lentOf (now (shared .exit)) (now («last_sent» .exit)) (now («their_heads» .exit)) (now («their_need» .exit))
+        (now (haves .exit)) (now (bytes .exit)) (now (sent .exit))) r ⌝ }
+{
+    match check_receive(
+        session,
+        shared,
+        last_sent,
+        their_heads,
+        their_need,
+        haves,
+        bytes,
+        sent,
+        table,
+        before,
+        message,
+    ) {
+        Checks::Refused(refusal) => Received::Refused(refusal),
+        Checks::Good { rows, places } => receive_checked(
+            session,
+            table,
+            rows,
+            before,
+            message,
+            places,
+            loaded,
+            shared,
+            last_sent,
+            their_heads,
+            their_need,
+            haves,
+            bytes,
+            sent,
+        ),
+    }
+}

@@ -1,0 +1,50 @@
+-- Copies one after the other are all of what is put. Assumes nothing.
+use Prim.Native.Nat.{ℕ, _+_, _-_, _*_, _≤_}
+use mathlib.Core.List.{List}
+use mathlib.Core.Path.{_≡_, ap, _∙_}
+use lib.ListN.{take, drop, length}
+use lib.Seq.{sets, slice, length-take-le}
+use native.Mathlib.Nat.{add-sub-cancel-left, zero-add}
+use Rattle.bloom.specs.Have.{haveWords, haveCount, havesOf}
+use Rattle.rules.specs.Sizes.{sizes}
+use Rattle.rules.proofs.Hash.{take-drop}
+use Rattle.state.specs.Value.{Lent}
+use native.Mathlib.Omega.{arith}
+use Rattle.lent.specs.Good.{lentOf}
+use Rattle.session.specs.Laid.{laidBytes, laidWords}
+use Rattle.receiving.specs.Made.{Layable}
+use Rattle.taking.specs.declared.decide.Draft.{Draft}
+use Rattle.taking.specs.Draft.{Parts, LaidFit, allPut}
+
+pub part-put : (out s next : List ℕ) (a k : ℕ) → next ≡ sets out 0 (take (a + k - a) (drop a s)) → next ≡ sets out 0 (slice a (a + k) s)
+part-put out s next a k e = e ∙ ap (sets out 0) (ap (λ (j : ℕ). take j (drop a s)) (add-sub-cancel-left a k) ∙ take-drop k a s)
+
+-- what laying out asks
+pub laid-fits : (message words : List ℕ) (count : ℕ) (records bytes : List ℕ) → LaidFit message words count records bytes
+    → Layable message (take (haveWords * count) words)
+    × (haveWords * haveCount (take (haveWords * count) words) ≤ length records)
+    × (length (laidBytes (havesOf message (take (haveWords * count) words))) ≤ length bytes)
+laid-fits message words count records bytes f =
+    (f .layable, omega (arith, length-take-le (haveWords * count) words (f .there), f .room), f .bytesRoom)
+
+-- lists that are equal one by one are equal
+pub lents-same : {a a′ b b′ c c′ d d′ e e′ f f′ g g′ : List ℕ} → a ≡ a′ → b ≡ b′ → c ≡ c′ → d ≡ d′ → e ≡ e′ → f ≡ f′ → g ≡ g′
+    → _≡_ {A = Lent} (record { shared = a; lastSent = b; theirHeads = c; theirNeed = d; haves = e; bytes = f; sent = g })
+    (record { shared = a′; lastSent = b′; theirHeads = c′; theirNeed = d′; haves = e′; bytes = f′; sent = g′ })
+lents-same a b c d e f g = rw (a, b, c, d, e, f, g)
+
+-- one part after the other is all of it
+pub parts-put : (p : Draft) (message : List ℕ) (atHeads atNeed : ℕ) (ready : Parts) (l : Lent) {a b c d e f g : List ℕ}
+    → a ≡ sets (l .shared) 0 (slice 0 (0 + sizes .hash * p .shared) (ready .shared))
+    → b ≡ sets (l .lastSent) 0 (slice atHeads (atHeads + sizes .hash * p .told) message)
+    → c ≡ sets (l .theirHeads) 0 (slice atHeads (atHeads + sizes .hash * p .heads) message)
+    → d ≡ sets (l .theirNeed) 0 (slice atNeed (atNeed + sizes .hash * p .need) message)
+    → e ≡ sets (l .haves) 0 (laidWords (havesOf message (take (haveWords * p .haves) (ready .words))))
+    → f ≡ sets (l .bytes) 0 (laidBytes (havesOf message (take (haveWords * p .haves) (ready .words))))
+    → g ≡ sets (l .sent) 0 (slice 0 (0 + sizes .hash * p .sent) (ready .sent))
+    → lentOf a b c d e f g ≡ allPut p message atHeads atNeed ready l
+parts-put p message atHeads atNeed ready l a b c d e f g =
+    lents-same
+    (a ∙ ap (λ (k : ℕ). sets (l .shared) 0 (take k (ready .shared))) (zero-add (sizes .hash * p .shared)))
+    b c d e f
+    (g ∙ ap (λ (k : ℕ). sets (l .sent) 0 (take k (ready .sent))) (zero-add (sizes .hash * p .sent)))

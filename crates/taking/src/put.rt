@@ -1,0 +1,88 @@
+// What was decided, put into the session's lists: copies, and no test.
+use crate::answer::Received;
+use crate::decide::Draft;
+use bloom::have::HAVE_WORDS;
+use receiving::haves::lay_haves;
+use rules::put::copy_into;
+use rules::sizes::HASH_SIZE;
+ghost use mathlib.Core.Path.{_≡_};
+ghost use Prim.Native.Nat.{_+_, _*_, _≤_};
+ghost use lib.ListN.{length, take};
+ghost use lib.Seq.{sets, slice};
+ghost use Rattle.bloom.specs.Have.{haveWords, havesOf};
+ghost use Rattle.lent.specs.Good.{lentOf};
+ghost use Rattle.rules.specs.Sizes.{sizes};
+ghost use Rattle.session.specs.Laid.{laidBytes, laidWords};
+ghost use Rattle.taking.specs.Draft.{putsOf, LaidFit, Fits, allPut};
+
+// What is put for a draft: nothing after a refusal.
+pub fn puts_of(received: Received, d: Draft) -> Draft
+    ensures { λ r. ⌜ r ≡ putsOf received d ⌝ }
+{
+    let none = Draft {
+        shared: 0,
+        last_sent: 0,
+        told: 0,
+        sent: 0,
+        heads: 0,
+        need: 0,
+        haves: 0,
+        bytes: 0,
+    };
+    match received {
+        Received::Took(_) => d,
+        Received::Failed(_) => none,
+        Received::Refused(_) => none,
+    }
+}
+
+// Copies the hashes that stand at a place of some bytes to the start of a buffer.
+fn put_hashes(s: &[u8], place: usize, count: usize, out: &mut [u8])
+    requires { ⌜ (place + sizes .hash * count ≤ length (now s)) × (sizes .hash * count ≤ length (now out)) ⌝ }
+    ensures { λ _. ⌜ now (out .exit) ≡ sets (now (out .entry)) 0 (slice place (place + sizes .hash * count) (now (s .entry))) ⌝ }
+{
+    copy_into(out, 0, &s[place..place + HASH_SIZE * count]);
+}
+
+// Lays out so many haves of a message, whose records are lent.
+fn put_laid(message: &[u8], words: &[u64], count: usize, haves: &mut [u64], bytes: &mut [u8])
+    requires { ⌜ LaidFit (now message) (now words) count (now haves) (now bytes) ⌝ }
+    ensures { λ _. ⌜ (now (haves .exit) ≡ sets (now (haves .entry)) 0 (laidWords (havesOf (now (message .entry)) (take (haveWords * count) (now (words .entry))))))
+        × (now (bytes .exit) ≡ sets (now (bytes .entry)) 0 (laidBytes (havesOf (now (message .entry)) (take (haveWords * count) (now (words .entry)))))) ⌝ }
+{
+    lay_haves(message, &words[..HAVE_WORDS * count], haves, bytes);
+}
+
+// Copies what stands ready, and the message's heads and need from where they stand in it.
+pub fn put(
+    p: Draft,
+    message: &[u8],
+    at_heads: usize,
+    at_need: usize,
+    words: &[u64],
+    ready_shared: &[u8],
+    ready_sent: &[u8],
+    shared: &mut [u8],
+    last_sent: &mut [u8],
+    their_heads: &mut [u8],
+    their_need: &mut [u8],
+    haves: &mut [u64],
+    bytes: &mut [u8],
+    sent: &mut [u8],
+)
+    requires { ⌜ Fits p (now message) «at_heads» «at_need» (record { shared = now «ready_shared»; sent = now «ready_sent»; words = now words })
+        (lentOf (now shared) (now «last_sent») (now «their_heads») (now «their_need») (now haves) (now bytes) (now sent)) ⌝ }
+    ensures { λ _. ⌜ lentOf (now (shared .exit)) (now («last_sent» .exit)) (now («their_heads» .exit)) (now («their_need» .exit))
+        (now (haves .exit)) (now (bytes .exit)) (now (sent .exit))
+        ≡ allPut p (now (message .entry)) «at_heads» «at_need»
+        (record { shared = now («ready_shared» .entry); sent = now («ready_sent» .entry); words = now (words .entry) })
+        (lentOf (now (shared .entry)) (now («last_sent» .entry)) (now («their_heads» .entry)) (now («their_need» .entry))
+        (now (haves .entry)) (now (bytes .entry)) (now (sent .entry))) ⌝ }
+{
+    put_hashes(ready_shared, 0, p.shared, shared);
+    put_hashes(message, at_heads, p.told, last_sent);
+    put_hashes(message, at_heads, p.heads, their_heads);
+    put_hashes(message, at_need, p.need, their_need);
+    put_laid(message, words, p.haves, haves, bytes);
+    put_hashes(ready_sent, 0, p.sent, sent);
+}
