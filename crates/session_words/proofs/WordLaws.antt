@@ -25,7 +25,7 @@ module _ (present count : ℕ) where
 -- ---- there and back
 
 -- a flag as code casts it
-flag-byte : (b : Bool) → boolByte b ≡ flagWord b
+pub flag-byte : (b : Bool) → boolByte b ≡ flagWord b
 flag-byte true = refl
 flag-byte false = refl
 

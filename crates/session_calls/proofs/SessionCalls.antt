@@ -1,0 +1,72 @@
+-- Planning and receiving as calls have one answer, and leave one session and one content of every list.
+use Prim.Native.Nat.{ℕ}
+use mathlib.Core.Bool.{Bool}
+use mathlib.Core.List.{List, [], _∷_}
+use mathlib.Core.Path.{_≡_, sym, ap, _∙_}
+use mir.Val.{boolByte}
+use Rattle.bloom.specs.Filter.{defaultBits, defaultProbes}
+use Rattle.decide.specs.Call.{Buffers, PlanCalled, planWith}
+use Rattle.decide.specs.declared.answer.Planned.{Planned}
+use Rattle.decide.specs.declared.answer.Stated.{Stated}
+use Rattle.receive.specs.Call.{ReceiveCalled, receiveWith}
+use Rattle.session_words.proofs.WordLaws.{flag-byte}
+use Rattle.session_words.specs.Words.{sessionOf}
+use Rattle.state.specs.Value.{Lent}
+use Rattle.state.specs.declared.session.Session.{Session}
+use Rattle.taking.specs.declared.answer.Received.{Received}
+use Rattle.session_calls.specs.SessionCalls.{versionNumber, statedWords, plannedWords, plannedSession, PlanAnswered}
+use Rattle.session_calls.specs.SessionCalls.{receivedWords, receivedSession, ReceiveAnswered}
+
+-- the words as code puts them together
+pub stated-made : (what : ℕ) (p : Stated) (v : ℕ)
+    → v ≡ versionNumber (p .version)
+    → 0 ∷ what ∷ v ∷ p .flags .0 ∷ boolByte (p .document) ∷ p .heads ∷ p .need ∷ p .haves ∷ 0 ∷ p .syncs
+    ∷ p .filter .entries ∷ p .filter .bits ∷ p .filter .probes ∷ p .filter .place ∷ p .filter .size ∷ p .hashes ∷ []
+    ≡ statedWords what p
+stated-made what p v e = rw (e, flag-byte (p .document))
+
+-- ---- planning
+
+module _ {session₀ session₁ : List ℕ} {l : Lent} {table waiting : List ℕ} {before after : Buffers} {words : List ℕ} where
+  pub plan-answered : (s : Session) (r : Planned) → s ≡ sessionOf session₀
+      → PlanCalled s (planWith defaultBits defaultProbes s l table waiting) before after r
+      → session₁ ≡ plannedSession r session₀
+      → words ≡ plannedWords r
+      → PlanAnswered session₀ session₁ l table waiting before after words
+  plan-answered s r same called e f =
+      let known = rw same at called in
+      record {
+        answer = f ∙ ap plannedWords (known .answer);
+        session = e ∙ ap (λ (k : Planned). plannedSession k session₀) (known .answer);
+        buffers = known .buffers;
+      }
+
+pub plan-answered-once : {session table waiting t₁ t₂ w₁ w₂ : List ℕ} {l : Lent} {before b₁ b₂ : Buffers}
+    → PlanAnswered session t₁ l table waiting before b₁ w₁
+    → PlanAnswered session t₂ l table waiting before b₂ w₂
+    → (w₁ ≡ w₂) × (t₁ ≡ t₂) × (b₁ ≡ b₂)
+plan-answered-once x y =
+    (x .answer ∙ sym (y .answer), x .session ∙ sym (y .session), x .buffers ∙ sym (y .buffers))
+
+-- ---- receiving
+
+module _ {session₀ session₁ : List ℕ} {before after : Lent} {table : List ℕ} {rows : ℕ} {message : List ℕ} {loaded : Bool} {words : List ℕ} where
+  pub receive-answered : (s : Session) (r : Received) → s ≡ sessionOf session₀
+      → ReceiveCalled s (receiveWith loaded rows s before table message) before after r
+      → session₁ ≡ receivedSession r session₀
+      → words ≡ receivedWords r
+      → ReceiveAnswered session₀ session₁ before after table rows message loaded words
+  receive-answered s r same called e f =
+      let known = rw same at called in
+      record {
+        answer = f ∙ ap receivedWords (known .answer);
+        session = e ∙ ap (λ (k : Received). receivedSession k session₀) (known .answer);
+        lists = known .lists;
+      }
+
+pub receive-answered-once : {session table message t₁ t₂ w₁ w₂ : List ℕ} {rows : ℕ} {loaded : Bool} {before l₁ l₂ : Lent}
+    → ReceiveAnswered session t₁ before l₁ table rows message loaded w₁
+    → ReceiveAnswered session t₂ before l₂ table rows message loaded w₂
+    → (w₁ ≡ w₂) × (t₁ ≡ t₂) × (l₁ ≡ l₂)
+receive-answered-once x y =
+    (x .answer ∙ sym (y .answer), x .session ∙ sym (y .session), x .lists ∙ sym (y .lists))

@@ -1,0 +1,92 @@
+-- Planning and receiving as exported calls: their answers as words, and the session's words at exit.
+use Prim.Native.Nat.{ℕ}
+use mathlib.Core.Bool.{Bool}
+use mathlib.Core.List.{List, [], _∷_}
+use mathlib.Core.Path.{_≡_}
+use Rattle.answers.specs.Answer.{refusalWords}
+use Rattle.bloom.specs.Filter.{defaultBits, defaultProbes}
+use Rattle.decide.specs.Call.{Buffers, planWith, roomed, roomsIn, answerOf, putInto}
+use Rattle.decide.specs.declared.answer.Planned.{Planned}
+use Rattle.decide.specs.declared.answer.Planned.the-variants.{Refused, Silent, Reset, Says}
+use Rattle.decide.specs.declared.answer.Stated.{Stated}
+use Rattle.message.specs.declared.version.MessageVersion.{MessageVersion}
+use Rattle.message.specs.declared.version.MessageVersion.the-variants.{V1, V2}
+use Rattle.receive.specs.Call.{receiveWith, roomed as roomedFor, roomsIn as roomsOf, answerOf as answerFor, keptIn}
+use Rattle.rules.specs.Refusal.{numberOf, valueOf}
+use Rattle.rules.specs.declared.refusal.Refusal.the-variants.{LoadFailed}
+use Rattle.session_words.specs.Words.{flagWord, sessionWords, sessionOf}
+use Rattle.state.specs.Value.{Lent, valueOf as sessionValue}
+use Rattle.taking.specs.declared.answer.Received.{Received}
+use Rattle.taking.specs.declared.answer.Received.the-variants.{Took, Failed, Refused as NotTaken}
+
+abbrev pub versionNumber : MessageVersion → ℕ
+versionNumber V1 = 1
+versionNumber V2 = 2
+
+-- What is stated: 1 a reset, 2 a message; the have's last-sync hashes stand at place 0 of its bytes.
+abbrev pub statedWords : ℕ → Stated → List ℕ
+statedWords what p =
+    0
+    ∷ what
+    ∷ versionNumber (p .version)
+    ∷ p .flags .0
+    ∷ flagWord (p .document)
+    ∷ p .heads
+    ∷ p .need
+    ∷ p .haves
+    ∷ 0
+    ∷ p .syncs
+    ∷ p .filter .entries
+    ∷ p .filter .bits
+    ∷ p .filter .probes
+    ∷ p .filter .place
+    ∷ p .filter .size
+    ∷ p .hashes
+    ∷ []
+
+abbrev pub plannedWords : Planned → List ℕ
+plannedWords (Refused r) = numberOf r ∷ valueOf r ∷ 0 ∷ 0 ∷ 0 ∷ 0 ∷ 0 ∷ 0 ∷ 0 ∷ 0 ∷ 0 ∷ 0 ∷ 0 ∷ 0 ∷ 0 ∷ 0 ∷ []
+plannedWords Silent = 0 ∷ 0 ∷ 0 ∷ 0 ∷ 0 ∷ 0 ∷ 0 ∷ 0 ∷ 0 ∷ 0 ∷ 0 ∷ 0 ∷ 0 ∷ 0 ∷ 0 ∷ 0 ∷ []
+plannedWords (Reset p) = statedWords 1 p
+plannedWords (Says p s) = statedWords 2 p
+
+-- Only a message changes the session.
+abbrev pub plannedSession : Planned → List ℕ → List ℕ
+plannedSession (Refused r) before = before
+plannedSession Silent before = before
+plannedSession (Reset p) before = before
+plannedSession (Says p s) before = sessionWords s
+
+abbrev pub receivedWords : Received → List ℕ
+receivedWords (Took s) = 0 ∷ 0 ∷ 0 ∷ 0 ∷ []
+receivedWords (Failed s) = refusalWords LoadFailed
+receivedWords (NotTaken r) = refusalWords r
+
+-- After a refusal the words stay as they stood, but for 8, which leaves the flags taken.
+abbrev pub receivedSession : Received → List ℕ → List ℕ
+receivedSession (Took s) before = sessionWords s
+receivedSession (Failed s) before = sessionWords s
+receivedSession (NotTaken r) before = before
+
+abbrev pub buffersOf : List ℕ → List ℕ → List ℕ → List ℕ → List ℕ → List ℕ → Buffers
+buffersOf heads need have list lastSent sent =
+    record { heads = heads; need = need; have = have; list = list; lastSent = lastSent; sent = sent }
+
+-- What is planned for a session's words, with the filter of 01, once there is room.
+abbrev pub planFor : List ℕ → Lent → List ℕ → List ℕ → Buffers → Rattle.session.specs.Plan.Planned
+planFor words l table waiting before = roomed (roomsIn before) (planWith defaultBits defaultProbes (sessionOf words) l table waiting)
+
+pub record PlanAnswered (session₀ session₁ : List ℕ) (l : Lent) (table waiting : List ℕ) (before after : Buffers) (words : List ℕ) : Type 0 where
+  pub answer : words ≡ plannedWords (answerOf (sessionOf session₀) (planFor session₀ l table waiting before))
+  pub session : session₁ ≡ plannedSession (answerOf (sessionOf session₀) (planFor session₀ l table waiting before)) session₀
+  pub buffers : after ≡ putInto (planFor session₀ l table waiting before) before
+
+abbrev pub receiveFor : List ℕ → Lent → List ℕ → ℕ → List ℕ → Bool → Rattle.session.specs.Receive.Received
+receiveFor words l table before message loaded =
+    roomedFor (roomsOf l) (sessionValue (sessionOf words) l) (receiveWith loaded before (sessionOf words) l table message)
+
+pub record ReceiveAnswered (session₀ session₁ : List ℕ) (before after : Lent) (table : List ℕ) (rowsBefore : ℕ) (message : List ℕ) (loaded : Bool)
+    (words : List ℕ) : Type 0 where
+  pub answer : words ≡ receivedWords (answerFor (receiveFor session₀ before table rowsBefore message loaded))
+  pub session : session₁ ≡ receivedSession (answerFor (receiveFor session₀ before table rowsBefore message loaded)) session₀
+  pub lists : after ≡ keptIn (receiveFor session₀ before table rowsBefore message loaded) before

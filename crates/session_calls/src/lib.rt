@@ -1,0 +1,3 @@
+// Exported calls of the crates `plan` and `receive`. A session passes as sixteen words with its seven lists.
+pub mod answer;
+pub mod calls;
