@@ -55,6 +55,15 @@ impl<T: Item> Guarded<T> {
         }
     }
 
+    /// One of so many items that begins with these, as many of them as fit.
+    pub fn holding(content: &[T], room: usize, fill: Fill) -> Self {
+        let mut buffer = Guarded::new(room, fill);
+        let fits = content.len().min(room);
+        buffer.lent()[..fits].copy_from_slice(&content[..fits]);
+        buffer.expected()[..fits].copy_from_slice(&content[..fits]);
+        buffer
+    }
+
     pub fn room(&self) -> usize {
         self.memory.len() - 2 * GUARD
     }

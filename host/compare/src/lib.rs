@@ -17,9 +17,13 @@
 //! A module for each subject: `wire`, `filters`, `tables`, `states`, `messages` and
 //! `selections` (the hashes to send) make the comparisons, and `writes` those of every
 //! call that writes one buffer. `inputs` and `model` have a module for each of them
-//! too. The models of messages and of hashes to send are also held against the crate
-//! alone; the crate's graph can't be had, and its stand-in takes the crate's place
-//! there. `samples` is what is stored of the crate's answers.
+//! too. The models of messages, of hashes to send and of sessions are also held against
+//! the crate alone; the crate's graph can't be had, and its stand-in takes the crate's
+//! place there. `samples` is what is stored of the crate's answers.
+//!
+//! `sessions` has the steps of a session. `units` are whole units of the crate, of the
+//! model and of the library, `talks` pairs of them that talk at random, and `scenarios`
+//! what two units go through by name; there every step of every pair is the same.
 
 pub mod filters;
 pub mod guarded;

@@ -1,14 +1,15 @@
 //! The steps of a session: what is planned and what is received, the model beside
-//! the crate (`compare_plans`, `compare_receipts`). The crate runs over the stand-in
-//! document, which loads a message's changes itself; the model is told what was
-//! loaded, as a host tells it.
+//! the crate (`compare_plans`, `compare_receipts`), and the library beside the model
+//! (`library`). The crate runs over the stand-in document, which loads a message's
+//! changes itself; the others are told what was loaded, as a host tells it.
 
 pub mod lent;
+pub mod library;
 pub mod published;
 
 use crate::inputs::session::{Hearing, Saying};
 use crate::inputs::shown;
-use crate::model::plan::{self, Planned};
+use crate::model::plan::{self, Plan, Planned};
 use crate::model::receive::{self, Received, Said};
 use crate::model::session::Value;
 use crate::model::state::READ_ONLY;
@@ -16,7 +17,7 @@ use crate::model::table::{self, Table};
 use crate::tables::document;
 use crate::tally::Tally;
 use crate::units::table_of;
-use crate_under_test::facade::{Automerge, Message, State, SyncDoc};
+use crate_under_test::facade::{Message, State, SyncDoc};
 
 /// Past a limit, which the crate hasn't.
 pub const APART: &str = "apart";
@@ -44,17 +45,18 @@ fn count_plan(tally: &mut Tally, planned: &Planned, rows: usize) {
 pub fn compare_plans(steps: &[Saying]) -> Result<Tally, String> {
     let mut tally = Tally::default();
     for step in steps {
-        let told = |why: &str| format!("{step:?}: {why}");
         let table = good_table(&step.table);
         let waiting = table::waiting(&table, &step.waiting).expect("a good table");
         let Ok(planned) = plan::planned(&table, &waiting, &step.session) else {
             tally.count(APART);
             continue;
         };
-        let document = document(&step.table, &step.waiting);
-        let mut state = published::state(&step.session);
-        let said = document.generate_sync_message(&mut state);
-        same_plan(&planned, &step.session, &document, &said, &state).map_err(|why| told(&why))?;
+        let (plan, after) = match &planned {
+            Planned::Nothing => (None, &step.session),
+            Planned::Reset(plan) => (Some(plan), &step.session),
+            Planned::Message(plan, after) => (Some(plan), after),
+        };
+        same_as_the_crate(step, plan, after)?;
         count_plan(&mut tally, &planned, table.rows.len());
     }
     Ok(tally)
@@ -64,26 +66,20 @@ fn good_table(lent: &[u8]) -> Table {
     table::table(lent).expect("a good table")
 }
 
-fn same_plan(
-    planned: &Planned,
-    before: &Value,
-    document: &Automerge,
-    said: &Option<Message>,
-    state: &State,
-) -> Result<(), String> {
-    let (plan, after) = match planned {
-        Planned::Nothing => (None, before),
-        Planned::Reset(plan) => (Some(plan), before),
-        Planned::Message(plan, after) => (Some(plan), after),
-    };
-    let message = plan.map(|plan| published::message(plan, document));
-    if message != *said {
-        return Err(format!("{message:?} isn't the crate's {said:?}"));
+/// That this is what the crate says, and the session after it.
+pub fn same_as_the_crate(step: &Saying, plan: Option<&Plan>, after: &Value) -> Result<(), String> {
+    let document = document(&step.table, &step.waiting);
+    let mut state = published::state(&step.session);
+    let said = document.generate_sync_message(&mut state);
+    let message = plan.map(|plan| published::message(plan, &document));
+    match message == said {
+        true => same_session(after, &state).map_err(|why| format!("{step:?}: {why}")),
+        false => Err(format!("{step:?}: {message:?} isn't the crate's {said:?}")),
     }
-    same_session(after, state)
 }
 
-fn same_session(ours: &Value, state: &State) -> Result<(), String> {
+/// That a session is the crate's.
+pub fn same_session(ours: &Value, state: &State) -> Result<(), String> {
     let crates = published::value(state);
     match *ours == crates {
         true => Ok(()),

@@ -3,9 +3,11 @@
 //! lend tables and write what is planned.
 
 mod modelled;
+mod proved;
 mod published;
 
 pub use modelled::modelled;
+pub use proved::proved;
 pub use published::published;
 
 use crate::inputs::message::OwnParts;

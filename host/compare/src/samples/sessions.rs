@@ -29,7 +29,7 @@ pub enum Step {
     Plan {
         waiting: Vec<WaitingRow>,
         answer: Vec<u64>,
-        /// Heads, need, the have's bytes and the hashes of the body.
+        /// As `lists_of` has them.
         lists: [Vec<u8>; 4],
     },
     Receive {
@@ -250,7 +250,8 @@ fn planned(random: &mut Random) -> Record {
     }
 }
 
-fn lists_of(plan: &Plan) -> [Vec<u8>; 4] {
+/// Heads, need, the have's bytes and the hashes of the body.
+pub fn lists_of(plan: &Plan) -> [Vec<u8>; 4] {
     let (_, have) = laid(&plan.haves);
     [
         plan.heads.concat(),

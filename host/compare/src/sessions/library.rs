@@ -1,0 +1,21 @@
+//! The library's two steps of a session against the model, in every word and byte of
+//! answers, sessions and buffers, and around them. Nothing else here calls these two.
+
+mod planning;
+mod receiving;
+
+pub use planning::{compare_plans, plan, plan_answer, PlanLeft, Planning};
+pub use receiving::{compare_receipts, receive, receive_answer, ReceiptLeft, Receiving};
+
+use crate::model::state::WORDS;
+
+/// Items that a buffer has more than are wanted.
+const SPARE: usize = 3;
+
+fn sixteen(words: &mut [u64]) -> &mut [u64; WORDS] {
+    words.try_into().expect("sixteen words")
+}
+
+fn sixteen_of(words: &[u64]) -> [u64; WORDS] {
+    words.try_into().expect("sixteen words")
+}

@@ -1,0 +1,234 @@
+//! Calls that plan.
+
+use super::{sixteen, sixteen_of, SPARE};
+use crate::guarded::{Fill, Guarded, FILLS};
+use crate::model::have::haves;
+use crate::model::plan::{self, Plan, Planned, ANSWER_WORDS, NOTHING};
+use crate::model::state::{Lists, WORDS};
+use crate::model::table::{hashes_of, HASH};
+use crate::model::Refused;
+use crate::same_answer;
+use crate::sessions::lent::Lent;
+use bisquetower::raw::{Batch, UNWRITTEN};
+
+/// What a call is lent that plans.
+#[derive(Clone, Debug)]
+pub struct Planning {
+    pub session: Lent,
+    pub table: Vec<u8>,
+    pub waiting: Vec<u8>,
+    /// How long the buffers are, in the order in which their room is tested: heads,
+    /// need, have, hash list, last-sent, sent.
+    pub rooms: [usize; 6],
+}
+
+impl Planning {
+    /// With room to spare.
+    pub fn new(session: Lent, table: Vec<u8>, waiting: Vec<u8>) -> Planning {
+        let mut planning = Planning {
+            session,
+            table,
+            waiting,
+            rooms: [0; 6],
+        };
+        planning.rooms = planning.wants().map(|want| want + SPARE);
+        planning
+    }
+
+    /// What the model plans, were there room for everything.
+    pub fn model(&self) -> Result<Planned, Refused> {
+        let Lent { words, .. } = &self.session;
+        plan::of_lent(words, &self.session.lists(), &self.table, &self.waiting)
+    }
+
+    /// How long the buffers have to be, those of the session for what they have too.
+    pub fn wants(&self) -> [usize; 6] {
+        let mut wants = self.model().map_or([2 * HASH; 6], |one| plan::wants(&one));
+        wants[4] = wants[4].max(self.session.last_sent.len());
+        wants[5] = wants[5].max(self.session.sent.len());
+        wants
+    }
+}
+
+/// What a call left that plans.
+#[derive(Clone, Debug)]
+pub struct PlanLeft {
+    pub answer: [u64; ANSWER_WORDS],
+    pub plan: Option<Plan>,
+    pub session: Lent,
+}
+
+/// A call that plans, and what it is lent to write.
+struct PlanCall<'a> {
+    planning: &'a Planning,
+    answer: [u64; ANSWER_WORDS],
+    words: Guarded<u64>,
+    /// In the order of their rooms.
+    buffers: [Guarded<u8>; 6],
+}
+
+impl<'a> PlanCall<'a> {
+    fn new(planning: &'a Planning, fill: Fill) -> Self {
+        let Lent {
+            words,
+            last_sent,
+            sent,
+            ..
+        } = &planning.session;
+        let content = |k| match k {
+            4 => &last_sent[..],
+            5 => &sent[..],
+            _ => &[],
+        };
+        let buffer = |k: usize| Guarded::holding(content(k), planning.rooms[k], fill);
+        PlanCall {
+            planning,
+            answer: [UNWRITTEN; ANSWER_WORDS],
+            words: Guarded::holding(words, WORDS, fill),
+            buffers: std::array::from_fn(buffer),
+        }
+    }
+
+    /// Has the model write what is expected; returns its answer.
+    fn expect(&mut self) -> [u64; ANSWER_WORDS] {
+        let Planning {
+            session,
+            table,
+            waiting,
+            ..
+        } = self.planning;
+        let lists = Lists {
+            last_sent: self.buffers[4].left(),
+            sent: self.buffers[5].left(),
+            ..session.lists()
+        };
+        let planned = plan::of_lent(&session.words, &lists, table, waiting);
+        let [heads, need, have, list, last_sent, sent] =
+            self.buffers.each_mut().map(Guarded::expected);
+        let mut buffers = plan::Buffers {
+            heads,
+            need,
+            have,
+            list,
+            last_sent,
+            sent,
+        };
+        plan::put_all(&planned, sixteen(self.words.expected()), &mut buffers)
+    }
+
+    fn ask<'m>(&'m mut self, batch: &mut Batch<'m>) {
+        let Planning {
+            session,
+            table,
+            waiting,
+            ..
+        } = self.planning;
+        let [heads, need, have, list, last_sent, sent] = self.buffers.each_mut().map(Guarded::lent);
+        batch.plan(
+            sixteen(self.words.lent()),
+            &session.shared,
+            last_sent,
+            &session.their_heads,
+            &session.their_need,
+            &session.haves,
+            &session.bytes,
+            sent,
+            table,
+            waiting,
+            heads,
+            need,
+            have,
+            list,
+            &mut self.answer,
+        );
+    }
+
+    fn agrees(&self, expected: [u64; ANSWER_WORDS]) -> Result<(), String> {
+        same_answer(self.answer, expected)?;
+        let named = |name: &str, why| format!("of the {name}, {why}");
+        self.words.agrees().map_err(|why| named("session", why))?;
+        let names = ["heads", "need", "have", "hashes", "last-sent", "sent"];
+        for (name, buffer) in names.iter().zip(&self.buffers) {
+            buffer.agrees().map_err(|why| named(name, why))?;
+        }
+        Ok(())
+    }
+
+    fn left(&self) -> PlanLeft {
+        let [heads, need, have, list, last_sent, sent] = self.buffers.each_ref().map(Guarded::left);
+        PlanLeft {
+            answer: self.answer,
+            plan: plan_in(&self.answer, heads, need, have, list),
+            session: Lent {
+                words: sixteen_of(self.words.left()),
+                last_sent: last_sent.to_vec(),
+                sent: sent.to_vec(),
+                ..self.planning.session.clone()
+            },
+        }
+    }
+}
+
+/// What the library plans; the model isn't asked.
+pub fn plan(planning: &Planning) -> PlanLeft {
+    let mut call = PlanCall::new(planning, Fill::One);
+    let mut batch = Batch::new();
+    call.ask(&mut batch);
+    batch.run();
+    call.left()
+}
+
+/// The message that an answer and buffers are, if one is said.
+fn plan_in(
+    answer: &[u64; ANSWER_WORDS],
+    heads: &[u8],
+    need: &[u8],
+    have: &[u8],
+    list: &[u8],
+) -> Option<Plan> {
+    if answer[0] != 0 || answer[1] == NOTHING {
+        return None;
+    }
+    let first = |list: &[u8], count: u64| hashes_of(&list[..HASH * count as usize]);
+    let record = match answer[7] {
+        0 => &[],
+        _ => &answer[8..15],
+    };
+    let haves = haves(have, record).expect("a have over its bytes");
+    Some(Plan {
+        version: answer[2],
+        flags: answer[3],
+        document: answer[4] != 0,
+        heads: first(heads, answer[5]),
+        need: first(need, answer[6]),
+        haves: haves.iter().map(|have| have.own()).collect(),
+        hashes: first(list, answer[15]),
+    })
+}
+
+/// Compares what the library plans with what the model does; the first that disagrees
+/// is the error.
+pub fn compare_plans(plannings: &[Planning], fills: &[Fill]) -> Result<Vec<PlanLeft>, String> {
+    let fills = fills.iter().cycle();
+    let calls = plannings.iter().zip(fills);
+    let mut calls: Vec<PlanCall> = calls.map(|(one, &fill)| PlanCall::new(one, fill)).collect();
+    let expected: Vec<_> = calls.iter_mut().map(PlanCall::expect).collect();
+    let mut batch = Batch::new();
+    for call in &mut calls {
+        call.ask(&mut batch);
+    }
+    batch.run();
+    let left = |(call, expected): (&PlanCall, _)| {
+        let told = |why| format!("{:?}: {why}", call.planning);
+        call.agrees(expected).map_err(told)?;
+        Ok(call.left())
+    };
+    calls.iter().zip(expected).map(left).collect()
+}
+
+/// The answer to one that plans, the same over both fills.
+pub fn plan_answer(planning: &Planning) -> [u64; ANSWER_WORDS] {
+    let both = [planning.clone(), planning.clone()];
+    let left = compare_plans(&both, &FILLS).unwrap_or_else(|why| panic!("{why}"));
+    left[0].answer
+}

@@ -1,0 +1,170 @@
+//! Refusals of planning, each alone and two at a time: the earlier one is given.
+
+use crate::{hash, hashes, planning, table};
+use compare::inputs::table::{waiting_bytes, WaitingRow};
+use compare::model::session::Value;
+use compare::model::state::{HAVE_RESPONDED, IN_FLIGHT, READ_ONLY};
+use compare::model::table::{HASHES, ROW, ROWS, WAITING_ROW, WAITING_ROWS};
+use compare::sessions::lent::Lent;
+use compare::sessions::library::{plan_answer, Planning};
+
+/// What goes wrong, and the refusal that it is.
+type Fault = (&'static str, fn(&mut Planning), (u64, u64));
+
+/// In the order of the refusals.
+const FAULTS: [Fault; 9] = [
+    (
+        "a count past its limit",
+        |p| p.session.words[0] = 1_025,
+        (10, 0),
+    ),
+    (
+        "a long table",
+        |p| p.table.resize(ROW * ROWS + 1, 0),
+        (4, 0),
+    ),
+    ("a bad row", |p| p.table[ROW + 32] = 16, (6, 1)),
+    (
+        "a long waiting table",
+        |p| p.waiting.resize(WAITING_ROW * WAITING_ROWS + 1, 0),
+        (4, 0),
+    ),
+    ("a bad waiting row", |p| p.waiting[32] = 16, (9, 0)),
+    ("a long need", long_need, (4, 0)),
+    ("too much sent", too_much_sent, (4, 0)),
+    ("no room for the heads", |p| p.rooms[0] = 63, (7, 64)),
+    ("no room for the hashes", |p| p.rooms[3] = 31, (7, 32)),
+];
+
+/// 1,023 unknown heads, and one that waits on two others.
+fn long_need(p: &mut Planning) {
+    set_heads(p, [vec![500], (2_000..3_023).collect()].concat());
+}
+
+fn set_heads(p: &mut Planning, numbers: Vec<u16>) {
+    p.session.words[3] = numbers.len() as u64;
+    p.session.their_heads = hashes(numbers).concat();
+    p.rooms[1] = 32 * 1_024;
+}
+
+/// As many as may be, none of them a row.
+fn too_much_sent(p: &mut Planning) {
+    p.session.words[8] = HASHES as u64;
+    p.session.sent = hashes(4_000..5_024).concat();
+    p.rooms[5] = 32 * 1_025;
+}
+
+/// A unit of three rows that has one of them to send.
+fn sound() -> Planning {
+    let session = Value {
+        their_heads: Some(hashes([500])),
+        their_need: Some(hashes([1])),
+        their_have: Some(Vec::new()),
+        ..Value::default()
+    };
+    let rows = table(&[(1, &[]), (2, &[0]), (3, &[0])]);
+    let waiting = [WaitingRow {
+        hash: hash(500),
+        dependencies: hashes([501, 502]),
+    }];
+    Planning::new(Lent::laid(&session), rows, waiting_bytes(&waiting))
+}
+
+fn refused(planning: &Planning, why: &str, (number, value): (u64, u64)) {
+    let mut words = [0; 16];
+    words[..2].copy_from_slice(&[number, value]);
+    assert_eq!(plan_answer(planning), words, "{why}");
+}
+
+#[test]
+fn refusals_in_their_order() {
+    assert_eq!(plan_answer(&sound())[..2], [0, 2]);
+    for (k, (name, fault, refusal)) in FAULTS.iter().enumerate() {
+        let mut one = sound();
+        fault(&mut one);
+        refused(&one, name, *refusal);
+        for (other, later, _) in &FAULTS[k + 1..] {
+            let mut two = one.clone();
+            later(&mut two);
+            refused(&two, &format!("{name}, {other}"), *refusal);
+        }
+    }
+}
+
+/// A need that is too long counts before a reset and before silence; read-only units
+/// need nothing.
+#[test]
+fn a_long_need_before_a_reset_and_silence() {
+    let mut one = sound();
+    long_need(&mut one);
+    let heads = crate::hashes([2, 3]);
+    one.session.last_sent = heads.concat();
+    one.session.words[1] = 2;
+    for flag in [IN_FLIGHT, HAVE_RESPONDED] {
+        one.session.words[9 + flag] = 1;
+    }
+    refused(&one, "silence", (4, 0));
+    let mut fewer = one.clone();
+    fewer.session.words[3] = 1_023;
+    assert_eq!(plan_answer(&fewer)[..2], [0, 0]);
+    // The first have names an unknown hash.
+    for p in [&mut one, &mut fewer] {
+        p.session.words[7] = 1;
+        p.session.haves = vec![0, 1, 0, 10, 7, 0, 0];
+        p.session.bytes = hash(999).to_vec();
+    }
+    refused(&one, "reset", (4, 0));
+    assert_eq!(plan_answer(&fewer)[..2], [0, 1]);
+    one.session.words[9 + READ_ONLY] = 1;
+    assert_eq!(plan_answer(&one)[..2], [0, 1]);
+}
+
+/// Just as many as may be asked for and sent are good.
+#[test]
+fn limits_that_are_kept() {
+    let mut one = sound();
+    set_heads(&mut one, [vec![500], (2_000..3_022).collect()].concat());
+    let answer = plan_answer(&one);
+    assert_eq!((answer[0], answer[6], answer[7]), (0, 1_024, 0));
+    let mut one = sound();
+    too_much_sent(&mut one);
+    one.session.words[8] -= 1;
+    assert_eq!(plan_answer(&one)[0], 0);
+    // One of them is the row itself.
+    let mut one = sound();
+    one.session.words[8] = HASHES as u64;
+    one.session.sent = hashes((1..2).chain(4_000..5_023)).concat();
+    one.rooms[5] = 32 * 1_024;
+    assert_eq!(plan_answer(&one)[0], 0);
+}
+
+/// Too much sent is no refusal where nothing is said, or only a reset is.
+#[test]
+fn too_much_sent_and_silence() {
+    let mut one = sound();
+    too_much_sent(&mut one);
+    let mut silent = one.clone();
+    silent.session.last_sent = hashes([2, 3]).concat();
+    silent.session.words[1] = 2;
+    for flag in [IN_FLIGHT, HAVE_RESPONDED] {
+        silent.session.words[9 + flag] = 1;
+    }
+    silent.rooms[4] = 64;
+    assert_eq!(plan_answer(&silent), [0; 16]);
+    one.session.words[7] = 1;
+    one.session.haves = vec![0, 1, 0, 10, 7, 0, 0];
+    one.session.bytes = hash(999).to_vec();
+    assert_eq!(plan_answer(&one)[..2], [0, 1]);
+}
+
+/// A table of no rows, and the longest good one.
+#[test]
+fn tables_at_their_limits() {
+    assert_eq!(plan_answer(&planning(&Value::default(), &[]))[5], 0);
+    let rows: Vec<(u16, &[usize])> = (0..1_024).map(|n| (n, &[][..])).collect();
+    let answer = plan_answer(&planning(&Value::default(), &table(&rows)));
+    assert_eq!(
+        (answer[0], answer[5], answer[10], answer[14]),
+        (0, 1_024, 1_024, 1_280)
+    );
+}

@@ -1,0 +1,114 @@
+//! Refusals of receiving, each alone and two at a time: the earlier one is given.
+
+use crate::{hashes, receiving, table};
+use compare::inputs::message::Draft;
+use compare::model::session::Value;
+use compare::model::state::READ_ONLY;
+use compare::model::table::{HASHES, ROW, ROWS};
+use compare::sessions::library::{receive_answer, Receiving};
+
+/// What goes wrong, and the refusal that it is.
+type Fault = (&'static str, fn(&mut Receiving), (u64, u64));
+
+/// In the order of the refusals. That loading failed and that the joined heads are too
+/// many can't both be.
+const FAULTS: [Fault; 8] = [
+    (
+        "a count past its limit",
+        |r| r.session.words[8] = 1_025,
+        (10, 0),
+    ),
+    (
+        "a long table",
+        |r| r.table.resize(ROW * ROWS + 1, 0),
+        (4, 0),
+    ),
+    ("a bad row", |r| r.table[ROW + 32] = 16, (6, 1)),
+    ("too many rows before", |r| r.before = 4, (11, 0)),
+    ("another first byte", |r| r.message[0] = 0x41, (2, 0x41)),
+    ("a failed load", |r| r.loaded = 0, (8, 0)),
+    ("no room for the shared heads", |r| r.rooms[0] = 31, (7, 32)),
+    ("no room for their need", |r| r.rooms[3] = 31, (7, 32)),
+];
+
+/// A unit of three rows that hears of a change and is asked for another.
+fn sound() -> Receiving {
+    let rows = table(&[(1, &[]), (2, &[0]), (3, &[0])]);
+    let heard = Draft {
+        heads: hashes([2]),
+        need: hashes([1]),
+        chunks: vec![Vec::new()],
+        ..Draft::new()
+    };
+    receiving(&Value::default(), &rows, &heard)
+}
+
+fn refused(receiving: &Receiving, why: &str, (number, value): (u64, u64)) {
+    assert_eq!(receive_answer(receiving), [number, value, 0, 0], "{why}");
+}
+
+#[test]
+fn refusals_in_their_order() {
+    assert_eq!(receive_answer(&sound()), [0; 4]);
+    for (k, (name, fault, refusal)) in FAULTS.iter().enumerate() {
+        let mut one = sound();
+        fault(&mut one);
+        refused(&one, name, *refusal);
+        for (other, later, _) in &FAULTS[k + 1..] {
+            let mut two = one.clone();
+            later(&mut two);
+            refused(&two, &format!("{name}, {other}"), *refusal);
+        }
+    }
+}
+
+/// 1,024 shared heads joined with one more that is known; with what is among them they
+/// stay 1,024. It comes before the room, and only where some head is unknown.
+#[test]
+fn too_many_joined_heads() {
+    let rows = table(&[(1, &[])]);
+    let session = |from: u16| Value {
+        shared: hashes(from..from + HASHES as u16),
+        ..Value::default()
+    };
+    let heard = |heads: [u16; 2]| Draft {
+        heads: hashes(heads),
+        ..Draft::new()
+    };
+    let joined = receiving(&session(100), &rows, &heard([1, 77]));
+    refused(&joined, "joined", (4, 0));
+    let mut short = joined.clone();
+    short.rooms[3..6].fill(0);
+    refused(&short, "joined and no room", (4, 0));
+    let among = receiving(&session(1), &rows, &heard([1, 77]));
+    assert_eq!(receive_answer(&among), [0; 4]);
+    let known = receiving(&session(100), &rows, &heard([1, 1]));
+    assert_eq!(receive_answer(&known), [0; 4]);
+    // With chunks the strange heads drop out, unless the session takes none.
+    let mut brings = heard([1, 77]);
+    brings.chunks = vec![Vec::new()];
+    let mut loads = receiving(&session(100), &rows, &brings);
+    assert_eq!(receive_answer(&loads), [0; 4]);
+    loads.session.words[9 + READ_ONLY] = 1;
+    refused(&loads, "read-only", (4, 0));
+}
+
+/// What is wrong in a message, at its place, whatever loading came to.
+#[test]
+fn messages_that_are_not_read() {
+    let mut one = sound();
+    one.loaded = 0;
+    let whole = one.message.clone();
+    for (cut, place) in [(0, 0), (1, 1), (20, 2), (34, 34), (40, 35)] {
+        one.message = whole[..cut].to_vec();
+        refused(&one, "cut", (1, place));
+    }
+    one.message = [&whole[..1], &[0x80, 0x00]].concat();
+    refused(&one, "overlong", (3, 1));
+    one.message = [&whole[..1], &[0x81, 0x08]].concat();
+    refused(&one, "1,025 heads", (4, 1));
+    one.message = vec![0x42, 0, 0, 1, 0, 3, 1, 0, 7];
+    refused(&one, "no bits", (5, 6));
+    one.message = vec![0x41; 4_194_305];
+    refused(&one, "too long", (4, 0));
+}
