@@ -7,6 +7,8 @@ use crate::inputs::Random;
 use crate::messages::parts::Chunks;
 use crate::model::message::CHUNKS;
 use crate::model::table::{Hash, DEPENDENCIES, HASH, HASHES, ROWS, WAITING_ROWS};
+use crate::sessions::lent::Lent;
+use crate::sessions::library::{plan, receive, Planning, Receiving};
 use bisquetower::message::{Message, CHUNK_WORDS, HAVES, HAVE_WORDS};
 use bisquetower::raw;
 use std::collections::BTreeMap;
@@ -32,6 +34,7 @@ pub fn calls() -> Vec<Deep> {
     calls.extend(tables(&mut random));
     calls.extend(states(&mut random));
     calls.extend(messages(&mut random));
+    calls.extend(sessions(&mut random));
     calls
 }
 
@@ -222,9 +225,8 @@ fn states(random: &mut Random) -> Vec<Deep> {
     ]
 }
 
-/// A message in which every list is as long as it may be.
-fn message(random: &mut Random) -> Vec<u8> {
-    let hashes = random.hashes(HASHES, Likeness::Spread);
+/// A message in which every list is as long as it may be, with these hashes.
+fn message(hashes: Vec<Hash>) -> Vec<u8> {
     let have = (hashes.clone(), filter_string(65_536, 1, 64));
     let draft = Draft {
         first: 0x43,
@@ -239,7 +241,7 @@ fn message(random: &mut Random) -> Vec<u8> {
 }
 
 fn messages(random: &mut Random) -> Vec<Deep> {
-    let s = message(random);
+    let s = message(random.hashes(HASHES, Likeness::Spread));
     let lists = || {
         (
             vec![0; HAVE_WORDS * HAVES],
@@ -264,6 +266,56 @@ fn messages(random: &mut Random) -> Vec<Deep> {
         }),
         deep("bt_write_message", write),
     ]
+}
+
+/// Sessions in which every list is as long as it may be, over as many rows as there may
+/// be, with and without version 2.
+fn sessions(random: &mut Random) -> Vec<Deep> {
+    let mut deep_calls = Vec::new();
+    for (shape, v2) in [(Shape::Wide, 0), (Shape::Deep, 1), (Shape::Full, 0)] {
+        let rows = random.rows(ROWS, shape, Likeness::Descending);
+        let mut hashes: Vec<Hash> = rows.iter().map(|row| row.hash).collect();
+        let held = hashes.concat();
+        hashes.reverse();
+        let bytes = [random.bytes(8_192), held.clone()].concat();
+        let session = Lent {
+            words: [
+                1_024, 1_024, 1, 1_024, 1, 1_024, 1, 16, 1_024, 0, 0, v2, 0, 0, 0, 0,
+            ],
+            shared: held.clone(),
+            last_sent: held.clone(),
+            their_heads: held.clone(),
+            their_need: held,
+            haves: [8_192, 1, 65_536, 1, 64, 0, 8_192].repeat(HAVES),
+            bytes,
+            sent: hashes.concat(),
+        };
+        for (waiting, list) in chains(random) {
+            let mut session = session.clone();
+            session.words[3] = (list.len() / HASH) as u64;
+            session.their_heads = list;
+            let planning = Planning {
+                session,
+                table: table_bytes(&rows),
+                waiting,
+                rooms: [2 * HASH * ROWS; 6],
+            };
+            deep_calls.push(deep("bt_plan", move || plan(&planning).answer));
+        }
+        // The last head is unknown, so that all the others are joined.
+        hashes[0] = random.hash();
+        let (list, bytes) = (HASH * HASHES, HAVES * (HASH * HASHES + 8_192));
+        let receiving = Receiving {
+            session,
+            table: table_bytes(&rows),
+            before: ROWS / 2,
+            message: message(hashes),
+            loaded: 1,
+            rooms: [list, list, list, list, HAVE_WORDS * HAVES, bytes, list],
+        };
+        deep_calls.push(deep("bt_receive", move || receive(&receiving).answer));
+    }
+    deep_calls
 }
 
 /// The page on which the promises stand.
