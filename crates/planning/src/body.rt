@@ -59,8 +59,10 @@ fn make_list(
     before: usize,
     list: &mut [u8],
 ) -> usize
-    requires { ⌜ Choosable (now table) n (now bytes) (now haves) (now need) 0 count × (sizes .hash * before ≤ length (now sent)) × (sizes .hash * (count + n) ≤ length (now list)) ⌝ }
-    ensures { λ r. ⌜ Gathered (toSendLess (rowsAt (now (table .entry)) 0 n) (havesOf (now (bytes .entry)) (now (haves .entry))) (hashesAt (now (need .entry)) 0 count) (hashesAt (now (sent .entry)) 0 before)) (now (list .exit)) r ⌝ }
+    requires { ⌜ Choosable (now table) n (now bytes) (now haves) (now need) 0 count × (sizes .hash * before ≤ length (now sent))
+        × (sizes .hash * (count + n) ≤ length (now list)) ⌝ }
+    ensures { λ r. ⌜ Gathered (toSendLess (rowsAt (now (table .entry)) 0 n) (havesOf (now (bytes .entry)) (now (haves .entry)))
+        (hashesAt (now (need .entry)) 0 count) (hashesAt (now (sent .entry)) 0 before)) (now (list .exit)) r ⌝ }
 {
     let mut marks = [false; ROWS];
     let mut needs = [false; HASHES];
@@ -105,8 +107,10 @@ fn body_for(
     before: usize,
     list: &mut [u8],
 ) -> Body
-    requires { ⌜ Choosable (now table) n (now bytes) (now haves) (now need) 0 count × (sizes .hash * before ≤ length (now sent)) × (sizes .hash * (count + n) ≤ length (now list)) ⌝ }
-    ensures { λ r. ⌜ BodyMade (bodyFor (rowsAt (now (table .entry)) 0 n) v2 lost (havesOf (now (bytes .entry)) (now (haves .entry))) (hashesAt (now (need .entry)) 0 count) (hashesAt (now (sent .entry)) 0 before)) (now (list .exit)) r ⌝ }
+    requires { ⌜ Choosable (now table) n (now bytes) (now haves) (now need) 0 count × (sizes .hash * before ≤ length (now sent))
+        × (sizes .hash * (count + n) ≤ length (now list)) ⌝ }
+    ensures { λ r. ⌜ BodyMade (bodyFor (rowsAt (now (table .entry)) 0 n) v2 lost (havesOf (now (bytes .entry)) (now (haves .entry)))
+        (hashesAt (now (need .entry)) 0 count) (hashesAt (now (sent .entry)) 0 before)) (now (list .exit)) r ⌝ }
 {
     if goes_whole(v2, lost) {
         return make_document(table, n, list);
@@ -137,8 +141,11 @@ pub fn make_body(
     before: usize,
     list: &mut [u8],
 ) -> Body
-    requires { ⌜ GoodRows (now table) n × (havesGood (now bytes) (now haves) have ≡ true) × (heardGood (now «their_need») need ≡ true) × (sizes .hash * before ≤ length (now sent)) × (sizes .hash * sizes .hashesToSend ≤ length (now list)) ⌝ }
-    ensures { λ r. ⌜ BodyMade (cond «peer_read_only» (listOf []) (bodyHeard (rowsAt (now (table .entry)) 0 n) v2 lost (heardHaves (now (bytes .entry)) (now (haves .entry)) have) (heardHashes (now («their_need» .entry)) need) (hashesAt (now (sent .entry)) 0 before))) (now (list .exit)) r ⌝ }
+    requires { ⌜ GoodRows (now table) n × (havesGood (now bytes) (now haves) have ≡ true) × (heardGood (now «their_need») need ≡ true)
+        × (sizes .hash * before ≤ length (now sent)) × (sizes .hash * sizes .hashesToSend ≤ length (now list)) ⌝ }
+    ensures { λ r. ⌜ BodyMade (cond «peer_read_only» (listOf []) (bodyHeard (rowsAt (now (table .entry)) 0 n) v2 lost
+        (heardHaves (now (bytes .entry)) (now (haves .entry)) have) (heardHashes (now («their_need» .entry)) need)
+        (hashesAt (now (sent .entry)) 0 before))) (now (list .exit)) r ⌝ }
 {
     let none = Body {
         document: false,

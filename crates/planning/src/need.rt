@@ -35,8 +35,10 @@ pub fn make_need(
     heads: Heard,
     list: &mut [u8],
 ) -> usize
-    requires { ⌜ GoodRows (now table) n × (waitingChecked (rowsAt (now table) 0 n) (now waiting) ≡ Good m) × (heardGood (now «their_heads») heads ≡ true) ⌝ }
-    ensures { λ r. ⌜ Found (needOf (rowsAt (now (table .entry)) 0 n) (waitingOf (now (waiting .entry))) «read_only» (heard (heardHashes (now («their_heads» .entry)) heads))) (length (now (list .entry)) / sizes .hash) (now (list .exit)) r ⌝ }
+    requires { ⌜ GoodRows (now table) n × (waitingChecked (rowsAt (now table) 0 n) (now waiting) ≡ Good m)
+        × (heardGood (now «their_heads») heads ≡ true) ⌝ }
+    ensures { λ r. ⌜ Found (needOf (rowsAt (now (table .entry)) 0 n) (waitingOf (now (waiting .entry))) «read_only»
+        (heard (heardHashes (now («their_heads» .entry)) heads))) (length (now (list .entry)) / sizes .hash) (now (list .exit)) r ⌝ }
 {
     find_missing(
         table,
