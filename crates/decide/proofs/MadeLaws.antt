@@ -35,10 +35,9 @@ use Rattle.bloom.specs.Have.{Have}
 use mathlib.Core.Option.{Option, none, some}
 use Rattle.planning.specs.Made.{Setting}
 use Rattle.decide.specs.Call.{Buffers, syncsOf, filterNumbers, answerOf, roomed, roomsIn, PlanCalled}
-use Rattle.decide.specs.Draft.{Parts, DraftMade, SmallDraft, decided, putsOf, allPut}
+use Rattle.decide.specs.Draft.{Parts, DraftMade, SmallDraft, putsOf, allPut, Finished}
 use Rattle.decide.specs.declared.answer.Planned.{Planned as Answer}
 use Rattle.decide.specs.declared.decide.Draft.{Draft}
-use Rattle.decide.specs.declared.put.Puts.{Puts}
 use Rattle.decide.proofs.Decided.{found-many, found-all, sent-many, sent-all, field-long, have-given, have-none, plan-decided}
 use Rattle.decide.proofs.PutLaws.{Starts, put-as-said, refused-starts, silent-starts, roomed-starts}
 
@@ -198,11 +197,11 @@ module _ (bits probes : ℕ) (t : List Row) (w : List Waiting) (s : Session) (l 
       (λ e. refused-starts _ ready)
       (λ e. reset-starts (few-asked (ltb-false _ _ e)))
 
-  -- So the call does what it promises.
-  pub plan-called : (before after : Buffers) (a : Answer) (k : Puts) → a ≡ decided s d bits probes (roomsIn before) → k ≡ putsOf a
-      → after ≡ allPut k ready before → PlanCalled s (plan bits probes t w (valueOf s l)) before after a
-  plan-called before after a k e c p =
+  -- So a plan that is finished is what the call promises.
+  pub plan-called : (before after : Buffers) (a : Answer) → Finished s d bits probes ready before after a
+      → PlanCalled s (plan bits probes t w (valueOf s l)) before after a
+  plan-called before after a f =
       let q : Planned = roomed (roomsIn before) (plan bits probes t w (valueOf s l)) in
-      let is : a ≡ answerOf s q = e ∙ plan-decided bits probes t w s l ready d m (roomsIn before) in
-      let put : after ≡ allPut (putsOf (answerOf s q)) ready before = rw (c, is) at p in
+      let is : a ≡ answerOf s q = f .answer ∙ plan-decided bits probes t w s l ready d m (roomsIn before) in
+      let put : after ≡ allPut (putsOf (answerOf s q)) ready before = rw is at (f .buffers) in
       record { answer = is; buffers = put ∙ put-as-said s ready before q (roomed-starts (roomsIn before) _ ready plan-starts) }

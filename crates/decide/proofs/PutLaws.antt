@@ -22,8 +22,8 @@ use Rattle.session.specs.Plan.{Planned}
 use Rattle.state.specs.declared.session.Session.{Session}
 use Rattle.decide.specs.Call.{Buffers, syncsOf, filterNumbers, plannedCounts, answerOf, orShort, messageRoom, sessionRoom, afterRoom, roomed}
 use Rattle.decide.specs.Call.{said, lastSentPut, sentPut, roomsIn, putInto}
-use Rattle.decide.specs.Draft.{Parts, SmallDraft, countIf, drafted, resetStated, ifRoom, saysWith, decided, noPuts, putsOf, Fits, startPut}
-use Rattle.decide.specs.Draft.{havePut, allPut}
+use Rattle.decide.specs.Draft.{Parts, SmallDraft, countIf, drafted, resetStated, ifRoom, saysWith, decided, noPuts, putsOf, Fits, Long}
+use Rattle.decide.specs.Draft.{startPut, havePut, allPut, Finished}
 use Rattle.decide.proofs.DecideLaws.{small-drafted}
 use Rattle.decide.specs.declared.answer.Planned.{Planned as Answer}
 use Rattle.decide.specs.declared.answer.Planned.the-variants.{Reset, Says}
@@ -119,15 +119,6 @@ roomed-starts r (Planned.reset p) ready f = after-room _ _ ready f
 roomed-starts r (Planned.says p after) ready f = after-room _ _ ready (after-room _ _ ready f)
 
 -- ---- room for all of it
-
--- Buffers that are long enough for any plan.
-pub record Long (s : Session) (ready : Parts) : Type 0 where
-  pub heads : sizes .hash * sizes .rows ≤ length (ready .heads)
-  pub need : sizes .hash * (sizes .hashes + 1) ≤ length (ready .need)
-  pub shared : sizes .hash * s .«shared_heads» ≤ length (ready .shared)
-  pub field : sizes .field ≤ length (ready .field)
-  pub list : sizes .hash * sizes .hashesToSend ≤ length (ready .list)
-  pub sent : sizes .hash * (sizes .sentHashes + 1) ≤ length (ready .sent)
 
 part-there : (n most long : ℕ) → n ≤ most → sizes .hash * most ≤ long → sizes .hash * n ≤ long
 part-there n most long h l = omega arith
@@ -235,3 +226,8 @@ module _ (s : Session) (d : Draft) (bits probes : ℕ) (ready : Parts) (b : Buff
 pub puts-fit : (s : Session) (d : Draft) (bits probes : ℕ) (ready : Parts) (b : Buffers) (a : Answer) (p : Puts) → SmallDraft s d bits → Long s ready
     → a ≡ decided s d bits probes (roomsIn b) → p ≡ putsOf a → Fits p ready b
 puts-fit s d bits probes ready b a p m long e q = rw (q, e) (decided-fits s d bits probes ready b m long)
+
+-- And once it is put, the plan is finished.
+pub put-finished : (s : Session) (d : Draft) (bits probes : ℕ) (ready : Parts) (before after : Buffers) (a : Answer) (p : Puts)
+    → a ≡ decided s d bits probes (roomsIn before) → p ≡ putsOf a → after ≡ allPut p ready before → Finished s d bits probes ready before after a
+put-finished s d bits probes ready before after a p e q f = record { answer = e; buffers = rw q at f }

@@ -25,7 +25,7 @@ use Rattle.state.specs.Session.{State}
 use Rattle.state.specs.declared.session.Session.{Session}
 use Rattle.tables.specs.Table.{Row}
 use Rattle.tables.specs.Waiting.{Waiting}
-use Rattle.decide.specs.Call.{Buffers, messageRoom, sessionRoom, plannedCounts}
+use Rattle.decide.specs.Call.{Buffers, roomsIn, messageRoom, sessionRoom, plannedCounts}
 use Rattle.decide.specs.declared.answer.Planned.{Planned as Answer}
 use Rattle.decide.specs.declared.answer.Planned.the-variants.{Refused, Silent, Reset, Says}
 use Rattle.decide.specs.declared.answer.Room.{Room}
@@ -186,6 +186,15 @@ pub record Fits (p : Puts) (ready : Parts) (b : Buffers) : Type 0 where
   pub lastSent : HashesFit (p .«last_sent») (ready .heads) (b .lastSent)
   pub sent : HashesFit (p .sent) (ready .sent) (b .sent)
 
+-- Parts that are long enough for any plan.
+pub record Long (s : Session) (ready : Parts) : Type 0 where
+  pub heads : sizes .hash * sizes .rows ≤ length (ready .heads)
+  pub need : sizes .hash * (sizes .hashes + 1) ≤ length (ready .need)
+  pub shared : sizes .hash * s .«shared_heads» ≤ length (ready .shared)
+  pub field : sizes .field ≤ length (ready .field)
+  pub list : sizes .hash * sizes .hashesToSend ≤ length (ready .list)
+  pub sent : sizes .hash * (sizes .sentHashes + 1) ≤ length (ready .sent)
+
 -- The first hashes of a part put at the start of a buffer, and so many bytes of a field behind them.
 abbrev pub startPut : ℕ → List ℕ → List ℕ → List ℕ
 startPut n part buffer = sets buffer 0 (hashesBytes (hashesAt part 0 n))
@@ -204,3 +213,8 @@ allPut p ready b =
       lastSent = startPut (p .«last_sent») (ready .heads) (b .lastSent);
       sent = startPut (p .sent) (ready .sent) (b .sent);
     }
+
+-- What was decided, and all buffers with it put.
+pub record Finished (s : Session) (d : Draft) (bits probes : ℕ) (ready : Parts) (before after : Buffers) (a : Answer) : Type 0 where
+  pub answer : a ≡ decided s d bits probes (roomsIn before)
+  pub buffers : after ≡ allPut (putsOf a) ready before

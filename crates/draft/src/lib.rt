@@ -1,2 +1,3 @@
-// All that a plan is made of, computed for a session and tables that have been checked: its numbers, and the bytes that stand ready to be put.
+// A plan for a session and tables that have been checked: all parts of it are computed into buffers that stand ready, then it is decided and put.
+pub mod finish;
 pub mod make;

@@ -1,18 +1,16 @@
 -- What was made for a session and tables that were checked is small and stands ready, and what is put of it is what the call promises. Assumes nothing.
 use Prim.Native.Nat.{ℕ, _≤_}
 use mathlib.Core.List.{List}
-use mathlib.Core.Path.{_≡_}
+use mathlib.Core.Path.{_≡_, _∙_}
 use native.Mathlib.Omega.{arith}
 use lib.ListN.{length}
 use Rattle.bloom.specs.Filter.{defaultBits, defaultProbes}
 use Rattle.bloom.proofs.Rules.{rules-default}
-use Rattle.decide.specs.Call.{Buffers, roomsIn, PlanCalled}
-use Rattle.decide.specs.Draft.{Parts, DraftMade, SmallDraft, decided, putsOf, allPut}
+use Rattle.decide.specs.Call.{Buffers, PlanCalled}
+use Rattle.decide.specs.Draft.{Parts, DraftMade, SmallDraft, Long, Finished}
 use Rattle.decide.specs.declared.answer.Planned.{Planned as Answer}
 use Rattle.decide.specs.declared.decide.Draft.{Draft}
-use Rattle.decide.specs.declared.put.Puts.{Puts}
 use Rattle.decide.proofs.MadeLaws.{small-made, plan-called}
-use Rattle.decide.proofs.PutLaws.{Long}
 use Rattle.graph.specs.Graph.{heads}
 use Rattle.lent.proofs.GoodSessions.{session-parts}
 use Rattle.planning.specs.Made.{Setting}
@@ -24,6 +22,17 @@ use Rattle.tables.specs.Bytes.{rowsAt}
 use Rattle.tables.specs.Waiting.{Waiting}
 use Rattle.tables.proofs.TableLaws.{length-rows-at}
 use Rattle.draft.specs.Make.{Checked, ReadyRooms}
+
+-- buffers keep their lengths
+pub rooms-kept : {h h′ n n′ f f′ l l′ s s′ : ℕ} → h ≡ h′ → n ≡ n′ → f ≡ f′ → l ≡ l′ → s ≡ s′ → ReadyRooms h′ n′ f′ l′ s′ → ReadyRooms h n f l s
+rooms-kept h n f l s r =
+    record {
+      headsRoom = h ∙ r .headsRoom;
+      needRoom = n ∙ r .needRoom;
+      fieldRoom = f ∙ r .fieldRoom;
+      listRoom = l ∙ r .listRoom;
+      sentRoom = s ∙ r .sentRoom;
+    }
 
 module _ {table : List ℕ} {n : ℕ} {waiting : List ℕ} {m : ℕ} {s : Session} {l : Lent} (k : Checked table n waiting m s l) where
   pub small-checked : {bits probes : ℕ} {w : List Waiting} {ready : Parts} {d : Draft} → Setting bits probes
@@ -47,14 +56,12 @@ module _ {table : List ℕ} {n : ℕ} {waiting : List ℕ} {m : ℕ} {s : Sessio
       }
 
   -- What was made, decided and put is what the call promises.
-  pub checked-called : {bits probes : ℕ} {w : List Waiting} {ready : Parts} {d : Draft} {before after : Buffers} {a : Answer} {p : Puts}
+  pub checked-called : {bits probes : ℕ} {w : List Waiting} {ready : Parts} {d : Draft} {before after : Buffers} {a : Answer}
       → DraftMade bits probes (rowsAt table 0 n) w (valueOf s l) ready d
       → ready .shared ≡ l .shared
-      → a ≡ decided s d bits probes (roomsIn before)
-      → p ≡ putsOf a
-      → after ≡ allPut p ready before
+      → Finished s d bits probes ready before after a
       → PlanCalled s (plan bits probes (rowsAt table 0 n) w (valueOf s l)) before after a
-  checked-called m e q c p = plan-called _ _ _ _ s l _ _ m e _ _ _ _ q c p
+  checked-called m e f = plan-called _ _ _ _ s l _ _ m e _ _ _ f
 
 -- The filter rules hold with the default's bits and probes over any rows.
 pub default-setting : Setting defaultBits defaultProbes

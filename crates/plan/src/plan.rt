@@ -4,10 +4,7 @@ use crate::check::check_plan;
 use bloom::parse::BITS_PER_ENTRY;
 use bloom::parse::NUM_PROBES;
 use decide::answer::Planned;
-use decide::answer::Rooms;
-use decide::decide::decide;
-use decide::put::put;
-use decide::put::puts_of;
+use draft::finish::finish;
 use draft::make::make_plan;
 use graph::heads::LIST_SIZE;
 use rules::sizes::FIELD_SIZE;
@@ -114,21 +111,14 @@ fn plan_checked(
         &mut ready_list,
         &mut ready_sent,
     );
-    let rooms = Rooms {
-        heads: heads.len(),
-        need: need.len(),
-        have: have.len(),
-        list: list.len(),
-        last_sent: last_sent.len(),
-        sent: sent.len(),
-    };
-    let planned = decide(session, draft, bits, probes, rooms);
-    let puts = puts_of(planned);
-    put(
-        puts,
+    finish(
+        bits,
+        probes,
+        session,
+        draft,
+        shared,
         &ready_heads,
         &ready_need,
-        shared,
         &field,
         &ready_list,
         &ready_sent,
@@ -138,8 +128,7 @@ fn plan_checked(
         list,
         last_sent,
         sent,
-    );
-    planned
+    )
 }
 
 // The plan with a filter of these bits and probes.

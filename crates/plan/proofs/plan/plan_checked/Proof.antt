@@ -1,91 +1,84 @@
--- `plan::plan::plan_checked` meets its contract: what was made is small and stands ready, so what is decided fits, and what is put is what is
--- said. Assumes nothing.
-use mathlib.Core.Path.{refl}
-use Rattle.plan.proofs.CallLaws.{small-checked, long-ready, checked-called}
-use Rattle.decide.proofs.PutLaws.{puts-fit}
+-- `plan::plan::plan_checked` meets its contract: what was made is small and stands ready, and once it is finished it is what the call promises.
+-- Assumes nothing.
+use mathlib.Core.Path.{refl, sym}
+use Rattle.plan.proofs.CallLaws.{small-checked, rooms-kept, long-ready, checked-called}
 use borrow.Author.Needs.{needs}
 use Rattle.plan.proofs.plan.plan_checked.Statement.{statement}
 use Rattle.plan.proofs.plan.plan_checked.Tie as tie
 
 slice-aggregate-make-plan : tie.Need-slice-aggregate-make-plan
-slice-aggregate-make-plan c = search needs
+slice-aggregate-make-plan c = refl
 
 slice-aggregate-make-plan-2 : tie.Need-slice-aggregate-make-plan-2
-slice-aggregate-make-plan-2 c = search needs
+slice-aggregate-make-plan-2 c = refl
 
 slice-aggregate-make-plan-3 : tie.Need-slice-aggregate-make-plan-3
-slice-aggregate-make-plan-3 c = search needs
+slice-aggregate-make-plan-3 c = refl
 
 slice-aggregate-make-plan-4 : tie.Need-slice-aggregate-make-plan-4
-slice-aggregate-make-plan-4 c = search needs
+slice-aggregate-make-plan-4 c = refl
 
 slice-aggregate-make-plan-5 : tie.Need-slice-aggregate-make-plan-5
-slice-aggregate-make-plan-5 c = search needs
+slice-aggregate-make-plan-5 c = refl
 
 make-plan-requires : tie.Need-make-plan-requires
-make-plan-requires c κs = search needs
+make-plan-requires c κs =
+    let lent = c .before .before .before .before .before .before .before .before .before in
+    let pre = lent .before .before .before .before .before .before .before .before .before .before .before .pre in
+    (pre .0, pre .1, record { headsRoom = refl; needRoom = refl; fieldRoom = refl; listRoom = refl; sentRoom = refl })
 
-decide-requires : tie.Need-decide-requires
-decide-requires c κs =
-    let made = c .before .before .before .before .before in
+slice-aggregate-finish : tie.Need-slice-aggregate-finish
+slice-aggregate-finish c = sym (c .before .before .before .before .before .before .make-plan .kept .1 .1 .1 .1 .1 .1 .1 .1 .1 .1 .1 .1 .1 .1 .0)
+
+slice-aggregate-finish-2 : tie.Need-slice-aggregate-finish-2
+slice-aggregate-finish-2 c = sym (c .before .before .before .before .before .before .before .make-plan .kept .1 .1 .1 .1 .1 .1 .1 .1 .1 .1 .1 .1 .1 .1 .1 .0)
+
+slice-aggregate-finish-3 : tie.Need-slice-aggregate-finish-3
+slice-aggregate-finish-3 c = sym (c .before .before .before .before .before .before .before .before .make-plan .kept .1 .1 .1 .1 .1 .1 .1 .1 .1 .1 .1 .1 .1 .1 .1 .1 .0)
+
+slice-aggregate-finish-4 : tie.Need-slice-aggregate-finish-4
+slice-aggregate-finish-4 c = sym (c .before .before .before .before .before .before .before .before .before .make-plan .kept .1 .1 .1 .1 .1 .1 .1 .1 .1 .1 .1 .1 .1 .1 .1 .1 .1 .0)
+
+slice-aggregate-finish-5 : tie.Need-slice-aggregate-finish-5
+slice-aggregate-finish-5 c = sym (c .before .before .before .before .before .before .before .before .before .before .make-plan .kept .1 .1 .1 .1 .1 .1 .1 .1 .1 .1 .1 .1 .1 .1 .1 .1 .1 .1 .0)
+
+finish-requires : tie.Need-finish-requires
+finish-requires c κs =
+    let made = c .before .before .before .before .before .before .before .before .before .before .before .before .before .before .before .before in
     let lent = made .before .before .before .before .before .before .before .before .before .before in
     let pre = lent .before .before .before .before .before .before .before .before .before .before .before .pre in
-    small-checked (pre .0) (pre .1) (made .make-plan .ensures)
-
-puts-of-requires : tie.Need-puts-of-requires
-puts-of-requires c κs = search needs
-
-slice-aggregate-put : tie.Need-slice-aggregate-put
-slice-aggregate-put c = search needs
-
-slice-aggregate-put-2 : tie.Need-slice-aggregate-put-2
-slice-aggregate-put-2 c = search needs
-
-slice-aggregate-put-3 : tie.Need-slice-aggregate-put-3
-slice-aggregate-put-3 c = search needs
-
-slice-aggregate-put-4 : tie.Need-slice-aggregate-put-4
-slice-aggregate-put-4 c = search needs
-
-slice-aggregate-put-5 : tie.Need-slice-aggregate-put-5
-slice-aggregate-put-5 c = search needs
-
-put-requires : tie.Need-put-requires
-put-requires c κs =
-    let decided = c .before .before .before .before .before .before .before .before .before .before .before .before in
-    let made = decided .before .before .before .before .before .before in
-    let lent = made .before .before .before .before .before .before .before .before .before .before in
-    let pre = lent .before .before .before .before .before .before .before .before .before .before .before .pre in
-    puts-fit _ _ _ _ _ _ _ _ (small-checked (pre .0) (pre .1) (made .make-plan .ensures)) (long-ready (pre .0) _ refl (search needs))
-    (decided .decide .ensures)
-    (c .before .before .before .before .before .before .before .before .before .before .before .puts-of .ensures)
+    let call = made .make-plan in
+    let kept = call .kept .1 .1 .1 .1 .1 .1 .1 .1 .1 .1 .1 .1 .1 .1 in
+    let rooms = make-plan-requires (made .before) (call .lifetimes) .2 in (
+      small-checked (pre .0) (pre .1) (call .ensures),
+      long-ready (pre .0) _ refl (rooms-kept (kept .0) (kept .1 .0) (kept .1 .1 .0) (kept .1 .1 .1 .0) (kept .1 .1 .1 .1 .0) rooms),
+    )
 
 same-length : tie.Need-same-length
-same-length c = search needs
+same-length c = c .before .before .before .before .before .before .before .before .before .before .before .before .finish .kept .1 .1 .1 .1 .1 .1 .1 .1 .1 .1 .1 .1 .1 .1 .0
 
 same-length-2 : tie.Need-same-length-2
-same-length-2 c = search needs
+same-length-2 c = c .before .before .before .before .before .before .before .before .before .before .before .before .finish .kept .1 .1 .1 .1 .1 .1 .1 .1 .1 .1 .1 .1 .1 .1 .1 .0
 
 same-length-3 : tie.Need-same-length-3
-same-length-3 c = search needs
+same-length-3 c = c .before .before .before .before .before .before .before .before .before .before .before .before .finish .kept .1 .1 .1 .1 .1 .1 .1 .1 .1 .1 .0
 
 same-length-4 : tie.Need-same-length-4
-same-length-4 c = search needs
+same-length-4 c = c .before .before .before .before .before .before .before .before .before .before .before .before .finish .kept .1 .1 .1 .1 .1 .1 .1 .1 .1 .1 .1 .0
 
 same-length-5 : tie.Need-same-length-5
-same-length-5 c = search needs
+same-length-5 c = c .before .before .before .before .before .before .before .before .before .before .before .before .finish .kept .1 .1 .1 .1 .1 .1 .1 .1 .1 .1 .1 .1 .0
 
 same-length-6 : tie.Need-same-length-6
-same-length-6 c = search needs
+same-length-6 c = c .before .before .before .before .before .before .before .before .before .before .before .before .finish .kept .1 .1 .1 .1 .1 .1 .1 .1 .1 .1 .1 .1 .1 .0
 
 returns : tie.Need-returns
 returns c =
-    let put = c .before .before .before .before .before .before .before .before .before .before .before .before in
-    let puts = put .before .before .before .before .before .before .before .before .before .before .before .before in
-    let made = puts .before .before .before .before .before .before .before in
+    let finished = c .before .before .before .before .before .before .before .before .before .before .before .before in
+    let made = finished .before .before .before .before .before .before .before .before .before .before .before .before .before .before .before .before .before in
     let lent = made .before .before .before .before .before .before .before .before .before .before in
     let pre = lent .before .before .before .before .before .before .before .before .before .before .before .pre in
-    checked-called (pre .0) (made .make-plan .ensures) refl (puts .before .decide .ensures) (puts .puts-of .ensures) (put .put .ensures)
+    checked-called (pre .0) (made .make-plan .ensures) refl (finished .finish .ensures)
 
 pub plan-checked-spec : {M : Type 1} → statement M
 plan-checked-spec =
@@ -97,14 +90,12 @@ plan-checked-spec =
     slice-aggregate-make-plan-4
     slice-aggregate-make-plan-5
     make-plan-requires
-    decide-requires
-    puts-of-requires
-    slice-aggregate-put
-    slice-aggregate-put-2
-    slice-aggregate-put-3
-    slice-aggregate-put-4
-    slice-aggregate-put-5
-    put-requires
+    slice-aggregate-finish
+    slice-aggregate-finish-2
+    slice-aggregate-finish-3
+    slice-aggregate-finish-4
+    slice-aggregate-finish-5
+    finish-requires
     same-length
     same-length-2
     same-length-3
