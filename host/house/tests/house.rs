@@ -1,0 +1,116 @@
+//! What the crates and the documents must keep to.
+
+use house::edits::{self, Edit};
+use house::functions::{self, Function};
+use house::names::{names, Home};
+use house::reach::House;
+use house::{document, read, root};
+
+/// The functions that stand in a document: `crate::file::name` or, in a line that names
+/// the file so, `name` alone.
+fn named_in<'a>(text: &str, functions: &'a [Function]) -> Vec<&'a Function> {
+    let named = |f: &&Function| {
+        let Home { krate, file, name } = &f.home;
+        let (file, ends) = (
+            format!("`{krate}::{file}::"),
+            [format!("`{name}`"), format!("::{name}`")],
+        );
+        let mut lines = text.lines().filter(|line| line.contains(&file));
+        lines.any(|line| ends.iter().any(|end| line.contains(end)))
+    };
+    functions.iter().filter(named).collect()
+}
+
+/// docs/API.md in two: what anyone may call, and what is internal.
+fn api() -> (String, String) {
+    let api = document("API.md");
+    let (public, internal) = api
+        .split_once("\n## Internal\n")
+        .expect("a section Internal");
+    (public.into(), internal.into())
+}
+
+#[test]
+fn there_is_a_house() {
+    let functions = functions::all();
+    assert!(functions.iter().filter(|f| f.public).count() > 200);
+    assert!(functions.iter().filter(|f| f.exported).count() > 20);
+    assert!(edits::all().len() > 100);
+}
+
+#[test]
+fn no_exported_function_requires_anything() {
+    for function in functions::all().iter().filter(|f| f.exported) {
+        assert!(!function.requires(), "{}", function.path());
+    }
+}
+
+/// A public function that requires nothing is named as one that anyone may call, one
+/// that requires something as internal, and neither as the other.
+#[test]
+fn every_public_function_is_documented_as_what_it_is() {
+    let functions = functions::all();
+    let (public, internal) = api();
+    let paths = |text: &str| -> Vec<String> {
+        named_in(text, &functions)
+            .iter()
+            .map(|f| f.path())
+            .collect()
+    };
+    let (open, closed) = (paths(&public), paths(&internal));
+    let exported = document("ABI.md");
+    let mut wrong = Vec::new();
+    for function in functions.iter().filter(|f| f.public) {
+        let path = function.path();
+        let called_by_anyone = match function.exported {
+            true => names(&exported).contains(&function.home.name[..]),
+            false => open.contains(&path),
+        };
+        if called_by_anyone == function.requires() || closed.contains(&path) != function.requires()
+        {
+            wrong.push(path);
+        }
+    }
+    assert!(wrong.is_empty(), "docs/API.md: {wrong:#?}");
+}
+
+#[test]
+fn every_edit_fits_its_file_once() {
+    for Edit {
+        krate,
+        name,
+        slip,
+        file,
+        changes,
+    } in edits::all()
+    {
+        assert!(!slip.is_empty() && !changes.is_empty(), "{krate}/{name}");
+        let mut text = read(&root().join("crates").join(&krate).join(&file));
+        for (old, new) in changes {
+            assert_eq!(text.matches(&old).count(), 1, "{krate}/{name}: {old}");
+            text = text.replace(&old, &new);
+        }
+    }
+}
+
+/// What all calls have in common, the words of a refusal, isn't counted.
+fn shared(home: &Home) -> bool {
+    let Home { krate, file, .. } = home;
+    krate == "answers" || krate == "rules" && file == "refusal"
+}
+
+#[test]
+fn two_edits_reach_each_exported_call() {
+    let house = House::read();
+    let edits = edits::all();
+    let mut few = Vec::new();
+    for call in house.functions.iter().filter(|f| f.exported) {
+        let reaching = house.edits_reaching(call, &edits);
+        let own = |edit: &&&Edit| !house.changed(edit).iter().all(shared);
+        let count = reaching.iter().filter(own).count();
+        if count < 2 {
+            few.push(format!("{}: {count}", call.home.name));
+        }
+    }
+    assert!(few.is_empty(), "{few:#?}");
+}
