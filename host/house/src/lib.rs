@@ -2,6 +2,7 @@
 //! what their contracts cite, and the edits that must be refused. Tests hold them
 //! against docs/.
 
+pub mod citations;
 pub mod edits;
 pub mod functions;
 pub mod names;

@@ -1,10 +1,11 @@
 //! What the crates and the documents must keep to.
 
+use house::citations::{of_text, stands};
 use house::edits::{self, Edit};
 use house::functions::{self, Function};
 use house::names::{names, Home};
 use house::reach::House;
-use house::{document, read, root};
+use house::{document, files, read, root};
 
 /// The functions that stand in a document: `crate::file::name` or, in a line that names
 /// the file so, `name` alone.
@@ -113,4 +114,41 @@ fn two_edits_reach_each_exported_call() {
         }
     }
     assert!(few.is_empty(), "{few:#?}");
+}
+
+/// What the documents cite stands where they say.
+#[test]
+fn every_citation_stands() {
+    let mut count = 0;
+    for path in files(&root().join("docs"), ".md")
+        .into_iter()
+        .chain([root().join("README.md")])
+    {
+        for citation in of_text(&read(&path)) {
+            assert!(stands(&citation), "{}: {citation:?}", path.display());
+            count += 1;
+        }
+    }
+    assert!(count > 200, "{count}");
+}
+
+/// The edits that docs/RULES.md names, in tables with a column of them, are edits.
+#[test]
+fn every_edit_that_is_named_exists() {
+    let edits = edits::all();
+    let rules = document("RULES.md");
+    let (mut count, mut named) = (0, false);
+    for line in rules.lines() {
+        named = line.starts_with('|') && (named || line.ends_with(" edits |"));
+        let last = line.trim_end_matches('|').rsplit(" | ").next();
+        for name in last
+            .iter()
+            .filter(|_| named)
+            .flat_map(|l| l.split('`').skip(1).step_by(2))
+        {
+            assert!(edits.iter().any(|edit| edit.name == name), "{name}");
+            count += 1;
+        }
+    }
+    assert!(count > 100, "{count}");
 }
