@@ -1,6 +1,6 @@
 # `make run` shows the library at work; `make test` proves and tests all of it; `make bench` measures. Each does its own
 # set-up. docs/WORKING.md has what is useful while something is changed.
-.PHONY: run test lib bench check edit samples stack tools
+.PHONY: run test lib bench check edit edits samples stack tools
 
 run: lib
 	@cd host && cargo run --offline --quiet --release --package bisquetower --example sample
@@ -34,3 +34,7 @@ check:
 # One edit that the prover must refuse: make edit CRATE=wire EDIT=the-edits-name.
 edit:
 	@bash .ci/edit $(CRATE) $(EDIT)
+
+# docs/EDITS.md anew, from what the gate's last run left in target/.
+edits: tools
+	@cd host && cargo run --offline --quiet --release --package house --bin edits

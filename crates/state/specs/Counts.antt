@@ -6,11 +6,12 @@ use Rattle.state.specs.declared.session.Heard.{Heard}
 use Rattle.state.specs.declared.session.Heard.the-variants.{Nothing, Count}
 use Rattle.state.specs.declared.session.Session.{Session}
 
--- Nothing was said yet, but these haves were heard.
-abbrev pub heardOnly : Heard → Session
-heardOnly have =
+-- Nothing was said yet, but so many heads are shared and these haves were heard; the peer's capabilities (V2, resets), whether this unit takes no
+-- changes, and whether a reset is wanted.
+abbrev pub begunCounts : ℕ → Heard → Bool → Bool → Bool → Bool → Session
+begunCounts shared have v2 reset readOnly wantsReset =
     record {
-      «shared_heads» = 0;
+      «shared_heads» = shared;
       «last_sent_heads» = 0;
       «their_heads» = Nothing;
       «their_need» = Nothing;
@@ -18,54 +19,24 @@ heardOnly have =
       «sent_hashes» = 0;
       «in_flight» = false;
       «have_responded» = false;
-      «supports_v2» = false;
-      «supports_reset» = false;
-      «read_only» = false;
+      «supports_v2» = v2;
+      «supports_reset» = reset;
+      «read_only» = readOnly;
       «peer_read_only» = false;
-      «needs_reset» = false;
+      «needs_reset» = wantsReset;
     }
 
 -- Nothing was said yet.
 abbrev pub freshCounts : Session
-freshCounts = heardOnly Nothing
+freshCounts = begunCounts 0 Nothing false false false false
 
 -- The same of a unit that takes no changes.
 abbrev pub freshReadOnlyCounts : Session
-freshReadOnlyCounts =
-    record {
-      «shared_heads» = 0;
-      «last_sent_heads» = 0;
-      «their_heads» = Nothing;
-      «their_need» = Nothing;
-      «their_have» = Nothing;
-      «sent_hashes» = 0;
-      «in_flight» = false;
-      «have_responded» = false;
-      «supports_v2» = false;
-      «supports_reset» = false;
-      «read_only» = true;
-      «peer_read_only» = false;
-      «needs_reset» = false;
-    }
+freshReadOnlyCounts = begunCounts 0 Nothing false false true false
 
 -- So many shared heads were saved; their haves are present and none.
 abbrev pub restoredCounts : ℕ → Session
-restoredCounts shared =
-    record {
-      «shared_heads» = shared;
-      «last_sent_heads» = 0;
-      «their_heads» = Nothing;
-      «their_need» = Nothing;
-      «their_have» = Count 0;
-      «sent_hashes» = 0;
-      «in_flight» = false;
-      «have_responded» = false;
-      «supports_v2» = false;
-      «supports_reset» = false;
-      «read_only» = false;
-      «peer_read_only» = false;
-      «needs_reset» = false;
-    }
+restoredCounts shared = begunCounts shared (Count 0) false false false false
 
 -- Read-only from off to on.
 abbrev pub switchedOnCounts : Session → Session
@@ -88,22 +59,7 @@ switchedOnCounts s =
 
 -- Read-only from on to off: the lists are gone, so their buffers are free.
 abbrev pub switchedOffCounts : Session → Session
-switchedOffCounts s =
-    record {
-      «shared_heads» = 0;
-      «last_sent_heads» = 0;
-      «their_heads» = Nothing;
-      «their_need» = Nothing;
-      «their_have» = Nothing;
-      «sent_hashes» = 0;
-      «in_flight» = false;
-      «have_responded» = false;
-      «supports_v2» = s .«supports_v2»;
-      «supports_reset» = s .«supports_reset»;
-      «read_only» = false;
-      «peer_read_only» = false;
-      «needs_reset» = true;
-    }
+switchedOffCounts s = begunCounts 0 Nothing (s .«supports_v2») (s .«supports_reset») false true
 
 -- Setting read-only to what it is changes nothing.
 unfoldable pub setReadOnlyCounts : Session → Bool → Session

@@ -22,62 +22,37 @@ pub record State : Type 0 where
   pub peerReadOnly : Bool
   pub needsReset : Bool
 
--- 01, Session: nothing was said yet, by either peer.
-abbrev pub fresh : State
-fresh =
-    record {
-      sharedHeads = [];
-      lastSentHeads = [];
-      theirHeads = none;
-      theirNeed = none;
-      theirHave = none;
-      sentHashes = [];
-      inFlight = false;
-      haveResponded = false;
-      supportsV2 = false;
-      supportsReset = false;
-      readOnly = false;
-      peerReadOnly = false;
-      needsReset = false;
-    }
-
--- 01, Session: fresh, of a unit that takes no changes.
-abbrev pub freshReadOnly : State
-freshReadOnly =
-    record {
-      sharedHeads = [];
-      lastSentHeads = [];
-      theirHeads = none;
-      theirNeed = none;
-      theirHave = none;
-      sentHashes = [];
-      inFlight = false;
-      haveResponded = false;
-      supportsV2 = false;
-      supportsReset = false;
-      readOnly = true;
-      peerReadOnly = false;
-      needsReset = false;
-    }
-
--- 01, Wire, saved state: fresh but for its shared heads, and their haves are present and none.
-abbrev pub restored : List ℕ → State
-restored shared =
+-- 01, Session: nothing was said yet, by either peer, but these heads are shared and these haves were heard; the peer's capabilities (V2, resets),
+-- whether this unit takes no changes, and whether a reset is wanted.
+abbrev pub begun : List ℕ → Option (List Have) → Bool → Bool → Bool → Bool → State
+begun shared have v2 reset takesNone wantsReset =
     record {
       sharedHeads = shared;
       lastSentHeads = [];
       theirHeads = none;
       theirNeed = none;
-      theirHave = some [];
+      theirHave = have;
       sentHashes = [];
       inFlight = false;
       haveResponded = false;
-      supportsV2 = false;
-      supportsReset = false;
-      readOnly = false;
+      supportsV2 = v2;
+      supportsReset = reset;
+      readOnly = takesNone;
       peerReadOnly = false;
-      needsReset = false;
+      needsReset = wantsReset;
     }
+
+-- 01, Session: a fresh one.
+abbrev pub fresh : State
+fresh = begun [] none false false false false
+
+-- 01, Session: fresh, of a unit that takes no changes.
+abbrev pub freshReadOnly : State
+freshReadOnly = begun [] none false false true false
+
+-- 01, Wire, saved state: fresh but for its shared heads, and their haves are present and none.
+abbrev pub restored : List ℕ → State
+restored shared = begun shared (some []) false false false false
 
 -- 01, Session, read-only from off to on: nothing is in flight or was answered any more, so that the next message tells the peer.
 abbrev pub switchedOn : State → State
@@ -100,22 +75,7 @@ switchedOn s =
 
 -- 01, Session, read-only from on to off: fresh, but the peer's capabilities stay known, and it is asked to send again what was ignored.
 abbrev pub switchedOff : State → State
-switchedOff s =
-    record {
-      sharedHeads = [];
-      lastSentHeads = [];
-      theirHeads = none;
-      theirNeed = none;
-      theirHave = none;
-      sentHashes = [];
-      inFlight = false;
-      haveResponded = false;
-      supportsV2 = s .supportsV2;
-      supportsReset = s .supportsReset;
-      readOnly = false;
-      peerReadOnly = false;
-      needsReset = true;
-    }
+switchedOff s = begun [] none (s .supportsV2) (s .supportsReset) false true
 
 -- 01, Session: setting read-only to what it is changes nothing.
 unfoldable pub setReadOnly : State → Bool → State

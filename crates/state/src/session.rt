@@ -1,7 +1,8 @@
 // Sessions, and read-only mode.
+ghost use mathlib.Core.Bool.{false};
 ghost use mathlib.Core.Path.{_≡_};
 ghost use Rattle.state.specs.Value.{heardCount};
-ghost use Rattle.state.specs.Counts.{heardOnly, freshCounts, freshReadOnlyCounts, restoredCounts, setReadOnlyCounts};
+ghost use Rattle.state.specs.Counts.{begunCounts, freshCounts, freshReadOnlyCounts, restoredCounts, setReadOnlyCounts};
 
 // How many hashes or haves the peer's last message had, if there was one.
 pub enum Heard {
@@ -47,7 +48,7 @@ pub struct Session {
 impl Session {
     // A session in which nothing was said, but these haves were heard.
     fn heard_only(their_have: Heard) -> Session
-        ensures { λ r. ⌜ r ≡ heardOnly «their_have» ⌝ }
+        ensures { λ r. ⌜ r ≡ begunCounts 0 «their_have» false false false false ⌝ }
     {
         Session {
             shared_heads: 0,

@@ -4,6 +4,7 @@
 
 pub mod citations;
 pub mod edits;
+pub mod facts;
 pub mod functions;
 pub mod names;
 pub mod reach;
