@@ -1,7 +1,5 @@
 -- Laws that the crates above cite.
 pub mod DecideLaws
-pub mod Decided
-pub mod MadeLaws
 pub mod Once
 pub mod Promises
 pub mod PutLaws

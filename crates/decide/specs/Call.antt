@@ -4,7 +4,6 @@ use Prim.Native.Nat.{ℕ, _+_, _*_}
 use mathlib.Core.Bool.{true, false, cond, not}
 use mathlib.Core.List.{List, [], _∷_}
 use mathlib.Core.Path.{_≡_}
-use lib.Dec.{ltb}
 use lib.ListN.{length}
 use lib.Seq.{sets}
 use Rattle.bloom.specs.Have.{Have, numbersOf}
@@ -17,6 +16,7 @@ use Rattle.rules.specs.Sizes.{sizes}
 use Rattle.rules.specs.declared.refusal.Refusal.the-variants.{BadNumbers, NoRoom}
 use Rattle.session.specs.Laid.{laidBytes}
 use Rattle.session.specs.Plan.{Plan, Planned, listOf, plan}
+use Rattle.session.specs.Rooms.{orShort}
 use Rattle.state.specs.Value.{Lent, valueOf}
 use Rattle.state.specs.declared.session.Session.{Session}
 use Rattle.tables.specs.Bytes.{tableOf, waitingOf}
@@ -103,20 +103,18 @@ answerOf s (Planned.says p after) =
 
 -- ---- room
 
-abbrev pub orShort : ℕ → ℕ → Room → Room
-orShort room wanted rest = cond (ltb room wanted) (Short wanted) rest
-
 -- The message's lists in wire order: heads, need, the have's bytes, the hash list.
 unfoldable pub messageRoom : Stated → Rooms → Room
 messageRoom p r =
-    orShort (r .heads) (sizes .hash * p .heads)
-    (orShort (r .need) (sizes .hash * p .need)
-    (orShort (r .have) (sizes .hash * p .syncs + p .filter .size) (orShort (r .list) (sizes .hash * p .hashes) Enough)))
+    orShort Short (r .heads) (sizes .hash * p .heads)
+    (orShort Short (r .need) (sizes .hash * p .need)
+    (orShort Short (r .have) (sizes .hash * p .syncs + p .filter .size)
+    (orShort Short (r .list) (sizes .hash * p .hashes) Enough)))
 
 -- The session's lists that change: last-sent heads, sent hashes.
 unfoldable pub sessionRoom : ℕ → ℕ → Rooms → Room
 sessionRoom lastSent sent r =
-    orShort (r .«last_sent») (sizes .hash * lastSent) (orShort (r .sent) (sizes .hash * sent) Enough)
+    orShort Short (r .«last_sent») (sizes .hash * lastSent) (orShort Short (r .sent) (sizes .hash * sent) Enough)
 
 unfoldable pub afterRoom : Room → Planned → Planned
 afterRoom Enough p = p
@@ -156,7 +154,7 @@ sentPut Planned.silent = []
 sentPut (Planned.reset p) = []
 sentPut (Planned.says p after) = after .sentHashes
 
--- The lent buffers, before and after.
+-- The lent buffers, before and after, in the order in which room is asked for.
 pub record Buffers : Type 0 where
   pub heads : List ℕ
   pub need : List ℕ
@@ -164,6 +162,10 @@ pub record Buffers : Type 0 where
   pub list : List ℕ
   pub lastSent : List ℕ
   pub sent : List ℕ
+
+abbrev pub buffersOf : List ℕ → List ℕ → List ℕ → List ℕ → List ℕ → List ℕ → Buffers
+buffersOf heads need have list lastSent sent =
+    record { heads = heads; need = need; have = have; list = list; lastSent = lastSent; sent = sent }
 
 abbrev pub roomsIn : Buffers → Rooms
 roomsIn b =

@@ -1,31 +1,22 @@
 -- What internal contracts speak of: numbers of a plan before it is decided, and what stands ready to be put. No rule of 01 stands here.
 use Prim.Native.Nat.{ℕ, _+_, _*_, _≤_}
-use mathlib.Core.Bool.{Bool, true, false, cond, _&&_, not}
+use mathlib.Core.Bool.{Bool, false, cond, _&&_, not}
 use mathlib.Core.List.{List}
-use mathlib.Core.Path.{_≡_}
 use lib.Dec.{ltb}
 use lib.ListN.{length, take}
 use lib.Seq.{sets}
 use Rattle.bloom.specs.Filter.{fieldSize, defaultBits, defaultProbes}
 use Rattle.bloom.specs.Have.{numbersOf}
 use Rattle.bloom.specs.declared.have.FilterNumbers.{FilterNumbers}
-use Rattle.graph.specs.Graph.{heads, beyond}
 use Rattle.message.specs.Flags.{flagsOf, supportsSyncReset}
 use Rattle.message.specs.declared.version.MessageVersion.the-variants.{V1}
 use Rattle.numbers.specs.Number.{mostFilter}
-use Rattle.missing.specs.Ask.{Found}
-use Rattle.planning.specs.Made.{FieldMade, BodyMade, SentMade}
 use Rattle.rules.specs.Hash.{hashesAt, hashesBytes}
-use Rattle.rules.specs.Order.{member, every}
-use Rattle.rules.specs.Output.{Gathered}
 use Rattle.rules.specs.Sizes.{sizes}
 use Rattle.rules.specs.declared.refusal.Refusal.the-variants.{PastSize, NoRoom}
-use Rattle.session.specs.Plan.{heard, needOf, unknownSync, bodyOf, silence, versionFor, flagsFor}
-use Rattle.state.specs.Session.{State}
+use Rattle.session.specs.Plan.{versionFor, flagsFor}
 use Rattle.state.specs.declared.session.Session.{Session}
-use Rattle.tables.specs.Table.{Row}
-use Rattle.tables.specs.Waiting.{Waiting}
-use Rattle.decide.specs.Call.{Buffers, roomsIn, messageRoom, sessionRoom, plannedCounts}
+use Rattle.decide.specs.Call.{Buffers, messageRoom, sessionRoom, plannedCounts}
 use Rattle.decide.specs.declared.answer.Planned.{Planned as Answer}
 use Rattle.decide.specs.declared.answer.Planned.the-variants.{Refused, Silent, Reset, Says}
 use Rattle.decide.specs.declared.answer.Room.{Room}
@@ -118,7 +109,7 @@ decided s d bits probes r =
     Silent
     (cond (ltb (sizes .sentHashes) (d .sent)) (Refused (PastSize 0)) (saysWith s d bits probes r))))
 
--- ---- what is computed
+-- ---- what is put
 
 -- What stands ready to be put.
 pub record Parts : Type 0 where
@@ -129,21 +120,9 @@ pub record Parts : Type 0 where
   pub list : List ℕ
   pub sent : List ℕ
 
--- The field of a have, if one is given.
-pub record GivenMade (bits probes : ℕ) (given : Bool) (hs field : List ℕ) (entries : ℕ) : Type 0 where
-  pub made : given ≡ true → FieldMade bits probes hs field entries
-  pub none : given ≡ false → entries ≡ 0
-
--- The parts of a plan and its numbers. Of needs and sent hashes there is room for one more than there may be, so that too many show.
-pub record DraftMade (bits probes : ℕ) (t : List Row) (w : List Waiting) (s : State) (ready : Parts) (d : Draft) : Type 0 where
-  pub heads : Gathered (heads t) (ready .heads) (d .heads)
-  pub need : Found (needOf t w (s .readOnly) (heard (s .theirHeads))) (sizes .hashes + 1) (ready .need) (d .need)
-  pub unknown : d .unknown ≡ unknownSync t (s .theirHave)
-  pub gives : d .gives ≡ every (λ h. member h (heard (s .theirHeads))) (hashesAt (ready .need) 0 (d .need))
-  pub field : GivenMade bits probes (d .gives) (beyond t (s .sharedHeads)) (ready .field) (d .entries)
-  pub body : BodyMade (bodyOf t s) (ready .list) (d .body)
-  pub silent : d .silent ≡ silence t s
-  pub sent : SentMade (bodyOf t s .hashes) (s .sentHashes) (sizes .hash * (sizes .sentHashes + 1)) (ready .sent) (d .sent)
+abbrev pub partsOf : List ℕ → List ℕ → List ℕ → List ℕ → List ℕ → List ℕ → Parts
+partsOf heads need shared field list sent =
+    record { heads = heads; need = need; shared = shared; field = field; list = list; sent = sent }
 
 -- How many hashes and bytes are put into each buffer.
 abbrev pub noPuts : Puts
@@ -186,15 +165,6 @@ pub record Fits (p : Puts) (ready : Parts) (b : Buffers) : Type 0 where
   pub lastSent : HashesFit (p .«last_sent») (ready .heads) (b .lastSent)
   pub sent : HashesFit (p .sent) (ready .sent) (b .sent)
 
--- Parts that are long enough for any plan.
-pub record Long (s : Session) (ready : Parts) : Type 0 where
-  pub heads : sizes .hash * sizes .rows ≤ length (ready .heads)
-  pub need : sizes .hash * (sizes .hashes + 1) ≤ length (ready .need)
-  pub shared : sizes .hash * s .«shared_heads» ≤ length (ready .shared)
-  pub field : sizes .field ≤ length (ready .field)
-  pub list : sizes .hash * sizes .hashesToSend ≤ length (ready .list)
-  pub sent : sizes .hash * (sizes .sentHashes + 1) ≤ length (ready .sent)
-
 -- The first hashes of a part put at the start of a buffer, and so many bytes of a field behind them.
 abbrev pub startPut : ℕ → List ℕ → List ℕ → List ℕ
 startPut n part buffer = sets buffer 0 (hashesBytes (hashesAt part 0 n))
@@ -213,8 +183,3 @@ allPut p ready b =
       lastSent = startPut (p .«last_sent») (ready .heads) (b .lastSent);
       sent = startPut (p .sent) (ready .sent) (b .sent);
     }
-
--- What was decided, and all buffers with it put.
-pub record Finished (s : Session) (d : Draft) (bits probes : ℕ) (ready : Parts) (before after : Buffers) (a : Answer) : Type 0 where
-  pub answer : a ≡ decided s d bits probes (roomsIn before)
-  pub buffers : after ≡ allPut (putsOf a) ready before

@@ -4,7 +4,8 @@ use crate::answer::Stated;
 use rules::put::copy_into;
 use rules::sizes::HASH_SIZE;
 ghost use mathlib.Core.Path.{_≡_};
-ghost use Rattle.decide.specs.Draft.{putsFor, putsOf, HashesFit, HaveFits, Fits, startPut, havePut, allPut};
+ghost use Rattle.decide.specs.Call.{buffersOf};
+ghost use Rattle.decide.specs.Draft.{partsOf, putsFor, putsOf, HashesFit, HaveFits, Fits, startPut, havePut, allPut};
 
 // How many hashes go into each list, and how many bytes the field has.
 pub struct Puts {
@@ -88,39 +89,12 @@ pub fn put(
     last_sent: &mut [u8],
     sent: &mut [u8],
 )
-    requires { ⌜ Fits p (record {
-      heads = now «ready_heads»;
-      need = now «ready_need»;
-      shared = now shared;
-      field = now field;
-      list = now «ready_list»;
-      sent = now «ready_sent»;
-    })
-        (record { heads = now heads; need = now need; have = now have; list = now list; lastSent = now «last_sent»; sent = now sent }) ⌝ }
-    ensures { λ _. ⌜ record {
-      heads = now (heads .exit);
-      need = now (need .exit);
-      have = now (have .exit);
-      list = now (list .exit);
-      lastSent = now («last_sent» .exit);
-      sent = now (sent .exit);
-    }
-        ≡ allPut p (record {
-          heads = now («ready_heads» .entry);
-          need = now («ready_need» .entry);
-          shared = now (shared .entry);
-          field = now (field .entry);
-          list = now («ready_list» .entry);
-          sent = now («ready_sent» .entry);
-        })
-        (record {
-          heads = now (heads .entry);
-          need = now (need .entry);
-          have = now (have .entry);
-          list = now (list .entry);
-          lastSent = now («last_sent» .entry);
-          sent = now (sent .entry);
-        }) ⌝ }
+    requires { ⌜ Fits p (partsOf (now «ready_heads») (now «ready_need») (now shared) (now field) (now «ready_list») (now «ready_sent»))
+        (buffersOf (now heads) (now need) (now have) (now list) (now «last_sent») (now sent)) ⌝ }
+    ensures { λ _. ⌜ buffersOf (now (heads .exit)) (now (need .exit)) (now (have .exit)) (now (list .exit)) (now («last_sent» .exit)) (now (sent .exit))
+        ≡ allPut p (partsOf (now («ready_heads» .entry)) (now («ready_need» .entry)) (now (shared .entry)) (now (field .entry))
+        (now («ready_list» .entry)) (now («ready_sent» .entry)))
+        (buffersOf (now (heads .entry)) (now (need .entry)) (now (have .entry)) (now (list .entry)) (now («last_sent» .entry)) (now (sent .entry))) ⌝ }
 {
     put_hashes(ready_heads, p.heads, heads);
     put_hashes(ready_need, p.need, need);

@@ -8,11 +8,10 @@ use native.Mathlib.Omega.{arith}
 use borrow.Author.Tests.{ne-eqb}
 use lib.Dec.{eqb}
 use lib.ListN.{length}
-use Rattle.decide.specs.Draft.{Parts, GivenMade, DraftMade}
-use Rattle.decide.proofs.MadeLaws.{carried-few}
+use Rattle.decide.specs.Draft.{Parts}
 use Rattle.graph.specs.Graph.{heads, beyond}
 use Rattle.graph.proofs.HeadLaws.{heads-few}
-use Rattle.lent.specs.Good.{havesGood}
+use Rattle.lent.specs.Good.{havesGood, lentOf}
 use Rattle.lent.proofs.GoodSessions.{session-tests, session-parts, heard-within}
 use Rattle.lists.specs.Lists.{same}
 use Rattle.missing.specs.Ask.{Found}
@@ -23,14 +22,16 @@ use Rattle.rules.specs.Order.{member, every}
 use Rattle.rules.specs.Output.{Gathered}
 use Rattle.rules.specs.Sizes.{sizes}
 use Rattle.rules.proofs.Cases.{true-false}
-use Rattle.session.specs.Plan.{heard, heardAs, listOf, needOf, unknownSync, bodyHeard, bodyOf, empty, silence}
+use Rattle.session.specs.Plan.{Body, heard, heardAs, listOf, needOf, unknownSync, bodyHeard, bodyOf, empty, silence}
+use Rattle.session.proofs.PlanLaws.{list-few}
+use Rattle.state.specs.Session.{State}
 use Rattle.state.specs.Value.{Lent, heardHashes, heardHaves, valueOf}
 use Rattle.state.specs.declared.session.Session.{Session}
 use Rattle.tables.specs.Bytes.{rowsAt}
 use Rattle.tables.specs.Table.{Row}
 use Rattle.tables.specs.Waiting.{Waiting}
 use Rattle.tables.proofs.TableLaws.{length-rows-at}
-use Rattle.draft.specs.Make.{Checked, AskReady, AskedMade, CarryReady, CarriedMade, QuietReady, quiet}
+use Rattle.draft.specs.Make.{Checked, GivenMade, AskReady, AskedMade, CarryReady, carriedBody, CarriedMade, QuietReady, quiet, DraftMade}
 use Rattle.draft.specs.declared.make.Asked.{Asked}
 use Rattle.draft.specs.declared.make.Carried.{Carried}
 
@@ -57,36 +58,38 @@ asked-made bits probes t w reads theirs lastSync list field a room e f g m = rec
 
 module _ {table : List ℕ} {n : ℕ} {s : Session} {theirHeads theirNeed haves bytes sent : List ℕ} {room next : ℕ}
     (c : CarryReady table n s theirHeads theirNeed haves bytes sent room next) where
-  -- the hashes fit
-  pub body-there : (lost : Bool) (list : List ℕ) (r : Counted)
-      → BodyMade (cond (s .«peer_read_only») (listOf [])
-      (bodyHeard (rowsAt table 0 n) (s .«supports_v2») lost (heardHaves bytes haves (s .«their_have»)) (heardHashes theirNeed (s .«their_need»))
-      (hashesAt sent 0 (s .«sent_hashes»)))) list r
-      → r .hashes ≤ sizes .hashesToSend
-  body-there lost list r b =
-      let rows : length (rowsAt table 0 n) ≤ sizes .rows = rw (length-rows-at table 0 n) (c .rows .few) in
-      omega (
-        arith,
-        b .hashes .many,
-        carried-few (rowsAt table 0 n) rows (s .«peer_read_only») (s .«supports_v2») lost (heardHaves bytes haves (s .«their_have»))
-            (heardHashes theirNeed (s .«their_need»)) (hashesAt sent 0 (s .«sent_hashes»)) (heard-within theirNeed (s .«their_need») (c .need)),
-      )
+  abbrev t : List Row
+  t = rowsAt table 0 n
 
-  -- The peer is heard to have no heads; the hashes of the body join those that were sent.
-  pub carried-made : (lost : Bool) (list after : List ℕ) (k : Carried)
+  abbrev v : State
+  v = valueOf s (lentOf [] [] theirHeads theirNeed haves bytes sent)
+
+  abbrev body : Body
+  body = carriedBody t s theirHeads theirNeed haves bytes sent
+
+  -- the peer is heard to have no heads
+  pub body-made : (lost : Bool) (list : List ℕ) (r : Counted)
       → lost ≡ heardAs (hashesAt theirHeads 0 0) (heardHashes theirHeads (s .«their_heads»))
       → BodyMade (cond (s .«peer_read_only») (listOf [])
-      (bodyHeard (rowsAt table 0 n) (s .«supports_v2») lost (heardHaves bytes haves (s .«their_have»)) (heardHashes theirNeed (s .«their_need»))
-      (hashesAt sent 0 (s .«sent_hashes»)))) list (k .body)
+      (bodyHeard t (s .«supports_v2») lost (heardHaves bytes haves (s .«their_have»)) (heardHashes theirNeed (s .«their_need»))
+      (hashesAt sent 0 (s .«sent_hashes»)))) list r
+      → BodyMade body list r
+  unfolding hashesAt bodyOf
+  body-made lost list r e b = rw e at b
+
+  -- the hashes fit
+  pub body-there : (list : List ℕ) (r : Counted) → BodyMade body list r → r .hashes ≤ sizes .hashesToSend
+  body-there list r b =
+      let rows : length t ≤ sizes .rows = rw (length-rows-at table 0 n) (c .rows .few) in
+      omega (arith, b .hashes .many, list-few t v rows (heard-within theirNeed (s .«their_need») (c .need)))
+
+  -- and join those that were sent
+  pub carried-made : (list after : List ℕ) (k : Carried) → BodyMade body list (k .body)
       → SentMade (hashesAt list 0 (k .body .hashes)) (hashesAt sent 0 (s .«sent_hashes»)) next after (k .sent)
-      → CarriedMade (cond (s .«peer_read_only») (listOf [])
-      (bodyHeard (rowsAt table 0 n) (s .«supports_v2») (heardAs [] (heardHashes theirHeads (s .«their_heads»))) (heardHaves bytes haves (s .«their_have»))
-      (heardHashes theirNeed (s .«their_need»)) (hashesAt sent 0 (s .«sent_hashes»)))) (hashesAt sent 0 (s .«sent_hashes»)) list after k
-  unfolding hashesAt
-  carried-made lost list after k e b m =
-      let there = rw e at b in
+      → CarriedMade body (hashesAt sent 0 (s .«sent_hashes»)) list after k
+  carried-made list after k b m =
       let joined = rw (c .sentRoom) at m in
-      record { body = there; sent = rw (there .hashes .list) at joined }
+      record { body = b; sent = rw (b .hashes .list) at joined }
 
 -- ---- silence
 
@@ -157,10 +160,8 @@ module _ (bits probes : ℕ) (t : List Row) (w : List Waiting) (s : Session) (l 
       → AskedMade bits probes t w (s .«read_only») (heardHashes (l .theirHeads) (s .«their_heads»)) (hashesAt (l .shared) 0 (s .«shared_heads»)) (ready .need)
       (ready .field) a
       → unknown ≡ unknownSync t (heardHaves (l .bytes) (l .haves) (s .«their_have»))
-      → CarriedMade (cond (s .«peer_read_only») (listOf [])
-      (bodyHeard t (s .«supports_v2») (heardAs [] (heardHashes (l .theirHeads) (s .«their_heads»))) (heardHaves (l .bytes) (l .haves) (s .«their_have»))
-      (heardHashes (l .theirNeed) (s .«their_need»)) (hashesAt (l .sent) 0 (s .«sent_hashes»)))) (hashesAt (l .sent) 0 (s .«sent_hashes»)) (ready .list)
-      (ready .sent) k
+      → CarriedMade (carriedBody t s (l .theirHeads) (l .theirNeed) (l .haves) (l .bytes) (l .sent)) (hashesAt (l .sent) 0 (s .«sent_hashes»))
+      (ready .list) (ready .sent) k
       → silent ≡ quiet s (l .lastSent) (l .theirHeads) (hashesAt (ready .heads) 0 count) (k .body .hashes)
       → DraftMade bits probes t w (valueOf s l) ready
       (record { heads = count; need = a .need; unknown = unknown; gives = a .gives; entries = a .entries; body = k .body; silent = silent; sent = k .sent })

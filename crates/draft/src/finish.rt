@@ -6,7 +6,9 @@ use decide::decide::decide;
 use decide::put::put;
 use decide::put::puts_of;
 use state::session::Session;
-ghost use Rattle.decide.specs.Draft.{SmallDraft, Long, Finished};
+ghost use Rattle.decide.specs.Call.{buffersOf};
+ghost use Rattle.decide.specs.Draft.{SmallDraft, partsOf};
+ghost use Rattle.draft.specs.Make.{Long, Finished};
 
 // Decides over the lengths of the lent buffers, and puts what was decided.
 pub fn finish(
@@ -27,38 +29,13 @@ pub fn finish(
     last_sent: &mut [u8],
     sent: &mut [u8],
 ) -> Planned
-    requires { ⌜ SmallDraft session draft bits × Long session (record {
-      heads = now «ready_heads»;
-      need = now «ready_need»;
-      shared = now shared;
-      field = now field;
-      list = now «ready_list»;
-      sent = now «ready_sent»;
-    }) ⌝ }
-    ensures { λ r. ⌜ Finished session draft bits probes (record {
-      heads = now («ready_heads» .entry);
-      need = now («ready_need» .entry);
-      shared = now (shared .entry);
-      field = now (field .entry);
-      list = now («ready_list» .entry);
-      sent = now («ready_sent» .entry);
-    })
-        (record {
-          heads = now (heads .entry);
-          need = now (need .entry);
-          have = now (have .entry);
-          list = now (list .entry);
-          lastSent = now («last_sent» .entry);
-          sent = now (sent .entry);
-        })
-        (record {
-          heads = now (heads .exit);
-          need = now (need .exit);
-          have = now (have .exit);
-          list = now (list .exit);
-          lastSent = now («last_sent» .exit);
-          sent = now (sent .exit);
-        }) r ⌝ }
+    requires { ⌜ SmallDraft session draft bits
+        × Long session (partsOf (now «ready_heads») (now «ready_need») (now shared) (now field) (now «ready_list») (now «ready_sent»)) ⌝ }
+    ensures { λ r. ⌜ Finished session draft bits probes
+        (partsOf (now («ready_heads» .entry)) (now («ready_need» .entry)) (now (shared .entry)) (now (field .entry)) (now («ready_list» .entry))
+        (now («ready_sent» .entry)))
+        (buffersOf (now (heads .entry)) (now (need .entry)) (now (have .entry)) (now (list .entry)) (now («last_sent» .entry)) (now (sent .entry)))
+        (buffersOf (now (heads .exit)) (now (need .exit)) (now (have .exit)) (now (list .exit)) (now («last_sent» .exit)) (now (sent .exit))) r ⌝ }
 {
     let rooms = Rooms {
         heads: heads.len(),

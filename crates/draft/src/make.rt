@@ -12,20 +12,30 @@ use planning::silence::heard_as;
 use planning::silence::is_silent;
 use planning::silence::is_told;
 use state::session::Session;
-ghost use mathlib.Core.Bool.{cond};
-ghost use mathlib.Core.List.{[]};
 ghost use mathlib.Core.Path.{_≡_};
 ghost use Prim.Native.Nat.{_*_, _≤_};
 ghost use lib.ListN.{length};
-ghost use Rattle.decide.specs.Draft.{GivenMade, DraftMade};
+ghost use Rattle.decide.specs.Draft.{partsOf};
 ghost use Rattle.graph.specs.Graph.{beyond};
+ghost use Rattle.lent.specs.Good.{lentOf};
 ghost use Rattle.planning.specs.Made.{Setting};
 ghost use Rattle.rules.specs.Hash.{hashesAt};
 ghost use Rattle.rules.specs.Sizes.{sizes};
-ghost use Rattle.session.specs.Plan.{heardAs, listOf, bodyHeard};
-ghost use Rattle.state.specs.Value.{heardHashes, heardHaves, valueOf};
+ghost use Rattle.state.specs.Value.{heardHashes, valueOf};
 ghost use Rattle.tables.specs.Bytes.{rowsAt, waitingOf, GoodRows};
-ghost use Rattle.draft.specs.Make.{Checked, AskReady, AskedMade, CarryReady, CarriedMade, QuietReady, quiet, ReadyRooms};
+ghost use Rattle.draft.specs.Make.{
+  Checked,
+  ReadyRooms,
+  GivenMade,
+  AskReady,
+  AskedMade,
+  CarryReady,
+  carriedBody,
+  CarriedMade,
+  QuietReady,
+  quiet,
+  DraftMade,
+};
 
 // How many hashes are asked for, whether a have is given, and the entries of its filter.
 pub struct Asked {
@@ -124,11 +134,10 @@ fn make_carried(
 ) -> Carried
     requires { ⌜ CarryReady (now table) n session (now «their_heads») (now «their_need») (now haves) (now bytes) (now sent)
         (length (now «ready_list»)) (length (now «ready_sent»)) ⌝ }
-    ensures { λ r. ⌜ CarriedMade (cond (session .«peer_read_only») (listOf []) (bodyHeard (rowsAt (now (table .entry)) 0 n) (session .«supports_v2»)
-        (heardAs [] (heardHashes (now («their_heads» .entry)) (session .«their_heads»)))
-        (heardHaves (now (bytes .entry)) (now (haves .entry)) (session .«their_have»)) (heardHashes (now («their_need» .entry)) (session .«their_need»))
-        (hashesAt (now (sent .entry)) 0 (session .«sent_hashes»)))) (hashesAt (now (sent .entry)) 0 (session .«sent_hashes»))
-        (now («ready_list» .exit)) (now («ready_sent» .exit)) r ⌝ }
+    ensures { λ r. ⌜ CarriedMade
+        (carriedBody (rowsAt (now (table .entry)) 0 n) session (now («their_heads» .entry)) (now («their_need» .entry)) (now (haves .entry))
+        (now (bytes .entry)) (now (sent .entry)))
+        (hashesAt (now (sent .entry)) 0 (session .«sent_hashes»)) (now («ready_list» .exit)) (now («ready_sent» .exit)) r ⌝ }
 {
     let heard = session.their_heads;
     let have = session.their_have;
@@ -211,34 +220,15 @@ pub fn make_plan(
     ready_list: &mut [u8],
     ready_sent: &mut [u8],
 ) -> Draft
-    requires { ⌜ Checked (now table) n (now waiting) m session (record {
-      shared = now shared;
-      lastSent = now «last_sent»;
-      theirHeads = now «their_heads»;
-      theirNeed = now «their_need»;
-      haves = now haves;
-      bytes = now bytes;
-      sent = now sent;
-    }) × Setting bits probes
+    requires { ⌜ Checked (now table) n (now waiting) m session
+        (lentOf (now shared) (now «last_sent») (now «their_heads») (now «their_need») (now haves) (now bytes) (now sent))
+        × Setting bits probes
         × ReadyRooms (length (now «ready_heads»)) (length (now «ready_need»)) (length (now field)) (length (now «ready_list»)) (length (now «ready_sent»)) ⌝ }
     ensures { λ r. ⌜ DraftMade bits probes (rowsAt (now (table .entry)) 0 n) (waitingOf (now (waiting .entry)))
-        (valueOf session (record {
-          shared = now (shared .entry);
-          lastSent = now («last_sent» .entry);
-          theirHeads = now («their_heads» .entry);
-          theirNeed = now («their_need» .entry);
-          haves = now (haves .entry);
-          bytes = now (bytes .entry);
-          sent = now (sent .entry);
-        }))
-        (record {
-          heads = now («ready_heads» .exit);
-          need = now («ready_need» .exit);
-          shared = now (shared .entry);
-          field = now (field .exit);
-          list = now («ready_list» .exit);
-          sent = now («ready_sent» .exit);
-        }) r ⌝ }
+        (valueOf session (lentOf (now (shared .entry)) (now («last_sent» .entry)) (now («their_heads» .entry)) (now («their_need» .entry))
+        (now (haves .entry)) (now (bytes .entry)) (now (sent .entry))))
+        (partsOf (now («ready_heads» .exit)) (now («ready_need» .exit)) (now (shared .entry)) (now (field .exit)) (now («ready_list» .exit))
+        (now («ready_sent» .exit))) r ⌝ }
 {
     let have = session.their_have;
     let heads = collect_heads(table, n, ready_heads);

@@ -1,14 +1,14 @@
 -- What a message that was read says, by the places of its parts; and that its haves can be laid out. Assumes nothing.
-use Prim.Native.Nat.{ℕ, zero, suc, _*_, _≤_}
+use Prim.Native.Nat.{ℕ, _*_, _≤_}
 use mathlib.Core.Bool.{Bool}
 use mathlib.Core.List.{List, [], _∷_}
-use mathlib.Core.Path.{_≡_, refl, sym, ap, _∙_}
+use mathlib.Core.Path.{_≡_, sym, _∙_}
 use native.Mathlib.Omega.{arith}
 use borrow.Author.Tests.{lt-ltb, le-ltb, le-leb}
 use lib.Dec.{ltb}
 use lib.ListN.{length, take}
 use lib.Seq.{sets}
-use Rattle.bloom.specs.Have.{haveWords, haveCount, haveGood, havesFrom, havesOf}
+use Rattle.bloom.specs.Have.{haveWords, haveCount, haveGood, havesOf}
 use Rattle.bloom.proofs.HaveLaws.{PassedHaves, passed-haves}
 use Rattle.decode.specs.Read.{Reading, messageAt, messageOf, decodedOf}
 use Rattle.decode.specs.declared.parse.Decoded.the-variants.{Message as Placed}
@@ -22,6 +22,7 @@ use Rattle.rules.proofs.Outputs.{take-sets}
 use Rattle.session.specs.Laid.{laidBytes}
 use Rattle.session.specs.Receive.{someChunk, saidIn, receive, receiveRead, receiveBytes}
 use Rattle.state.specs.Session.{State}
+use Rattle.state.proofs.ValueLaws.{length-haves-from}
 use Rattle.tables.specs.Table.{Row}
 use Rattle.receiving.specs.Made.{Layable}
 use Rattle.drafting.specs.Made.{havesWords, saidAt, wordsRoom, WordsMade}
@@ -36,11 +37,6 @@ unfolding chunksOf
 some-chunk s [] count e = sym (le-ltb 0 count (omega arith))
 some-chunk s (a ∷ []) count e = absurd (omega arith)
 some-chunk s (a ∷ b ∷ words) count e = sym (lt-ltb 0 count (omega arith))
-
-length-from : (s words : List ℕ) (count i : ℕ) → length (havesFrom s words i count) ≡ count
-unfolding havesFrom
-length-from s words zero i = refl
-length-from s words (suc count) i = ap suc (length-from s words count (suc i))
 
 module _ (s : List ℕ) (p : Places) (is : decodedOf (messageAt s) ≡ Placed p) where
   -- its words
@@ -65,7 +61,7 @@ module _ (s : List ℕ) (p : Places) (is : decodedOf (messageAt s) ≡ Placed p)
 
   pub haves-many : length (havesOf s (havesWords s p)) ≡ p .haves .count
   unfolding havesOf
-  haves-many = length-from s (havesWords s p) (haveCount (havesWords s p)) 0 ∙ records-many
+  haves-many = length-haves-from s (havesWords s p) (haveCount (havesWords s p)) 0 ∙ records-many
 
   -- they can be laid out
   pub read-layable : Bytes s → Layable s (havesWords s p)

@@ -19,6 +19,7 @@ ghost use Rattle.graph.specs.Graph.{heads};
 ghost use Rattle.rules.specs.Hash.{hashesAt};
 ghost use Rattle.rules.specs.Sizes.{sizes};
 ghost use Rattle.tables.specs.Bytes.{rowsAt, GoodRows};
+ghost use Rattle.taking.specs.Draft.{partsOf};
 ghost use Rattle.drafting.specs.Made.{wordsRoom, toldHeads, lastSentCount, keptHashes, Long, Stands, Makes, WordsMade, DraftMade};
 
 // Whether a message's changes are loaded: it has some, and this unit takes them.
@@ -106,10 +107,10 @@ pub fn make_received(
     words: &mut [u64],
 ) -> Draft
     requires { ⌜ Makes flagged (now table) n before (now message) places (now shared) (now sent)
-        × Long (record { shared = now «ready_shared»; sent = now «ready_sent»; words = now words }) ⌝ }
+        × Long (partsOf (now «ready_shared») (now «ready_sent») (now words)) ⌝ }
     ensures { λ d. ⌜ DraftMade loads flagged (now (table .entry)) n before (now (message .entry)) places (now (shared .entry)) (now (sent .entry))
-        (record { shared = now («ready_shared» .exit); sent = now («ready_sent» .exit); words = now (words .exit) }) d
-        × Stands (record { shared = now («ready_shared» .exit); sent = now («ready_sent» .exit); words = now (words .exit) }) ⌝ }
+        (partsOf (now («ready_shared» .exit)) (now («ready_sent» .exit)) (now (words .exit))) d
+        × Stands (partsOf (now («ready_shared» .exit)) (now («ready_sent» .exit)) (now (words .exit))) ⌝ }
 {
     let heads = places.heads;
     let need = places.need;

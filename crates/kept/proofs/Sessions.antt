@@ -15,15 +15,14 @@ use Rattle.message.specs.Sound.{SoundHashes}
 use Rattle.rules.specs.Hash.{Bytes, hashesAt}
 use Rattle.rules.specs.Order.{ascends}
 use Rattle.rules.proofs.Hash.{length-hashes-at, hashes-are-hashes}
-use Rattle.session.specs.Counts.{countHeard, countsOf}
 use Rattle.session.specs.Good.{SoundHaves, WhereHeard, GoodState}
 use Rattle.session.proofs.GoodLaws.{sound-hashes, sound-haves}
 use Rattle.state.specs.Session.{State}
-use Rattle.state.specs.Value.{Lent, heardHashes, heardHaves, valueOf}
+use Rattle.state.specs.Value.{Lent, heardHashes, heardHaves, valueOf, countHeard, countsOf}
 use Rattle.state.specs.declared.session.Heard.{Heard}
 use Rattle.state.specs.declared.session.Heard.the-variants.{Nothing, Count}
 use Rattle.state.specs.declared.session.Session.{Session}
-use Rattle.state.proofs.ValueLaws.{kept-length}
+use Rattle.state.proofs.ValueLaws.{counts-back as counts-read}
 use Rattle.kept.specs.Kept.{Stand, StandHeard, StandHeardHaves, Kept}
 use Rattle.kept.proofs.Stands.{stand-at, heard-at, haves-at}
 
@@ -88,18 +87,6 @@ unfolding heardHaves
 haves-sound bytes records Nothing all f = tt
 haves-sound bytes records (Count n) all f = sound-haves bytes _ all (f n refl .passed)
 
--- what was heard is as long as its count says
-heard-counted : (buffer : List ℕ) (h : Heard) → countHeard (heardHashes buffer h) ≡ h
-unfolding heardHashes
-heard-counted buffer Nothing = refl
-heard-counted buffer (Count n) = ap Count (length-hashes-at buffer 0 n)
-
-haves-counted : (bytes records : List ℕ) (h : Heard) → ((n : ℕ) → h ≡ Count n → HavesParts bytes records n)
-    → countHeard (heardHaves bytes records h) ≡ h
-unfolding heardHaves
-haves-counted bytes records Nothing f = refl
-haves-counted bytes records (Count n) f = ap Count (kept-length bytes records n (f n refl .there))
-
 module _ (c : Session) (l : Lent) (good : sessionGood c l ≡ true) where
   pub good-kept : Kept (valueOf c l) l
   good-kept =
@@ -115,14 +102,7 @@ module _ (c : Session) (l : Lent) (good : sessionGood c l ≡ true) where
 
   -- its counts are those of the session that it is
   pub counts-back : countsOf (valueOf c l) ≡ c
-  counts-back =
-      let shared = length-hashes-at (l .shared) 0 (c .«shared_heads») in
-      let lastSent = length-hashes-at (l .lastSent) 0 (c .«last_sent_heads») in
-      let heads = heard-counted (l .theirHeads) (c .«their_heads») in
-      let need = heard-counted (l .theirNeed) (c .«their_need») in
-      let haves = haves-counted (l .bytes) (l .haves) (c .«their_have») (session-parts c l good .theirHave) in
-      let sent = length-hashes-at (l .sent) 0 (c .«sent_hashes») in
-      rw (shared, lastSent, heads, need, haves, sent)
+  counts-back = counts-read c l (λ n e. session-parts c l good .theirHave n e .there)
 
   -- and over bytes that session keeps every size
   pub good-state : LentBytes l → GoodState (valueOf c l)

@@ -22,7 +22,7 @@ use Rattle.state.specs.Value.{keptHaves, heardHashes, heardHaves}
 use Rattle.state.specs.declared.session.Heard.{Heard}
 use Rattle.state.specs.declared.session.Heard.the-variants.{Nothing, Count}
 use Rattle.state.proofs.ValueLaws.{kept-length}
-use Rattle.kept.specs.Kept.{Stand, StandHeard, StandHaves, StandHeardHaves, havesHeard}
+use Rattle.kept.specs.Kept.{Stand, StandHeard, StandHaves, StandHeardHaves}
 
 -- ---- what is read at the start of a buffer stands there
 
@@ -83,8 +83,8 @@ module _ (records bytes : List ℕ) where
       }
 
   pub haves-sets : (o : Option (List Have)) → WhereHeard SoundHaves o
-      → haveWords * length (havesHeard o) ≤ length records
-      → length (laidBytes (havesHeard o)) ≤ length bytes
-      → StandHeardHaves o (sets records 0 (laidWords (havesHeard o))) (sets bytes 0 (laidBytes (havesHeard o)))
+      → haveWords * length (heard o) ≤ length records
+      → length (laidBytes (heard o)) ≤ length bytes
+      → StandHeardHaves o (sets records 0 (laidWords (heard o))) (sets bytes 0 (laidBytes (heard o)))
   haves-sets none g room fits = tt
   haves-sets (some vs) g room fits = stand-haves-sets vs g room fits

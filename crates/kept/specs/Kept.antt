@@ -1,7 +1,7 @@
 -- A session kept in lent lists: each of its lists stands at the start of its buffer, its haves as records over bytes.
 use Prim.Native.Nat.{ℕ, _*_, _≤_}
 use mathlib.Core.Bool.{true}
-use mathlib.Core.List.{List, []}
+use mathlib.Core.List.{List}
 use mathlib.Core.Option.{Option, none, some}
 use mathlib.Core.Path.{_≡_}
 use lib.ListN.{length}
@@ -10,11 +10,10 @@ use Rattle.bloom.specs.Have.{Have, haveWords, havesOf, passedGood, passedFew}
 use Rattle.lent.specs.Good.{sessionGood}
 use Rattle.rules.specs.Hash.{hashesAt, hashesBytes}
 use Rattle.rules.specs.Sizes.{sizes}
-use Rattle.session.specs.Counts.{countsOf}
 use Rattle.session.specs.Laid.{laidBytes, laidWords}
 use Rattle.session.specs.Plan.{heard}
 use Rattle.state.specs.Session.{State}
-use Rattle.state.specs.Value.{Lent, keptHaves, valueOf}
+use Rattle.state.specs.Value.{Lent, keptHaves, valueOf, countsOf}
 
 -- These hashes stand at the start of a buffer.
 pub record Stand (hs buffer : List ℕ) : Type 0 where
@@ -70,19 +69,14 @@ plannedIn s l =
       sent = sets (l .sent) 0 (hashesBytes (s .sentHashes));
     }
 
--- Haves that were heard, or none where nothing was.
-abbrev pub havesHeard : Option (List Have) → List Have
-havesHeard none = []
-havesHeard (some vs) = vs
-
 -- Taking a message changes every list. Sent hashes only become fewer, so they have room.
 pub record ReceivedRoom (s : State) (l : Lent) : Type 0 where
   pub shared : sizes .hash * length (s .sharedHeads) ≤ length (l .shared)
   pub lastSent : sizes .hash * length (s .lastSentHeads) ≤ length (l .lastSent)
   pub theirHeads : sizes .hash * length (heard (s .theirHeads)) ≤ length (l .theirHeads)
   pub theirNeed : sizes .hash * length (heard (s .theirNeed)) ≤ length (l .theirNeed)
-  pub haves : haveWords * length (havesHeard (s .theirHave)) ≤ length (l .haves)
-  pub bytes : length (laidBytes (havesHeard (s .theirHave))) ≤ length (l .bytes)
+  pub haves : haveWords * length (heard (s .theirHave)) ≤ length (l .haves)
+  pub bytes : length (laidBytes (heard (s .theirHave))) ≤ length (l .bytes)
 
 abbrev pub receivedIn : State → Lent → Lent
 receivedIn s l =
@@ -91,7 +85,7 @@ receivedIn s l =
       lastSent = sets (l .lastSent) 0 (hashesBytes (s .lastSentHeads));
       theirHeads = sets (l .theirHeads) 0 (hashesBytes (heard (s .theirHeads)));
       theirNeed = sets (l .theirNeed) 0 (hashesBytes (heard (s .theirNeed)));
-      haves = sets (l .haves) 0 (laidWords (havesHeard (s .theirHave)));
-      bytes = sets (l .bytes) 0 (laidBytes (havesHeard (s .theirHave)));
+      haves = sets (l .haves) 0 (laidWords (heard (s .theirHave)));
+      bytes = sets (l .bytes) 0 (laidBytes (heard (s .theirHave)));
       sent = sets (l .sent) 0 (hashesBytes (s .sentHashes));
     }

@@ -7,10 +7,9 @@ use lib.ListN.{length}
 use Rattle.bloom.specs.Filter.{defaultBits, defaultProbes}
 use Rattle.bloom.proofs.Rules.{rules-default}
 use Rattle.decide.specs.Call.{Buffers, PlanCalled}
-use Rattle.decide.specs.Draft.{Parts, DraftMade, SmallDraft, Long, Finished}
+use Rattle.decide.specs.Draft.{Parts, SmallDraft}
 use Rattle.decide.specs.declared.answer.Planned.{Planned as Answer}
 use Rattle.decide.specs.declared.decide.Draft.{Draft}
-use Rattle.decide.proofs.MadeLaws.{small-made, plan-called}
 use Rattle.graph.specs.Graph.{heads}
 use Rattle.lent.proofs.GoodSessions.{session-parts}
 use Rattle.planning.specs.Made.{Setting}
@@ -21,7 +20,8 @@ use Rattle.state.specs.declared.session.Session.{Session}
 use Rattle.tables.specs.Bytes.{rowsAt}
 use Rattle.tables.specs.Waiting.{Waiting}
 use Rattle.tables.proofs.TableLaws.{length-rows-at}
-use Rattle.draft.specs.Make.{Checked, ReadyRooms}
+use Rattle.draft.specs.Make.{Checked, ReadyRooms, DraftMade, Long, Finished}
+use Rattle.draft.proofs.MadeLaws.{small-made, plan-called}
 
 -- buffers keep their lengths
 pub rooms-kept : {h h′ n n′ f f′ l l′ s s′ : ℕ} → h ≡ h′ → n ≡ n′ → f ≡ f′ → l ≡ l′ → s ≡ s′ → ReadyRooms h′ n′ f′ l′ s′ → ReadyRooms h n f l s

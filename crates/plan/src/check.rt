@@ -6,6 +6,7 @@ use tables::check::Checked;
 use tables::check::check_table;
 use tables::waiting::check_waiting;
 ghost use mathlib.Core.Path.{_≡_};
+ghost use Rattle.lent.specs.Good.{lentOf};
 ghost use Rattle.plan.specs.Checks.{checkedPlan};
 
 // Tables of so many rows and waiting rows beside a session that is good, or the first refusal.
@@ -27,15 +28,10 @@ pub fn check_plan(
     table: &[u8],
     waiting: &[u8],
 ) -> Checks
-    ensures { λ r. ⌜ r ≡ checkedPlan session (record {
-      shared = now (shared .entry);
-      lastSent = now («last_sent» .entry);
-      theirHeads = now («their_heads» .entry);
-      theirNeed = now («their_need» .entry);
-      haves = now (haves .entry);
-      bytes = now (bytes .entry);
-      sent = now (sent .entry);
-    }) (now (table .entry)) (now (waiting .entry)) ⌝ }
+    ensures { λ r. ⌜ r ≡ checkedPlan session
+        (lentOf (now (shared .entry)) (now («last_sent» .entry)) (now («their_heads» .entry)) (now («their_need» .entry)) (now (haves .entry))
+        (now (bytes .entry)) (now (sent .entry)))
+        (now (table .entry)) (now (waiting .entry)) ⌝ }
 {
     if !session_good(
         session,

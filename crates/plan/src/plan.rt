@@ -14,7 +14,8 @@ use rules::sizes::HASHES_TO_SEND;
 use rules::sizes::SENT_HASHES;
 use state::session::Session;
 ghost use Rattle.bloom.specs.Filter.{defaultBits, defaultProbes};
-ghost use Rattle.decide.specs.Call.{planWith, PlanCalled};
+ghost use Rattle.decide.specs.Call.{planWith, buffersOf, PlanCalled};
+ghost use Rattle.lent.specs.Good.{lentOf};
 ghost use Rattle.planning.specs.Made.{Setting};
 ghost use Rattle.session.specs.Plan.{plan as planFor};
 ghost use Rattle.state.specs.Value.{valueOf};
@@ -49,41 +50,15 @@ fn plan_checked(
     have: &mut [u8],
     list: &mut [u8],
 ) -> Planned
-    requires { ⌜ Checked (now table) n (now waiting) m session (record {
-      shared = now shared;
-      lastSent = now «last_sent»;
-      theirHeads = now «their_heads»;
-      theirNeed = now «their_need»;
-      haves = now haves;
-      bytes = now bytes;
-      sent = now sent;
-    }) × Setting bits probes ⌝ }
+    requires { ⌜ Checked (now table) n (now waiting) m session
+        (lentOf (now shared) (now «last_sent») (now «their_heads») (now «their_need») (now haves) (now bytes) (now sent))
+        × Setting bits probes ⌝ }
     ensures { λ r. ⌜ PlanCalled session (planFor bits probes (rowsAt (now (table .entry)) 0 n) (waitingOf (now (waiting .entry)))
-        (valueOf session (record {
-          shared = now (shared .entry);
-          lastSent = now («last_sent» .entry);
-          theirHeads = now («their_heads» .entry);
-          theirNeed = now («their_need» .entry);
-          haves = now (haves .entry);
-          bytes = now (bytes .entry);
-          sent = now (sent .entry);
-        })))
-        (record {
-          heads = now (heads .entry);
-          need = now (need .entry);
-          have = now (have .entry);
-          list = now (list .entry);
-          lastSent = now («last_sent» .entry);
-          sent = now (sent .entry);
-        })
-        (record {
-          heads = now (heads .exit);
-          need = now (need .exit);
-          have = now (have .exit);
-          list = now (list .exit);
-          lastSent = now («last_sent» .exit);
-          sent = now (sent .exit);
-        }) r ⌝ }
+        (valueOf session
+        (lentOf (now (shared .entry)) (now («last_sent» .entry)) (now («their_heads» .entry)) (now («their_need» .entry)) (now (haves .entry))
+        (now (bytes .entry)) (now (sent .entry)))))
+        (buffersOf (now (heads .entry)) (now (need .entry)) (now (have .entry)) (now (list .entry)) (now («last_sent» .entry)) (now (sent .entry)))
+        (buffersOf (now (heads .exit)) (now (need .exit)) (now (have .exit)) (now (list .exit)) (now («last_sent» .exit)) (now (sent .exit))) r ⌝ }
 {
     let mut ready_heads = [0u8; LIST_SIZE];
     let mut ready_need = [0u8; NEED_SIZE];
@@ -151,32 +126,12 @@ pub fn plan(
     list: &mut [u8],
 ) -> Planned
     requires { ⌜ Setting bits probes ⌝ }
-    ensures { λ r. ⌜ PlanCalled session (planWith bits probes session (record {
-      shared = now (shared .entry);
-      lastSent = now («last_sent» .entry);
-      theirHeads = now («their_heads» .entry);
-      theirNeed = now («their_need» .entry);
-      haves = now (haves .entry);
-      bytes = now (bytes .entry);
-      sent = now (sent .entry);
-    })
+    ensures { λ r. ⌜ PlanCalled session (planWith bits probes session
+        (lentOf (now (shared .entry)) (now («last_sent» .entry)) (now («their_heads» .entry)) (now («their_need» .entry)) (now (haves .entry))
+        (now (bytes .entry)) (now (sent .entry)))
         (now (table .entry)) (now (waiting .entry)))
-        (record {
-          heads = now (heads .entry);
-          need = now (need .entry);
-          have = now (have .entry);
-          list = now (list .entry);
-          lastSent = now («last_sent» .entry);
-          sent = now (sent .entry);
-        })
-        (record {
-          heads = now (heads .exit);
-          need = now (need .exit);
-          have = now (have .exit);
-          list = now (list .exit);
-          lastSent = now («last_sent» .exit);
-          sent = now (sent .exit);
-        }) r ⌝ }
+        (buffersOf (now (heads .entry)) (now (need .entry)) (now (have .entry)) (now (list .entry)) (now («last_sent» .entry)) (now (sent .entry)))
+        (buffersOf (now (heads .exit)) (now (need .exit)) (now (have .exit)) (now (list .exit)) (now («last_sent» .exit)) (now (sent .exit))) r ⌝ }
 {
     match check_plan(
         session,
@@ -231,32 +186,12 @@ pub fn generate_sync_message(
     have: &mut [u8],
     list: &mut [u8],
 ) -> Planned
-    ensures { λ r. ⌜ PlanCalled session (planWith defaultBits defaultProbes session (record {
-      shared = now (shared .entry);
-      lastSent = now («last_sent» .entry);
-      theirHeads = now («their_heads» .entry);
-      theirNeed = now («their_need» .entry);
-      haves = now (haves .entry);
-      bytes = now (bytes .entry);
-      sent = now (sent .entry);
-    })
+    ensures { λ r. ⌜ PlanCalled session (planWith defaultBits defaultProbes session
+        (lentOf (now (shared .entry)) (now («last_sent» .entry)) (now («their_heads» .entry)) (now («their_need» .entry)) (now (haves .entry))
+        (now (bytes .entry)) (now (sent .entry)))
         (now (table .entry)) (now (waiting .entry)))
-        (record {
-          heads = now (heads .entry);
-          need = now (need .entry);
-          have = now (have .entry);
-          list = now (list .entry);
-          lastSent = now («last_sent» .entry);
-          sent = now (sent .entry);
-        })
-        (record {
-          heads = now (heads .exit);
-          need = now (need .exit);
-          have = now (have .exit);
-          list = now (list .exit);
-          lastSent = now («last_sent» .exit);
-          sent = now (sent .exit);
-        }) r ⌝ }
+        (buffersOf (now (heads .entry)) (now (need .entry)) (now (have .entry)) (now (list .entry)) (now («last_sent» .entry)) (now (sent .entry)))
+        (buffersOf (now (heads .exit)) (now (need .exit)) (now (have .exit)) (now (list .exit)) (now («last_sent» .exit)) (now (sent .exit))) r ⌝ }
 {
     plan(
         BITS_PER_ENTRY,

@@ -19,7 +19,7 @@ use Rattle.rules.specs.Hash.{Bytes}
 use Rattle.rules.specs.declared.refusal.Refusal.{Refusal}
 use Rattle.rules.specs.declared.refusal.Refusal.the-variants.{BadNumbers, BadRowsBefore}
 use Rattle.rules.proofs.Cases.{split}
-use Rattle.session.specs.Receive.{Received, told, received, receive, receiveRead, receiveBytes}
+use Rattle.session.specs.Receive.{Received, told, receive, receiveRead, receiveBytes}
 use Rattle.state.specs.Value.{Lent, valueOf}
 use Rattle.state.specs.declared.session.Session.{Session}
 use Rattle.tables.specs.Bytes.{rowsAt, tableOf, tableChecked}
@@ -31,14 +31,14 @@ use Rattle.receiving.specs.Made.{flaggedCounts}
 use Rattle.receive.specs.Call.{afterTable, receiveWith, roomed, refusalAnswer, answerOf, keptIn, roomsIn, ReceiveCalled}
 use Rattle.drafting.specs.Checks.{besideRows, afterRows, checked, Accepted}
 use Rattle.drafting.specs.Made.{saidAt, Stands, Makes, DraftMade}
-use Rattle.taking.specs.Draft.{receivedCounts, decided, SmallDraft, Parts, putsOf, Fits, allPut}
+use Rattle.taking.specs.Draft.{decided, SmallDraft, Parts, putsOf, Fits, allPut}
 use Rattle.taking.specs.declared.answer.Received.{Received as Answer}
 use Rattle.taking.specs.declared.answer.Received.the-variants.{Refused}
 use Rattle.drafting.specs.declared.check.Checks.the-variants as checks
 use Rattle.taking.specs.declared.decide.Draft.{Draft}
-use Rattle.receive.proofs.DraftLaws.{draft-small}
+use Rattle.receive.proofs.DraftLaws.{forgets-most, Drafted, draft-small}
 use Rattle.receive.proofs.OtherLaws.{Other, message-other, table-other}
-use Rattle.receive.proofs.Outcomes.{Outcome, outcome, same-answer}
+use Rattle.receive.proofs.Outcomes.{Outcomes, outcome, same-answer}
 use Rattle.receive.proofs.KeptLaws.{puts-fit, puts-kept}
 use Rattle.drafting.proofs.SaidLaws.{read-receives}
 
@@ -73,7 +73,8 @@ module _ (s : Session) (l : Lent) (table : List ℕ) (before : ℕ) (message : L
           rw (← same) (as-refused BadRowsBefore refl (rw (good, rows, long, t))))
           (λ t. go x is t (rw t at e))
         where
-          go : (x : Decoded) → decodedOf (messageAt message) ≡ x → ltb n before ≡ false → besideRows n x ≡ checks.Refused r → ReceiveCalled s result l l (Refused r)
+          go : (x : Decoded) → decodedOf (messageAt message) ≡ x → ltb n before ≡ false → besideRows n x ≡ checks.Refused r
+              → ReceiveCalled s result l l (Refused r)
           go (Placed p) is t e = good-not-refused e
           go (NotRead f) is t e =
               let same : f ≡ r = cc in
@@ -127,16 +128,12 @@ module _ (s : Session) (l : Lent) (table : List ℕ) (before : ℕ) (message : L
 
 -- ---- all tests passed
 
-sent-least : (b : Bool) (n : ℕ) → cond b 0 n ≤ n
-sent-least true n = omega arith
-sent-least false n = omega arith
-
 module _ (s : Session) (l : Lent) (table : List ℕ) (n before : ℕ) (message : List ℕ) (p : Places) (ok : Accepted s l table n before message p) where
   -- what computing asks
   pub can-make : (flagged : Session) → flagged ≡ flaggedCounts (p .flags) s → Makes flagged table n before message p (l .shared) (l .sent)
   can-make flagged e =
       let g = session-parts s l (ok .good) in
-      let least = sent-least (told (λ f. hasFlag f syncReset) (p .flags) false) (s .«sent_hashes») in
+      let least = forgets-most (told (λ f. hasFlag f syncReset) (p .flags) false) (s .«sent_hashes») in
       rw e
       (record {
         rows = accepted-rows table n (ok .rows);
@@ -152,7 +149,7 @@ module _ (s : Session) (l : Lent) (table : List ℕ) (n before : ℕ) (message :
       (loading : loads ≡ (ltb 0 (p .chunks .count) && not (s .«read_only»)))
       (made : DraftMade loads flagged table n before message p (l .shared) (l .sent) ready d)
     where
-      whole : DraftMade (ltb 0 (p .chunks .count) && not (s .«read_only»)) (flaggedCounts (p .flags) s) table n before message p (l .shared) (l .sent) ready d
+      whole : Drafted s l table n before message p ready d
       whole = rw (← loading, ← flags) made
 
       -- what deciding asks
@@ -166,7 +163,7 @@ module _ (s : Session) (l : Lent) (table : List ℕ) (n before : ℕ) (message :
         abbrev values : Received
         values = roomed (roomsIn l) (valueOf s l) (receive loaded before (rowsAt table 0 n) (valueOf s l) (saidAt message p))
 
-        together : Outcome d (roomsIn l) (receivedCounts (flaggedCounts (p .flags) s) d) (received before (rowsAt table 0 n) (valueOf s l) (saidAt message p)) a values
+        together : Outcomes s l table n before message p d (roomsIn l) a values
         together = rw is-decided (outcome s l (ok .good) table n before (ok .inside) message p (ok .read) ready d whole loaded (roomsIn l))
 
         result-is : receiveWith loaded before s l table message ≡ receive loaded before (rowsAt table 0 n) (valueOf s l) (saidAt message p)
@@ -182,11 +179,12 @@ module _ (s : Session) (l : Lent) (table : List ℕ) (n before : ℕ) (message :
           has-room puts is = rw is (puts-fit s l (ok .good) table n before (ok .inside) message p (ok .read) ready d whole (stands .long) all a values together)
 
           -- and the promise
-          pub received-called : (puts : Draft) (after : Lent) → Bytes (l .lastSent) → puts ≡ putsOf a d → after ≡ allPut puts message (p .heads .start) (p .need .start) ready l
+          pub received-called : (puts : Draft) (after : Lent) → Bytes (l .lastSent) → puts ≡ putsOf a d
+              → after ≡ allPut puts message (p .heads .start) (p .need .start) ready l
               → ReceiveCalled s (receiveWith loaded before s l table message) l after a
           received-called puts after last is put =
-              rw result-is
-              (record {
-                answer = same-answer _ _ _ _ a values together;
-                lists = put ∙ rw is (puts-kept s l (ok .good) table n before (ok .inside) message p (ok .read) ready d whole (stands .long) all a values together last (stands .shared) (stands .sent));
-              })
+              let kept =
+              puts-kept s l (ok .good) table n before (ok .inside) message p (ok .read) ready d whole (stands .long) all a values together last
+              (stands .shared) (stands .sent)
+              in
+              rw result-is (record { answer = same-answer _ _ _ _ a values together; lists = put ∙ rw is kept })

@@ -25,38 +25,26 @@ use Rattle.rules.specs.Sizes.{sizes}
 use Rattle.rules.proofs.Cases.{split}
 use Rattle.rules.proofs.Hash.{length-hashes-at}
 use Rattle.rules.proofs.KeepLaws.{keep-most}
-use Rattle.session.specs.Counts.{countHeard, countsOf}
 use Rattle.session.specs.Plan.{empty}
+use Rattle.session.specs.Rooms.{orShort}
 use Rattle.session.specs.Receive.{Said, told, sentFlagged, flagged, loads, sharedLoaded, sharedAfter, sentLeft, lastSentAfter, received}
 use Rattle.state.specs.Session.{State}
-use Rattle.state.specs.Value.{Lent, heardHashes, heardHaves, valueOf}
-use Rattle.state.specs.declared.session.Heard.{Heard}
-use Rattle.state.specs.declared.session.Heard.the-variants.{Nothing, Count}
+use Rattle.state.specs.Value.{Lent, valueOf, countsOf}
 use Rattle.state.specs.declared.session.Session.{Session}
-use Rattle.state.proofs.ValueLaws.{kept-length}
+use Rattle.state.proofs.ValueLaws.{hashes-counted, haves-counted}
 use Rattle.tables.specs.Bytes.{rowsAt}
 use Rattle.tables.specs.Table.{Row}
 use Rattle.tables.proofs.TableLaws.{take-rows-at}
 use Rattle.receiving.specs.Made.{flaggedCounts, SharedMade}
-use Rattle.receive.specs.Call.{shortFor, orShort}
+use Rattle.receive.specs.Call.{shortFor}
 use Rattle.drafting.specs.Made.{saidAt, sharedRoom, toldHeads, lastSentCount, keptHashes, DraftMade}
-use Rattle.taking.specs.Draft.{SmallDraft, receivedCounts, orWanted, shortWith}
+use Rattle.taking.specs.Draft.{SmallDraft, receivedCounts, orWanted, shortWith, Parts}
 use Rattle.taking.specs.declared.answer.Rooms.{Rooms}
 use Rattle.taking.specs.declared.decide.Draft.{Draft}
 use Rattle.drafting.proofs.SaidLaws.{read-words, haves-many}
 use Rattle.drafting.proofs.MakeLaws.{kept-most}
 
 -- ---- counts of a good session
-
-hashes-count : (s : List ℕ) (h : Heard) → countHeard (heardHashes s h) ≡ h
-unfolding heardHashes
-hashes-count s Nothing = refl
-hashes-count s (Count n) = ap Count (length-hashes-at s 0 n)
-
-haves-count : (s haves : List ℕ) (h : Heard) → ((n : ℕ) → h ≡ Count n → haveWords * n ≤ length haves) → countHeard (heardHaves s haves h) ≡ h
-unfolding heardHaves
-haves-count s haves Nothing f = refl
-haves-count s haves (Count n) f = ap Count (kept-length s haves n (f n refl))
 
 flagged-count : (flags : Section) (s : List ℕ) (n : ℕ)
     → length (sentFlagged flags (hashesAt s 0 n)) ≡ cond (told (λ f. hasFlag f syncReset) flags false) 0 n
@@ -68,8 +56,12 @@ pub flagged-counts : (s : Session) (l : Lent) → sessionGood s l ≡ true → (
     → countsOf (flagged flags (valueOf s l)) ≡ flaggedCounts flags s
 unfolding flagged
 flagged-counts s l good flags =
-    let g = session-parts s l good in
-    rw (length-hashes-at (l .shared) 0 (s .«shared_heads»), length-hashes-at (l .lastSent) 0 (s .«last_sent_heads»), hashes-count (l .theirHeads) (s .«their_heads»), hashes-count (l .theirNeed) (s .«their_need»), haves-count (l .bytes) (l .haves) (s .«their_have») (λ n e. g .theirHave n e .there), flagged-count flags (l .sent) (s .«sent_hashes»))
+    let shared = length-hashes-at (l .shared) 0 (s .«shared_heads») in
+    let lastSent = length-hashes-at (l .lastSent) 0 (s .«last_sent_heads») in
+    let heads = hashes-counted (l .theirHeads) (s .«their_heads») in
+    let need = hashes-counted (l .theirNeed) (s .«their_need») in
+    let haves = haves-counted (l .bytes) (l .haves) (s .«their_have») (λ n e. session-parts s l good .theirHave n e .there) in
+    rw (shared, lastSent, heads, need, haves, flagged-count flags (l .sent) (s .«sent_hashes»))
 
 -- ---- lists of the message's heads, which may be none
 
@@ -113,7 +105,7 @@ told-least : (b : Bool) (n : ℕ) → cond b n 0 ≤ n
 told-least true n = omega arith
 told-least false n = omega arith
 
-forgets-most : (b : Bool) (n : ℕ) → cond b 0 n ≤ n
+pub forgets-most : (b : Bool) (n : ℕ) → cond b 0 n ≤ n
 forgets-most true n = omega arith
 forgets-most false n = omega arith
 
@@ -147,7 +139,7 @@ module _ {hs after : List ℕ} {count : ℕ} (f : SharedMade hs sharedRoom after
 abbrev pub wantedOf : ℕ → Option ℕ
 wantedOf n = cond (ltb 0 n) (some n) none
 
-or-wanted : (room wanted rest : ℕ) → orShort room wanted (wantedOf rest) ≡ wantedOf (orWanted room wanted rest)
+or-wanted : (room wanted rest : ℕ) → orShort some room wanted (wantedOf rest) ≡ wantedOf (orWanted room wanted rest)
 or-wanted room wanted rest =
     split (ltb room wanted)
     (λ e.
@@ -155,16 +147,16 @@ or-wanted room wanted rest =
     rw (e, lt-ltb 0 wanted some′))
     (λ e. rw e)
 
-or-more : (room wanted : ℕ) (rest : Option ℕ) (n : ℕ) → rest ≡ wantedOf n → orShort room wanted rest ≡ wantedOf (orWanted room wanted n)
-or-more room wanted rest n e = ap (λ (o : Option ℕ). orShort room wanted o) e ∙ or-wanted room wanted n
+or-more : (room wanted : ℕ) (rest : Option ℕ) (n : ℕ) → rest ≡ wantedOf n → orShort some room wanted rest ≡ wantedOf (orWanted room wanted n)
+or-more room wanted rest n e = ap (λ (o : Option ℕ). orShort some room wanted o) e ∙ or-wanted room wanted n
 
 -- the first too short list says the same on both sides
 shorts : (d : Draft) (r : Rooms)
-    → orShort (r .shared) (sizes .hash * d .shared)
-    (orShort (r .«last_sent») (sizes .hash * d .«last_sent»)
-    (orShort (r .«their_heads») (sizes .hash * d .heads)
-    (orShort (r .«their_need») (sizes .hash * d .need)
-    (orShort (r .haves) (haveWords * d .haves) (orShort (r .bytes) (d .bytes) none)))))
+    → orShort some (r .shared) (sizes .hash * d .shared)
+    (orShort some (r .«last_sent») (sizes .hash * d .«last_sent»)
+    (orShort some (r .«their_heads») (sizes .hash * d .heads)
+    (orShort some (r .«their_need») (sizes .hash * d .need)
+    (orShort some (r .haves) (haveWords * d .haves) (orShort some (r .bytes) (d .bytes) none)))))
     ≡ wantedOf (shortWith d r)
 unfolding shortWith
 shorts d r =
@@ -181,6 +173,11 @@ shorts d r =
 
 -- ---- all parts
 
+-- The draft that is made where a message was read for a session, its flags being taken.
+abbrev pub Drafted : Session → Lent → List ℕ → ℕ → ℕ → List ℕ → Places → Parts → Draft → Type 0
+Drafted s l table n before message p ready d =
+    DraftMade (ltb 0 (p .chunks .count) && not (s .«read_only»)) (flaggedCounts (p .flags) s) table n before message p (l .shared) (l .sent) ready d
+
 module _ (s : Session) (l : Lent) (good : sessionGood s l ≡ true) (table : List ℕ) (n before : ℕ) (inside : before ≤ n) (message : List ℕ) (p : Places)
     (read : decodedOf (messageAt message) ≡ Placed p) where
   abbrev v : State
@@ -192,78 +189,82 @@ module _ (s : Session) (l : Lent) (good : sessionGood s l ≡ true) (table : Lis
   abbrev m : Said
   m = saidAt message p
 
+  abbrev forgets : Bool
+  forgets = told (λ f. hasFlag f syncReset) (p .flags) false
+
   abbrev tells : Bool
   tells = not (ltb 0 (p .chunks .count)) && same (m .heads) (heads (take before t))
 
-  module _ (ready : _) (d : Draft)
-      (made : DraftMade (ltb 0 (p .chunks .count) && not (s .«read_only»)) (flaggedCounts (p .flags) s) table n before message p (l .shared) (l .sent) ready d)
-    where
-      pub shared-made : SharedMade (sharedAfter before t v m) sharedRoom (ready .shared) (d .shared)
-      unfolding sharedAfter sharedLoaded loads
-      shared-made = made .shared
+  module _ (ready : Parts) (d : Draft) (made : Drafted s l table n before message p ready d) where
+    pub shared-made : SharedMade (sharedAfter before t v m) sharedRoom (ready .shared) (d .shared)
+    unfolding sharedAfter sharedLoaded loads
+    shared-made = made .shared
 
-      pub sent-made : Gathered (sentLeft t v m) (ready .sent) (d .sent)
-      unfolding sentLeft sentFlagged
-      sent-made =
-          rw (← left-is (λ h. not (below t (m .heads) h)) message (p .heads .start) (p .heads .count) (told (λ f. hasFlag f syncReset) (p .flags) false) (l .sent) (s .«sent_hashes»))
-          (made .sent)
+    pub sent-made : Gathered (sentLeft t v m) (ready .sent) (d .sent)
+    unfolding sentLeft sentFlagged
+    sent-made =
+        let unknown : ℕ → Bool = λ h. not (below t (m .heads) h) in
+        rw (← left-is unknown message (p .heads .start) (p .heads .count) forgets (l .sent) (s .«sent_hashes»)) (made .sent)
 
-      pub told-made : d .told ≡ cond tells (p .heads .count) 0
-      unfolding toldHeads
-      told-made = rw (take-rows-at table 0 before n inside) (made .told)
+    pub told-made : d .told ≡ cond tells (p .heads .count) 0
+    unfolding toldHeads
+    told-made = rw (take-rows-at table 0 before n inside) (made .told)
 
-      last-made : d .«last_sent» ≡ lastSentCount (p .heads .count) (cond tells (p .heads .count) 0) (s .«last_sent_heads»)
-      last-made = rw (← told-made) (made .lastSent)
+    last-made : d .«last_sent» ≡ lastSentCount (p .heads .count) (cond tells (p .heads .count) 0) (s .«last_sent_heads»)
+    last-made = rw (← told-made) (made .lastSent)
 
-      pub last-count : d .«last_sent» ≡ length (lastSentAfter before t v m)
-      unfolding lastSentAfter
-      last-count = last-made ∙ last-is message (p .heads .start) (p .heads .count) tells (l .lastSent) (s .«last_sent_heads»)
+    pub last-count : d .«last_sent» ≡ length (lastSentAfter before t v m)
+    unfolding lastSentAfter
+    last-count = last-made ∙ last-is message (p .heads .start) (p .heads .count) tells (l .lastSent) (s .«last_sent_heads»)
 
-      pub heads-count : d .heads ≡ length (m .heads)
-      heads-count = made .heads ∙ sym (length-hashes-at message (p .heads .start) (p .heads .count))
+    pub heads-count : d .heads ≡ length (m .heads)
+    heads-count = made .heads ∙ sym (length-hashes-at message (p .heads .start) (p .heads .count))
 
-      pub need-count : d .need ≡ length (m .need)
-      need-count = made .need ∙ sym (length-hashes-at message (p .need .start) (p .need .count))
+    pub need-count : d .need ≡ length (m .need)
+    need-count = made .need ∙ sym (length-hashes-at message (p .need .start) (p .need .count))
 
-      pub haves-counted : d .haves ≡ length (m .haves)
-      haves-counted = made .haves ∙ sym (haves-many message p read)
+    pub haves-count : d .haves ≡ length (m .haves)
+    haves-count = made .haves ∙ sym (haves-many message p read)
 
-      pub told-few : d .told ≤ p .heads .count
-      told-few = rw told-made (told-least tells (p .heads .count))
+    pub told-few : d .told ≤ p .heads .count
+    told-few = rw told-made (told-least tells (p .heads .count))
 
-      -- what is told has room where the heads sent last have it
-      pub told-within : d .told ≤ d .«last_sent»
-      told-within = rw (told-made, last-made) (told-most (p .heads .count) (s .«last_sent_heads») tells)
+    -- what is told has room where the heads sent last have it
+    pub told-within : d .told ≤ d .«last_sent»
+    told-within = rw (told-made, last-made) (told-most (p .heads .count) (s .«last_sent_heads») tells)
 
-      -- sent hashes only become fewer
-      pub sent-within : d .sent ≤ s .«sent_hashes»
-      sent-within =
-          let g = made .sent in
-          let k : ℕ = cond (told (λ f. hasFlag f syncReset) (p .flags) false) 0 (s .«sent_hashes») in
-          omega (arith, g .many, keep-most (λ h. not (below t (m .heads) h)) (hashesAt (l .sent) 0 (keptHashes (p .heads .count) k)), length-hashes-at (l .sent) 0 (keptHashes (p .heads .count) k), kept-most (p .heads .count) k, forgets-most (told (λ f. hasFlag f syncReset) (p .flags) false) (s .«sent_hashes»))
+    -- sent hashes only become fewer
+    pub sent-within : d .sent ≤ s .«sent_hashes»
+    sent-within =
+        let g = made .sent in
+        let k : ℕ = cond forgets 0 (s .«sent_hashes») in
+        let gone : List ℕ = hashesAt (l .sent) 0 (keptHashes (p .heads .count) k) in
+        let fewer = keep-most (λ h. not (below t (m .heads) h)) gone in
+        let long = length-hashes-at (l .sent) 0 (keptHashes (p .heads .count) k) in
+        omega (arith, g .many, fewer, long, kept-most (p .heads .count) k, forgets-most forgets (s .«sent_hashes»))
 
-      pub draft-small : SmallDraft d
-      draft-small =
-          let g = session-parts s l good in
-          let w = read-words message p read in
-          record {
-            shared = shared-within shared-made;
-            lastSent = rw last-made (last-most (p .heads .count) (s .«last_sent_heads») (sizes .hashes) tells (w .fewHeads) (g .lastSent .few));
-            heads = rw (made .heads) (w .fewHeads);
-            need = rw (made .need) (w .fewNeed);
-            haves = rw (made .haves) (w .fewHaves);
-          }
+    pub draft-small : SmallDraft d
+    draft-small =
+        let g = session-parts s l good in
+        let w = read-words message p read in
+        record {
+          shared = shared-within shared-made;
+          lastSent = rw last-made (last-most (p .heads .count) (s .«last_sent_heads») (sizes .hashes) tells (w .fewHeads) (g .lastSent .few));
+          heads = rw (made .heads) (w .fewHeads);
+          need = rw (made .need) (w .fewNeed);
+          haves = rw (made .haves) (w .fewHaves);
+        }
 
-      module _ (few : d .shared ≤ sizes .hashes) where
-        pub shared-gathered : Gathered (sharedAfter before t v m) (ready .shared) (d .shared)
-        shared-gathered = shared-all shared-made few
+    module _ (few : d .shared ≤ sizes .hashes) where
+      pub shared-gathered : Gathered (sharedAfter before t v m) (ready .shared) (d .shared)
+      shared-gathered = shared-all shared-made few
 
-        -- the counts that a message leaves
-        pub received-counts : countsOf (received before t v m) ≡ receivedCounts (flaggedCounts (p .flags) s) d
-        unfolding received
-        received-counts = rw (shared-gathered .many, last-count, heads-count, need-count, haves-counted, sent-made .many)
+      -- the counts that a message leaves
+      pub received-counts : countsOf (received before t v m) ≡ receivedCounts (flaggedCounts (p .flags) s) d
+      unfolding received
+      received-counts = rw (shared-gathered .many, last-count, heads-count, need-count, haves-count, sent-made .many)
 
-        pub short-is : (r : Rooms) → shortFor (received before t v m) r ≡ wantedOf (shortWith d r)
-        unfolding shortFor received
-        short-is r =
-            rw (← shared-gathered .many, ← last-count, ← heads-count, ← need-count, ← haves-counted, ← made .words .bytes) (shorts d r)
+      pub short-is : (r : Rooms) → shortFor (received before t v m) r ≡ wantedOf (shortWith d r)
+      unfolding shortFor received
+      short-is r =
+          rw (← shared-gathered .many, ← last-count, ← heads-count, ← need-count, ← haves-count, ← made .words .bytes) (shorts d r)

@@ -31,15 +31,15 @@ use Rattle.state.specs.Value.{Lent, valueOf}
 use Rattle.state.specs.declared.session.Session.{Session}
 use Rattle.tables.specs.Bytes.{rowsAt}
 use Rattle.tables.specs.Table.{Row}
-use Rattle.receiving.specs.Made.{flaggedCounts, Layable}
+use Rattle.receiving.specs.Made.{Layable}
 use Rattle.receive.specs.Call.{keptIn, roomsIn}
-use Rattle.drafting.specs.Made.{saidAt, havesWords, Long, DraftMade}
-use Rattle.taking.specs.Draft.{receivedCounts, orWanted, shortWith, Parts, noDraft, putsOf, Fits, allPut}
+use Rattle.drafting.specs.Made.{saidAt, havesWords, Long}
+use Rattle.taking.specs.Draft.{orWanted, shortWith, Parts, noDraft, putsOf, Fits, allPut}
 use Rattle.taking.specs.declared.answer.Received.{Received as Answer}
 use Rattle.taking.specs.declared.answer.Rooms.{Rooms}
 use Rattle.taking.specs.declared.decide.Draft.{Draft}
-use Rattle.receive.proofs.DraftLaws.{shared-gathered, sent-made, told-made, told-few, told-within, sent-within, draft-small}
-use Rattle.receive.proofs.Outcomes.{Outcome}
+use Rattle.receive.proofs.DraftLaws.{Drafted, shared-gathered, sent-made, told-made, told-few, told-within, sent-within, draft-small}
+use Rattle.receive.proofs.Outcomes.{Outcome, Outcomes}
 use Rattle.drafting.proofs.SaidLaws.{read-words, read-layable}
 use Rattle.taking.proofs.PutLaws.{lents-same}
 
@@ -113,10 +113,8 @@ roomy d r e =
 -- ---- all parts
 
 module _ (s : Session) (l : Lent) (good : sessionGood s l ≡ true) (table : List ℕ) (n before : ℕ) (inside : before ≤ n) (message : List ℕ) (p : Places)
-    (read : decodedOf (messageAt message) ≡ Placed p) (ready : Parts) (d : Draft)
-    (made : DraftMade (ltb 0 (p .chunks .count) && not (s .«read_only»)) (flaggedCounts (p .flags) s) table n before message p (l .shared) (l .sent) ready d)
-    (long : Long ready) (all : Bytes message) (a : Answer) (q : Received)
-    (o : Outcome d (roomsIn l) (receivedCounts (flaggedCounts (p .flags) s) d) (received before (rowsAt table 0 n) (valueOf s l) (saidAt message p)) a q)
+    (read : decodedOf (messageAt message) ≡ Placed p) (ready : Parts) (d : Draft) (made : Drafted s l table n before message p ready d) (long : Long ready)
+    (all : Bytes message) (a : Answer) (q : Received) (o : Outcomes s l table n before message p d (roomsIn l) a q)
   where
     abbrev v : State
     v = valueOf s l
@@ -181,7 +179,7 @@ module _ (s : Session) (l : Lent) (good : sessionGood s l ≡ true) (table : Lis
     unfolding putsOf
     puts-fit = go o
       where
-        go : Outcome d (roomsIn l) (receivedCounts (flaggedCounts (p .flags) s) d) (received before t v m) a q
+        go : Outcomes s l table n before message p d (roomsIn l) a q
             → Fits (putsOf a d) message (p .heads .start) (p .need .start) ready l
         go (Outcome.refuses refusal left e f g) = rw f none-fits
         go (Outcome.takes few room e f g) = rw e (took-fits few room)
@@ -212,7 +210,7 @@ module _ (s : Session) (l : Lent) (good : sessionGood s l ≡ true) (table : Lis
       unfolding putsOf keptIn
       puts-kept = go o
         where
-          go : Outcome d (roomsIn l) (receivedCounts (flaggedCounts (p .flags) s) d) (received before t v m) a q
+          go : Outcomes s l table n before message p d (roomsIn l) a q
               → allPut (putsOf a d) message (p .heads .start) (p .need .start) ready l ≡ keptIn q l
           go (Outcome.refuses refusal left e f g) = rw (e, f) (none-put message (p .heads .start) (p .need .start) ready l)
           go (Outcome.takes few room e f g) = rw (e, f) (took-put few)

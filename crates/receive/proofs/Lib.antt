@@ -1,3 +1,4 @@
+-- Laws that the crates above cite.
 pub mod CallLaws
 pub mod DraftLaws
 pub mod KeptLaws

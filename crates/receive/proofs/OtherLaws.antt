@@ -132,7 +132,9 @@ unfolding afterOpening
 after-opening (Heads version heads next) k o f = f version heads next
 after-opening (NotOpened r) k o f = o
 
-after-section : (x : Flagged) (k : Section → ℕ → Reading) → OfSection x → ((flags : Section) (next : ℕ) → OfReading (k flags next)) → OfReading (afterSection x k)
+after-section : (x : Flagged) (k : Section → ℕ → Reading) → OfSection x
+    → ((flags : Section) (next : ℕ) → OfReading (k flags next))
+    → OfReading (afterSection x k)
 unfolding afterSection
 after-section (Sectioned flags next) k o f = f flags next
 after-section (NoSection r) k o f = o
@@ -151,15 +153,21 @@ number-other most s at end = found-other at _
 
 count-other : (limit : ℕ) (s : List ℕ) (at end : ℕ) → OfNumber (countAt limit s at end)
 unfolding countAt
-count-other limit s at end = after-number OfNumber Refused (λ r o. o) _ _ (number-other _ s at end) (λ n next. split (ltb limit n) (λ e. rw e refl) (λ e. rw e tt))
+count-other limit s at end =
+    after-number OfNumber Refused (λ r o. o) _ _ (number-other _ s at end)
+    (λ n next. split (ltb limit n) (λ e. rw e refl) (λ e. rw e tt))
 
 prefixed-other : (s : List ℕ) (at end : ℕ) → OfPart (prefixedAt s at end)
 unfolding prefixedAt
-prefixed-other s at end = after-number OfPart NoPart (λ r o. o) _ _ (number-other _ s at end) (λ n next. split (ltb (leftAt s next end) n) (λ e. rw e refl) (λ e. rw e tt))
+prefixed-other s at end =
+    after-number OfPart NoPart (λ r o. o) _ _ (number-other _ s at end)
+    (λ n next. split (ltb (leftAt s next end) n) (λ e. rw e refl) (λ e. rw e tt))
 
 hash-list-other : (s : List ℕ) (at end : ℕ) → OfListed (hashListAt s at end)
 unfolding hashListAt
-hash-list-other s at end = after-number OfListed NotListed (λ r o. o) _ _ (count-other _ s at end) (λ n next. split (ltb (leftAt s next end / sizes .hash) n) (λ e. rw e refl) (λ e. rw e tt))
+hash-list-other s at end =
+    after-number OfListed NotListed (λ r o. o) _ _ (count-other _ s at end)
+    (λ n next. split (ltb (leftAt s next end / sizes .hash) n) (λ e. rw e refl) (λ e. rw e tt))
 
 field-other : (s : List ℕ) (at end n b p place : ℕ) → OfFilter (fieldAt s at end n b p place)
 unfolding fieldAt

@@ -16,22 +16,21 @@ use Rattle.rules.specs.Sizes.{sizes}
 use Rattle.rules.specs.declared.refusal.Refusal.{Refusal}
 use Rattle.rules.specs.declared.refusal.Refusal.the-variants.{PastSize, NoRoom, LoadFailed}
 use Rattle.rules.proofs.Cases.{split}
-use Rattle.session.specs.Counts.{countsOf}
 use Rattle.session.specs.Receive.{Said, Received, flagged, loads, sharedAfter, received, receiveJoined, receive}
 use Rattle.state.specs.Session.{State}
-use Rattle.state.specs.Value.{Lent, valueOf}
+use Rattle.state.specs.Value.{Lent, valueOf, countsOf}
 use Rattle.state.specs.declared.session.Session.{Session}
 use Rattle.tables.specs.Bytes.{rowsAt}
 use Rattle.tables.specs.Table.{Row}
 use Rattle.receiving.specs.Made.{flaggedCounts}
 use Rattle.receive.specs.Call.{unlessShort, roomed, refusalAnswer, answerOf}
-use Rattle.drafting.specs.Made.{saidAt, DraftMade}
+use Rattle.drafting.specs.Made.{saidAt}
 use Rattle.taking.specs.Draft.{receivedCounts, shortWith, decided, Parts, noDraft, putsOf}
 use Rattle.taking.specs.declared.answer.Received.{Received as Answer}
 use Rattle.taking.specs.declared.answer.Received.the-variants.{Took, Failed, Refused}
 use Rattle.taking.specs.declared.answer.Rooms.{Rooms}
 use Rattle.taking.specs.declared.decide.Draft.{Draft}
-use Rattle.receive.proofs.DraftLaws.{flagged-counts, shared-made, shared-many, shared-gathered, received-counts, wantedOf, short-is}
+use Rattle.receive.proofs.DraftLaws.{Drafted, flagged-counts, shared-made, shared-many, shared-gathered, received-counts, wantedOf, short-is}
 
 module _ (d : Draft) (r : Rooms) (after : Session) (new : State) where
   -- The two ways that an answer and a result on values go together.
@@ -54,10 +53,14 @@ module _ (d : Draft) (r : Rooms) (after : Session) (new : State) where
       let none : shortWith d r ≡ 0 = omega (arith, ltb-false 0 w e) in
       rw e (Outcome.takes few none refl refl (ap Took (sym counts))))
 
+-- The same for a message that was read, over its draft and the lengths of the lent lists.
+abbrev pub Outcomes : Session → Lent → List ℕ → ℕ → ℕ → List ℕ → Places → Draft → Rooms → Answer → Received → Type 0
+Outcomes s l table n before message p d r a q =
+    Outcome d r (receivedCounts (flaggedCounts (p .flags) s) d) (received before (rowsAt table 0 n) (valueOf s l) (saidAt message p)) a q
+
 module _ (s : Session) (l : Lent) (good : sessionGood s l ≡ true) (table : List ℕ) (n before : ℕ) (inside : before ≤ n) (message : List ℕ) (p : Places)
-    (read : decodedOf (messageAt message) ≡ Placed p) (ready : Parts) (d : Draft)
-    (made : DraftMade (ltb 0 (p .chunks .count) && not (s .«read_only»)) (flaggedCounts (p .flags) s) table n before message p (l .shared) (l .sent) ready d)
-    (loaded : Bool) (r : Rooms) where
+    (read : decodedOf (messageAt message) ≡ Placed p) (ready : Parts) (d : Draft) (made : Drafted s l table n before message p ready d) (loaded : Bool)
+    (r : Rooms) where
   abbrev v : State
   v = valueOf s l
 
@@ -74,7 +77,7 @@ module _ (s : Session) (l : Lent) (good : sessionGood s l ≡ true) (table : Lis
   fails = (ltb 0 (p .chunks .count) && not (s .«read_only»)) && not loaded
 
   abbrev Of : Answer → Received → Type 0
-  Of a q = Outcome d r (receivedCounts taken d) (received before t v m) a q
+  Of a q = Outcomes s l table n before message p d r a q
 
   joined : Of (cond (ltb (sizes .hashes) (d .shared))
       (Refused (PastSize 0))
@@ -84,7 +87,8 @@ module _ (s : Session) (l : Lent) (good : sessionGood s l ≡ true) (table : Lis
   joined =
       split (ltb (sizes .hashes) (d .shared))
       (λ e.
-      let many : sizes .hashes < length (sharedAfter before t v m) = shared-many (shared-made s l good table n before inside message p read ready d made) (ltb-true _ _ e) in
+      let shared = shared-made s l good table n before inside message p read ready d made in
+      let many : sizes .hashes < length (sharedAfter before t v m) = shared-many shared (ltb-true _ _ e) in
       rw (e, lt-ltb _ _ many) (Outcome.refuses (PastSize 0) v refl refl refl))
       (λ e.
       let few : d .shared ≤ sizes .hashes = ltb-false _ _ e in

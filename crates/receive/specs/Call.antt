@@ -2,25 +2,25 @@
 -- joined heads; 7 for the first list that is too short.
 use Prim.Native.Nat.{ℕ, _*_}
 use mathlib.Core.Bool.{Bool, cond, not}
-use mathlib.Core.List.{List, []}
+use mathlib.Core.List.{List}
 use mathlib.Core.Option.{Option, none, some}
 use mathlib.Core.Path.{_≡_}
-use lib.Dec.{ltb, eqb}
+use lib.Dec.{eqb}
 use lib.ListN.{length}
 use lib.Seq.{sets}
-use Rattle.bloom.specs.Have.{Have, haveWords}
+use Rattle.bloom.specs.Have.{haveWords}
 use Rattle.lent.specs.Good.{sessionGood}
 use Rattle.rules.specs.Hash.{hashesBytes}
 use Rattle.rules.specs.Refusal.{numberOf}
 use Rattle.rules.specs.Sizes.{sizes}
 use Rattle.rules.specs.declared.refusal.Refusal.{Refusal}
 use Rattle.rules.specs.declared.refusal.Refusal.the-variants.{BadNumbers, LoadFailed, NoRoom}
-use Rattle.session.specs.Counts.{countsOf}
 use Rattle.session.specs.Laid.{laidBytes, laidWords}
 use Rattle.session.specs.Plan.{heard}
 use Rattle.session.specs.Receive.{Received, receiveBytes}
+use Rattle.session.specs.Rooms.{orShort}
 use Rattle.state.specs.Session.{State}
-use Rattle.state.specs.Value.{Lent, valueOf}
+use Rattle.state.specs.Value.{Lent, valueOf, countsOf}
 use Rattle.state.specs.declared.session.Session.{Session}
 use Rattle.tables.specs.Bytes.{tableOf, tableChecked}
 use Rattle.tables.specs.declared.check.Checked.{Checked}
@@ -45,23 +45,16 @@ receiveWith loaded before s l table message =
 
 -- ---- room: 7 comes last
 
-abbrev pub havesHeard : Option (List Have) → List Have
-havesHeard none = []
-havesHeard (some vs) = vs
-
 -- The length that the first too short list wants: shared, last-sent, their heads and need, the haves' records in words, then their bytes. Sent hashes
 -- only become fewer.
-abbrev pub orShort : ℕ → ℕ → Option ℕ → Option ℕ
-orShort room wanted rest = cond (ltb room wanted) (some wanted) rest
-
 unfoldable pub shortFor : State → Rooms → Option ℕ
 shortFor s r =
-    orShort (r .shared) (sizes .hash * length (s .sharedHeads))
-    (orShort (r .«last_sent») (sizes .hash * length (s .lastSentHeads))
-    (orShort (r .«their_heads») (sizes .hash * length (heard (s .theirHeads)))
-    (orShort (r .«their_need») (sizes .hash * length (heard (s .theirNeed)))
-    (orShort (r .haves) (haveWords * length (havesHeard (s .theirHave)))
-    (orShort (r .bytes) (length (laidBytes (havesHeard (s .theirHave)))) none)))))
+    orShort some (r .shared) (sizes .hash * length (s .sharedHeads))
+    (orShort some (r .«last_sent») (sizes .hash * length (s .lastSentHeads))
+    (orShort some (r .«their_heads») (sizes .hash * length (heard (s .theirHeads)))
+    (orShort some (r .«their_need») (sizes .hash * length (heard (s .theirNeed)))
+    (orShort some (r .haves) (haveWords * length (heard (s .theirHave)))
+    (orShort some (r .bytes) (length (laidBytes (heard (s .theirHave)))) none)))))
 
 unfoldable pub unlessShort : Option ℕ → State → State → Received
 unlessShort none old new = Received.took new
@@ -88,8 +81,8 @@ keptIn (Received.took s) l =
       lastSent = sets (l .lastSent) 0 (hashesBytes (s .lastSentHeads));
       theirHeads = sets (l .theirHeads) 0 (hashesBytes (heard (s .theirHeads)));
       theirNeed = sets (l .theirNeed) 0 (hashesBytes (heard (s .theirNeed)));
-      haves = sets (l .haves) 0 (laidWords (havesHeard (s .theirHave)));
-      bytes = sets (l .bytes) 0 (laidBytes (havesHeard (s .theirHave)));
+      haves = sets (l .haves) 0 (laidWords (heard (s .theirHave)));
+      bytes = sets (l .bytes) 0 (laidBytes (heard (s .theirHave)));
       sent = sets (l .sent) 0 (hashesBytes (s .sentHashes));
     }
 keptIn (Received.refused r s) l = l

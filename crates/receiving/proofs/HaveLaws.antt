@@ -8,7 +8,7 @@ use native.Mathlib.Omega.{arith}
 use borrow.Author.Tests.{leb-true, eqb-true, eqb-false}
 use lib.Dec.{leb, eqb}
 use lib.ListN.{length, take, drop, set, length-append}
-use lib.Seq.{sets, slice, length-slice}
+use lib.Seq.{sets, slice}
 use Rattle.bloom.specs.Filter.{filterRules}
 use Rattle.bloom.specs.Have.{Have, haveWords, haveCount, syncPlace, syncCount, numbersIn, filterGood, filterWith, haveIn, havesFrom, havesOf}
 use Rattle.bloom.specs.declared.have.FilterNumbers.{FilterNumbers}
@@ -22,7 +22,7 @@ use Rattle.rules.proofs.Cases.{split, both}
 use Rattle.rules.proofs.Hash.{take-drop, length-slice-of, length-hashes-at, length-hashes-bytes, hashes-at-bytes}
 use Rattle.rules.proofs.Outputs.{sets-append}
 use Rattle.session.specs.Laid.{laidBytes, laidFrom, laidWords}
-use Rattle.receiving.specs.Made.{Layable, mostHave, mostLaid, laidHave, recordFrom}
+use Rattle.receiving.specs.Made.{LaidPut, Layable, mostHave, mostLaid, laidHave, recordFrom}
 
 -- seven words one after the other
 seven-put : (out : List ℕ) (i a b c d e f g : ℕ)
@@ -209,9 +209,9 @@ module _ (s words : List ℕ) where
       }
 
   pub laying-ends : (records₀ bytes₀ records bytes : List ℕ) (at i : ℕ) → Laying records₀ bytes₀ records bytes at i → haveCount words ≤ i
-      → (records ≡ sets records₀ 0 (laidWords (havesOf s words))) × (bytes ≡ sets bytes₀ 0 (laidBytes (havesOf s words)))
+      → LaidPut (havesOf s words) records₀ bytes₀ records bytes
   unfolding laidFrom laidBytes
-  laying-ends records₀ bytes₀ records bytes at i so h = (rw (left-none i h) at (so .recorded), rw (left-none i h) at (so .laid))
+  laying-ends records₀ bytes₀ records bytes at i so h = record { records = rw (left-none i h) at (so .recorded); bytes = rw (left-none i h) at (so .laid) }
 
   -- ---- one have more
 

@@ -21,7 +21,7 @@ use Rattle.rules.proofs.Hash.{length-hashes-at, hashes-are-hashes}
 use Rattle.rules.proofs.KeepLaws.{keep-member, keep-most, keep-same, hashes-inside}
 use Rattle.rules.proofs.Outputs.{written-gathered}
 use Rattle.tables.specs.Bytes.{rowsAt}
-use Rattle.tables.specs.Table.{Row, rows, indexIn, rowNumber, held}
+use Rattle.tables.specs.Table.{rows, indexIn, rowNumber, held}
 use Rattle.tables.proofs.TableLaws.{row-of-held, length-rows-at}
 use Rattle.receiving.specs.Made.{heldMarked}
 

@@ -4,12 +4,14 @@ use mathlib.Core.Bool.{Bool, true, false, cond, _&&_}
 use mathlib.Core.List.{List, [], _∷_, _++_}
 use mathlib.Core.Path.{_≡_}
 use lib.ListN.{length, getD}
+use lib.Seq.{sets}
 use Rattle.bloom.specs.Have.{Have, haveCount, haveGood, syncCount, numbersIn}
 use Rattle.lists.specs.Lists.{UpTo}
 use Rattle.message.specs.Flags.{syncReset, readOnly, supportsSyncReset, hasFlag}
 use Rattle.message.specs.declared.flags.Section.{Section}
 use Rattle.rules.specs.Hash.{hashesAt, hashesBytes}
 use Rattle.rules.specs.Sizes.{sizes}
+use Rattle.session.specs.Laid.{laidBytes, laidWords}
 use Rattle.session.specs.Receive.{told}
 use Rattle.state.specs.declared.session.Session.{Session}
 use Rattle.tables.specs.Table.{Row, held, rowNumber}
@@ -47,6 +49,11 @@ pub record Layable (s words : List ℕ) : Type 0 where
   pub few : haveCount words ≤ sizes .haves
   pub each : (i : ℕ) → i < haveCount words → haveGood s words i ≡ true
   pub syncs : (i : ℕ) → i < haveCount words → syncCount words i ≤ sizes .hashes
+
+-- Haves laid out at the start of a session's lists, records and bytes; the rest of these is as it was.
+pub record LaidPut (vs : List Have) (records₀ bytes₀ records₁ bytes₁ : List ℕ) : Type 0 where
+  pub records : records₁ ≡ sets records₀ 0 (laidWords vs)
+  pub bytes : bytes₁ ≡ sets bytes₀ 0 (laidBytes vs)
 
 -- The most bytes that a have takes, laid out, and all of them.
 abbrev pub mostHave : ℕ

@@ -12,8 +12,8 @@ ghost use lib.Seq.{sets};
 ghost use Rattle.bloom.specs.Have.{haveWords, haveCount, syncCount, haveIn, havesOf};
 ghost use Rattle.numbers.specs.Number.{Put};
 ghost use Rattle.rules.specs.Sizes.{sizes};
-ghost use Rattle.session.specs.Laid.{laidBytes, laidWords};
-ghost use Rattle.receiving.specs.Made.{Layable, mostLaid, recordFrom, laidHave};
+ghost use Rattle.session.specs.Laid.{laidBytes};
+ghost use Rattle.receiving.specs.Made.{Layable, LaidPut, mostLaid, recordFrom, laidHave};
 
 // How many bytes the haves of these records take.
 pub fn laid_size(s: &[u8], words: &[u64]) -> usize
@@ -70,8 +70,8 @@ fn lay_have(s: &[u8], words: &[u64], i: usize, at: usize, bytes: &mut [u8]) -> u
 pub fn lay_haves(s: &[u8], words: &[u64], records: &mut [u64], bytes: &mut [u8])
     requires { ⌜ Layable (now s) (now words) × (haveWords * haveCount (now words) ≤ length (now records))
         × (length (laidBytes (havesOf (now s) (now words))) ≤ length (now bytes)) ⌝ }
-    ensures { λ _. ⌜ (now (records .exit) ≡ sets (now (records .entry)) 0 (laidWords (havesOf (now (s .entry)) (now (words .entry)))))
-        × (now (bytes .exit) ≡ sets (now (bytes .entry)) 0 (laidBytes (havesOf (now (s .entry)) (now (words .entry))))) ⌝ }
+    ensures { λ _. ⌜ LaidPut (havesOf (now (s .entry)) (now (words .entry))) (now (records .entry)) (now (bytes .entry)) (now (records .exit))
+        (now (bytes .exit)) ⌝ }
 {
     let total = words.len() / HAVE_WORDS;
     let mut at = 0;

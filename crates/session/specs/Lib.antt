@@ -1,5 +1,5 @@
-pub mod Counts
 pub mod Good
 pub mod Laid
 pub mod Plan
 pub mod Receive
+pub mod Rooms

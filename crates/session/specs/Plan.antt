@@ -4,7 +4,7 @@ use Prim.Native.Nat.{ℕ, _+_, _/_}
 use mathlib.Core.Bool.{Bool, true, false, cond, not, _&&_, _||_}
 use mathlib.Core.List.{List, [], _∷_, _++_}
 use mathlib.Core.Option.{Option, none, some}
-use lib.Dec.{ltb, eqb}
+use lib.Dec.{ltb}
 use lib.ListN.{length}
 use Rattle.bloom.specs.Filter.{filterOf4, defaultBits, defaultProbes}
 use Rattle.bloom.specs.Have.{Have}
@@ -46,8 +46,8 @@ pub data Planned : Type 0 where
   reset : Plan → Planned
   says : Plan → State → Planned
 
--- Hashes that were heard, or none where nothing was.
-abbrev pub heard : Option (List ℕ) → List ℕ
+-- Hashes or haves that were heard, or none where nothing was.
+abbrev pub heard : {A : Type 0} → Option (List A) → List A
 heard none = []
 heard (some l) = l
 

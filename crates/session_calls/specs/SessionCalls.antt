@@ -68,10 +68,6 @@ receivedSession (Took s) before = sessionWords s
 receivedSession (Failed s) before = sessionWords s
 receivedSession (NotTaken r) before = before
 
-abbrev pub buffersOf : List ℕ → List ℕ → List ℕ → List ℕ → List ℕ → List ℕ → Buffers
-buffersOf heads need have list lastSent sent =
-    record { heads = heads; need = need; have = have; list = list; lastSent = lastSent; sent = sent }
-
 -- What is planned for a session's words, with the filter of 01, once there is room.
 abbrev pub planFor : List ℕ → Lent → List ℕ → List ℕ → Buffers → Rattle.session.specs.Plan.Planned
 planFor words l table waiting before = roomed (roomsIn before) (planWith defaultBits defaultProbes (sessionOf words) l table waiting)

@@ -4,9 +4,10 @@ use crate::answer::planned_words;
 use crate::answer::received_session;
 use crate::answer::received_words;
 use session_words::words::session_of;
+ghost use Rattle.decide.specs.Call.{buffersOf};
 ghost use Rattle.lent.specs.Good.{lentOf};
 ghost use Rattle.session_words.specs.Words.{flagOf};
-ghost use Rattle.session_calls.specs.SessionCalls.{PlanAnswered, ReceiveAnswered, buffersOf};
+ghost use Rattle.session_calls.specs.SessionCalls.{PlanAnswered, ReceiveAnswered};
 
 // Plans what is said next: 0; 0 for nothing, 1 for a reset, 2 for a message; version, flags, whether the body is the document; heads, needs, haves; the
 // words of the have over its bytes; hashes of the body.

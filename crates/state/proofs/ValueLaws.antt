@@ -3,7 +3,7 @@
 use Prim.Native.Nat.{ℕ, zero, suc, _+_, _*_, _≤_}
 use mathlib.Core.Bool.{Bool, true, false}
 use mathlib.Core.List.{List, []}
-use mathlib.Core.Option.{Option, none, some}
+use mathlib.Core.Option.{none, some}
 use mathlib.Core.Path.{_≡_, refl, sym, ap, _∙_}
 use native.Mathlib.Omega.{arith}
 use lib.ListN.{length, replicate, length-replicate}
@@ -13,8 +13,8 @@ use Rattle.rules.specs.Hash.{hashesAt}
 use Rattle.rules.proofs.Cases.{split}
 use Rattle.rules.proofs.Hash.{length-hashes-at}
 use Rattle.state.specs.Counts.{freshCounts, freshReadOnlyCounts, restoredCounts, switchedOffCounts, setReadOnlyCounts}
-use Rattle.state.specs.Session.{State, fresh, freshReadOnly, restored, switchedOff, setReadOnly}
-use Rattle.state.specs.Value.{Lent, keptHaves, heardHashes, heardHaves, valueOf}
+use Rattle.state.specs.Session.{fresh, freshReadOnly, restored, switchedOff, setReadOnly}
+use Rattle.state.specs.Value.{Lent, keptHaves, heardCount, heardHashes, heardHaves, valueOf, countHeard, countsOf}
 use Rattle.state.specs.declared.session.Heard.{Heard}
 use Rattle.state.specs.declared.session.Heard.the-variants.{Nothing, Count}
 use Rattle.state.specs.declared.session.Session.{Session}
@@ -68,7 +68,7 @@ module _ (l : Lent) where
 
 -- ---- each list's length is its count
 
-length-haves-from : (s haves : List ℕ) (count i : ℕ) → length (havesFrom s haves i count) ≡ count
+pub length-haves-from : (s haves : List ℕ) (count i : ℕ) → length (havesFrom s haves i count) ≡ count
 unfolding havesFrom
 length-haves-from s haves zero i = refl
 length-haves-from s haves (suc count) i = ap suc (length-haves-from s haves count (suc i))
@@ -83,46 +83,31 @@ pub kept-length : (s haves : List ℕ) (n : ℕ) → haveWords * n ≤ length ha
 unfolding havesOf
 kept-length s haves n h = length-haves-from s (keptHaves haves n) (haveCount (keptHaves haves n)) 0 ∙ kept-records haves n h
 
--- the counts that a session has
-abbrev heardMany : {A : Type 0} → Option (List A) → Heard
-heardMany none = Nothing
-heardMany (some l) = Count (length l)
-
-abbrev countsOf : State → Session
-countsOf v =
-    record {
-      «shared_heads» = length (v .sharedHeads);
-      «last_sent_heads» = length (v .lastSentHeads);
-      «their_heads» = heardMany (v .theirHeads);
-      «their_need» = heardMany (v .theirNeed);
-      «their_have» = heardMany (v .theirHave);
-      «sent_hashes» = length (v .sentHashes);
-      «in_flight» = v .inFlight;
-      «have_responded» = v .haveResponded;
-      «supports_v2» = v .supportsV2;
-      «supports_reset» = v .supportsReset;
-      «read_only» = v .readOnly;
-      «peer_read_only» = v .peerReadOnly;
-      «needs_reset» = v .needsReset;
-    }
-
-hashes-many : (s : List ℕ) (h : Heard) → heardMany (heardHashes s h) ≡ h
+-- what was heard is as long as its count says
+pub hashes-counted : (s : List ℕ) (h : Heard) → countHeard (heardHashes s h) ≡ h
 unfolding heardHashes
-hashes-many s Nothing = refl
-hashes-many s (Count n) = ap Count (length-hashes-at s 0 n)
+hashes-counted s Nothing = refl
+hashes-counted s (Count n) = ap Count (length-hashes-at s 0 n)
 
 -- All records of the haves that were heard are lent.
-pub HavesLent : List ℕ → Heard → Type 0
+abbrev pub HavesLent : List ℕ → Heard → Type 0
 HavesLent haves h = (n : ℕ) → h ≡ Count n → haveWords * n ≤ length haves
 
-haves-many : (s haves : List ℕ) (h : Heard) → HavesLent haves h → heardMany (heardHaves s haves h) ≡ h
-unfolding heardHaves HavesLent
-haves-many s haves Nothing f = refl
-haves-many s haves (Count n) f = ap Count (kept-length s haves n (f n refl))
+pub haves-counted : (s haves : List ℕ) (h : Heard) → HavesLent haves h → countHeard (heardHaves s haves h) ≡ h
+unfolding heardHaves
+haves-counted s haves Nothing f = refl
+haves-counted s haves (Count n) f = ap Count (kept-length s haves n (f n refl))
 
-counts-back : (s : Session) (l : Lent) → HavesLent (l .haves) (s .«their_have») → countsOf (valueOf s l) ≡ s
+-- a session that was read from counts has these counts
+pub counts-back : (s : Session) (l : Lent) → HavesLent (l .haves) (s .«their_have») → countsOf (valueOf s l) ≡ s
 counts-back s l f =
-    rw (length-hashes-at (l .shared) 0 (s .«shared_heads»), length-hashes-at (l .lastSent) 0 (s .«last_sent_heads»), hashes-many (l .theirHeads) (s .«their_heads»), hashes-many (l .theirNeed) (s .«their_need»), haves-many (l .bytes) (l .haves) (s .«their_have») f, length-hashes-at (l .sent) 0 (s .«sent_hashes»))
+    let shared = length-hashes-at (l .shared) 0 (s .«shared_heads») in
+    let lastSent = length-hashes-at (l .lastSent) 0 (s .«last_sent_heads») in
+    let heads = hashes-counted (l .theirHeads) (s .«their_heads») in
+    let need = hashes-counted (l .theirNeed) (s .«their_need») in
+    let haves = haves-counted (l .bytes) (l .haves) (s .«their_have») f in
+    let sent = length-hashes-at (l .sent) 0 (s .«sent_hashes») in
+    rw (shared, lastSent, heads, need, haves, sent)
 
 -- Over the same lent lists two structs that are the same session are equal.
 pub same-counts : (s t : Session) (l : Lent) → HavesLent (l .haves) (s .«their_have») → HavesLent (l .haves) (t .«their_have») → valueOf s l ≡ valueOf t l
@@ -133,19 +118,14 @@ same-counts s t l f g e = sym (counts-back s l f) ∙ ap countsOf e ∙ counts-b
 abbrev room : ℕ → Lent
 room n = record { shared = []; lastSent = []; theirHeads = []; theirNeed = []; haves = replicate (haveWords * n) 0; bytes = []; sent = [] }
 
-abbrev many : Heard → ℕ
-many Nothing = 0
-many (Count n) = n
-
-room-lent : (h : Heard) (k : ℕ) → many h ≤ k → HavesLent (room k .haves) h
-unfolding HavesLent
+room-lent : (h : Heard) (k : ℕ) → heardCount h ≤ k → HavesLent (room k .haves) h
 room-lent h k le n e =
-    let m : many h ≡ n = rw e in
+    let m : heardCount h ≡ n = rw e in
     let long : length (room k .haves) ≡ haveWords * k = length-replicate (haveWords * k) 0 in
     rw long (omega arith)
 
 -- Two structs that are the same session whatever is lent are equal.
 pub value-once : (s t : Session) → ((l : Lent) → valueOf s l ≡ valueOf t l) → s ≡ t
 value-once s t e =
-    let k : ℕ = many (s .«their_have») + many (t .«their_have») in
+    let k : ℕ = heardCount (s .«their_have») + heardCount (t .«their_have») in
     same-counts s t (room k) (room-lent (s .«their_have») k (omega arith)) (room-lent (t .«their_have») k (omega arith)) (e (room k))

@@ -2,7 +2,7 @@
 use Prim.Native.Nat.{ℕ, _*_}
 use mathlib.Core.List.{List}
 use mathlib.Core.Option.{Option, none, some}
-use lib.ListN.{take}
+use lib.ListN.{length, take}
 use Rattle.bloom.specs.Have.{Have, haveWords, havesOf}
 use Rattle.rules.specs.Hash.{hashesAt}
 use Rattle.state.specs.Session.{State}
@@ -54,4 +54,27 @@ valueOf s l =
       readOnly = s .«read_only»;
       peerReadOnly = s .«peer_read_only»;
       needsReset = s .«needs_reset»;
+    }
+
+-- And back: how long a session's lists are, and its flags.
+abbrev pub countHeard : {A : Type 0} → Option (List A) → Heard
+countHeard none = Nothing
+countHeard (some l) = Count (length l)
+
+abbrev pub countsOf : State → Session
+countsOf s =
+    record {
+      «shared_heads» = length (s .sharedHeads);
+      «last_sent_heads» = length (s .lastSentHeads);
+      «their_heads» = countHeard (s .theirHeads);
+      «their_need» = countHeard (s .theirNeed);
+      «their_have» = countHeard (s .theirHave);
+      «sent_hashes» = length (s .sentHashes);
+      «in_flight» = s .inFlight;
+      «have_responded» = s .haveResponded;
+      «supports_v2» = s .supportsV2;
+      «supports_reset» = s .supportsReset;
+      «read_only» = s .readOnly;
+      «peer_read_only» = s .peerReadOnly;
+      «needs_reset» = s .needsReset;
     }

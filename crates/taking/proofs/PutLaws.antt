@@ -8,11 +8,11 @@ use native.Mathlib.Nat.{add-sub-cancel-left, zero-add}
 use Rattle.bloom.specs.Have.{haveWords, haveCount, havesOf}
 use Rattle.rules.specs.Sizes.{sizes}
 use Rattle.rules.proofs.Hash.{take-drop}
-use Rattle.state.specs.Value.{Lent}
+use Rattle.state.specs.Value.{Lent, keptHaves}
 use native.Mathlib.Omega.{arith}
 use Rattle.lent.specs.Good.{lentOf}
-use Rattle.session.specs.Laid.{laidBytes, laidWords}
-use Rattle.receiving.specs.Made.{Layable}
+use Rattle.session.specs.Laid.{laidBytes}
+use Rattle.receiving.specs.Made.{Layable, LaidPut}
 use Rattle.taking.specs.declared.decide.Draft.{Draft}
 use Rattle.taking.specs.Draft.{Parts, LaidFit, allPut}
 
@@ -21,9 +21,9 @@ part-put out s next a k e = e ∙ ap (sets out 0) (ap (λ (j : ℕ). take j (dro
 
 -- what laying out asks
 pub laid-fits : (message words : List ℕ) (count : ℕ) (records bytes : List ℕ) → LaidFit message words count records bytes
-    → Layable message (take (haveWords * count) words)
-    × (haveWords * haveCount (take (haveWords * count) words) ≤ length records)
-    × (length (laidBytes (havesOf message (take (haveWords * count) words))) ≤ length bytes)
+    → Layable message (keptHaves words count)
+    × (haveWords * haveCount (keptHaves words count) ≤ length records)
+    × (length (laidBytes (havesOf message (keptHaves words count))) ≤ length bytes)
 laid-fits message words count records bytes f =
     (f .layable, omega (arith, length-take-le (haveWords * count) words (f .there), f .room), f .bytesRoom)
 
@@ -39,12 +39,11 @@ pub parts-put : (p : Draft) (message : List ℕ) (atHeads atNeed : ℕ) (ready :
     → b ≡ sets (l .lastSent) 0 (slice atHeads (atHeads + sizes .hash * p .told) message)
     → c ≡ sets (l .theirHeads) 0 (slice atHeads (atHeads + sizes .hash * p .heads) message)
     → d ≡ sets (l .theirNeed) 0 (slice atNeed (atNeed + sizes .hash * p .need) message)
-    → e ≡ sets (l .haves) 0 (laidWords (havesOf message (take (haveWords * p .haves) (ready .words))))
-    → f ≡ sets (l .bytes) 0 (laidBytes (havesOf message (take (haveWords * p .haves) (ready .words))))
+    → LaidPut (havesOf message (keptHaves (ready .words) (p .haves))) (l .haves) (l .bytes) e f
     → g ≡ sets (l .sent) 0 (slice 0 (0 + sizes .hash * p .sent) (ready .sent))
     → lentOf a b c d e f g ≡ allPut p message atHeads atNeed ready l
-parts-put p message atHeads atNeed ready l a b c d e f g =
+parts-put p message atHeads atNeed ready l a b c d laid g =
     lents-same
     (a ∙ ap (λ (k : ℕ). sets (l .shared) 0 (take k (ready .shared))) (zero-add (sizes .hash * p .shared)))
-    b c d e f
+    b c d (laid .records) (laid .bytes)
     (g ∙ ap (λ (k : ℕ). sets (l .sent) 0 (take k (ready .sent))) (zero-add (sizes .hash * p .sent)))

@@ -10,7 +10,7 @@ use Rattle.bloom.specs.Have.{haveWords, havesOf}
 use Rattle.rules.specs.Sizes.{sizes}
 use Rattle.rules.specs.declared.refusal.Refusal.the-variants.{PastSize, NoRoom}
 use Rattle.session.specs.Laid.{laidBytes, laidWords}
-use Rattle.state.specs.Value.{Lent}
+use Rattle.state.specs.Value.{Lent, keptHaves}
 use Rattle.state.specs.declared.session.Heard.the-variants.{Count}
 use Rattle.state.specs.declared.session.Session.{Session}
 use Rattle.receiving.specs.Made.{Layable}
@@ -78,6 +78,9 @@ pub record Parts : Type 0 where
   pub sent : List ℕ
   pub words : List ℕ
 
+abbrev pub partsOf : List ℕ → List ℕ → List ℕ → Parts
+partsOf shared sent words = record { shared = shared; sent = sent; words = words }
+
 -- The draft, or nothing after a refusal.
 abbrev pub noDraft : Draft
 noDraft =
@@ -91,9 +94,9 @@ putsOf (Refused r) d = noDraft
 -- So many records stand in a list, are haves over the message, and have room, laid out.
 pub record LaidFit (message words : List ℕ) (count : ℕ) (records bytes : List ℕ) : Type 0 where
   pub there : haveWords * count ≤ length words
-  pub layable : Layable message (take (haveWords * count) words)
+  pub layable : Layable message (keptHaves words count)
   pub room : haveWords * count ≤ length records
-  pub bytesRoom : length (laidBytes (havesOf message (take (haveWords * count) words))) ≤ length bytes
+  pub bytesRoom : length (laidBytes (havesOf message (keptHaves words count))) ≤ length bytes
 
 -- All of it stands ready, and has room. Heads and need stand in the message from these places on.
 pub record Fits (p : Draft) (message : List ℕ) (atHeads atNeed : ℕ) (ready : Parts) (l : Lent) : Type 0 where
@@ -117,7 +120,7 @@ allPut p message atHeads atNeed ready l =
       lastSent = sets (l .lastSent) 0 (slice atHeads (atHeads + sizes .hash * p .told) message);
       theirHeads = sets (l .theirHeads) 0 (slice atHeads (atHeads + sizes .hash * p .heads) message);
       theirNeed = sets (l .theirNeed) 0 (slice atNeed (atNeed + sizes .hash * p .need) message);
-      haves = sets (l .haves) 0 (laidWords (havesOf message (take (haveWords * p .haves) (ready .words))));
-      bytes = sets (l .bytes) 0 (laidBytes (havesOf message (take (haveWords * p .haves) (ready .words))));
+      haves = sets (l .haves) 0 (laidWords (havesOf message (keptHaves (ready .words) (p .haves))));
+      bytes = sets (l .bytes) 0 (laidBytes (havesOf message (keptHaves (ready .words) (p .haves))));
       sent = sets (l .sent) 0 (take (sizes .hash * p .sent) (ready .sent));
     }

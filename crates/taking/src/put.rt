@@ -7,13 +7,14 @@ use rules::put::copy_into;
 use rules::sizes::HASH_SIZE;
 ghost use mathlib.Core.Path.{_≡_};
 ghost use Prim.Native.Nat.{_+_, _*_, _≤_};
-ghost use lib.ListN.{length, take};
+ghost use lib.ListN.{length};
 ghost use lib.Seq.{sets, slice};
-ghost use Rattle.bloom.specs.Have.{haveWords, havesOf};
+ghost use Rattle.bloom.specs.Have.{havesOf};
 ghost use Rattle.lent.specs.Good.{lentOf};
+ghost use Rattle.receiving.specs.Made.{LaidPut};
 ghost use Rattle.rules.specs.Sizes.{sizes};
-ghost use Rattle.session.specs.Laid.{laidBytes, laidWords};
-ghost use Rattle.taking.specs.Draft.{putsOf, LaidFit, Fits, allPut};
+ghost use Rattle.state.specs.Value.{keptHaves};
+ghost use Rattle.taking.specs.Draft.{putsOf, partsOf, LaidFit, Fits, allPut};
 
 // What is put for a draft: nothing after a refusal.
 pub fn puts_of(received: Received, d: Draft) -> Draft
@@ -47,8 +48,8 @@ fn put_hashes(s: &[u8], place: usize, count: usize, out: &mut [u8])
 // Lays out so many haves of a message, whose records are lent.
 fn put_laid(message: &[u8], words: &[u64], count: usize, haves: &mut [u64], bytes: &mut [u8])
     requires { ⌜ LaidFit (now message) (now words) count (now haves) (now bytes) ⌝ }
-    ensures { λ _. ⌜ (now (haves .exit) ≡ sets (now (haves .entry)) 0 (laidWords (havesOf (now (message .entry)) (take (haveWords * count) (now (words .entry))))))
-        × (now (bytes .exit) ≡ sets (now (bytes .entry)) 0 (laidBytes (havesOf (now (message .entry)) (take (haveWords * count) (now (words .entry)))))) ⌝ }
+    ensures { λ _. ⌜ LaidPut (havesOf (now (message .entry)) (keptHaves (now (words .entry)) count)) (now (haves .entry)) (now (bytes .entry))
+        (now (haves .exit)) (now (bytes .exit)) ⌝ }
 {
     lay_haves(message, &words[..HAVE_WORDS * count], haves, bytes);
 }
@@ -70,12 +71,12 @@ pub fn put(
     bytes: &mut [u8],
     sent: &mut [u8],
 )
-    requires { ⌜ Fits p (now message) «at_heads» «at_need» (record { shared = now «ready_shared»; sent = now «ready_sent»; words = now words })
+    requires { ⌜ Fits p (now message) «at_heads» «at_need» (partsOf (now «ready_shared») (now «ready_sent») (now words))
         (lentOf (now shared) (now «last_sent») (now «their_heads») (now «their_need») (now haves) (now bytes) (now sent)) ⌝ }
     ensures { λ _. ⌜ lentOf (now (shared .exit)) (now («last_sent» .exit)) (now («their_heads» .exit)) (now («their_need» .exit))
         (now (haves .exit)) (now (bytes .exit)) (now (sent .exit))
         ≡ allPut p (now (message .entry)) «at_heads» «at_need»
-        (record { shared = now («ready_shared» .entry); sent = now («ready_sent» .entry); words = now (words .entry) })
+        (partsOf (now («ready_shared» .entry)) (now («ready_sent» .entry)) (now (words .entry)))
         (lentOf (now (shared .entry)) (now («last_sent» .entry)) (now («their_heads» .entry)) (now («their_need» .entry))
         (now (haves .entry)) (now (bytes .entry)) (now (sent .entry))) ⌝ }
 {

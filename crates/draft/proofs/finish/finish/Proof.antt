@@ -1,5 +1,5 @@
 -- `draft::finish::finish` meets its contract: what is decided fits, so all of it is put. Assumes nothing.
-use Rattle.decide.proofs.PutLaws.{puts-fit, put-finished}
+use Rattle.draft.proofs.FitLaws.{puts-fit, put-finished}
 use borrow.Author.Needs.{needs}
 use Rattle.draft.proofs.finish.finish.Statement.{statement}
 use Rattle.draft.proofs.finish.finish.Tie as tie

@@ -64,7 +64,8 @@ put-requires c κs =
     let k = f .before .before .before .before .before .before .before .before .before .before .before in
     let s = k .before .before in
     has-room _ _ _ _ _ _ _ (s .pre) _ _ _ _ (f .take-flags .ensures) (g .loads-changes .ensures) (m .make-received .ensures .0)
-    (s .args .loaded) _ _ (e .load-failed .ensures) (d .decide .ensures) (m .make-received .ensures .1) (λ i. k .shared-slice-known2 .given i .fits) (u .puts-of .result) (u .puts-of .ensures)
+    (s .args .loaded) _ _ (e .load-failed .ensures) (d .decide .ensures) (m .make-received .ensures .1)
+    (λ i. k .shared-slice-known2 .given i .fits) (u .puts-of .result) (u .puts-of .ensures)
 
 same-length : tie.Need-same-length
 same-length c = search needs

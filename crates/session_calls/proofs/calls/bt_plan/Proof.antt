@@ -37,7 +37,9 @@ same-length-6 c = search needs
 returns : tie.Need-returns
 returns c =
     let called = c .before .before .before .before .before .before .before .before .before .before .before .before .before .before .before in
-    plan-answered _ _ (called .before .before .before .before .before .before .before .session-of .ensures) (called .generate-sync-message .ensures) (c .before .planned-session .ensures) (c .planned-words .ensures)
+    let start = called .before .before .before .before .before .before .before in
+    plan-answered _ _ (start .session-of .ensures) (called .generate-sync-message .ensures) (c .before .planned-session .ensures)
+    (c .planned-words .ensures)
 
 pub bt-plan-spec : {M : Type 1} → statement M
 bt-plan-spec =

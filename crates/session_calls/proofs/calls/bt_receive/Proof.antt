@@ -40,7 +40,9 @@ same-length-7 c = search needs
 returns : tie.Need-returns
 returns c =
     let called = c .before .before .before .before .before .before .before .before .before .before .before .before .before .before .before .before .before in
-    receive-answered _ _ (called .before .before .before .before .before .before .before .before .session-of .ensures) (called .receive-sync-message .ensures) (c .before .received-session .ensures) (c .received-words .ensures)
+    let start = called .before .before .before .before .before .before .before .before in
+    receive-answered _ _ (start .session-of .ensures) (called .receive-sync-message .ensures) (c .before .received-session .ensures)
+    (c .received-words .ensures)
 
 pub bt-receive-spec : {M : Type 1} → statement M
 bt-receive-spec =

@@ -29,15 +29,16 @@ use Rattle.state.specs.declared.session.Session.{Session}
 use Rattle.tables.specs.Table.{Row}
 use Rattle.tables.specs.Waiting.{Waiting}
 use Rattle.planning.specs.Made.{FieldMade, SentMade}
 use Rattle.decide.specs.Call.{syncsOf, filterNumbers, statedOf, answerOf, messageRoom, sessionRoom, afterRoom, roomed}
-use Rattle.decide.specs.Draft.{Parts, DraftMade, headsCount, countIf, filterIf, drafted, resetStated, ifRoom, saysWith, decided}
+use Rattle.decide.specs.Draft.{Parts, headsCount, countIf, filterIf, drafted, resetStated, ifRoom, saysWith, decided}
 use Rattle.decide.specs.declared.answer.Planned.{Planned as Answer}
 use Rattle.decide.specs.declared.answer.Planned.the-variants.{Refused, Reset}
 use Rattle.decide.specs.declared.answer.Room.{Room}
 use Rattle.decide.specs.declared.answer.Room.the-variants.{Enough, Short}
 use Rattle.decide.specs.declared.answer.Rooms.{Rooms}
 use Rattle.decide.specs.declared.answer.Stated.{Stated}
 use Rattle.decide.specs.declared.decide.Draft.{Draft}
+use Rattle.draft.specs.Make.{DraftMade}
 
 -- ---- counts of parts
 

@@ -1,5 +1,5 @@
 -- What is computed is small, starts with the bytes of what is said, and so gives what the call promises. Assumes nothing.
-use Prim.Native.Nat.{ℕ, _/_, _≤_}
+use Prim.Native.Nat.{ℕ, _≤_}
 use mathlib.Core.Bool.{Bool, true, false, cond, _&&_, not}
 use mathlib.Core.List.{List, [], _++_, append-nil}
 use mathlib.Core.Path.{_≡_, refl, ap, _∙_}
@@ -20,61 +20,24 @@ use Rattle.rules.specs.Sizes.{sizes}
 use Rattle.rules.specs.declared.refusal.Refusal.the-variants.{PastSize}
 use Rattle.rules.proofs.Cases.{split}
 use Rattle.rules.proofs.Hash.{length-hashes-at}
-use Rattle.selection.specs.ToSend.{toSendLess}
-use Rattle.selection.proofs.SelectLaws.{sent-most, less-most}
 use Rattle.session.specs.Laid.{laidBytes}
-use Rattle.session.specs.Plan.{Planned, listOf, heard, needOf, haveOf, havesFor, listOrDocument, bodyFor, bodyHeard, bodyOf, silence, sentAfter}
-use Rattle.session.specs.Plan.{headsFor, planOf, planned, resetOf, planSent, planSilence, planReset, plan, unknownSync, documentPart}
-use Rattle.state.specs.Session.{State}
+use Rattle.session.specs.Plan.{Planned, heard, needOf, haveOf, havesFor, silence, sentAfter}
+use Rattle.session.specs.Plan.{headsFor, planOf, planned, resetOf, planSent, planSilence, planReset, plan, unknownSync}
 use Rattle.state.specs.Value.{Lent, valueOf}
 use Rattle.state.specs.declared.session.Session.{Session}
 use Rattle.tables.specs.Table.{Row, rows}
 use Rattle.tables.specs.Waiting.{Waiting}
-use Rattle.tables.proofs.TableLaws.{length-rows}
 use Rattle.bloom.specs.Have.{Have}
-use mathlib.Core.Option.{Option, none, some}
+use mathlib.Core.Option.{none}
 use Rattle.planning.specs.Made.{Setting}
 use Rattle.decide.specs.Call.{Buffers, syncsOf, filterNumbers, answerOf, roomed, roomsIn, PlanCalled}
-use Rattle.decide.specs.Draft.{Parts, DraftMade, SmallDraft, putsOf, allPut, Finished}
+use Rattle.decide.specs.Draft.{Parts, SmallDraft, putsOf, allPut}
 use Rattle.decide.specs.declared.answer.Planned.{Planned as Answer}
 use Rattle.decide.specs.declared.decide.Draft.{Draft}
-use Rattle.decide.proofs.Decided.{found-many, found-all, sent-many, sent-all, field-long, have-given, have-none, plan-decided}
+use Rattle.session.proofs.PlanLaws.{list-few}
+use Rattle.draft.specs.Make.{DraftMade, Finished}
+use Rattle.draft.proofs.Decided.{found-many, found-all, sent-many, sent-all, field-long, have-given, have-none, plan-decided}
 use Rattle.decide.proofs.PutLaws.{Starts, put-as-said, refused-starts, silent-starts, roomed-starts}
-
--- ---- no more hashes than are sent at once
-
-module _ (t : List Row) (few : length t ≤ sizes .rows) where
-  all-rows : length (rows t) ≤ sizes .hashesToSend
-  all-rows = omega (arith, length-rows t)
-
-  list-few : (v2 : Bool) (l : List ℕ) → length l ≤ sizes .hashesToSend → length (listOrDocument t v2 l .hashes) ≤ sizes .hashesToSend
-  unfolding listOrDocument
-  list-few v2 l h = split (v2 && ltb (length t / documentPart) (length l)) (λ e. rw e all-rows) (λ e. rw e h)
-
-  for-few : (v2 lost : Bool) (haves : List Have) (need sent : List ℕ) → length need ≤ sizes .hashes
-      → length (bodyFor t v2 lost haves need sent .hashes) ≤ sizes .hashesToSend
-  unfolding bodyFor
-  for-few v2 lost haves need sent h =
-      let most : length (toSendLess t haves need sent) ≤ sizes .hashesToSend = omega (arith, less-most t haves need sent, sent-most t haves need few h) in
-      split (v2 && lost) (λ e. rw e all-rows) (λ e. rw e (list-few v2 _ most))
-
-  heard-few : (v2 lost : Bool) (haves : Option (List Have)) (need : Option (List ℕ)) (sent : List ℕ)
-      → ((l : List ℕ) → need ≡ some l → length l ≤ sizes .hashes)
-      → length (bodyHeard t v2 lost haves need sent .hashes) ≤ sizes .hashesToSend
-  unfolding bodyHeard
-  heard-few v2 lost none need sent h = omega arith
-  heard-few v2 lost (some haves) none sent h = omega arith
-  heard-few v2 lost (some haves) (some need) sent h = for-few v2 lost haves need sent (h need refl)
-
-  pub carried-few : (closed v2 lost : Bool) (haves : Option (List Have)) (need : Option (List ℕ)) (sent : List ℕ)
-      → ((l : List ℕ) → need ≡ some l → length l ≤ sizes .hashes)
-      → length (cond closed (listOf []) (bodyHeard t v2 lost haves need sent) .hashes) ≤ sizes .hashesToSend
-  carried-few true v2 lost haves need sent h = omega arith
-  carried-few false v2 lost haves need sent h = heard-few v2 lost haves need sent h
-
-  body-few : (s : State) → ((l : List ℕ) → s .theirNeed ≡ some l → length l ≤ sizes .hashes) → length (bodyOf t s .hashes) ≤ sizes .hashesToSend
-  unfolding bodyOf
-  body-few s h = carried-few (s .peerReadOnly) _ _ _ _ _ h
 
 -- ---- small
 
@@ -96,7 +59,7 @@ module _ (bits probes : ℕ) (t : List Row) (w : List Waiting) (s : Session) (l 
           entries = entries-few;
           few = ruled 0 bits probes _ (setting .each 0 (omega arith)) .bits;
           field = rules-field (d .entries) bits probes (setting .each _ entries-few) .1;
-          hashes = omega (arith, m .body .hashes .many, body-few t few (valueOf s l) (good-within s l good .theirNeed));
+          hashes = omega (arith, m .body .hashes .many, list-few t (valueOf s l) few (good-within s l good .theirNeed));
           sent = omega (arith, m .sent .many, m .sent .are .within);
         }
 
