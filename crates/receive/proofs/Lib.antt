@@ -2,5 +2,7 @@
 pub mod CallLaws
 pub mod DraftLaws
 pub mod KeptLaws
+pub mod Once
 pub mod OtherLaws
 pub mod Outcomes
+pub mod Promises
