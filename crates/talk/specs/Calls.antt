@@ -1,0 +1,208 @@
+-- Two hosts that make the exported calls in turn, over tables as bytes. 01, The catch-up walk, its last rule: what theorem 2 says of two fresh sessions is
+-- to hold of bt_fresh, bt_plan, bt_write_message and bt_receive. Each call stands here as what it ensures over words and bytes.
+use Prim.Native.Nat.{ℕ, suc, _+_, _*_, _≤_, _<_}
+use mathlib.Core.Bool.{Bool, true, false, cond, not, _&&_}
+use mathlib.Core.List.{List, []}
+use mathlib.Core.Path.{_≡_}
+use lib.Dec.{eqb}
+use lib.ListN.{length, getD, take, drop}
+use Rattle.answers.specs.Answer.{Answered}
+use Rattle.bloom.specs.Filter.{defaultBits, defaultProbes}
+use Rattle.bloom.specs.Have.{haveWords, havesOf}
+use Rattle.decide.specs.Call.{Buffers}
+use Rattle.kept.specs.Kept.{Stays}
+use Rattle.lent.specs.Good.{lentOf}
+use Rattle.message.specs.Flags.{flagsOf}
+use Rattle.message_calls.specs.MessageWords.{versionOf, sectionOf}
+use Rattle.rules.specs.Hash.{Bytes, hashesAt}
+use Rattle.rules.specs.Sizes.{sizes}
+use Rattle.session.specs.Counts.{countsOf}
+use Rattle.session.specs.Plan.{Plan}
+use Rattle.session_calls.specs.SessionCalls.{buffersOf, PlanAnswered, ReceiveAnswered}
+use Rattle.session_words.specs.Words.{flagOf, sessionWords, sessionOf}
+use Rattle.size.specs.Size.{total}
+use Rattle.size.specs.Write.{partsOf, chunksFrom, messageOutput}
+use Rattle.state.specs.Counts.{freshCounts}
+use Rattle.state.specs.Session.{State}
+use Rattle.state.specs.Value.{Lent}
+use Rattle.tables.specs.Bytes.{tableOf, tableChecked, waitingOf, waitingChecked}
+use Rattle.tables.specs.Table.{Row}
+use Rattle.tables.specs.Waiting.{Waiting}
+use Rattle.tables.specs.declared.check.Checked.the-variants.{Good}
+use Rattle.walk.specs.Round.{Part}
+use Rattle.walk.specs.Talk.{Host, chunksFor, goes, Pair, asked, answered, pairAt, Reached, Granted, Ended}
+use Rattle.walk.specs.Walk.{lacking}
+
+-- ---- memory
+
+-- A session as a host keeps it: its sixteen words, and the seven lists that are lent beside them.
+pub record Memory : Type 0 where
+  pub words : List ℕ
+  pub lists : Lent
+
+-- Bytes of a have at the most.
+abbrev pub haveRoom : ℕ
+haveRoom = sizes .hash * sizes .hashes + sizes .field
+
+-- 01, Sizes: lists with room for what a session may hold. So 7 is never answered; 01 grants nothing about 7, and this is all that is added to it.
+pub record Roomy (l : Lent) : Type 0 where
+  pub shared : sizes .hash * sizes .hashes ≤ length (l .shared)
+  pub lastSent : sizes .hash * sizes .hashes ≤ length (l .lastSent)
+  pub theirHeads : sizes .hash * sizes .hashes ≤ length (l .theirHeads)
+  pub theirNeed : sizes .hash * sizes .hashes ≤ length (l .theirNeed)
+  pub haves : haveWords * sizes .haves ≤ length (l .haves)
+  pub bytes : haveRoom * sizes .haves ≤ length (l .bytes)
+  pub sent : sizes .hash * sizes .sentHashes ≤ length (l .sent)
+
+-- The lists are slices of bytes, but for the haves' words: each holds bytes, whoever wrote it.
+pub record OfBytes (l : Lent) : Type 0 where
+  pub shared : Bytes (l .shared)
+  pub lastSent : Bytes (l .lastSent)
+  pub theirHeads : Bytes (l .theirHeads)
+  pub theirNeed : Bytes (l .theirNeed)
+  pub bytes : Bytes (l .bytes)
+  pub sent : Bytes (l .sent)
+
+-- The words and the lists hold this session: its counts, and over the lists a good session, which is this one.
+pub record Holds (x : State) (m : Memory) : Type 0 where
+  pub counts : sessionOf (m .words) ≡ countsOf x
+  pub stays : Stays x (m .lists)
+  pub bytes : OfBytes (m .lists)
+  pub room : Roomy (m .lists)
+
+-- Four buffers for the parts of a message, with room for what a message may have.
+pub record Out : Type 0 where
+  pub heads : List ℕ
+  pub need : List ℕ
+  pub have : List ℕ
+  pub list : List ℕ
+
+pub record RoomyOut (o : Out) : Type 0 where
+  pub heads : sizes .hash * sizes .hashes ≤ length (o .heads)
+  pub need : sizes .hash * sizes .hashes ≤ length (o .need)
+  pub have : haveRoom ≤ length (o .have)
+  pub list : sizes .hash * sizes .hashesToSend ≤ length (o .list)
+
+-- 01, Change table and Waiting table: bytes that no call refuses.
+pub record Tabled (s : List ℕ) : Type 0 where
+  pub rows : ℕ
+  pub good : tableChecked s ≡ Good rows
+  pub bytes : Bytes s
+
+pub record Beside (t : List Row) (s : List ℕ) : Type 0 where
+  pub rows : ℕ
+  pub good : waitingChecked t s ≡ Good rows
+  pub bytes : Bytes s
+
+-- ---- what a host reads of an answer to planning
+
+-- Something is said: no refusal, and not silence.
+abbrev pub speaks : List ℕ → Bool
+speaks answer = eqb (getD answer 0 0) 0 && not (eqb (getD answer 1 0) 0)
+
+-- The record of the have, if there is one.
+abbrev pub recordsIn : List ℕ → List ℕ
+recordsIn answer = take (haveWords * getD answer 7 0) (drop 8 answer)
+
+-- The plan that words and buffers are.
+abbrev pub planIn : List ℕ → Out → Plan
+planIn answer o =
+    record {
+      version = versionOf (getD answer 2 0);
+      heads = hashesAt (o .heads) 0 (getD answer 5 0);
+      need = hashesAt (o .need) 0 (getD answer 6 0);
+      haves = havesOf (o .have) (recordsIn answer);
+      body = record { document = flagOf (getD answer 4 0); hashes = hashesAt (o .list) 0 (getD answer 15 0) };
+      flags = flagsOf (getD answer 3 0);
+    }
+
+-- ---- the calls, each from memory to memory
+
+-- bt_plan: two of the session's lists and the four buffers are lent to be changed, the other lists stay.
+pub record PlanMade (table waiting : List ℕ) (m m′ : Memory) (o o′ : Out) (answer : List ℕ) : Type 0 where
+  pub call : PlanAnswered (m .words) (m′ .words) (m .lists) table waiting
+      (buffersOf (o .heads) (o .need) (o .have) (o .list) (m .lists .lastSent) (m .lists .sent))
+      (buffersOf (o′ .heads) (o′ .need) (o′ .have) (o′ .list) (m′ .lists .lastSent) (m′ .lists .sent))
+      answer
+  pub others : m′ .lists
+      ≡ lentOf (m .lists .shared) (m′ .lists .lastSent) (m .lists .theirHeads) (m .lists .theirNeed) (m .lists .haves) (m .lists .bytes) (m′ .lists .sent)
+  pub bytes : OfBytes (m′ .lists)
+
+-- bt_write_message, over what planning left and the chunks that the host lends for it: the message is what was written, and none after a refusal.
+pub record WriteMade (host : Host) (plan : List ℕ) (o : Out) (answer message : List ℕ) : Type 0 where
+  pub chunks : List ℕ
+  pub lengths : List ℕ
+  pub lends : chunksFrom chunks 0 lengths ≡ chunksFor host (planIn plan o)
+  pub whole : total lengths ≤ length chunks
+  pub before : List ℕ
+  pub after : List ℕ
+  pub room : sizes .message ≤ length before
+  pub call : Answered (messageOutput (partsOf (versionOf (getD plan 2 0)) (take (sizes .hash * getD plan 5 0) (o .heads))
+      (take (sizes .hash * getD plan 6 0) (o .need)) (o .have) (recordsIn plan) chunks lengths (sectionOf (getD plan 3 0)))) before after answer
+  pub message-is : message ≡ cond (eqb (getD answer 0 0) 0) (take (getD answer 1 0) after) []
+
+-- A unit speaks: it plans, and where something is said the message is written.
+pub record Speaks (host : Host) (table waiting : List ℕ) (m m′ : Memory) (message : List ℕ) : Type 0 where
+  pub out : Out
+  pub out′ : Out
+  pub room : RoomyOut out
+  pub answer : List ℕ
+  pub plans : PlanMade table waiting m m′ out out′ answer
+  pub silent : speaks answer ≡ false → message ≡ []
+  pub written : List ℕ
+  pub writes : speaks answer ≡ true → WriteMade host answer out′ written message
+
+-- bt_receive: a unit hears a message, whose changes have loaded.
+pub record Hears (table : List ℕ) (before : ℕ) (message : List ℕ) (m m′ : Memory) : Type 0 where
+  pub answer : List ℕ
+  pub call : ReceiveAnswered (m .words) (m′ .words) (m .lists) (m′ .lists) table before message true answer
+  pub said : Bytes message
+  pub bytes : OfBytes (m′ .lists)
+
+-- ---- the talk
+
+pub record Both : Type 0 where
+  pub atA : Memory
+  pub atB : Memory
+
+-- A session in which nothing was said (bt_fresh), over lists that hold anything.
+pub record Fresh (m : Memory) : Type 0 where
+  pub words : m .words ≡ sessionWords freshCounts
+  pub bytes : OfBytes (m .lists)
+  pub room : Roomy (m .lists)
+
+-- The bytes of A's table, of B's tables before each round, of what waits beside B and beside A, and what is lent for each round's messages.
+module _ (a : List ℕ) (b w u : ℕ → List ℕ) (hosts : ℕ → Host) where
+  -- 01, The catch-up walk: B speaks, A hears it and answers, B hears that beside its table after loading; its rows before are those before loading.
+  pub record Round (k : ℕ) (s s′ : Both) : Type 0 where
+    pub tableA : Tabled a
+    pub tableB : Tabled (b k)
+    pub loadedB : Tabled (b (suc k))
+    pub waitsA : Beside (tableOf a) (u k)
+    pub waitsB : Beside (tableOf (b k)) (w k)
+    pub midA : Memory
+    pub midB : Memory
+    pub question : List ℕ
+    pub reply : List ℕ
+    pub asks : Speaks (hosts k) (b k) (w k) (s .atB) midB question
+    pub hears : Hears a (length (tableOf a)) question (s .atA) midA
+    pub answers : Speaks (hosts k) a (u k) midA (s′ .atA) reply
+    pub takes : Hears (b (suc k)) (length (tableOf (b k))) reply midB (s′ .atB)
+
+  -- So many rounds from two fresh sessions on, each from the memory that the one before it left.
+  pub record TalkOfCalls (n : ℕ) : Type 0 where
+    pub at : ℕ → Both
+    pub freshA : Fresh (at 0 .atA)
+    pub freshB : Fresh (at 0 .atB)
+    pub made : (k : ℕ) → k < n → Round k (at k) (at (suc k))
+
+  -- ---- what is to be shown
+
+  -- The sessions of Talk.antt over the tables that the bytes are.
+  abbrev pub sessions : ℕ → Pair defaultBits defaultProbes (tableOf a) (λ k. tableOf (b k)) (λ k. waitingOf (w k)) (λ k. waitingOf (u k)) hosts
+  sessions = pairAt defaultBits defaultProbes (tableOf a) (λ k. tableOf (b k)) (λ k. waitingOf (w k)) (λ k. waitingOf (u k)) hosts
+
+  -- Before each round both memories hold the pair of sessions.
+  pub record AreSteps (k : ℕ) (s : Both) : Type 0 where
+    pub holdsA : Holds (sessions k .atA) (s .atA)
+    pub holdsB : Holds (sessions k .atB) (s .atB)
