@@ -1,2 +1,3 @@
 pub mod Planning
 pub mod Rooms
+pub mod Writing

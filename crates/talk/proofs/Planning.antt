@@ -13,7 +13,7 @@ use lib.Seq.{sets, length-sets}
 use Rattle.bloom.specs.Filter.{defaultBits, defaultProbes}
 use Rattle.bloom.specs.Have.{Have, haveWords}
 use Rattle.bloom.proofs.Rules.{rules-none}
-use Rattle.decide.specs.Call.{Buffers, afterTables, planWith, plannedCounts, statedOf, answerOf, roomed, roomsIn, putInto}
+use Rattle.decide.specs.Call.{Buffers, afterTables, planWith, plannedCounts, statedOf, answerOf, roomed, roomsIn, said, lastSentPut, sentPut, putInto}
 use Rattle.graph.specs.Graph.{heads}
 use Rattle.kept.specs.Kept.{Stand, StandHaves, Stays, plannedIn}
 use Rattle.kept.proofs.Calls.{plan-stays-good}
@@ -93,6 +93,25 @@ of-bytes l b =
 pub held-good : (x : State) (m : Memory) → Holds x m → GoodState x
 held-good x m h = rw (h .stays .value) at (good-state (countsOf x) (m .lists) (h .stays .good) (of-bytes (m .lists) (h .bytes)))
 
+still-roomy : (s : State) (l : Lent) → Roomy l → Roomy (plannedIn s l)
+still-roomy s l r =
+    record {
+      shared = r .shared;
+      lastSent = rw (length-sets (l .lastSent) 0 (hashesBytes (s .lastSentHeads))) (r .lastSent);
+      theirHeads = r .theirHeads;
+      theirNeed = r .theirNeed;
+      haves = r .haves;
+      bytes = r .bytes;
+      sent = rw (length-sets (l .sent) 0 (hashesBytes (s .sentHashes))) (r .sent);
+    }
+
+-- What is said stands at the start of the buffers.
+pub record Put (q : Plan) (o o′ : Out) : Type 0 where
+  pub heads : o′ .heads ≡ sets (o .heads) 0 (hashesBytes (q .heads))
+  pub need : o′ .need ≡ sets (o .need) 0 (hashesBytes (q .need))
+  pub have : o′ .have ≡ sets (o .have) 0 (laidBytes (q .haves))
+  pub list : o′ .list ≡ sets (o .list) 0 (hashesBytes (q .body .hashes))
+
 -- ---- what is stated is fine
 
 no-hashes : SoundHashes []
@@ -109,7 +128,7 @@ module _ (table waiting : List ℕ) (tabled : Tabled table) (beside : Beside (ta
   sound : SoundTable t
   sound = table-sound table tabled
 
-  reset-fine : Fine (resetOf t)
+  pub reset-fine : Fine (resetOf t)
   unfolding resetOf AreHashes Each
   reset-fine =
       record {
@@ -124,7 +143,7 @@ module _ (table waiting : List ℕ) (tabled : Tabled table) (beside : Beside (ta
 
   module _ (x : State) (good : GoodState x) where
     -- a reset is the one of this table
-    reset-is : (q : Plan) → plan defaultBits defaultProbes t w x ≡ Planned.reset q → q ≡ resetOf t
+    pub reset-is : (q : Plan) → plan defaultBits defaultProbes t w x ≡ Planned.reset q → q ≡ resetOf t
     reset-is q e =
         split (ltb (sizes .hashes) (length (needOf t w (x .readOnly) (heard (x .theirHeads)))))
         (λ a. refused-other (sym (plan-need-past defaultBits defaultProbes t w x (ltb-true _ _ a)) ∙ e))
@@ -157,7 +176,7 @@ module _ (table waiting : List ℕ) (tabled : Tabled table) (beside : Beside (ta
         found none g = tt
         found (some hs) g = g .are
 
-    says-fine : (q : Plan) (s : State) → plan defaultBits defaultProbes t w x ≡ Planned.says q s → Fine q
+    pub says-fine : (q : Plan) (s : State) → plan defaultBits defaultProbes t w x ≡ Planned.says q s → Fine q
     unfolding planOf saidBy
     says-fine q s e =
         let p = plan-saying defaultBits defaultProbes t w x q s e in
@@ -193,3 +212,96 @@ module _ (table waiting : List ℕ) (tabled : Tabled table) (beside : Beside (ta
           → planWith defaultBits defaultProbes c l table waiting ≡ plan defaultBits defaultProbes t w x
       unfolding planWith tablesChecked passedOn afterTables
       plan-with c counts goods value = rw (counts, goods, tabled .good, beside .good, value)
+
+    -- ---- the call
+
+    module _ (m m′ : Memory) (o o′ : Out) (answer : List ℕ) (h : Holds x m) (wide : RoomyOut o) (made : PlanMade table waiting m m′ o o′ answer) where
+      abbrev p : Planned
+      p = plan defaultBits defaultProbes t w x
+
+      abbrev given : Buffers
+      given = buffersOf (o .heads) (o .need) (o .have) (o .list) (m .lists .lastSent) (m .lists .sent)
+
+      plan-for : planFor (m .words) (m .lists) table waiting given ≡ p
+      plan-for =
+          ap (roomed (roomsIn given)) (plan-with o (m .lists) wide (h .room) (sessionOf (m .words)) (h .counts) (h .stays .good) (h .stays .value))
+          ∙ has-room o (m .lists) wide (h .room) p refl
+
+      -- it answers what the step plans
+      pub plan-answer : answer ≡ plannedWords (answerOf (countsOf x) p)
+      plan-answer = made .call .answer ∙ ap₂ (λ (c : Session) (q : Planned). plannedWords (answerOf c q)) (h .counts) plan-for
+
+      plan-words : m′ .words ≡ plannedSession (answerOf (countsOf x) p) (m .words)
+      plan-words =
+          made .call .session ∙ ap₂ (λ (c : Session) (q : Planned). plannedSession (answerOf c q) (m .words)) (h .counts) plan-for
+
+      plan-buffers : buffersOf (o′ .heads) (o′ .need) (o′ .have) (o′ .list) (m′ .lists .lastSent) (m′ .lists .sent) ≡ putInto p given
+      plan-buffers = made .call .buffers ∙ ap (λ (q : Planned). putInto q given) plan-for
+
+      list-last : m′ .lists .lastSent ≡ sets (m .lists .lastSent) 0 (hashesBytes (lastSentPut p))
+      unfolding putInto
+      list-last = ap (λ (b : Buffers). b .lastSent) plan-buffers
+
+      list-sent : m′ .lists .sent ≡ sets (m .lists .sent) 0 (hashesBytes (sentPut p))
+      unfolding putInto
+      list-sent = ap (λ (b : Buffers). b .sent) plan-buffers
+
+      -- what isn't a message leaves the memory as it was
+      unchanged : lastSentPut p ≡ [] → sentPut p ≡ [] → plannedSession (answerOf (countsOf x) p) (m .words) ≡ m .words → Holds x m′
+      unfolding hashesBytes
+      unchanged e f g =
+          let last : m′ .lists .lastSent ≡ m .lists .lastSent = list-last ∙ ap (λ (l : List ℕ). sets (m .lists .lastSent) 0 (hashesBytes l)) e in
+          let sent : m′ .lists .sent ≡ m .lists .sent = list-sent ∙ ap (λ (l : List ℕ). sets (m .lists .sent) 0 (hashesBytes l)) f in
+          let same : m′ .lists ≡ m .lists = made .others ∙ rw (last, sent) in
+          let words : m′ .words ≡ m .words = plan-words ∙ g in
+          record {
+            counts = ap sessionOf words ∙ h .counts;
+            stays = rw same (h .stays);
+            bytes = made .bytes;
+            room = rw same (h .room);
+          }
+
+      -- a message leaves the session that is planned
+      changed : (q : Plan) (s : State) → p ≡ Planned.says q s → Holds s m′
+      unfolding planned answerOf
+      changed q s e =
+          let l : Lent = m .lists in
+          let saying = plan-saying defaultBits defaultProbes t w x q s e in
+          let left : GoodState s = planned-good defaultBits defaultProbes t w x sound good q s e in
+          let last : m′ .lists .lastSent ≡ sets (l .lastSent) 0 (hashesBytes (s .lastSentHeads)) = rw e at list-last in
+          let sent : m′ .lists .sent ≡ sets (l .sent) 0 (hashesBytes (s .sentHashes)) = rw e at list-sent in
+          let lists : m′ .lists ≡ plannedIn s l = made .others ∙ rw (last, sent) in
+          let counts : plannedCounts (countsOf x) (length (s .lastSentHeads)) (length (s .sentHashes)) ≡ countsOf s = rw (saying .session) in
+          let words : m′ .words ≡ sessionWords (plannedCounts (countsOf x) (length (s .lastSentHeads)) (length (s .sentHashes))) = rw e at plan-words in
+          let before : plan defaultBits defaultProbes t w (valueOf (countsOf x) l) ≡ Planned.says q s = rw (h .stays .value) e in
+          record {
+            counts = ap sessionOf words ∙ words-back _ ∙ counts;
+            stays =
+                rw lists
+                (plan-stays-good defaultBits defaultProbes t w sound (countsOf x) l (h .stays .good) (of-bytes l (h .bytes)) q s before
+                (planned-room o l wide (h .room) s left));
+            bytes = made .bytes;
+            room = rw lists (still-roomy s l (h .room));
+          }
+
+      after-call : (p′ : Planned) → p ≡ p′ → Holds (after p′ x) m′
+      unfolding answerOf
+      after-call (Planned.refused r) e = unchanged (rw e) (rw e) (rw e)
+      after-call Planned.silent e = unchanged (rw e) (rw e) (rw e)
+      after-call (Planned.reset q) e = unchanged (rw e) (rw e) (rw e)
+      after-call (Planned.says q s) e = changed q s e
+
+      -- and the memory holds the session that the step leaves
+      pub plan-holds : Holds (after p x) m′
+      plan-holds = after-call p refl
+
+      -- and what the step says stands in the buffers
+      pub plan-put : Put (said p) o o′
+      unfolding putInto
+      plan-put =
+          record {
+            heads = ap (λ (b : Buffers). b .heads) plan-buffers;
+            need = ap (λ (b : Buffers). b .need) plan-buffers;
+            have = ap (λ (b : Buffers). b .have) plan-buffers;
+            list = ap (λ (b : Buffers). b .list) plan-buffers;
+          }

@@ -1,0 +1,142 @@
+-- What a host reads in the words and buffers of a plan is the plan, and what is written over them and the chunks that it lends is the plan's message, within
+-- its size, or nothing. Assumes nothing.
+use Prim.Native.Nat.{ℕ, _+_, _*_, _/_, _%_, _≤_, _<_}
+use mathlib.Core.Bool.{Bool, true, false, cond}
+use mathlib.Core.List.{List, [], _∷_}
+use mathlib.Core.Path.{_≡_, refl, sym, ap, ap₂, _∙_}
+use native.Mathlib.Nat.{zero-add}
+use native.Mathlib.Omega.{arith}
+use borrow.Author.Tests.{le-ltb, lt-ltb, ltb-true, ltb-false}
+use lib.Dec.{ltb, eqb}
+use lib.ListN.{length, getD, take, drop}
+use lib.Seq.{sets, slice, take-length}
+use Rattle.answers.specs.Answer.{refusalWords, writeWords, Answered}
+use Rattle.bloom.specs.Have.{Have, haveWords, havesOf, passedGood, passedFew}
+use Rattle.decide.specs.Call.{statedOf}
+use Rattle.kept.specs.Kept.{StandHaves}
+use Rattle.kept.proofs.Stands.{stand-haves-sets}
+use Rattle.message.specs.Flags.{flagsOf}
+use Rattle.message.specs.Message.{Message, messageBytes}
+use Rattle.message.specs.Sound.{Each, SoundHashes, SoundHave}
+use Rattle.message.specs.declared.flags.Section.the-variants.{Present}
+use Rattle.message.specs.declared.version.MessageVersion.{MessageVersion}
+use Rattle.message.specs.declared.version.MessageVersion.the-variants.{V1, V2}
+use Rattle.message_calls.specs.MessageWords.{versionOf, sectionOf}
+use Rattle.message_calls.proofs.MessageLaws.{section-there}
+use Rattle.rules.specs.Hash.{AreHashes, hashesAt, hashesBytes}
+use Rattle.rules.specs.Output.{Output, answerOf, contentOf}
+use Rattle.rules.specs.Passed.{passedHashes}
+use Rattle.rules.specs.Refusal.{numberOf}
+use Rattle.rules.specs.Sizes.{sizes}
+use Rattle.rules.specs.declared.passed.Passed.the-variants.{Hashes}
+use Rattle.rules.specs.declared.refusal.Refusal.{Refusal}
+use Rattle.rules.specs.declared.refusal.Refusal.the-variants.{Cut, WrongType, BadNumber, PastSize, NoBits, BadRow, NoRoom, LoadFailed, BadWaitingRow, BadNumbers, BadRowsBefore}
+use Rattle.rules.proofs.Cases.{split}
+use Rattle.rules.proofs.Hash.{length-hashes-bytes, hashes-there-and-back}
+use Rattle.rules.proofs.Outputs.{take-sets, written-gathered}
+use Rattle.rules.proofs.PassedLaws.{passed-whole}
+use Rattle.session.specs.Laid.{laidBytes, laidFrom, laidWords}
+use Rattle.session.specs.Plan.{Body, Plan}
+use Rattle.session.proofs.LaidLaws.{laid-length-words}
+use Rattle.session_calls.specs.SessionCalls.{versionNumber, statedWords}
+use Rattle.session_words.specs.Words.{flagWord, flagOf}
+use Rattle.size.specs.Size.{Accepted, GoodHaves, total}
+use Rattle.size.specs.Write.{Parts, partsOf, hashesOf, chunksFrom, messageOf, messageOutput}
+use Rattle.size.proofs.WriteLaws.{message-written, accepted-written}
+use Rattle.size.proofs.SizeLaws.{chunks-long}
+use Rattle.state.specs.Value.{keptHaves}
+use Rattle.walk.specs.Talk.{Host, chunksFor, messageFor}
+use Rattle.walk.proofs.Message.{chunks-few}
+use Rattle.talk.specs.Calls.{haveRoom, Out, RoomyOut, recordsIn, planIn, WriteMade}
+use Rattle.talk.proofs.Planning.{Put}
+use Rattle.talk.proofs.Rooms.{Fine, laid-small}
+
+-- ---- words
+
+version-read : (v : MessageVersion) → versionOf (versionNumber v) ≡ v
+unfolding versionOf
+version-read V1 = refl
+version-read V2 = refl
+
+flag-read : (b : Bool) → flagOf (flagWord b) ≡ b
+flag-read true = refl
+flag-read false = refl
+
+-- no refusal's number is 0
+number-some : (r : Refusal) → eqb (numberOf r) 0 ≡ false
+number-some (Cut place) = refl
+number-some (WrongType byte) = refl
+number-some (BadNumber place) = refl
+number-some (PastSize place) = refl
+number-some (NoBits place) = refl
+number-some (BadRow row) = refl
+number-some (NoRoom wanted) = refl
+number-some LoadFailed = refl
+number-some (BadWaitingRow row) = refl
+number-some BadNumbers = refl
+number-some BadRowsBefore = refl
+
+-- the words of the have are its record
+records-read : (what : ℕ) (q : Plan) (vs : List Have) → q .haves ≡ vs → length vs ≤ 1 → recordsIn (statedWords what (statedOf q)) ≡ laidWords vs
+unfolding laidWords laidFrom
+records-read what q [] e one = rw e
+records-read what q (v ∷ []) e one = rw (e, zero-add (sizes .hash * length (v .lastSync)))
+records-read what q (v ∷ y ∷ vs) e one = absurd (omega arith)
+
+laid-again : (vs : List Have) → keptHaves (sets (laidWords vs) 0 (laidWords vs)) (length vs) ≡ laidWords vs
+laid-again vs = rw (laid-length-words vs) at (take-sets (laidWords vs) (laidWords vs) (omega arith))
+
+-- ---- what stands in the buffers
+
+module _ (hs before : List ℕ) (are : AreHashes hs) (fits : sizes .hash * length hs ≤ length before) where
+  -- the bytes that are passed on are the hashes'
+  pub passed-bytes : take (sizes .hash * length hs) (sets before 0 (hashesBytes hs)) ≡ hashesBytes hs
+  passed-bytes = rw (length-hashes-bytes hs) at (take-sets (hashesBytes hs) before (rw (length-hashes-bytes hs) fits))
+
+bytes-hashes : (hs : List ℕ) → AreHashes hs → hashesOf (hashesBytes hs) ≡ hs
+bytes-hashes hs are =
+    let many : length (hashesBytes hs) / sizes .hash ≡ length hs = rw (length-hashes-bytes hs) (omega arith) in
+    let whole : slice 0 (0 + sizes .hash * length hs) (hashesBytes hs) ≡ hashesBytes hs =
+    rw (zero-add, ← length-hashes-bytes hs) (take-length (hashesBytes hs))
+    in
+    rw many (hashes-there-and-back (hashesBytes hs) 0 hs are whole)
+
+bytes-passed : (hs : List ℕ) → length hs ≤ sizes .hashes → passedHashes (hashesBytes hs) ≡ Hashes (length (hashesBytes hs) / sizes .hash)
+bytes-passed hs few =
+    passed-whole (hashesBytes hs) (rw (length-hashes-bytes hs) (omega arith)) (rw (length-hashes-bytes hs) (omega arith))
+
+module _ (q : Plan) (fine : Fine q) (o o′ : Out) (wide : RoomyOut o) (put : Put q o o′) (what : ℕ) (answer : List ℕ)
+    (is : answer ≡ statedWords what (statedOf q)) where
+  haves-stand : StandHaves (q .haves) (sets (laidWords (q .haves)) 0 (laidWords (q .haves))) (o′ .have)
+  haves-stand =
+      rw (put .have)
+      (stand-haves-sets (laidWords (q .haves)) (o .have) (q .haves) (fine .haves) (omega (arith, laid-length-words (q .haves)))
+      (omega (arith, laid-small (q .haves) (fine .haves .each), fine .one, wide .have)))
+
+  records-are : recordsIn answer ≡ keptHaves (sets (laidWords (q .haves)) 0 (laidWords (q .haves))) (length (q .haves))
+  records-are = rw (is, laid-again (q .haves)) (records-read what q (q .haves) refl (fine .one))
+
+  haves-are : havesOf (o′ .have) (recordsIn answer) ≡ q .haves
+  haves-are = rw records-are (haves-stand .are)
+
+  heads-fit : sizes .hash * length (q .heads) ≤ length (o .heads)
+  heads-fit = omega (arith, fine .heads .few, wide .heads)
+
+  need-fit : sizes .hash * length (q .need) ≤ length (o .need)
+  need-fit = omega (arith, fine .need .few, wide .need)
+
+  list-fit : sizes .hash * length (q .body .hashes) ≤ length (o .list)
+  list-fit = omega (arith, fine .few, wide .list)
+
+  heads-are : hashesAt (o′ .heads) 0 (length (q .heads)) ≡ q .heads
+  heads-are = rw (put .heads) (written-gathered (q .heads) (o .heads) (fine .heads .are) heads-fit .list)
+
+  need-are : hashesAt (o′ .need) 0 (length (q .need)) ≡ q .need
+  need-are = rw (put .need) (written-gathered (q .need) (o .need) (fine .need .are) need-fit .list)
+
+  list-are : hashesAt (o′ .list) 0 (length (q .body .hashes)) ≡ q .body .hashes
+  list-are = rw (put .list) (written-gathered (q .body .hashes) (o .list) (fine .are) list-fit .list)
+
+  -- a host reads the plan
+  pub plan-read : planIn answer o′ ≡ q
+  plan-read = rw haves-are (rw is (rw (version-read (q .version), flag-read (q .body .document), heads-are, need-are, list-are)))
