@@ -88,10 +88,10 @@ laid-again vs = rw (laid-length-words vs) at (take-sets (laidWords vs) (laidWord
 
 -- ---- what stands in the buffers
 
-module _ (hs before : List ℕ) (are : AreHashes hs) (fits : sizes .hash * length hs ≤ length before) where
-  -- the bytes that are passed on are the hashes'
-  pub passed-bytes : take (sizes .hash * length hs) (sets before 0 (hashesBytes hs)) ≡ hashesBytes hs
-  passed-bytes = rw (length-hashes-bytes hs) at (take-sets (hashesBytes hs) before (rw (length-hashes-bytes hs) fits))
+-- the bytes that are passed on are the hashes'
+passed-bytes : (hs before : List ℕ) → sizes .hash * length hs ≤ length before → take (sizes .hash * length hs) (sets before 0 (hashesBytes hs)) ≡ hashesBytes hs
+passed-bytes hs before fits =
+    rw (length-hashes-bytes hs) at (take-sets (hashesBytes hs) before (rw (length-hashes-bytes hs) fits))
 
 bytes-hashes : (hs : List ℕ) → AreHashes hs → hashesOf (hashesBytes hs) ≡ hs
 bytes-hashes hs are =
@@ -140,3 +140,89 @@ module _ (q : Plan) (fine : Fine q) (o o′ : Out) (wide : RoomyOut o) (put : Pu
   -- a host reads the plan
   pub plan-read : planIn answer o′ ≡ q
   plan-read = rw haves-are (rw is (rw (version-read (q .version), flag-read (q .body .document), heads-are, need-are, list-are)))
+
+  -- ---- the message
+
+  module _ (host : Host) (written message : List ℕ) (made : WriteMade host answer o′ written message) where
+    -- the parts as they are passed, and as the plan has them
+    abbrev passed : Parts
+    passed =
+        partsOf (versionOf (getD answer 2 0)) (take (sizes .hash * getD answer 5 0) (o′ .heads)) (take (sizes .hash * getD answer 6 0) (o′ .need)) (o′ .have)
+        (recordsIn answer) (made .chunks) (made .lengths) (sectionOf (getD answer 3 0))
+
+    abbrev parts : Parts
+    parts =
+        partsOf (q .version) (hashesBytes (q .heads)) (hashesBytes (q .need)) (o′ .have) (recordsIn answer) (made .chunks) (made .lengths) (Present (q .flags))
+
+    version-is : versionOf (getD answer 2 0) ≡ q .version
+    version-is = rw is (version-read (q .version))
+
+    section-is : sectionOf (getD answer 3 0) ≡ Present (q .flags)
+    section-is = rw is (sym (section-there (q .flags .0) (fine .flags)))
+
+    heads-passed : take (sizes .hash * getD answer 5 0) (o′ .heads) ≡ hashesBytes (q .heads)
+    heads-passed = rw (is, put .heads) (passed-bytes (q .heads) (o .heads) heads-fit)
+
+    need-passed : take (sizes .hash * getD answer 6 0) (o′ .need) ≡ hashesBytes (q .need)
+    need-passed = rw (is, put .need) (passed-bytes (q .need) (o .need) need-fit)
+
+    parts-are : passed ≡ parts
+    parts-are = rw (version-is, section-is, heads-passed, need-passed)
+
+    chunks-are : chunksFrom (made .chunks) 0 (made .lengths) ≡ chunksFor host q
+    chunks-are = made .lends ∙ ap (chunksFor host) plan-read
+
+    message-of : messageOf parts ≡ messageFor host q
+    unfolding messageFor
+    message-of = rw (bytes-hashes (q .heads) (fine .heads .are), bytes-hashes (q .need) (fine .need .are), haves-are, chunks-are)
+
+    accepted : Accepted parts
+    accepted =
+        let few : length (chunksFrom (made .chunks) 0 (made .lengths)) ≤ sizes .chunks = rw chunks-are (chunks-few host q (fine .few)) in
+        record {
+          haves = record { good = rw records-are (haves-stand .good); few = rw records-are (haves-stand .few) };
+          heads = bytes-passed (q .heads) (fine .heads .few);
+          need = bytes-passed (q .need) (fine .need .few);
+          few = rw (chunks-long (made .chunks) (made .lengths) 0) at few;
+          whole = made .whole;
+        }
+
+    abbrev said : List ℕ
+    said = messageBytes (messageFor host q)
+
+    output-is : length said ≤ sizes .message → messageOutput passed ≡ Output.bytes said
+    output-is small =
+        rw (parts-are, ← message-of) (accepted-written parts accepted (rw message-of small))
+
+    -- a message within its size is written
+    pub record Wrote : Type 0 where
+      pub message-is : message ≡ said
+      pub fine-answer : getD written 0 0 ≡ 0
+
+    pub write-small : length said ≤ sizes .message → Wrote
+    write-small small =
+        let fits : length said ≤ length (made .before) = omega (arith, made .room) in
+        let out = output-is small in
+        let words : written ≡ 0 ∷ length said ∷ 0 ∷ 0 ∷ [] =
+        made .call .answer ∙ ap (λ (x : Output). writeWords (answerOf x (length (made .before)))) out ∙ rw (le-ltb _ _ fits)
+        in
+        let content : made .after ≡ sets (made .before) 0 said =
+        made .call .content ∙ ap (λ (x : Output). contentOf x (made .before)) out ∙ rw (le-ltb _ _ fits)
+        in
+        record {
+          message-is = made .message-is ∙ rw (words, content) (take-sets said (made .before) fits);
+          fine-answer = rw words;
+        }
+
+    -- one past its size isn't
+    pub write-long : sizes .message < length said → message ≡ []
+    write-long long = outcome (messageOutput passed) refl
+      where
+        outcome : (x : Output) → messageOutput passed ≡ x → message ≡ []
+        outcome (Output.bytes l) e =
+            let done = message-written passed l e in
+            let same : l ≡ said = done .is ∙ ap (λ (p : Parts). messageBytes (messageOf p)) parts-are ∙ ap messageBytes message-of in
+            absurd (omega (arith, done .small, ap length same))
+        outcome (Output.refuse r) e =
+            let words : written ≡ refusalWords r = made .call .answer ∙ ap (λ (x : Output). writeWords (answerOf x (length (made .before)))) e in
+            made .message-is ∙ rw (words, number-some r)
