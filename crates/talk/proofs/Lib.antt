@@ -1,3 +1,5 @@
 pub mod Planning
+pub mod Receiving
 pub mod Rooms
+pub mod Talking
 pub mod Writing

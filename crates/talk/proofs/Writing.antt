@@ -63,7 +63,7 @@ flag-read true = refl
 flag-read false = refl
 
 -- no refusal's number is 0
-number-some : (r : Refusal) → eqb (numberOf r) 0 ≡ false
+pub number-some : (r : Refusal) → eqb (numberOf r) 0 ≡ false
 number-some (Cut place) = refl
 number-some (WrongType byte) = refl
 number-some (BadNumber place) = refl

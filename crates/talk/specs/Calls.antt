@@ -17,7 +17,7 @@ use Rattle.message_calls.specs.MessageWords.{versionOf, sectionOf}
 use Rattle.rules.specs.Hash.{Bytes, hashesAt}
 use Rattle.rules.specs.Sizes.{sizes}
 use Rattle.session.specs.Counts.{countsOf}
-use Rattle.session.specs.Plan.{Plan}
+use Rattle.session.specs.Plan.{Plan, Planned}
 use Rattle.session_calls.specs.SessionCalls.{buffersOf, PlanAnswered, ReceiveAnswered}
 use Rattle.session_words.specs.Words.{flagOf, sessionWords, sessionOf}
 use Rattle.size.specs.Size.{total}
@@ -171,6 +171,13 @@ pub record Fresh (m : Memory) : Type 0 where
   pub bytes : OfBytes (m .lists)
   pub room : Roomy (m .lists)
 
+-- A message was planned and written, and carries these hashes.
+pub record SaidSo (answer written : List ℕ) (o : Out) (hashes : List ℕ) : Type 0 where
+  pub planned : getD answer 0 0 ≡ 0
+  pub message : getD answer 1 0 ≡ 2
+  pub wrote : getD written 0 0 ≡ 0
+  pub carries : planIn answer o .body .hashes ≡ hashes
+
 -- The bytes of A's table, of B's tables before each round, of what waits beside B and beside A, and what is lent for each round's messages.
 module _ (a : List ℕ) (b w u : ℕ → List ℕ) (hosts : ℕ → Host) where
   -- 01, The catch-up walk: B speaks, A hears it and answers, B hears that beside its table after loading; its rows before are those before loading.
@@ -202,7 +209,43 @@ module _ (a : List ℕ) (b w u : ℕ → List ℕ) (hosts : ℕ → Host) where
   abbrev pub sessions : ℕ → Pair defaultBits defaultProbes (tableOf a) (λ k. tableOf (b k)) (λ k. waitingOf (w k)) (λ k. waitingOf (u k)) hosts
   sessions = pairAt defaultBits defaultProbes (tableOf a) (λ k. tableOf (b k)) (λ k. waitingOf (w k)) (λ k. waitingOf (u k)) hosts
 
-  -- Before each round both memories hold the pair of sessions.
-  pub record AreSteps (k : ℕ) (s : Both) : Type 0 where
+  -- What B asks and what A answers in round k.
+  abbrev pub askedIn : ℕ → Planned
+  askedIn k = asked defaultBits defaultProbes (tableOf a) (λ k. tableOf (b k)) (λ k. waitingOf (w k)) (λ k. waitingOf (u k)) hosts k (sessions k)
+
+  abbrev pub answeredIn : ℕ → Planned
+  answeredIn k = answered defaultBits defaultProbes (tableOf a) (λ k. tableOf (b k)) (λ k. waitingOf (w k)) (λ k. waitingOf (u k)) hosts k (sessions k)
+
+  -- Both memories hold the pair of sessions before round k.
+  pub record AreSessions (k : ℕ) (s : Both) : Type 0 where
     pub holdsA : Holds (sessions k .atA) (s .atA)
     pub holdsB : Holds (sessions k .atB) (s .atB)
+
+  -- All calls of round k answer 0; both plans are messages, and their hash lists are what goes across.
+  pub record AllAnswered (k : ℕ) (s s′ : Both) (r : Round k s s′) : Type 0 where
+    pub asks : SaidSo (r .asks .answer) (r .asks .written) (r .asks .out′) (goes (askedIn k))
+    pub hears : getD (r .hears .answer) 0 0 ≡ 0
+    pub answers : SaidSo (r .answers .answer) (r .answers .written) (r .answers .out′) (goes (answeredIn k))
+    pub takes : getD (r .takes .answer) 0 0 ≡ 0
+
+  -- The user's words, of the calls: there is a last round as in Talk.antt, and in the rounds up to it all calls answer 0.
+  pub record CallsEnd (n : ℕ) (talk : TalkOfCalls n) : Type 0 where
+    pub ended : Ended defaultBits defaultProbes (tableOf a) (λ k. tableOf (b k)) (λ k. waitingOf (w k)) (λ k. waitingOf (u k)) hosts
+        (lacking (tableOf a) (tableOf (b 0)))
+    pub all : (k : ℕ) → k ≤ ended .last → (h : k < n) → AllAnswered k (talk .at k) (talk .at (suc k)) (talk .made k h)
+
+-- A talk of calls is the talk of steps.
+abbrev pub CallsAreSteps : Type 0
+CallsAreSteps = (a : List ℕ) (b w u : ℕ → List ℕ) (hosts : ℕ → Host) (n : ℕ) (talk : TalkOfCalls a b w u hosts n)
+    → (k : ℕ) → k ≤ n
+    → AreSessions a b w u hosts k (talk .at k)
+
+-- So the corollary is about the calls: B's table a part of A's, nothing waiting, and all that Talk.antt grants in each round that is reached.
+abbrev pub CallsCorollary : Type 0
+CallsCorollary = (a : List ℕ) (b w u : ℕ → List ℕ) (hosts : ℕ → Host) (n : ℕ) (talk : TalkOfCalls a b w u hosts n)
+    → Tabled a
+    → Part (tableOf a) (tableOf (b 0))
+    → waitingOf (w 0) ≡ []
+    → ((k : ℕ) → Reached defaultBits defaultProbes (tableOf a) (λ k. tableOf (b k)) (λ k. waitingOf (w k)) (λ k. waitingOf (u k)) hosts k
+    → Granted defaultBits defaultProbes (tableOf a) (λ k. tableOf (b k)) (λ k. waitingOf (w k)) (λ k. waitingOf (u k)) hosts k)
+    → CallsEnd a b w u hosts n talk
