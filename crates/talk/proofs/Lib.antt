@@ -1,5 +1,6 @@
 pub mod Planning
 pub mod Receiving
 pub mod Rooms
-pub mod Talking
+pub mod Speaking
+pub mod Talk
 pub mod Writing
