@@ -21,6 +21,7 @@ use Rattle.rules.specs.declared.refusal.Refusal.{Refusal}
 use Rattle.rules.proofs.Cases.{split}
 use Rattle.session.specs.Plan.{Body, Plan, Planned, plan, after}
 use Rattle.session.specs.Receive.{Received, receiveBytes}
+use Rattle.session.proofs.ReceiveLaws.{bytes-beyond, bytes-refused}
 use Rattle.session_calls.specs.SessionCalls.{receivedWords}
 use Rattle.session_words.specs.Words.{sessionOf}
 use Rattle.session_words.proofs.WordLaws.{words-back}
@@ -39,6 +40,7 @@ use Rattle.talk.specs.Calls.{
   Memory,
   Holds,
   Tabled,
+  Beside,
   Hears,
   Speaks,
   Both,
@@ -69,6 +71,34 @@ fresh-holds m f =
       bytes = f .bytes;
       room = f .room;
     }
+
+-- a message that was taken is within its size
+taken-small : (before : ℕ) (t : List Row) (x z : State) (bytes : List ℕ) → receiveBytes true before t x bytes ≡ Received.took z → length bytes ≤ sizes .message
+taken-small before t x z bytes e =
+    split (ltb (sizes .message) (length bytes))
+    (λ f.
+    let unread = message-long bytes (ltb-true _ _ f) in
+    split (ltb (length t) before)
+    (λ g. untaken (sym (bytes-beyond true before t x bytes (ltb-true _ _ g)) ∙ e))
+    (λ g. untaken (sym (bytes-refused true before t x bytes (ltb-false _ _ g) _ unread) ∙ e)))
+    (λ f. ltb-false _ _ f)
+  where
+    untaken : {C : Type 0} {q : Refusal} {s s′ : State} → Received.refused q s ≡ Received.took s′ → C
+    untaken f = absurd (let c : _≡_ {A = ℕ} 0 1 = cc in omega arith)
+
+-- what is said and taken: its calls answered 0
+module _ (host : Host) (table waiting : List ℕ) (tabled : Tabled table) (beside : Beside (tableOf table) waiting) (x : State) (m m′ : Memory) (h : Holds x m)
+    (message : List ℕ) (speech : Speaks host table waiting m m′ message) (q : Plan) (s : State)
+    (says : plan defaultBits defaultProbes (tableOf table) (waitingOf waiting) x ≡ Planned.says q s)
+    (theirs : List ℕ) (accepted : Tabled theirs) (before : ℕ) (y z : State) (l l′ : Memory) (held : Holds y l) (hearing : Hears theirs before message l l′)
+    (took : receiveBytes true before (tableOf theirs) y (messageBytes (messageFor host q)) ≡ Received.took z) where
+  answered-so : SaidSo (speech .answer) (speech .written) (speech .out′) (q .body .hashes) × (getD (hearing .answer) 0 0 ≡ 0)
+  unfolding answerOf
+  answered-so =
+      let done = speaking-said host table waiting tabled beside x m m′ h message speech q s says in
+      let wrote = done .crosses (taken-small before (tableOf theirs) y z _ took) in
+      let took-so : getD (hearing .answer) 0 0 ≡ 0 = rw (receive-answer theirs accepted before message y l l′ held hearing, wrote .0, took) in
+      (record { planned = done .planned; message = done .kind; wrote = wrote .1; carries = ap (λ (r : Plan). r .body .hashes) (done .read) }, took-so)
 
 module _ (a : List ℕ) (b w u : ℕ → List ℕ) (hosts : ℕ → Host) where
   abbrev A : List Row
@@ -135,5 +165,87 @@ module _ (a : List ℕ) (b w u : ℕ → List ℕ) (hosts : ℕ → Host) where
   are-sessions n talk zero h = record { holdsA = fresh-holds _ (talk .freshA); holdsB = fresh-holds _ (talk .freshB) }
   are-sessions n talk (suc k) h = next k _ _ (talk .made k (omega arith)) (are-sessions n talk k (omega arith))
 
+  -- ---- the corollary
+
+  module _ (n : ℕ) (talk : TalkOfCalls a b w u hosts n) (tabled : Tabled a) (part : Part A (B 0)) (nothing : W 0 ≡ [])
+      (all : (k : ℕ) → Reached defaultBits defaultProbes A B W U hosts k → Granted defaultBits defaultProbes A B W U hosts k) where
+    tables : Tables defaultBits defaultProbes A B W U hosts
+    tables =
+        let sound = table-sound a tabled in
+        record {
+          good = sound .good;
+          limit = sound .few;
+          hashes = sound .are;
+          part = part;
+          nothing = nothing;
+          setting = default-setting A (sound .few);
+        }
+
+    end : Ended defaultBits defaultProbes A B W U hosts (lacking A (B 0))
+    end = corollary defaultBits defaultProbes A B W U hosts tables all
+
+    module _ (k : ℕ) (upTo : k ≤ end .last) (h : k < n) where
+      abbrev r : Round a b w u hosts k (talk .at k) (talk .at (suc k))
+      r = talk .made k h
+
+      before : AreSessions a b w u hosts k (talk .at k)
+      before = are-sessions n talk k (omega arith)
+
+      abbrev question : Plan
+      question = end .asks k upTo .0
+
+      abbrev reply : Plan
+      reply = end .answers k upTo .0
+
+      goes-question : goes (askedIn a b w u hosts k) ≡ question .body .hashes
+      unfolding goes
+      goes-question = ap goes (end .asks k upTo .2)
+
+      goes-reply : goes (answeredIn a b w u hosts k) ≡ reply .body .hashes
+      unfolding goes
+      goes-reply = ap goes (end .answers k upTo .2)
+
+      -- the steps take both messages
+      takes-question : receiveBytes true (length A) A (pair k .atA) (messageBytes (messageFor (hosts k) question)) ≡ Received.took (end .hears k upTo .0)
+      unfolding toA bytesFor
+      takes-question =
+          sym (ap (λ (p : Planned). receiveBytes true (length A) A (pair k .atA) (bytesFor (hosts k) p)) (end .asks k upTo .2)) ∙ end .hears k upTo .1
+
+      takes-reply : receiveBytes true (length (B k)) (B (suc k)) (after (askedIn a b w u hosts k) (pair k .atB)) (messageBytes (messageFor (hosts k) reply))
+          ≡ Received.took (end .takes k upTo .0)
+      unfolding toB bytesFor
+      takes-reply =
+          sym
+          (ap (λ (p : Planned). receiveBytes true (length (B k)) (B (suc k)) (after (askedIn a b w u hosts k) (pair k .atB)) (bytesFor (hosts k) p))
+          (end .answers k upTo .2))
+          ∙ end .takes k upTo .1
+
+      question-answered : SaidSo (r .asks .answer) (r .asks .written) (r .asks .out′) (question .body .hashes) × (getD (r .hears .answer) 0 0 ≡ 0)
+      unfolding asked
+      question-answered =
+          answered-so (hosts k) (b k) (w k) (r .tableB) (r .waitsB) _ _ _ (before .holdsB) (r .question) (r .asks) question _ (end .asks k upTo .2) a (r .tableA)
+          (length A) _ _ _ _ (before .holdsA) (r .hears) takes-question
+
+      reply-answered : SaidSo (r .answers .answer) (r .answers .written) (r .answers .out′) (reply .body .hashes) × (getD (r .takes .answer) 0 0 ≡ 0)
+      unfolding answered
+      reply-answered =
+          answered-so (hosts k) a (u k) (r .tableA) (r .waitsA) _ _ _ (heldA k _ _ r before) (r .reply) (r .answers) reply _ (end .answers k upTo .2) (b (suc k))
+          (r .loadedB) (length (B k)) _ _ _ _ (spokenB k _ _ r before) (r .takes) takes-reply
+
+      all-answered : AllAnswered a b w u hosts k (talk .at k) (talk .at (suc k)) r
+      all-answered =
+          record {
+            asks = rw goes-question (question-answered .0);
+            hears = question-answered .1;
+            answers = rw goes-reply (reply-answered .0);
+            takes = reply-answered .1;
+          }
+
+    calls-end : CallsEnd a b w u hosts n talk
+    calls-end = record { ended = end; all = all-answered }
+
 pub calls-are-steps : CallsAreSteps
 calls-are-steps = are-sessions
+
+pub calls-corollary : CallsCorollary
+calls-corollary = calls-end
