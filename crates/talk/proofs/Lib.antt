@@ -1,4 +1,5 @@
 pub mod Planning
+pub mod Promises
 pub mod Receiving
 pub mod Rooms
 pub mod Speaking

@@ -69,7 +69,8 @@ use Rattle.tables.specs.Table.{Row, rows}
 use Rattle.tables.specs.Waiting.{Waiting}
 use Rattle.tables.proofs.GoodLaws.{rows-hashes}
 use Rattle.tables.proofs.TableLaws.{table-good}
-use Rattle.talk.specs.Calls.{Memory, haveRoom, Roomy, OfBytes, Holds, Out, RoomyOut, Tabled, Beside, PlanMade}
+use Rattle.talk.specs.Calls.{PlanMade}
+use Rattle.talk.specs.Memory.{Memory, haveRoom, Roomy, OfBytes, Holds, Out, RoomyOut, Tabled, Beside}
 use Rattle.talk.proofs.Rooms.{Fine, planned-room, reset-roomed, says-roomed}
 
 -- ---- tables and memory as the laws below want them

@@ -36,7 +36,8 @@ use Rattle.state.specs.declared.session.Session.{Session}
 use Rattle.tables.specs.Bytes.{tableOf, tableChecked}
 use Rattle.tables.specs.Table.{Row, rows}
 use Rattle.walk.specs.Talk.{left}
-use Rattle.talk.specs.Calls.{Memory, Roomy, Holds, Tabled, Hears}
+use Rattle.talk.specs.Calls.{Hears}
+use Rattle.talk.specs.Memory.{Memory, Roomy, Holds, Tabled}
 use Rattle.talk.proofs.Planning.{table-sound, of-bytes, held-good}
 use Rattle.talk.proofs.Rooms.{received-room, same-heard, took-roomed}
 

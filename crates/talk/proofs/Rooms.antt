@@ -25,7 +25,7 @@ use Rattle.session_calls.specs.SessionCalls.{buffersOf}
 use Rattle.state.specs.Session.{State}
 use Rattle.state.specs.Value.{Lent}
 use Rattle.walk.proofs.Message.{some-entries}
-use Rattle.talk.specs.Calls.{haveRoom, Roomy, Out, RoomyOut}
+use Rattle.talk.specs.Memory.{haveRoom, Roomy, Out, RoomyOut}
 
 -- A message that planning may state: what every stage above relies on.
 pub record Fine (q : Plan) : Type 0 where

@@ -24,7 +24,8 @@ use Rattle.tables.specs.Bytes.{tableOf, waitingOf}
 use Rattle.tables.specs.Table.{Row}
 use Rattle.tables.specs.Waiting.{Waiting}
 use Rattle.walk.specs.Talk.{Host, messageFor, bytesFor, left}
-use Rattle.talk.specs.Calls.{Memory, Holds, Tabled, Beside, Speaks, speaks, planIn}
+use Rattle.talk.specs.Calls.{Speaks, speaks, planIn}
+use Rattle.talk.specs.Memory.{Memory, Holds, Tabled, Beside}
 use Rattle.talk.proofs.Planning.{Put, held-good, reset-is, reset-fine, says-fine, plan-answer, plan-holds, plan-put}
 use Rattle.talk.proofs.Receiving.{unread-leaves}
 use Rattle.talk.proofs.Rooms.{Fine}

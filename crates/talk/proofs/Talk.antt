@@ -36,27 +36,8 @@ use Rattle.walk.specs.Talk.{Host, Pair, messageFor, bytesFor, goes, left, asked
 use Rattle.walk.specs.Walk.{lacking}
 use Rattle.walk.proofs.Corollary.{corollary}
 use Rattle.walk.proofs.Talk.{default-setting}
-use Rattle.talk.specs.Calls.{
-  Memory,
-  Holds,
-  Tabled,
-  Beside,
-  Hears,
-  Speaks,
-  Both,
-  Fresh,
-  SaidSo,
-  Round,
-  TalkOfCalls,
-  sessions,
-  askedIn,
-  answeredIn,
-  AreSessions,
-  AllAnswered,
-  CallsEnd,
-  CallsAreSteps,
-  CallsCorollary,
-}
+use Rattle.talk.specs.Calls.{Hears, Speaks, Both, SaidSo, Round, TalkOfCalls, sessions, askedIn, answeredIn, AreSessions, AllAnswered, CallsEnd, CallsAreSteps, CallsCorollary}
+use Rattle.talk.specs.Memory.{Memory, Holds, Tabled, Beside, Fresh}
 use Rattle.talk.proofs.Planning.{table-sound}
 use Rattle.talk.proofs.Receiving.{receive-answer, receive-holds, unread-leaves}
 use Rattle.talk.proofs.Speaking.{speaking-holds, heard-so, speaking-said}

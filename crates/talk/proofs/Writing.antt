@@ -47,7 +47,8 @@ use Rattle.size.proofs.SizeLaws.{chunks-long}
 use Rattle.state.specs.Value.{keptHaves}
 use Rattle.walk.specs.Talk.{Host, chunksFor, messageFor}
 use Rattle.walk.proofs.Message.{chunks-few}
-use Rattle.talk.specs.Calls.{haveRoom, Out, RoomyOut, recordsIn, planIn, WriteMade}
+use Rattle.talk.specs.Calls.{recordsIn, planIn, WriteMade}
+use Rattle.talk.specs.Memory.{haveRoom, Out, RoomyOut}
 use Rattle.talk.proofs.Planning.{Put}
 use Rattle.talk.proofs.Rooms.{Fine, laid-small}
 

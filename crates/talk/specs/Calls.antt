@@ -1,6 +1,6 @@
 -- Two hosts that make the exported calls in turn, over tables as bytes. 01, The catch-up walk, its last rule: what theorem 2 says of two fresh sessions is
 -- to hold of bt_fresh, bt_plan, bt_write_message and bt_receive. Each call stands here as what it ensures over words and bytes.
-use Prim.Native.Nat.{ℕ, suc, _+_, _*_, _≤_, _<_}
+use Prim.Native.Nat.{ℕ, suc, _*_, _≤_, _<_}
 use mathlib.Core.Bool.{Bool, true, false, cond, not, _&&_}
 use mathlib.Core.List.{List, []}
 use mathlib.Core.Path.{_≡_}
@@ -9,90 +9,23 @@ use lib.ListN.{length, getD, take, drop}
 use Rattle.answers.specs.Answer.{Answered}
 use Rattle.bloom.specs.Filter.{defaultBits, defaultProbes}
 use Rattle.bloom.specs.Have.{haveWords, havesOf}
-use Rattle.decide.specs.Call.{Buffers}
-use Rattle.kept.specs.Kept.{Stays}
 use Rattle.lent.specs.Good.{lentOf}
 use Rattle.message.specs.Flags.{flagsOf}
 use Rattle.message_calls.specs.MessageWords.{versionOf, sectionOf}
 use Rattle.rules.specs.Hash.{Bytes, hashesAt}
 use Rattle.rules.specs.Sizes.{sizes}
-use Rattle.session.specs.Counts.{countsOf}
 use Rattle.session.specs.Plan.{Plan, Planned}
 use Rattle.session_calls.specs.SessionCalls.{buffersOf, PlanAnswered, ReceiveAnswered}
-use Rattle.session_words.specs.Words.{flagOf, sessionWords, sessionOf}
+use Rattle.session_words.specs.Words.{flagOf}
 use Rattle.size.specs.Size.{total}
 use Rattle.size.specs.Write.{partsOf, chunksFrom, messageOutput}
-use Rattle.state.specs.Counts.{freshCounts}
-use Rattle.state.specs.Session.{State}
-use Rattle.state.specs.Value.{Lent}
-use Rattle.tables.specs.Bytes.{tableOf, tableChecked, waitingOf, waitingChecked}
+use Rattle.tables.specs.Bytes.{tableOf, waitingOf}
 use Rattle.tables.specs.Table.{Row}
 use Rattle.tables.specs.Waiting.{Waiting}
-use Rattle.tables.specs.declared.check.Checked.the-variants.{Good}
 use Rattle.walk.specs.Round.{Part}
 use Rattle.walk.specs.Talk.{Host, chunksFor, goes, Pair, asked, answered, pairAt, Reached, Granted, Ended}
 use Rattle.walk.specs.Walk.{lacking}
-
--- ---- memory
-
--- A session as a host keeps it: its sixteen words, and the seven lists that are lent beside them.
-pub record Memory : Type 0 where
-  pub words : List ℕ
-  pub lists : Lent
-
--- Bytes of a have at the most.
-abbrev pub haveRoom : ℕ
-haveRoom = sizes .hash * sizes .hashes + sizes .field
-
--- 01, Sizes: lists with room for what a session may hold. So 7 is never answered; 01 grants nothing about 7, and this is all that is added to it.
-pub record Roomy (l : Lent) : Type 0 where
-  pub shared : sizes .hash * sizes .hashes ≤ length (l .shared)
-  pub lastSent : sizes .hash * sizes .hashes ≤ length (l .lastSent)
-  pub theirHeads : sizes .hash * sizes .hashes ≤ length (l .theirHeads)
-  pub theirNeed : sizes .hash * sizes .hashes ≤ length (l .theirNeed)
-  pub haves : haveWords * sizes .haves ≤ length (l .haves)
-  pub bytes : haveRoom * sizes .haves ≤ length (l .bytes)
-  pub sent : sizes .hash * sizes .sentHashes ≤ length (l .sent)
-
--- The lists are slices of bytes, but for the haves' words: each holds bytes, whoever wrote it.
-pub record OfBytes (l : Lent) : Type 0 where
-  pub shared : Bytes (l .shared)
-  pub lastSent : Bytes (l .lastSent)
-  pub theirHeads : Bytes (l .theirHeads)
-  pub theirNeed : Bytes (l .theirNeed)
-  pub bytes : Bytes (l .bytes)
-  pub sent : Bytes (l .sent)
-
--- The words and the lists hold this session: its counts, and over the lists a good session, which is this one.
-pub record Holds (x : State) (m : Memory) : Type 0 where
-  pub counts : sessionOf (m .words) ≡ countsOf x
-  pub stays : Stays x (m .lists)
-  pub bytes : OfBytes (m .lists)
-  pub room : Roomy (m .lists)
-
--- Four buffers for the parts of a message, with room for what a message may have.
-pub record Out : Type 0 where
-  pub heads : List ℕ
-  pub need : List ℕ
-  pub have : List ℕ
-  pub list : List ℕ
-
-pub record RoomyOut (o : Out) : Type 0 where
-  pub heads : sizes .hash * sizes .hashes ≤ length (o .heads)
-  pub need : sizes .hash * sizes .hashes ≤ length (o .need)
-  pub have : haveRoom ≤ length (o .have)
-  pub list : sizes .hash * sizes .hashesToSend ≤ length (o .list)
-
--- 01, Change table and Waiting table: bytes that no call refuses.
-pub record Tabled (s : List ℕ) : Type 0 where
-  pub rows : ℕ
-  pub good : tableChecked s ≡ Good rows
-  pub bytes : Bytes s
-
-pub record Beside (t : List Row) (s : List ℕ) : Type 0 where
-  pub rows : ℕ
-  pub good : waitingChecked t s ≡ Good rows
-  pub bytes : Bytes s
+use Rattle.talk.specs.Memory.{Memory, OfBytes, Holds, Fresh, Out, RoomyOut, Tabled, Beside}
 
 -- ---- what a host reads of an answer to planning
 
@@ -165,12 +98,6 @@ pub record Both : Type 0 where
   pub atA : Memory
   pub atB : Memory
 
--- A session in which nothing was said (bt_fresh), over lists that hold anything.
-pub record Fresh (m : Memory) : Type 0 where
-  pub words : m .words ≡ sessionWords freshCounts
-  pub bytes : OfBytes (m .lists)
-  pub room : Roomy (m .lists)
-
 -- A message was planned and written, and carries these hashes.
 pub record SaidSo (answer written : List ℕ) (o : Out) (hashes : List ℕ) : Type 0 where
   pub planned : getD answer 0 0 ≡ 0
@@ -180,21 +107,34 @@ pub record SaidSo (answer written : List ℕ) (o : Out) (hashes : List ℕ) : Ty
 
 -- The bytes of A's table, of B's tables before each round, of what waits beside B and beside A, and what is lent for each round's messages.
 module _ (a : List ℕ) (b w u : ℕ → List ℕ) (hosts : ℕ → Host) where
+  -- The tables that the bytes are.
+  abbrev pub A : List Row
+  A = tableOf a
+
+  abbrev pub B : ℕ → List Row
+  B = λ k. tableOf (b k)
+
+  abbrev pub W : ℕ → List Waiting
+  W = λ k. waitingOf (w k)
+
+  abbrev pub U : ℕ → List Waiting
+  U = λ k. waitingOf (u k)
+
   -- 01, The catch-up walk: B speaks, A hears it and answers, B hears that beside its table after loading; its rows before are those before loading.
   pub record Round (k : ℕ) (s s′ : Both) : Type 0 where
     pub tableA : Tabled a
     pub tableB : Tabled (b k)
     pub loadedB : Tabled (b (suc k))
-    pub waitsA : Beside (tableOf a) (u k)
-    pub waitsB : Beside (tableOf (b k)) (w k)
+    pub waitsA : Beside A (u k)
+    pub waitsB : Beside (B k) (w k)
     pub midA : Memory
     pub midB : Memory
     pub question : List ℕ
     pub reply : List ℕ
     pub asks : Speaks (hosts k) (b k) (w k) (s .atB) midB question
-    pub hears : Hears a (length (tableOf a)) question (s .atA) midA
+    pub hears : Hears a (length A) question (s .atA) midA
     pub answers : Speaks (hosts k) a (u k) midA (s′ .atA) reply
-    pub takes : Hears (b (suc k)) (length (tableOf (b k))) reply midB (s′ .atB)
+    pub takes : Hears (b (suc k)) (length (B k)) reply midB (s′ .atB)
 
   -- So many rounds from two fresh sessions on, each from the memory that the one before it left.
   pub record TalkOfCalls (n : ℕ) : Type 0 where
@@ -206,15 +146,15 @@ module _ (a : List ℕ) (b w u : ℕ → List ℕ) (hosts : ℕ → Host) where
   -- ---- what is to be shown
 
   -- The sessions of Talk.antt over the tables that the bytes are.
-  abbrev pub sessions : ℕ → Pair defaultBits defaultProbes (tableOf a) (λ k. tableOf (b k)) (λ k. waitingOf (w k)) (λ k. waitingOf (u k)) hosts
-  sessions = pairAt defaultBits defaultProbes (tableOf a) (λ k. tableOf (b k)) (λ k. waitingOf (w k)) (λ k. waitingOf (u k)) hosts
+  abbrev pub sessions : ℕ → Pair defaultBits defaultProbes A B W U hosts
+  sessions = pairAt defaultBits defaultProbes A B W U hosts
 
   -- What B asks and what A answers in round k.
   abbrev pub askedIn : ℕ → Planned
-  askedIn k = asked defaultBits defaultProbes (tableOf a) (λ k. tableOf (b k)) (λ k. waitingOf (w k)) (λ k. waitingOf (u k)) hosts k (sessions k)
+  askedIn k = asked defaultBits defaultProbes A B W U hosts k (sessions k)
 
   abbrev pub answeredIn : ℕ → Planned
-  answeredIn k = answered defaultBits defaultProbes (tableOf a) (λ k. tableOf (b k)) (λ k. waitingOf (w k)) (λ k. waitingOf (u k)) hosts k (sessions k)
+  answeredIn k = answered defaultBits defaultProbes A B W U hosts k (sessions k)
 
   -- Both memories hold the pair of sessions before round k.
   pub record AreSessions (k : ℕ) (s : Both) : Type 0 where
@@ -228,10 +168,13 @@ module _ (a : List ℕ) (b w u : ℕ → List ℕ) (hosts : ℕ → Host) where
     pub answers : SaidSo (r .answers .answer) (r .answers .written) (r .answers .out′) (goes (answeredIn k))
     pub takes : getD (r .takes .answer) 0 0 ≡ 0
 
+  -- All that Talk.antt grants, in each round that is reached.
+  abbrev pub AllGranted : Type 0
+  AllGranted = (k : ℕ) → Reached defaultBits defaultProbes A B W U hosts k → Granted defaultBits defaultProbes A B W U hosts k
+
   -- The user's words, of the calls: there is a last round as in Talk.antt, and in the rounds up to it all calls answer 0.
   pub record CallsEnd (n : ℕ) (talk : TalkOfCalls n) : Type 0 where
-    pub ended : Ended defaultBits defaultProbes (tableOf a) (λ k. tableOf (b k)) (λ k. waitingOf (w k)) (λ k. waitingOf (u k)) hosts
-        (lacking (tableOf a) (tableOf (b 0)))
+    pub ended : Ended defaultBits defaultProbes A B W U hosts (lacking A (B 0))
     pub all : (k : ℕ) → k ≤ ended .last → (h : k < n) → AllAnswered k (talk .at k) (talk .at (suc k)) (talk .made k h)
 
 -- A talk of calls is the talk of steps.
@@ -240,12 +183,11 @@ CallsAreSteps = (a : List ℕ) (b w u : ℕ → List ℕ) (hosts : ℕ → Host)
     → (k : ℕ) → k ≤ n
     → AreSessions a b w u hosts k (talk .at k)
 
--- So the corollary is about the calls: B's table a part of A's, nothing waiting, and all that Talk.antt grants in each round that is reached.
+-- So theorem 2 is about the calls, and so is its corollary: B's table a part of A's, nothing waiting, and all of it granted.
 abbrev pub CallsCorollary : Type 0
 CallsCorollary = (a : List ℕ) (b w u : ℕ → List ℕ) (hosts : ℕ → Host) (n : ℕ) (talk : TalkOfCalls a b w u hosts n)
     → Tabled a
     → Part (tableOf a) (tableOf (b 0))
     → waitingOf (w 0) ≡ []
-    → ((k : ℕ) → Reached defaultBits defaultProbes (tableOf a) (λ k. tableOf (b k)) (λ k. waitingOf (w k)) (λ k. waitingOf (u k)) hosts k
-    → Granted defaultBits defaultProbes (tableOf a) (λ k. tableOf (b k)) (λ k. waitingOf (w k)) (λ k. waitingOf (u k)) hosts k)
+    → AllGranted a b w u hosts
     → CallsEnd a b w u hosts n talk
