@@ -4,7 +4,7 @@
 use Prim.Native.Nat.{ℕ, _≤_}
 use mathlib.Core.Bool.{true, false, not, _&&_}
 use mathlib.Core.List.{List, [], _∷_}
-use mathlib.Core.Path.{_≡_, sym, ap, _∙_}
+use mathlib.Core.Path.{_≡_, refl, sym, ap, _∙_}
 use native.Mathlib.Omega.{arith}
 use Rattle.bloom.specs.Have.{Have}
 use Rattle.probe.specs.Contains.{contains, anyContains}
@@ -51,11 +51,14 @@ module _ {J X : List Row} (partX : Part J X) (s : At) (inv : Between J (s .table
   need = needAt heard s
 
   -- what is missing from what was heard is needed, and nothing else
+  need-is : (x : ℕ) → member x need ≡ member x (missing b w heard)
+  need-is x = refl
+
   missing-needed : (x : ℕ) → member x (missing b w heard) ≡ true → member x need ≡ true
-  missing-needed x m = m
+  missing-needed x m = need-is x ∙ m
 
   need-missing : (x : ℕ) → member x need ≡ true → member x (missing b w heard) ≡ true
-  need-missing x m = m
+  need-missing x m = sym (need-is x) ∙ m
 
   need-once : Once need
   need-once = once-ascends need (missing-ascends b w _)
