@@ -13,7 +13,7 @@ use lib.Seq.{sets, length-sets}
 use Rattle.bloom.specs.Filter.{defaultBits, defaultProbes}
 use Rattle.bloom.specs.Have.{Have, haveWords}
 use Rattle.bloom.proofs.Rules.{rules-none}
-use Rattle.decide.specs.Call.{Buffers, afterTables, planWith, plannedCounts, statedOf, answerOf, roomed, roomsIn, said, lastSentPut, sentPut, putInto}
+use Rattle.decide.specs.Call.{Buffers, buffersOf, afterTables, planWith, plannedCounts, statedOf, answerOf, roomed, roomsIn, said, lastSentPut, sentPut, putInto}
 use Rattle.graph.specs.Graph.{heads}
 use Rattle.kept.specs.Kept.{Stand, StandHaves, Stays, plannedIn}
 use Rattle.kept.proofs.Calls.{plan-stays-good}
@@ -27,7 +27,6 @@ use Rattle.rules.specs.Hash.{Bytes, AreHashes, hashesBytes}
 use Rattle.rules.specs.Sizes.{sizes}
 use Rattle.rules.specs.declared.refusal.Refusal.{Refusal}
 use Rattle.rules.proofs.Cases.{split}
-use Rattle.session.specs.Counts.{countsOf}
 use Rattle.session.specs.Good.{SoundTable, SoundHaves, WhereHeard, GoodState}
 use Rattle.session.specs.Laid.{laidBytes, laidWords}
 use Rattle.session.specs.Plan.{
@@ -57,11 +56,11 @@ use Rattle.session.proofs.PlanLaws.{
   plan-is,
   plan-saying,
 }
-use Rattle.session_calls.specs.SessionCalls.{plannedWords, plannedSession, buffersOf, planFor, PlanAnswered}
+use Rattle.session_calls.specs.SessionCalls.{plannedWords, plannedSession, planFor, PlanAnswered}
 use Rattle.session_words.specs.Words.{sessionWords, sessionOf}
 use Rattle.session_words.proofs.WordLaws.{words-back}
 use Rattle.state.specs.Session.{State}
-use Rattle.state.specs.Value.{Lent, valueOf}
+use Rattle.state.specs.Value.{Lent, valueOf, countsOf}
 use Rattle.state.specs.declared.session.Session.{Session}
 use Rattle.tables.specs.Bytes.{tableOf, tableChecked, waitingOf, waitingChecked}
 use Rattle.tables.specs.Calls.{passedOn, tablesChecked}

@@ -11,7 +11,7 @@ use lib.Dec.{ltb, eqb}
 use lib.ListN.{length}
 use lib.Seq.{sets, length-sets}
 use Rattle.decode.specs.Read.{Reading, messageAt}
-use Rattle.kept.specs.Kept.{havesHeard, receivedIn}
+use Rattle.kept.specs.Kept.{receivedIn}
 use Rattle.kept.proofs.Calls.{receive-stays-good, refuse-stays-good}
 use Rattle.lent.specs.Good.{sessionGood}
 use Rattle.receive.specs.Call.{afterTable, receiveWith, roomed, roomsIn, refusalAnswer, answerOf, keptIn}
@@ -20,7 +20,6 @@ use Rattle.rules.specs.Refusal.{numberOf}
 use Rattle.rules.specs.declared.refusal.Refusal.{Refusal}
 use Rattle.rules.specs.declared.refusal.Refusal.the-variants.{LoadFailed, BadRowsBefore}
 use Rattle.rules.proofs.Cases.{split, true-false}
-use Rattle.session.specs.Counts.{countsOf}
 use Rattle.session.specs.Good.{GoodState}
 use Rattle.session.specs.Laid.{laidBytes, laidWords}
 use Rattle.session.specs.Plan.{heard}
@@ -31,7 +30,7 @@ use Rattle.session_calls.specs.SessionCalls.{receivedWords, receivedSession, re
 use Rattle.session_words.specs.Words.{sessionWords, sessionOf}
 use Rattle.session_words.proofs.WordLaws.{words-back}
 use Rattle.state.specs.Session.{State}
-use Rattle.state.specs.Value.{Lent, valueOf}
+use Rattle.state.specs.Value.{Lent, valueOf, countsOf}
 use Rattle.state.specs.declared.session.Session.{Session}
 use Rattle.tables.specs.Bytes.{tableOf, tableChecked}
 use Rattle.tables.specs.Table.{Row, rows}
@@ -39,7 +38,7 @@ use Rattle.walk.specs.Talk.{left}
 use Rattle.talk.specs.Calls.{Hears}
 use Rattle.talk.specs.Memory.{Memory, Roomy, Holds, Tabled}
 use Rattle.talk.proofs.Planning.{table-sound, of-bytes, held-good}
-use Rattle.talk.proofs.Rooms.{received-room, same-heard, took-roomed}
+use Rattle.talk.proofs.Rooms.{received-room, took-roomed}
 
 still-roomy : (s : State) (l : Lent) → Roomy l → Roomy (receivedIn s l)
 still-roomy s l r =
@@ -48,8 +47,8 @@ still-roomy s l r =
       lastSent = rw (length-sets (l .lastSent) 0 (hashesBytes (s .lastSentHeads))) (r .lastSent);
       theirHeads = rw (length-sets (l .theirHeads) 0 (hashesBytes (heard (s .theirHeads)))) (r .theirHeads);
       theirNeed = rw (length-sets (l .theirNeed) 0 (hashesBytes (heard (s .theirNeed)))) (r .theirNeed);
-      haves = rw (length-sets (l .haves) 0 (laidWords (havesHeard (s .theirHave)))) (r .haves);
-      bytes = rw (length-sets (l .bytes) 0 (laidBytes (havesHeard (s .theirHave)))) (r .bytes);
+      haves = rw (length-sets (l .haves) 0 (laidWords (heard (s .theirHave)))) (r .haves);
+      bytes = rw (length-sets (l .bytes) 0 (laidBytes (heard (s .theirHave)))) (r .bytes);
       sent = rw (length-sets (l .sent) 0 (hashesBytes (s .sentHashes))) (r .sent);
     }
 
@@ -99,7 +98,7 @@ module _ (table : List ℕ) (tabled : Tabled table) (before : ℕ) (message : Li
   unfolding keptIn answerOf
   taken s e =
       let l : Lent = m .lists in
-      let lists : m′ .lists ≡ receivedIn s l = receive-lists ∙ rw (e, same-heard (s .theirHave)) in
+      let lists : m′ .lists ≡ receivedIn s l = receive-lists ∙ rw e in
       let words : m′ .words ≡ sessionWords (countsOf s) = receive-words ∙ rw e in
       let step : receiveBytes true before t was message ≡ Received.took s = rw (h .stays .value) e in
       record {

@@ -9,10 +9,10 @@ use lib.Dec.{eqb}
 use lib.ListN.{length}
 use Rattle.bloom.specs.Have.{Have, haveWords}
 use Rattle.bloom.proofs.Rules.{ruled, capacity-none}
-use Rattle.decide.specs.Call.{Buffers, syncsOf, filterNumbers, messageRoom, sessionRoom, afterRoom, roomed, roomsIn}
-use Rattle.kept.specs.Kept.{PlannedRoom, havesHeard, ReceivedRoom}
+use Rattle.decide.specs.Call.{Buffers, buffersOf, syncsOf, filterNumbers, messageRoom, sessionRoom, afterRoom, roomed, roomsIn}
+use Rattle.kept.specs.Kept.{PlannedRoom, ReceivedRoom}
 use Rattle.message.specs.Sound.{Each, SoundHashes, SoundHave}
-use Rattle.receive.specs.Call.{havesHeard as havesIn, shortFor, unlessShort, roomed as roomedFor, roomsIn as roomsOf}
+use Rattle.receive.specs.Call.{shortFor, unlessShort, roomed as roomedFor, roomsIn as roomsOf}
 use Rattle.rules.specs.Hash.{AreHashes}
 use Rattle.rules.specs.Sizes.{sizes}
 use Rattle.rules.proofs.Cases.{split}
@@ -21,7 +21,6 @@ use Rattle.session.specs.Laid.{laidBytes}
 use Rattle.session.specs.Plan.{Plan, Planned, heard}
 use Rattle.session.specs.Receive.{Received}
 use Rattle.session.proofs.LaidLaws.{laid-length-bytes}
-use Rattle.session_calls.specs.SessionCalls.{buffersOf}
 use Rattle.state.specs.Session.{State}
 use Rattle.state.specs.Value.{Lent}
 use Rattle.walk.proofs.Message.{some-entries}
@@ -108,11 +107,11 @@ heard-fits : (h : Option (List ℕ)) (n : ℕ) → WhereHeard SoundHashes h → 
 heard-fits none n g k = omega arith
 heard-fits (some hs) n g k = fits _ _ _ (g .few) k
 
-words-fit : (h : Option (List Have)) (n : ℕ) → WhereHeard SoundHaves h → haveWords * sizes .haves ≤ n → haveWords * length (havesHeard h) ≤ n
+words-fit : (h : Option (List Have)) (n : ℕ) → WhereHeard SoundHaves h → haveWords * sizes .haves ≤ n → haveWords * length (heard h) ≤ n
 words-fit none n g k = omega arith
 words-fit (some vs) n g k = omega (arith, g .few)
 
-bytes-fit : (h : Option (List Have)) (n : ℕ) → WhereHeard SoundHaves h → haveRoom * sizes .haves ≤ n → length (laidBytes (havesHeard h)) ≤ n
+bytes-fit : (h : Option (List Have)) (n : ℕ) → WhereHeard SoundHaves h → haveRoom * sizes .haves ≤ n → length (laidBytes (heard h)) ≤ n
 unfolding laidBytes
 bytes-fit none n g k = omega arith
 bytes-fit (some vs) n g k = omega (arith, g .few, laid-small vs (g .each))
@@ -128,17 +127,11 @@ received-room s l g room =
       bytes = bytes-fit (s .theirHave) _ (g .theirHave) (room .bytes);
     }
 
--- both crates say it in the same way
-pub same-heard : (h : Option (List Have)) → havesIn h ≡ havesHeard h
-same-heard none = refl
-same-heard (some vs) = refl
-
 pub took-roomed : (s : State) (l : Lent) → GoodState s → Roomy l → (old : State) → roomedFor (roomsOf l) old (Received.took s) ≡ Received.took s
 unfolding roomedFor shortFor unlessShort
 took-roomed s l g room old =
     let r = received-room s l g room in
     rw (
-      same-heard (s .theirHave),
       le-ltb _ _ (r .shared),
       le-ltb _ _ (r .lastSent),
       le-ltb _ _ (r .theirHeads),

@@ -14,11 +14,11 @@ use Rattle.decode.proofs.Messages.{message-long, message-empty}
 use Rattle.message.specs.Message.{messageBytes}
 use Rattle.rules.specs.Sizes.{sizes}
 use Rattle.rules.proofs.Cases.{split}
-use Rattle.session.specs.Counts.{countsOf}
 use Rattle.session.specs.Good.{GoodState}
 use Rattle.session.specs.Plan.{Plan, Planned, plan, after}
 use Rattle.session.specs.Receive.{Received, receiveBytes}
 use Rattle.session_calls.specs.SessionCalls.{statedWords, plannedWords}
+use Rattle.state.specs.Value.{countsOf}
 use Rattle.state.specs.Session.{State, fresh}
 use Rattle.tables.specs.Bytes.{tableOf, waitingOf}
 use Rattle.tables.specs.Table.{Row}

@@ -9,13 +9,14 @@ use lib.ListN.{length, getD, take, drop}
 use Rattle.answers.specs.Answer.{Answered}
 use Rattle.bloom.specs.Filter.{defaultBits, defaultProbes}
 use Rattle.bloom.specs.Have.{haveWords, havesOf}
+use Rattle.decide.specs.Call.{buffersOf}
 use Rattle.lent.specs.Good.{lentOf}
 use Rattle.message.specs.Flags.{flagsOf}
 use Rattle.message_calls.specs.MessageWords.{versionOf, sectionOf}
 use Rattle.rules.specs.Hash.{Bytes, hashesAt}
 use Rattle.rules.specs.Sizes.{sizes}
 use Rattle.session.specs.Plan.{Plan, Planned}
-use Rattle.session_calls.specs.SessionCalls.{buffersOf, PlanAnswered, ReceiveAnswered}
+use Rattle.session_calls.specs.SessionCalls.{PlanAnswered, ReceiveAnswered}
 use Rattle.session_words.specs.Words.{flagOf}
 use Rattle.size.specs.Size.{total}
 use Rattle.size.specs.Write.{partsOf, chunksFrom, messageOutput}

@@ -7,11 +7,10 @@ use Rattle.bloom.specs.Have.{haveWords}
 use Rattle.kept.specs.Kept.{Stays}
 use Rattle.rules.specs.Hash.{Bytes}
 use Rattle.rules.specs.Sizes.{sizes}
-use Rattle.session.specs.Counts.{countsOf}
 use Rattle.session_words.specs.Words.{sessionWords, sessionOf}
 use Rattle.state.specs.Counts.{freshCounts}
 use Rattle.state.specs.Session.{State}
-use Rattle.state.specs.Value.{Lent}
+use Rattle.state.specs.Value.{Lent, countsOf}
 use Rattle.tables.specs.Bytes.{tableChecked, waitingChecked}
 use Rattle.tables.specs.Table.{Row}
 use Rattle.tables.specs.declared.check.Checked.the-variants.{Good}
