@@ -1,0 +1,7 @@
+-- What shows the examples, and the list.
+pub mod Examples
+pub mod Filters
+pub mod Messages
+pub mod Premises
+pub mod Promises
+pub mod Rows

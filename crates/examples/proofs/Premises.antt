@@ -1,0 +1,42 @@
+-- The premises of P6, P7 and P12 are met, by computation: hashes whose bytes behind the three words are 0, and a filter of one byte and one probe in which
+-- all bits but b's are set. Assumes nothing.
+use Prim.Native.Nat.{ℕ, _<_}
+use mathlib.Core.List.{[], _∷_}
+use mathlib.Core.Path.{_≡_, refl}
+use borrow.Author.Tests.{ltb-true}
+use lib.ListN.{replicate}
+use Rattle.bloom.specs.Filter.{filterOf4}
+use Rattle.bloom.specs.Have.{Have}
+use Rattle.members.specs.Members.{lastSyncs, filters}
+use Rattle.probe.specs.Contains.{clearAt, noneClear, contains, anyContains}
+use Rattle.probe.specs.Probes.{u32At, probesFrom, probesOf, bitAt}
+use Rattle.rules.specs.Hash.{bigEndian, bigEndianBytes, hashBytes}
+use Rattle.rules.specs.Order.{ascends, Once}
+use Rattle.rules.proofs.KeepLaws.{once-ascends}
+use Rattle.examples.specs.Examples.{Met}
+
+-- words below 256
+abbrev wordsHash : ℕ → ℕ → ℕ → ℕ
+wordsHash x y z = bigEndian (x ∷ 0 ∷ 0 ∷ 0 ∷ y ∷ 0 ∷ 0 ∷ 0 ∷ z ∷ 0 ∷ 0 ∷ 0 ∷ replicate 20 0)
+
+-- bits 1, 3 and 4
+abbrev have : Have
+have = record { lastSync = []; filter = filterOf4 1 8 1 (0x1a ∷ []) }
+
+pub premises-met : Met
+unfolding bigEndian bigEndianBytes hashBytes u32At probesFrom probesOf bitAt clearAt noneClear contains anyContains lastSyncs filters ascends
+premises-met =
+    record {
+      words123 = (wordsHash 1 2 3, ltb-true _ _ refl, record { first = refl; second = refl; third = refl });
+      words100 = (wordsHash 1 0 0, ltb-true _ _ refl, record { first = refl; second = refl; third = refl });
+      words200 = (wordsHash 2 0 0, ltb-true _ _ refl, record { first = refl; second = refl; third = refl });
+      onlyB = (
+        have,
+        wordsHash 1 0 0,
+        wordsHash 2 0 0,
+        wordsHash 3 0 0,
+        wordsHash 4 0 0,
+        once-ascends _ refl,
+        record { noSync = refl; aThere = refl; bMissed = refl; cThere = refl; dThere = refl },
+      );
+    }
