@@ -2,5 +2,4 @@
 pub mod Filters
 pub mod HaveLaws
 pub mod Promises
-pub mod ReadVectors
 pub mod Rules

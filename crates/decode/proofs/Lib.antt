@@ -3,5 +3,5 @@ pub mod Meaning
 pub mod Messages
 pub mod Promises
 pub mod ReadLaws
+pub mod RefusalVectors
 pub mod RoundTrip
-pub mod Vectors

@@ -4,7 +4,6 @@ use Prim.Native.Nat.{ℕ, _<_}
 use mathlib.Core.List.{[], _∷_}
 use mathlib.Core.Path.{_≡_, refl}
 use borrow.Author.Tests.{ltb-true}
-use lib.ListN.{replicate}
 use Rattle.bloom.specs.Filter.{filterOf4}
 use Rattle.bloom.specs.Have.{Have}
 use Rattle.members.specs.Members.{lastSyncs, filters}
@@ -13,11 +12,8 @@ use Rattle.probe.specs.Probes.{u32At, probesFrom, probesOf, bitAt}
 use Rattle.rules.specs.Hash.{bigEndian, bigEndianBytes, hashBytes}
 use Rattle.rules.specs.Order.{ascends, Once}
 use Rattle.rules.proofs.KeepLaws.{once-ascends}
+use Rattle.walk.proofs.Example.{wordsHash}
 use Rattle.examples.specs.Examples.{Met}
-
--- words below 256
-abbrev wordsHash : ℕ → ℕ → ℕ → ℕ
-wordsHash x y z = bigEndian (x ∷ 0 ∷ 0 ∷ 0 ∷ y ∷ 0 ∷ 0 ∷ 0 ∷ z ∷ 0 ∷ 0 ∷ 0 ∷ replicate 20 0)
 
 -- bits 1, 3 and 4
 abbrev have : Have

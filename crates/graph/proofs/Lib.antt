@@ -10,4 +10,3 @@ pub mod PickLaws
 pub mod Promises
 pub mod PutLaws
 pub mod TurnLaws
-pub mod Vectors

@@ -4,4 +4,3 @@ pub mod FieldLaws
 pub mod ProbeLaws
 pub mod Promises
 pub mod Search
-pub mod Vectors

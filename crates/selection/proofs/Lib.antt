@@ -3,4 +3,3 @@ pub mod ChosenLaws
 pub mod Promises
 pub mod SelectLaws
 pub mod SendCalls
-pub mod Vectors

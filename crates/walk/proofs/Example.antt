@@ -8,6 +8,7 @@ use mathlib.Core.Path.{_≡_, refl, sym, ap, _∙_}
 use native.Mathlib.Omega.{arith}
 use borrow.Author.Tests.{eqb-true}
 use lib.Dec.{eqb}
+use lib.ListN.{replicate}
 use Rattle.bloom.specs.Filter.{fieldSize, defaultBits, defaultProbes}
 use Rattle.bloom.specs.Have.{Have}
 use Rattle.graph.specs.Graph.{belowRow, below, beyond, needed, heads}
@@ -16,7 +17,6 @@ use Rattle.missing.specs.Missing.{unknown, askedRow, asksFrom, missing}
 use Rattle.probe.specs.Build.{setBit, setBits, addHash, addHashes, filterOf}
 use Rattle.probe.specs.Contains.{clearAt, noneClear, contains, anyContains}
 use Rattle.probe.specs.Probes.{u32At, probesFrom, probesOf, bitAt}
-use Rattle.probe.proofs.Vectors.{wordsHash}
 use Rattle.rules.specs.Hash.{bigEndian, bigEndianBytes, hashBytes}
 use Rattle.rules.specs.Order.{member, keep, every, often, ascends, insertOnce, ascend}
 use Rattle.rules.specs.Reach.{someBelow, reachIn, reach}
@@ -30,6 +30,10 @@ use Rattle.tables.specs.Waiting.{Waiting, waiting, asks, asksOf}
 use Rattle.tables.proofs.ExtendLaws.{good-append}
 use Rattle.walk.specs.Round.{Part, trim, Moves, done, step, Loads}
 use Rattle.walk.specs.Walk.{At, starting, Walk01, heardIn, needAt, offerTo, holdsAll, lacking}
+
+-- The hash whose first three words are these bytes, and whose other bytes are 0.
+abbrev pub wordsHash : ℕ → ℕ → ℕ → ℕ
+wordsHash x y z = bigEndian (x ∷ 0 ∷ 0 ∷ 0 ∷ y ∷ 0 ∷ 0 ∷ 0 ∷ z ∷ 0 ∷ 0 ∷ 0 ∷ replicate 20 0)
 
 abbrev pub a : ℕ
 a = wordsHash 1 2 3
