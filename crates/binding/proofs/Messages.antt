@@ -1,0 +1,26 @@
+-- Calls that read and write messages. Each contract is an equation, or one for each thing that it speaks of. Assumes nothing.
+use mathlib.Core.Path.{refl}
+use Rattle.message.specs.declared.version.MessageVersion.the-variants.{V1}
+use Rattle.binding.specs.Messages.{MessagesBind}
+use Rattle.binding.proofs.Once.{once, joined, skip}
+
+pub messages-bind : MessagesBind
+messages-bind =
+    record {
+      new = λ κs a x y u v p q. (once p q, refl);
+      contains = λ κs a x y u v p q. (once p q, refl);
+      wants-reset = λ κs a x y u v p q. (once p q, refl);
+      read-only = λ κs a x y u v p q. (once p q, refl);
+      supports-reset = λ κs a x y u v p q. (once p q, refl);
+      set = λ κs a x y u v p q. (once p q, refl);
+      version-encode = λ κs a x y u v p q. (once p q, refl);
+      parse-chunks = λ κs a x y u v p q. (once p q, refl);
+      parse-have = λ κs a x y u v p q. (once p q, refl);
+      parse-haves = λ κs a x y u v p q. (once p q, refl);
+      decode = λ κs a x y u v p q. (once (p .answer) (q .answer), skip (joined (once (p .haves) (q .haves)) (joined (once (p .chunks) (q .chunks)) refl)));
+      parse-opening = λ κs a x y u v p q. (once p q, refl);
+      parse-section = λ κs a x y u v p q. (once p q, refl);
+      parse = λ κs a x y u v p q. (once p q, refl);
+      message-size = λ κs a x y u v p q. (once (p .each V1) (q .each V1), refl);
+      encode = λ κs a x y u v p q. (once (p .answer) (q .answer), joined (once (p .content) (q .content)) refl);
+    }

@@ -1,0 +1,47 @@
+-- Calls of sessions: saved, planning, receiving. Each contract is an equation, or one for each thing that it speaks of. Assumes nothing.
+use mathlib.Core.Path.{refl, ap}
+use Rattle.decide.specs.Call.{Buffers}
+use Rattle.state.specs.Value.{Lent}
+use Rattle.binding.specs.Sessions.{SessionsBind}
+use Rattle.binding.proofs.Once.{once, joined, skip}
+
+pub sessions-bind : SessionsBind
+sessions-bind =
+    record {
+      new = λ κs a x y u v p q. (once p q, refl);
+      new-read-only = λ κs a x y u v p q. (once p q, refl);
+      restored = λ κs a x y u v p q. (once p q, refl);
+      set-read-only = λ κs a x y u v p q. (once p q, refl);
+      haves-good = λ κs a x y u v p q. (once p q, refl);
+      session-good = λ κs a x y u v p q. (once p q, refl);
+      list-good = λ κs a x y u v p q. (once p q, refl);
+      heard-good = λ κs a x y u v p q. (once p q, refl);
+      sent-good = λ κs a x y u v p q. (once p q, refl);
+      saved-encode = λ κs a x y u v p q. (once (p .answer) (q .answer), joined (once (p .content) (q .content)) refl);
+      saved-parse = λ κs a x y u v p q. (once p q, refl);
+      saved-decode = λ κs a x y u v p q. (once (p .answer) (q .answer), skip (joined (once (p .content) (q .content)) refl));
+      generate-sync-message = λ κs a x y u v p q.
+          let same = once (p .buffers) (q .buffers) in (
+            once (p .answer) (q .answer),
+            skip (skip (skip (skip
+                (joined (ap (λ (b : Buffers). b .lastSent) same)
+                (skip (skip (skip (skip
+                (joined (ap (λ (b : Buffers). b .sent) same)
+                (joined (ap (λ (b : Buffers). b .heads) same)
+                (joined (ap (λ (b : Buffers). b .need) same)
+                (joined (ap (λ (b : Buffers). b .have) same)
+                (joined (ap (λ (b : Buffers). b .list) same) refl))))))))))))),
+          );
+      receive-sync-message = λ κs a x y u v p q.
+          let same = once (p .lists) (q .lists) in (
+            once (p .answer) (q .answer),
+            skip (skip (skip (skip (skip
+                (joined (ap (λ (l : Lent). l .shared) same)
+                (joined (ap (λ (l : Lent). l .lastSent) same)
+                (joined (ap (λ (l : Lent). l .theirHeads) same)
+                (joined (ap (λ (l : Lent). l .theirNeed) same)
+                (joined (ap (λ (l : Lent). l .haves) same)
+                (joined (ap (λ (l : Lent). l .bytes) same)
+                (joined (ap (λ (l : Lent). l .sent) same) refl))))))))))),
+          );
+    }

@@ -1,0 +1,15 @@
+-- Calls over tables, and the hashes to send. Each contract is an equation, or one for each thing that it speaks of. Assumes nothing.
+use mathlib.Core.Path.{refl}
+use Rattle.binding.specs.Tables.{TablesBind}
+use Rattle.binding.proofs.Once.{once, joined, skip}
+
+pub tables-bind : TablesBind
+tables-bind =
+    record {
+      check-table = λ κs a x y u v p q. (once p q, refl);
+      check-tables = λ κs a x y u v p q. (once p q, refl);
+      beyond = λ κs a x y u v p q. (once (p .answer) (q .answer), skip (skip (joined (once (p .content) (q .content)) refl)));
+      heads = λ κs a x y u v p q. (once (p .answer) (q .answer), skip (skip (joined (once (p .content) (q .content)) refl)));
+      missing = λ κs a x y u v p q. (once (p .answer) (q .answer), skip (skip (skip (joined (once (p .content) (q .content)) refl))));
+      get-hashes-to-send = λ κs a x y u v p q. (once (p .answer) (q .answer), skip (skip (skip (skip (joined (once (p .content) (q .content)) refl)))));
+    }

@@ -1,0 +1,13 @@
+-- 01, How tightly the statements bind: of every public call, as docs/API.md lists them, and of every exported one.
+use Rattle.binding.specs.Exported.{ExportedBind}
+use Rattle.binding.specs.Messages.{MessagesBind}
+use Rattle.binding.specs.Sessions.{SessionsBind}
+use Rattle.binding.specs.Tables.{TablesBind}
+use Rattle.binding.specs.Wire.{WireBind}
+
+pub record Binding : Type 0 where
+  pub wire : WireBind
+  pub tables : TablesBind
+  pub messages : MessagesBind
+  pub sessions : SessionsBind
+  pub exported : ExportedBind

@@ -1,0 +1,20 @@
+-- Calls over tables, and the hashes to send. 01, How tightly the statements bind.
+use Rattle.binding.specs.Binds.{Binds}
+use Rattle.tables.proofs.check.check_table as of-check-table
+use Rattle.tables.proofs.waiting.check_tables as of-check-tables
+use Rattle.graph.proofs.beyond.beyond as of-beyond
+use Rattle.graph.proofs.heads.heads as of-heads
+use Rattle.missing.proofs.missing.missing as of-missing
+use Rattle.selection.proofs.to_send.get_hashes_to_send as of-get-hashes-to-send
+
+pub record TablesBind : Type 0 where
+  -- the crate tables
+  pub check-table : Binds of-check-table.ended of-check-table.Reads.Post
+  pub check-tables : Binds of-check-tables.ended of-check-tables.Reads.Post
+  -- the crate graph
+  pub beyond : Binds of-beyond.ended of-beyond.Reads.Post
+  pub heads : Binds of-heads.ended of-heads.Reads.Post
+  -- the crate missing
+  pub missing : Binds of-missing.ended of-missing.Reads.Post
+  -- the crate selection
+  pub get-hashes-to-send : Binds of-get-hashes-to-send.ended of-get-hashes-to-send.Reads.Post
