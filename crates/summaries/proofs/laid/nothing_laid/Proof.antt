@@ -1,0 +1,15 @@
+-- `summaries::laid::nothing_laid` meets its contract: it is the definition. Assumes nothing.
+use mathlib.Core.Path.{refl}
+use Rattle.summaries.specs.Laid.{nothingLaid}
+use Rattle.summaries.proofs.laid.nothing_laid.Statement.{statement}
+use Rattle.summaries.proofs.laid.nothing_laid.Tie as tie
+use Rattle.summaries.proofs.laid.nothing_laid.Reads as reads
+use Rattle.summaries.proofs.laid.nothing_laid.Lts as lts
+
+-- src/laid.rt:20:1
+returns : tie.Need-returns
+unfolding nothingLaid
+returns c = refl
+
+pub nothing-laid-spec : {M : Type 1} → statement M
+nothing-laid-spec = tie.close (tie.spec returns)

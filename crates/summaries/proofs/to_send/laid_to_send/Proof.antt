@@ -1,0 +1,68 @@
+-- `summaries::to_send::laid_to_send` meets its contract: the selection's own, at the words that are laid. Assumes nothing.
+use mathlib.Core.List.{List}
+use mathlib.Core.Path.{_≡_, sym, subst}
+use Prim.Native.Nat.{ℕ}
+use denote.Ref.{now}
+use lib.ListN.{length}
+use lib.Seq.{length-take-le}
+use Rattle.rules.specs.Output.{Written}
+use Rattle.selection.specs.ToSend.{toSendOutput}
+use Rattle.summaries.proofs.LaidLaws.{used-fits, used-is}
+use borrow.Author.Needs.{needs, length-unmapped}
+use Rattle.summaries.proofs.to_send.laid_to_send.Statement.{statement}
+use Rattle.summaries.proofs.to_send.laid_to_send.Tie as tie
+use Rattle.summaries.proofs.to_send.laid_to_send.Reads as reads
+use Rattle.summaries.proofs.to_send.laid_to_send.Lts as lts
+use Rattle.selection.proofs.to_send.get_hashes_to_send.Reads as get-hashes-to-send-reads
+use Rattle.summaries.proofs.to_send.at_most.Reads as at-most-reads
+
+-- src/to_send.rt:27:9
+at-most-requires : tie.Need-at-most-requires
+at-most-requires c κs = search needs
+
+-- src/to_send.rt:29:47
+mul-words : tie.Need-mul-words
+mul-words c = search needs
+
+-- src/to_send.rt:29:38
+array-share-prefix-words : tie.Need-array-share-prefix-words
+array-share-prefix-words c =
+    let start = c .before .before .before .before .before .before in
+    used-fits (start .args .laid .count) _ (start .args .laid .words) (c .before .at-most .ensures)
+    (length-unmapped ℕ (start .args .laid .words) _ (start .good .1 .1 .0 .1 .1 .0 .1 .0 .1))
+
+-- src/to_send.rt:29:38
+slice-aggregate-get-hashes-to-send : tie.Need-slice-aggregate-get-hashes-to-send
+slice-aggregate-get-hashes-to-send c =
+    sym (length-take-le _ _ (array-share-prefix-words (c .before)))
+
+-- src/to_send.rt:29:5
+get-hashes-to-send-requires : tie.Need-get-hashes-to-send-requires
+get-hashes-to-send-requires c κs = search needs
+
+-- src/to_send.rt:23:1
+same-length : tie.Need-same-length
+same-length c = search needs
+
+-- src/to_send.rt:23:1
+returns : tie.Need-returns
+returns c =
+    let call = c .before .before in
+    let most = call .before .before .before .before in
+    let start = most .before .before .before .before .before in
+    subst
+    (λ (w : List ℕ). Written (toSendOutput (now (start .args .table)) (now (start .args .bytes)) w (now (start .args .need))) (now (start .args .out))
+    (call .get-hashes-to-send .last .1 .1 .1 .1 .0) (call .get-hashes-to-send .result))
+    (used-is (start .args .laid) _ (most .at-most .ensures)) (call .get-hashes-to-send .ensures)
+
+pub laid-to-send-spec : {M : Type 1} → statement M
+laid-to-send-spec =
+    tie.close
+    (tie.spec
+    at-most-requires
+    mul-words
+    array-share-prefix-words
+    slice-aggregate-get-hashes-to-send
+    get-hashes-to-send-requires
+    same-length
+    returns)
