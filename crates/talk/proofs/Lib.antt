@@ -1,3 +1,5 @@
+pub mod AllBytes
+pub mod Goes
 pub mod Planning
 pub mod Promises
 pub mod Receiving

@@ -1,75 +1,50 @@
 -- A plan call is the step: over memory that holds a session, with room, it answers what the step plans, leaves the session that the step leaves, and in the
 -- buffers the message that the step states. Assumes nothing.
-use Prim.Native.Nat.{ℕ, _+_, _*_, _≤_, _<_}
-use mathlib.Core.Bool.{Bool, true, false, cond}
-use mathlib.Core.List.{List, [], _∷_}
+use Prim.Native.Nat.{ℕ, _≤_, _<_}
+use mathlib.Core.Bool.{true}
+use mathlib.Core.List.{List, []}
 use mathlib.Core.Option.{Option, none, some}
-use mathlib.Core.Path.{_≡_, refl, sym, ap, ap₂, subst, _∙_}
+use mathlib.Core.Path.{_≡_, refl, sym, ap, ap₂, _∙_}
 use native.Mathlib.Omega.{arith}
 use borrow.Author.Tests.{ltb-true, ltb-false}
 use lib.Dec.{ltb}
-use lib.ListN.{length, getD, take, drop}
+use lib.ListN.{length}
 use lib.Seq.{sets, length-sets}
 use Rattle.bloom.specs.Filter.{defaultBits, defaultProbes}
-use Rattle.bloom.specs.Have.{Have, haveWords}
 use Rattle.bloom.proofs.Rules.{rules-none}
-use Rattle.decide.specs.Call.{Buffers, buffersOf, afterTables, planWith, plannedCounts, statedOf, answerOf, roomed, roomsIn, said, lastSentPut, sentPut, putInto}
+use Rattle.decide.specs.Call.{Buffers, buffersOf, afterTables, planWith, plannedCounts, answerOf, roomed, roomsIn, said, lastSentPut, sentPut, putInto}
 use Rattle.graph.specs.Graph.{heads}
-use Rattle.kept.specs.Kept.{Stand, StandHaves, Stays, plannedIn}
+use Rattle.kept.specs.Kept.{plannedIn}
 use Rattle.kept.proofs.Calls.{plan-stays-good}
 use Rattle.kept.proofs.Sessions.{good-state}
-use Rattle.kept.proofs.Stands.{stand-sets}
-use Rattle.lent.specs.Good.{lentOf, sessionGood}
+use Rattle.lent.specs.Good.{sessionGood}
 use Rattle.lent.proofs.GoodSessions.{LentBytes}
-use Rattle.message.specs.Sound.{Each, SoundHashes, SoundHave}
+use Rattle.message.specs.Sound.{Each, SoundHashes}
 use Rattle.missing.proofs.AcceptedLaws.{missing-hashes}
-use Rattle.rules.specs.Hash.{Bytes, AreHashes, hashesBytes}
+use Rattle.rules.specs.Hash.{AreHashes, hashesBytes}
 use Rattle.rules.specs.Sizes.{sizes}
 use Rattle.rules.specs.declared.refusal.Refusal.{Refusal}
 use Rattle.rules.proofs.Cases.{split}
-use Rattle.session.specs.Good.{SoundTable, SoundHaves, WhereHeard, GoodState}
-use Rattle.session.specs.Laid.{laidBytes, laidWords}
-use Rattle.session.specs.Plan.{
-  Plan,
-  Planned,
-  heard,
-  needOf,
-  unknownSync,
-  silence,
-  sentAfter,
-  planOf,
-  planned,
-  resetOf,
-  plan,
-  after,
-}
+use Rattle.session.specs.Good.{SoundTable, WhereHeard, GoodState}
+use Rattle.session.specs.Laid.{laidBytes}
+use Rattle.session.specs.Plan.{Plan, Planned, heard, needOf, unknownSync, silence, sentAfter, planOf, planned, resetOf, plan, after}
 use Rattle.session.specs.Receive.{saidBy}
 use Rattle.session.proofs.GoodLaws.{heads-sound, body-few, planned-good, said-sound}
-use Rattle.session.proofs.PlanLaws.{
-  body-hashes,
-  have-or-none,
-  said-flags,
-  plan-need-past,
-  plan-resets,
-  plan-silent,
-  plan-sent-past,
-  plan-is,
-  plan-saying,
-}
-use Rattle.session_calls.specs.SessionCalls.{plannedWords, plannedSession, planFor, PlanAnswered}
+use Rattle.session.proofs.PlanLaws.{body-hashes, have-or-none, said-flags, plan-need-past, plan-resets, plan-silent, plan-sent-past, plan-is, plan-saying}
+use Rattle.session_calls.specs.SessionCalls.{plannedWords, plannedSession, planFor}
 use Rattle.session_words.specs.Words.{sessionWords, sessionOf}
 use Rattle.session_words.proofs.WordLaws.{words-back}
 use Rattle.state.specs.Session.{State}
 use Rattle.state.specs.Value.{Lent, valueOf, countsOf}
 use Rattle.state.specs.declared.session.Session.{Session}
-use Rattle.tables.specs.Bytes.{tableOf, tableChecked, waitingOf, waitingChecked}
+use Rattle.tables.specs.Bytes.{tableOf, waitingOf}
 use Rattle.tables.specs.Calls.{passedOn, tablesChecked}
 use Rattle.tables.specs.Table.{Row, rows}
 use Rattle.tables.specs.Waiting.{Waiting}
 use Rattle.tables.proofs.GoodLaws.{rows-hashes}
 use Rattle.tables.proofs.TableLaws.{table-good}
 use Rattle.talk.specs.Calls.{PlanMade}
-use Rattle.talk.specs.Memory.{Memory, haveRoom, Roomy, OfBytes, Holds, Out, RoomyOut, Tabled, Beside}
+use Rattle.talk.specs.Memory.{Memory, Roomy, OfBytes, Holds, Out, RoomyOut, Tabled, Beside}
 use Rattle.talk.proofs.Rooms.{Fine, planned-room, reset-roomed, says-roomed}
 
 -- ---- tables and memory as the laws below want them

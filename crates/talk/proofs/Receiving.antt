@@ -1,24 +1,22 @@
 -- A receive call is the step: over memory that holds a session, with room, it answers what the step gives and leaves the session that the step leaves.
 -- Assumes nothing.
-use Prim.Native.Nat.{ℕ, _≤_, _<_}
+use Prim.Native.Nat.{ℕ}
 use mathlib.Core.Bool.{true, false}
-use mathlib.Core.List.{List, []}
+use mathlib.Core.List.{List}
 use mathlib.Core.Logic.{_⊎_, inl, inr}
-use mathlib.Core.Path.{_≡_, refl, sym, ap, ap₂, _∙_}
-use native.Mathlib.Omega.{arith}
+use mathlib.Core.Path.{_≡_, refl, sym, ap, _∙_}
 use borrow.Author.Tests.{ltb-true, ltb-false}
 use lib.Dec.{ltb, eqb}
 use lib.ListN.{length}
-use lib.Seq.{sets, length-sets}
+use lib.Seq.{length-sets}
 use Rattle.decode.specs.Read.{Reading, messageAt}
 use Rattle.kept.specs.Kept.{receivedIn}
 use Rattle.kept.proofs.Calls.{receive-stays-good, refuse-stays-good}
-use Rattle.lent.specs.Good.{sessionGood}
 use Rattle.receive.specs.Call.{afterTable, receiveWith, roomed, roomsIn, refusalAnswer, answerOf, keptIn}
 use Rattle.rules.specs.Hash.{Bytes, AreHashes, hashesBytes}
 use Rattle.rules.specs.Refusal.{numberOf}
 use Rattle.rules.specs.declared.refusal.Refusal.{Refusal}
-use Rattle.rules.specs.declared.refusal.Refusal.the-variants.{LoadFailed, BadRowsBefore}
+use Rattle.rules.specs.declared.refusal.Refusal.the-variants.{LoadFailed}
 use Rattle.rules.proofs.Cases.{split, true-false}
 use Rattle.session.specs.Good.{GoodState}
 use Rattle.session.specs.Laid.{laidBytes, laidWords}
@@ -32,7 +30,7 @@ use Rattle.session_words.proofs.WordLaws.{words-back}
 use Rattle.state.specs.Session.{State}
 use Rattle.state.specs.Value.{Lent, valueOf, countsOf}
 use Rattle.state.specs.declared.session.Session.{Session}
-use Rattle.tables.specs.Bytes.{tableOf, tableChecked}
+use Rattle.tables.specs.Bytes.{tableOf}
 use Rattle.tables.specs.Table.{Row, rows}
 use Rattle.walk.specs.Talk.{left}
 use Rattle.talk.specs.Calls.{Hears}
@@ -52,8 +50,7 @@ still-roomy s l r =
       sent = rw (length-sets (l .sent) 0 (hashesBytes (s .sentHashes))) (r .sent);
     }
 
-module _ (table : List ℕ) (tabled : Tabled table) (before : ℕ) (message : List ℕ) (x : State) (m m′ : Memory) (h : Holds x m)
-    (made : Hears table before message m m′) where
+module _ (table : List ℕ) (tabled : Tabled table) (before : ℕ) (message : List ℕ) (said : Bytes message) (x : State) (m : Memory) (h : Holds x m) where
   abbrev t : List Row
   t = tableOf table
 
@@ -67,7 +64,7 @@ module _ (table : List ℕ) (tabled : Tabled table) (before : ℕ) (message : Li
   was = valueOf (countsOf x) (m .lists)
 
   taken-good : (s : State) → r ≡ Received.took s → GoodState s
-  taken-good s e = bytes-good true before t x message (made .said) are (held-good x m h) .took s e
+  taken-good s e = bytes-good true before t x message said are (held-good x m h) .took s e
 
   -- 7 is never answered
   has-room : (old : State) (y : Received) → r ≡ y → roomed (roomsIn (m .lists)) old y ≡ y
@@ -79,75 +76,76 @@ module _ (table : List ℕ) (tabled : Tabled table) (before : ℕ) (message : Li
   unfolding receiveWith afterTable
   receive-with c counts = rw (counts, h .stays .good, tabled .good, h .stays .value)
 
-  receive-for : receiveFor (m .words) (m .lists) table before message true ≡ r
+  pub receive-for : receiveFor (m .words) (m .lists) table before message true ≡ r
   receive-for =
       ap (roomed (roomsIn (m .lists)) (valueOf (sessionOf (m .words)) (m .lists))) (receive-with (sessionOf (m .words)) (h .counts))
       ∙ has-room _ r refl
 
-  -- it answers what the step gives
-  pub receive-answer : made .answer ≡ receivedWords (answerOf r)
-  receive-answer = made .call .answer ∙ ap (λ (y : Received). receivedWords (answerOf y)) receive-for
+  module _ (m′ : Memory) (made : Hears table before message m m′) where
+    -- it answers what the step gives
+    pub receive-answer : made .answer ≡ receivedWords (answerOf r)
+    receive-answer = made .call .answer ∙ ap (λ (y : Received). receivedWords (answerOf y)) receive-for
 
-  receive-words : m′ .words ≡ receivedSession (answerOf r) (m .words)
-  receive-words = made .call .session ∙ ap (λ (y : Received). receivedSession (answerOf y) (m .words)) receive-for
+    receive-words : m′ .words ≡ receivedSession (answerOf r) (m .words)
+    receive-words = made .call .session ∙ ap (λ (y : Received). receivedSession (answerOf y) (m .words)) receive-for
 
-  receive-lists : m′ .lists ≡ keptIn r (m .lists)
-  receive-lists = made .call .lists ∙ ap (λ (y : Received). keptIn y (m .lists)) receive-for
+    receive-lists : m′ .lists ≡ keptIn r (m .lists)
+    receive-lists = made .call .lists ∙ ap (λ (y : Received). keptIn y (m .lists)) receive-for
 
-  taken : (s : State) → r ≡ Received.took s → Holds s m′
-  unfolding keptIn answerOf
-  taken s e =
-      let l : Lent = m .lists in
-      let lists : m′ .lists ≡ receivedIn s l = receive-lists ∙ rw e in
-      let words : m′ .words ≡ sessionWords (countsOf s) = receive-words ∙ rw e in
-      let step : receiveBytes true before t was message ≡ Received.took s = rw (h .stays .value) e in
-      record {
-        counts = ap sessionOf words ∙ words-back (countsOf s);
-        stays =
-            rw lists
-            (receive-stays-good true before t are message (made .said) (countsOf x) l (h .stays .good) (of-bytes l (h .bytes)) s step
-            (received-room s l (taken-good s e) (h .room)));
-        bytes = made .bytes;
-        room = rw lists (still-roomy s l (h .room));
-      }
+    taken : (s : State) → r ≡ Received.took s → Holds s m′
+    unfolding keptIn answerOf
+    taken s e =
+        let l : Lent = m .lists in
+        let lists : m′ .lists ≡ receivedIn s l = receive-lists ∙ rw e in
+        let words : m′ .words ≡ sessionWords (countsOf s) = receive-words ∙ rw e in
+        let step : receiveBytes true before t was message ≡ Received.took s = rw (h .stays .value) e in
+        record {
+          counts = ap sessionOf words ∙ words-back (countsOf s);
+          stays =
+              rw lists
+              (receive-stays-good true before t are message said (countsOf x) l (h .stays .good) (of-bytes l (h .bytes)) s step
+              (received-room s l (taken-good s e) (h .room)));
+          bytes = made .bytes;
+          room = rw lists (still-roomy s l (h .room));
+        }
 
-  -- only 8 changes the words
-  refused-counts : (q : Refusal) (s : State) → r ≡ Received.refused q s → sessionOf (m′ .words) ≡ countsOf s
-  unfolding answerOf refusalAnswer
-  refused-counts q s e =
-      split (eqb (numberOf q) (numberOf LoadFailed))
-      (λ f.
-      let words : m′ .words ≡ sessionWords (countsOf s) = receive-words ∙ rw (e, f) in
-      ap sessionOf words ∙ words-back (countsOf s))
-      (λ f.
-      let words : m′ .words ≡ m .words = receive-words ∙ rw (e, f) in
-      ap sessionOf words ∙ h .counts ∙ kept f (refused-keeps true before t x message q s e))
-    where
-      kept : eqb (numberOf q) (numberOf LoadFailed) ≡ false → (q ≡ LoadFailed) ⊎ (s ≡ x) → countsOf x ≡ countsOf s
-      kept f (inl g) = absurd (true-false (eqb (numberOf q) (numberOf LoadFailed)) (rw g) f)
-      kept f (inr g) = ap countsOf (sym g)
+    -- only 8 changes the words
+    refused-counts : (q : Refusal) (s : State) → r ≡ Received.refused q s → sessionOf (m′ .words) ≡ countsOf s
+    unfolding answerOf refusalAnswer
+    refused-counts q s e =
+        split (eqb (numberOf q) (numberOf LoadFailed))
+        (λ f.
+        let words : m′ .words ≡ sessionWords (countsOf s) = receive-words ∙ rw (e, f) in
+        ap sessionOf words ∙ words-back (countsOf s))
+        (λ f.
+        let words : m′ .words ≡ m .words = receive-words ∙ rw (e, f) in
+        ap sessionOf words ∙ h .counts ∙ kept f (refused-keeps true before t x message q s e))
+      where
+        kept : eqb (numberOf q) (numberOf LoadFailed) ≡ false → (q ≡ LoadFailed) ⊎ (s ≡ x) → countsOf x ≡ countsOf s
+        kept f (inl g) = absurd (true-false (eqb (numberOf q) (numberOf LoadFailed)) (rw g) f)
+        kept f (inr g) = ap countsOf (sym g)
 
-  untaken : (q : Refusal) (s : State) → r ≡ Received.refused q s → Holds s m′
-  unfolding keptIn
-  untaken q s e =
-      let l : Lent = m .lists in
-      let lists : m′ .lists ≡ l = receive-lists ∙ rw e in
-      let step : receiveBytes true before t was message ≡ Received.refused q s = rw (h .stays .value) e in
-      record {
-        counts = refused-counts q s e;
-        stays =
-            rw lists (refuse-stays-good true before t are message (made .said) (countsOf x) l (h .stays .good) (of-bytes l (h .bytes)) q s step);
-        bytes = made .bytes;
-        room = rw lists (h .room);
-      }
+    untaken : (q : Refusal) (s : State) → r ≡ Received.refused q s → Holds s m′
+    unfolding keptIn
+    untaken q s e =
+        let l : Lent = m .lists in
+        let lists : m′ .lists ≡ l = receive-lists ∙ rw e in
+        let step : receiveBytes true before t was message ≡ Received.refused q s = rw (h .stays .value) e in
+        record {
+          counts = refused-counts q s e;
+          stays =
+              rw lists (refuse-stays-good true before t are message said (countsOf x) l (h .stays .good) (of-bytes l (h .bytes)) q s step);
+          bytes = made .bytes;
+          room = rw lists (h .room);
+        }
 
-  after-call : (y : Received) → r ≡ y → Holds (left y) m′
-  after-call (Received.took s) e = taken s e
-  after-call (Received.refused q s) e = untaken q s e
+    after-call : (y : Received) → r ≡ y → Holds (left y) m′
+    after-call (Received.took s) e = taken s e
+    after-call (Received.refused q s) e = untaken q s e
 
-  -- and the memory holds the session that the step leaves
-  pub receive-holds : Holds (left r) m′
-  receive-holds = after-call r refl
+    -- and the memory holds the session that the step leaves
+    pub receive-holds : Holds (left r) m′
+    receive-holds = after-call r refl
 
 -- what can't be read changes nothing
 pub unread-leaves : (before : ℕ) (t : List Row) (x : State) (bytes : List ℕ) (q : Refusal) → messageAt bytes ≡ Reading.refused q

@@ -1,10 +1,9 @@
 -- A unit that speaks by calls says what the step's plan says: both calls together leave its bytes, and the session that the step leaves. A message past its
 -- size isn't written, nor could it be read; either way nothing changes at the other end. Assumes nothing.
-use Prim.Native.Nat.{ℕ, zero, suc, _≤_, _<_}
-use mathlib.Core.Bool.{true, false}
+use Prim.Native.Nat.{ℕ, _≤_, _<_}
+use mathlib.Core.Bool.{true}
 use mathlib.Core.List.{List, []}
-use mathlib.Core.Path.{_≡_, refl, sym, ap, subst, _∙_}
-use native.Mathlib.Omega.{arith}
+use mathlib.Core.Path.{_≡_, refl, sym, _∙_}
 use borrow.Author.Tests.{ltb-true, ltb-false}
 use lib.Dec.{ltb}
 use lib.ListN.{length, getD}
@@ -16,13 +15,12 @@ use Rattle.rules.specs.Sizes.{sizes}
 use Rattle.rules.proofs.Cases.{split}
 use Rattle.session.specs.Good.{GoodState}
 use Rattle.session.specs.Plan.{Plan, Planned, plan, after}
-use Rattle.session.specs.Receive.{Received, receiveBytes}
+use Rattle.session.specs.Receive.{receiveBytes}
 use Rattle.session_calls.specs.SessionCalls.{statedWords, plannedWords}
+use Rattle.state.specs.Session.{State}
 use Rattle.state.specs.Value.{countsOf}
-use Rattle.state.specs.Session.{State, fresh}
 use Rattle.tables.specs.Bytes.{tableOf, waitingOf}
 use Rattle.tables.specs.Table.{Row}
-use Rattle.tables.specs.Waiting.{Waiting}
 use Rattle.walk.specs.Talk.{Host, messageFor, bytesFor, left}
 use Rattle.talk.specs.Calls.{Speaks, speaks, planIn}
 use Rattle.talk.specs.Memory.{Memory, Holds, Tabled, Beside}
@@ -81,7 +79,7 @@ module _ (host : Host) (table waiting : List ℕ) (tabled : Tabled table) (besid
               write-long q fine (speech .out) (speech .out′) (speech .room) there what (speech .answer) is host (speech .written) message (speech .writes told);
         }
 
-  crossing : (y : Planned) → p ≡ y → Crosses (bytesFor host y) message
+  pub crossing : (y : Planned) → p ≡ y → Crosses (bytesFor host y) message
   unfolding answerOf bytesFor
   crossing (Planned.refused r) e = nothing-crosses message (speech .silent (rw (words, e, number-some r)))
   crossing Planned.silent e = nothing-crosses message (speech .silent (rw (words, e)))

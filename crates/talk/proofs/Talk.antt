@@ -1,9 +1,8 @@
 -- A talk of calls is the talk of steps: from two fresh sessions on, both memories hold the sessions of Talk.antt before each round, by one round after the
 -- other. So what theorem 2 and its corollary say of the steps is said of the calls. Assumes nothing.
 use Prim.Native.Nat.{ℕ, zero, suc, _≤_, _<_}
-use mathlib.Core.Bool.{true, false}
+use mathlib.Core.Bool.{true}
 use mathlib.Core.List.{List, []}
-use mathlib.Core.Option.{none}
 use mathlib.Core.Path.{_≡_, refl, sym, ap, subst, _∙_}
 use native.Mathlib.Omega.{arith}
 use borrow.Author.Tests.{ltb-true, ltb-false}
@@ -11,7 +10,6 @@ use lib.Dec.{ltb}
 use lib.ListN.{length, getD}
 use Rattle.bloom.specs.Filter.{defaultBits, defaultProbes}
 use Rattle.decode.proofs.Messages.{message-long}
-use Rattle.kept.specs.Kept.{Stays}
 use Rattle.lent.proofs.GoodSessions.{fresh-good}
 use Rattle.message.specs.Message.{messageBytes}
 use Rattle.receive.specs.Call.{answerOf}
@@ -19,10 +17,9 @@ use Rattle.rules.specs.Hash.{hashesAt}
 use Rattle.rules.specs.Sizes.{sizes}
 use Rattle.rules.specs.declared.refusal.Refusal.{Refusal}
 use Rattle.rules.proofs.Cases.{split}
-use Rattle.session.specs.Plan.{Body, Plan, Planned, plan, after}
+use Rattle.session.specs.Plan.{Plan, Planned, plan, after}
 use Rattle.session.specs.Receive.{Received, receiveBytes}
 use Rattle.session.proofs.ReceiveLaws.{bytes-beyond, bytes-refused}
-use Rattle.session_calls.specs.SessionCalls.{receivedWords}
 use Rattle.session_words.specs.Words.{sessionOf}
 use Rattle.session_words.proofs.WordLaws.{words-back}
 use Rattle.state.specs.Counts.{freshCounts}
@@ -36,10 +33,25 @@ use Rattle.walk.specs.Talk.{Host, Pair, messageFor, bytesFor, goes, left, asked
 use Rattle.walk.specs.Walk.{lacking}
 use Rattle.walk.proofs.Corollary.{corollary}
 use Rattle.walk.proofs.Talk.{default-setting}
-use Rattle.talk.specs.Calls.{Hears, Speaks, Both, SaidSo, Round, TalkOfCalls, sessions, askedIn, answeredIn, AreSessions, AllAnswered, CallsEnd, CallsAreSteps, CallsCorollary}
+use Rattle.talk.specs.Calls.{
+  Hears,
+  Speaks,
+  Both,
+  SaidSo,
+  Round,
+  TalkOfCalls,
+  sessions,
+  askedIn,
+  answeredIn,
+  AreSessions,
+  AllAnswered,
+  CallsEnd,
+  CallsAreSteps,
+  CallsCorollary,
+}
 use Rattle.talk.specs.Memory.{Memory, Holds, Tabled, Beside, Fresh}
 use Rattle.talk.proofs.Planning.{table-sound}
-use Rattle.talk.proofs.Receiving.{receive-answer, receive-holds, unread-leaves}
+use Rattle.talk.proofs.Receiving.{receive-answer, receive-holds}
 use Rattle.talk.proofs.Speaking.{speaking-holds, heard-so, speaking-said}
 
 -- fresh words over any lists of limit size hold the fresh session
@@ -78,7 +90,7 @@ module _ (host : Host) (table waiting : List ℕ) (tabled : Tabled table) (besid
   answered-so =
       let done = speaking-said host table waiting tabled beside x m m′ h message speech q s says in
       let wrote = done .crosses (taken-small before (tableOf theirs) y z _ took) in
-      let took-so : getD (hearing .answer) 0 0 ≡ 0 = rw (receive-answer theirs accepted before message y l l′ held hearing, wrote .0, took) in
+      let took-so : getD (hearing .answer) 0 0 ≡ 0 = rw (receive-answer theirs accepted before message (hearing .said) y l held l′ hearing, wrote .0, took) in
       (record { planned = done .planned; message = done .kind; wrote = wrote .1; carries = ap (λ (r : Plan). r .body .hashes) (done .read) }, took-so)
 
 module _ (a : List ℕ) (b w u : ℕ → List ℕ) (hosts : ℕ → Host) where
@@ -120,7 +132,7 @@ module _ (a : List ℕ) (b w u : ℕ → List ℕ) (hosts : ℕ → Host) where
     heldA =
         subst (λ (z : State). Holds z (r .midA))
         (heard-so (hosts k) (b k) (w k) (r .tableB) (r .waitsB) y (s .atB) (r .midB) (before .holdsB) (r .question) (r .asks) (length A) A x)
-        (receive-holds a (r .tableA) (length A) (r .question) x (s .atA) (r .midA) (before .holdsA) (r .hears))
+        (receive-holds a (r .tableA) (length A) (r .question) (r .hears .said) x (s .atA) (before .holdsA) (r .midA) (r .hears))
 
     -- A has answered
     spokenA : Holds (after (answeredIn a b w u hosts k) heardA) (s′ .atA)
@@ -133,7 +145,7 @@ module _ (a : List ℕ) (b w u : ℕ → List ℕ) (hosts : ℕ → Host) where
     heldB =
         subst (λ (z : State). Holds z (s′ .atB))
         (heard-so (hosts k) a (u k) (r .tableA) (r .waitsA) heardA (r .midA) (s′ .atA) heldA (r .reply) (r .answers) (length (B k)) (B (suc k)) _)
-        (receive-holds (b (suc k)) (r .loadedB) (length (B k)) (r .reply) _ (r .midB) (s′ .atB) spokenB (r .takes))
+        (receive-holds (b (suc k)) (r .loadedB) (length (B k)) (r .reply) (r .takes .said) _ (r .midB) spokenB (s′ .atB) (r .takes))
 
     pub next : AreSessions a b w u hosts (suc k) s′
     unfolding pairAt

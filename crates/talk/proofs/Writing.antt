@@ -1,23 +1,21 @@
 -- What a host reads in the words and buffers of a plan is the plan, and what is written over them and the chunks that it lends is the plan's message, within
 -- its size, or nothing. Assumes nothing.
-use Prim.Native.Nat.{ℕ, _+_, _*_, _/_, _%_, _≤_, _<_}
-use mathlib.Core.Bool.{Bool, true, false, cond}
+use Prim.Native.Nat.{ℕ, _+_, _*_, _/_, _≤_, _<_}
+use mathlib.Core.Bool.{Bool, true, false}
 use mathlib.Core.List.{List, [], _∷_}
-use mathlib.Core.Path.{_≡_, refl, sym, ap, ap₂, _∙_}
+use mathlib.Core.Path.{_≡_, refl, sym, ap, _∙_}
 use native.Mathlib.Nat.{zero-add}
 use native.Mathlib.Omega.{arith}
-use borrow.Author.Tests.{le-ltb, lt-ltb, ltb-true, ltb-false}
-use lib.Dec.{ltb, eqb}
-use lib.ListN.{length, getD, take, drop}
+use borrow.Author.Tests.{le-ltb}
+use lib.Dec.{eqb}
+use lib.ListN.{length, getD, take}
 use lib.Seq.{sets, slice, take-length}
-use Rattle.answers.specs.Answer.{refusalWords, writeWords, Answered}
-use Rattle.bloom.specs.Have.{Have, haveWords, havesOf, passedGood, passedFew}
+use Rattle.answers.specs.Answer.{refusalWords, writeWords}
+use Rattle.bloom.specs.Have.{Have, havesOf}
 use Rattle.decide.specs.Call.{statedOf}
 use Rattle.kept.specs.Kept.{StandHaves}
 use Rattle.kept.proofs.Stands.{stand-haves-sets}
-use Rattle.message.specs.Flags.{flagsOf}
-use Rattle.message.specs.Message.{Message, messageBytes}
-use Rattle.message.specs.Sound.{Each, SoundHashes, SoundHave}
+use Rattle.message.specs.Message.{messageBytes}
 use Rattle.message.specs.declared.flags.Section.the-variants.{Present}
 use Rattle.message.specs.declared.version.MessageVersion.{MessageVersion}
 use Rattle.message.specs.declared.version.MessageVersion.the-variants.{V1, V2}
@@ -30,17 +28,28 @@ use Rattle.rules.specs.Refusal.{numberOf}
 use Rattle.rules.specs.Sizes.{sizes}
 use Rattle.rules.specs.declared.passed.Passed.the-variants.{Hashes}
 use Rattle.rules.specs.declared.refusal.Refusal.{Refusal}
-use Rattle.rules.specs.declared.refusal.Refusal.the-variants.{Cut, WrongType, BadNumber, PastSize, NoBits, BadRow, NoRoom, LoadFailed, BadWaitingRow, BadNumbers, BadRowsBefore}
-use Rattle.rules.proofs.Cases.{split}
+use Rattle.rules.specs.declared.refusal.Refusal.the-variants.{
+  Cut,
+  WrongType,
+  BadNumber,
+  PastSize,
+  NoBits,
+  BadRow,
+  NoRoom,
+  LoadFailed,
+  BadWaitingRow,
+  BadNumbers,
+  BadRowsBefore,
+}
 use Rattle.rules.proofs.Hash.{length-hashes-bytes, hashes-there-and-back}
 use Rattle.rules.proofs.Outputs.{take-sets, written-gathered}
 use Rattle.rules.proofs.PassedLaws.{passed-whole}
-use Rattle.session.specs.Laid.{laidBytes, laidFrom, laidWords}
-use Rattle.session.specs.Plan.{Body, Plan}
+use Rattle.session.specs.Laid.{laidFrom, laidWords}
+use Rattle.session.specs.Plan.{Plan}
 use Rattle.session.proofs.LaidLaws.{laid-length-words}
 use Rattle.session_calls.specs.SessionCalls.{versionNumber, statedWords}
 use Rattle.session_words.specs.Words.{flagWord, flagOf}
-use Rattle.size.specs.Size.{Accepted, GoodHaves, total}
+use Rattle.size.specs.Size.{Accepted}
 use Rattle.size.specs.Write.{Parts, partsOf, hashesOf, chunksFrom, messageOf, messageOutput}
 use Rattle.size.proofs.WriteLaws.{message-written, accepted-written}
 use Rattle.size.proofs.SizeLaws.{chunks-long}
@@ -48,7 +57,7 @@ use Rattle.state.specs.Value.{keptHaves}
 use Rattle.walk.specs.Talk.{Host, chunksFor, messageFor}
 use Rattle.walk.proofs.Message.{chunks-few}
 use Rattle.talk.specs.Calls.{recordsIn, planIn, WriteMade}
-use Rattle.talk.specs.Memory.{haveRoom, Out, RoomyOut}
+use Rattle.talk.specs.Memory.{Out, RoomyOut}
 use Rattle.talk.proofs.Planning.{Put}
 use Rattle.talk.proofs.Rooms.{Fine, laid-small}
 

@@ -26,7 +26,7 @@ use Rattle.tables.specs.Waiting.{Waiting}
 use Rattle.walk.specs.Round.{Part}
 use Rattle.walk.specs.Talk.{Host, chunksFor, goes, Pair, asked, answered, pairAt, Reached, Granted, Ended}
 use Rattle.walk.specs.Walk.{lacking}
-use Rattle.talk.specs.Memory.{Memory, OfBytes, Holds, Fresh, Out, RoomyOut, Tabled, Beside}
+use Rattle.talk.specs.Memory.{Memory, OfBytes, Holds, Fresh, Out, RoomyOut, Tabled, Beside, HostBytes}
 
 -- ---- what a host reads of an answer to planning
 
@@ -86,7 +86,7 @@ pub record Speaks (host : Host) (table waiting : List ℕ) (m m′ : Memory) (me
   pub written : List ℕ
   pub writes : speaks answer ≡ true → WriteMade host answer out′ written message
 
--- bt_receive: a unit hears a message, whose changes have loaded.
+-- bt_receive: a unit hears a message, whose changes have loaded; where nothing was said that is no bytes, which changes nothing.
 pub record Hears (table : List ℕ) (before : ℕ) (message : List ℕ) (m m′ : Memory) : Type 0 where
   pub answer : List ℕ
   pub call : ReceiveAnswered (m .words) (m′ .words) (m .lists) (m′ .lists) table before message true answer
@@ -178,6 +178,18 @@ module _ (a : List ℕ) (b w u : ℕ → List ℕ) (hosts : ℕ → Host) where
     pub ended : Ended defaultBits defaultProbes A B W U hosts (lacking A (B 0))
     pub all : (k : ℕ) → k ≤ ended .last → (h : k < n) → AllAnswered k (talk .at k) (talk .at (suc k)) (talk .made k h)
 
+  -- What hosts lend: good tables before every round, bytes of changes, and buffers with room.
+  pub record Lends : Type 0 where
+    pub tableA : Tabled a
+    pub tableB : (k : ℕ) → Tabled (b k)
+    pub waitsA : (k : ℕ) → Beside A (u k)
+    pub waitsB : (k : ℕ) → Beside (B k) (w k)
+    pub changes : (k : ℕ) → HostBytes (hosts k)
+    pub out : Out
+    pub wide : RoomyOut out
+    pub buffer : List ℕ
+    pub room : sizes .message ≤ length buffer
+
 -- A talk of calls is the talk of steps.
 abbrev pub CallsAreSteps : Type 0
 CallsAreSteps = (a : List ℕ) (b w u : ℕ → List ℕ) (hosts : ℕ → Host) (n : ℕ) (talk : TalkOfCalls a b w u hosts n)
@@ -192,3 +204,10 @@ CallsCorollary = (a : List ℕ) (b w u : ℕ → List ℕ) (hosts : ℕ → Host
     → waitingOf (w 0) ≡ []
     → AllGranted a b w u hosts
     → CallsEnd a b w u hosts n talk
+
+-- And a talk of calls can always be made, so that neither is about nothing.
+abbrev pub CallsGo : Type 0
+CallsGo = (a : List ℕ) (b w u : ℕ → List ℕ) (hosts : ℕ → Host) → Lends a b w u hosts
+    → (s : Both) → Fresh (s .atA) → Fresh (s .atB)
+    → (n : ℕ)
+    → TalkOfCalls a b w u hosts n

@@ -14,6 +14,7 @@ use Rattle.state.specs.Value.{Lent, countsOf}
 use Rattle.tables.specs.Bytes.{tableChecked, waitingChecked}
 use Rattle.tables.specs.Table.{Row}
 use Rattle.tables.specs.declared.check.Checked.the-variants.{Good}
+use Rattle.walk.specs.Talk.{Host}
 
 -- A session as a host keeps it: its sixteen words, and the seven lists that are lent beside them.
 pub record Memory : Type 0 where
@@ -79,3 +80,8 @@ pub record Beside (t : List Row) (s : List ℕ) : Type 0 where
   pub rows : ℕ
   pub good : waitingChecked t s ≡ Good rows
   pub bytes : Bytes s
+
+-- What is lent of changes and of the document are bytes.
+pub record HostBytes (host : Host) : Type 0 where
+  pub change : (h : ℕ) → Bytes (host .change h)
+  pub document : Bytes (host .document)
