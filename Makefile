@@ -1,6 +1,6 @@
 # `make run` shows the library at work; `make test` proves and tests all of it; `make bench` measures. Each does its own
 # set-up. docs/WORKING.md has what is useful while something is changed.
-.PHONY: run test lib bench check edit edits samples stack tools
+.PHONY: run test lib bench compare fuzz check edit edits samples stack tools
 
 run: lib
 	@cd host && cargo run --offline --quiet --release --package bisquetower --example sample
@@ -11,6 +11,14 @@ test:
 # The library's times beside the crate's. Nothing depends on them.
 bench: lib
 	@bash host/bench/run
+
+# Every comparison with the crate and the model: make compare SECONDS=120, or ROUNDS=5; SEED=1 makes it run again.
+compare: lib
+	@bash host/compare/run $(if $(ROUNDS),--rounds $(ROUNDS),--seconds $(or $(SECONDS),120)) $(if $(SEED),--seed $(SEED)) $(if $(KIND),--kind '$(KIND)')
+
+# The comparisons with inputs that libFuzzer makes: make fuzz TARGET=message SECONDS=600. Nothing depends on it.
+fuzz: lib
+	@bash host/fuzz/run '$(TARGET)' $(or $(SECONDS),600)
 
 # The proved library as an archive that Rust and C link.
 lib: tools

@@ -24,6 +24,7 @@
 //! `sessions` has the steps of a session. `units` are whole units of the crate, of the
 //! model and of the library, `talks` pairs of them that talk at random, and `scenarios`
 //! what two units go through by name; there every step of every pair is the same.
+//! `scale` runs all of these comparisons for as long as is asked.
 
 pub mod filters;
 pub mod guarded;
@@ -32,6 +33,7 @@ pub mod messages;
 pub mod model;
 pub mod published;
 pub mod samples;
+pub mod scale;
 pub mod scenarios;
 pub mod selections;
 pub mod sessions;

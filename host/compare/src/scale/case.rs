@@ -1,0 +1,92 @@
+//! An input of any kind: lent bytes and numbers.
+
+use crate::inputs::Random;
+use std::fmt::Write as _;
+use std::panic::{catch_unwind, AssertUnwindSafe};
+
+#[derive(Clone, Debug, Default, PartialEq, Eq)]
+pub struct Case {
+    pub bytes: Vec<Vec<u8>>,
+    pub numbers: Vec<u64>,
+}
+
+impl Case {
+    pub fn new<const B: usize, const N: usize>(bytes: [Vec<u8>; B], numbers: [u64; N]) -> Case {
+        Case {
+            bytes: bytes.into(),
+            numbers: numbers.into(),
+        }
+    }
+
+    /// Less for fewer bytes, for zeros among them and for smaller numbers.
+    pub fn size(&self) -> u64 {
+        let byte = |&byte: &u8| 64 + u64::from(byte.count_ones());
+        let number = |&n: &u64| u64::from(u64::BITS - n.leading_zeros());
+        let bytes: u64 = self.bytes.iter().flatten().map(byte).sum();
+        bytes + self.numbers.iter().map(number).sum::<u64>()
+    }
+
+    pub fn sizes<const N: usize>(&self) -> [usize; N] {
+        let numbers = self.numbers.iter().map(|&n| n as usize);
+        let numbers: Vec<usize> = numbers.collect();
+        numbers.try_into().expect("the kind's numbers")
+    }
+}
+
+/// Whether the library's answer to an input is apart from the crate's as
+/// docs/DIFFERENCES.md says; the error is a difference of another kind.
+pub type Compared = Result<bool, String>;
+
+/// What is compared, and how its inputs are made.
+#[derive(Clone, Copy)]
+pub struct Kind {
+    pub name: &'static str,
+    /// What the bytes of a case are, and the size of an item of them.
+    pub bytes: &'static [(&'static str, usize)],
+    pub numbers: &'static [&'static str],
+    /// How many inputs there are in a round.
+    pub a_round: usize,
+    pub make: fn(&mut Random) -> Case,
+    pub held: fn(&Case) -> Compared,
+}
+
+impl Kind {
+    /// Compares; what panics differs too.
+    pub fn compare(&self, case: &Case) -> Compared {
+        let held = catch_unwind(AssertUnwindSafe(|| (self.held)(case)));
+        held.unwrap_or_else(|why| {
+            let text = why.downcast_ref::<String>().map(String::as_str);
+            let text = text.or_else(|| why.downcast_ref::<&str>().copied());
+            Err(text.unwrap_or("it panics").to_string())
+        })
+    }
+
+    /// A case in full, an item a line.
+    pub fn shown(&self, case: &Case) -> String {
+        let mut text = String::new();
+        for ((name, item), bytes) in self.bytes.iter().zip(&case.bytes) {
+            let _ = writeln!(text, "  {name}, {} bytes", bytes.len());
+            // Single bytes stand 32 in a line.
+            let line = if *item == 1 { 32 } else { *item };
+            for items in bytes.chunks(line) {
+                let hexes: Vec<String> = items.iter().map(|byte| format!("{byte:02x}")).collect();
+                let _ = writeln!(text, "    {}", hexes.join(" "));
+            }
+        }
+        for (name, number) in self.numbers.iter().zip(&case.numbers) {
+            let _ = writeln!(text, "  {name} {number}");
+        }
+        text
+    }
+}
+
+/// Whether an answer is one that the crate has none of: document 01's refusals 4 to 7
+/// and 9 to 11.
+pub fn apart(first_word: u64) -> bool {
+    matches!(first_word, 4..=7 | 9..=11)
+}
+
+/// How long a buffer may be that is lent by number.
+pub fn room(number: u64) -> usize {
+    number.min(1 << 16) as usize
+}

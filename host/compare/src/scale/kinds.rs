@@ -1,0 +1,173 @@
+//! What is compared, kind by kind. A round's inputs of each kind take about as long as
+//! those of another.
+
+use super::case::Kind;
+use super::{filters, messages, selections, sessions, states, tables, wire};
+
+const AT_END: &[&str] = &["at", "end"];
+const BYTES: &[(&str, usize)] = &[("bytes", 1)];
+const UNIT: &[&str] = &["seed", "most rows"];
+const CHOICE: &[&str] = &["seed", "most rows", "most haves"];
+
+/// Reads of items with one of the readers.
+const fn item<const READER: usize>(name: &'static str) -> Kind {
+    Kind {
+        name,
+        bytes: BYTES,
+        numbers: AT_END,
+        a_round: 20_000,
+        make: wire::item,
+        held: wire::read::<READER>,
+    }
+}
+
+pub const KINDS: &[Kind] = &[
+    item::<0>("numbers read"),
+    item::<1>("filter numbers read"),
+    item::<2>("prefixed strings read"),
+    item::<3>("hash lists read"),
+    Kind {
+        name: "items written",
+        bytes: BYTES,
+        numbers: &["way", "number", "room"],
+        a_round: 10_000,
+        make: wire::written,
+        held: wire::write,
+    },
+    Kind {
+        name: "filters read",
+        bytes: BYTES,
+        numbers: AT_END,
+        a_round: 16_000,
+        make: filters::filter,
+        held: filters::read,
+    },
+    Kind {
+        name: "filters written",
+        bytes: &[("field", 1)],
+        numbers: &["entries", "bits", "probes", "room"],
+        a_round: 10_000,
+        make: filters::written,
+        held: filters::write,
+    },
+    Kind {
+        name: "filters built",
+        bytes: &[("hashes", 32)],
+        numbers: &["bits", "probes", "room"],
+        a_round: 2_600,
+        make: filters::to_build,
+        held: filters::build,
+    },
+    Kind {
+        name: "filters asked",
+        bytes: &[("field", 1), ("hash", 1)],
+        numbers: &["entries", "bits", "probes"],
+        a_round: 12_000,
+        make: filters::question,
+        held: filters::ask,
+    },
+    Kind {
+        name: "haves asked",
+        bytes: &[],
+        numbers: &["seed", "haves"],
+        a_round: 1_000,
+        make: filters::several,
+        held: filters::ask_several,
+    },
+    Kind {
+        name: "states read",
+        bytes: &[("state", 1)],
+        numbers: &["room"],
+        a_round: 12_000,
+        make: states::state,
+        held: states::read,
+    },
+    Kind {
+        name: "states written",
+        bytes: &[("shared heads", 32)],
+        numbers: &["count", "room"],
+        a_round: 10_000,
+        make: states::written,
+        held: states::write,
+    },
+    Kind {
+        name: "messages read",
+        bytes: &[("message", 1)],
+        numbers: &["room for haves", "room for chunks"],
+        a_round: 8_000,
+        make: messages::message,
+        held: messages::read,
+    },
+    Kind {
+        name: "messages written",
+        bytes: &[],
+        numbers: &["seed", "spoilt"],
+        a_round: 6_000,
+        make: messages::written,
+        held: messages::write,
+    },
+    Kind {
+        name: "tables",
+        bytes: &[("table", 64), ("waiting table", 512), ("hashes", 32)],
+        numbers: &["before", "room"],
+        a_round: 400,
+        make: tables::tables,
+        held: tables::calls,
+    },
+    Kind {
+        name: "hashes to send",
+        bytes: &[],
+        numbers: CHOICE,
+        a_round: 800,
+        make: selections::selection,
+        held: selections::choose,
+    },
+    Kind {
+        name: "hashes to send, spoilt",
+        bytes: &[],
+        numbers: CHOICE,
+        a_round: 2_000,
+        make: selections::selection,
+        held: selections::choose_damaged,
+    },
+    Kind {
+        name: "sessions checked",
+        bytes: &[],
+        numbers: UNIT,
+        a_round: 3_000,
+        make: sessions::unit,
+        held: sessions::check,
+    },
+    Kind {
+        name: "plans",
+        bytes: &[],
+        numbers: UNIT,
+        a_round: 1_200,
+        make: sessions::unit,
+        held: sessions::plan,
+    },
+    Kind {
+        name: "receipts",
+        bytes: &[],
+        numbers: UNIT,
+        a_round: 1_200,
+        make: sessions::unit,
+        held: sessions::receive,
+    },
+    Kind {
+        name: "talks",
+        bytes: &[],
+        numbers: UNIT,
+        a_round: 60,
+        make: sessions::two_units,
+        held: sessions::talk,
+    },
+    Kind {
+        name: "scripts",
+        bytes: &[("script", 1)],
+        numbers: &[],
+        a_round: 200,
+        make: sessions::script_bytes,
+        held: sessions::play,
+    },
+];

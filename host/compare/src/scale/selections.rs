@@ -1,0 +1,60 @@
+//! Hashes to send.
+
+use super::case::{apart, Case, Compared};
+use crate::inputs::selection::lend;
+use crate::inputs::Random;
+use crate::selections::{compare, compare_cases, Selection};
+use crate::tables::Rooms;
+
+/// A seed, and most rows and haves; now and then as many as there may be.
+pub fn selection(random: &mut Random) -> Case {
+    let [rows, haves] = match random.one_in(400) {
+        true => [1_024, 16],
+        false => [random.below(24), random.below(4)],
+    };
+    Case::new([], [random.word(), rows as u64, haves as u64])
+}
+
+/// The whole list in its order, beside the model's and the crate's.
+pub fn choose(case: &Case) -> Compared {
+    let [_, rows, haves] = case.sizes();
+    let mut random = Random(case.numbers[0]);
+    let one = random.case(0..rows.min(1_024) + 1, 0..haves.min(16) + 1);
+    compare_cases(&[one], &mut random)?;
+    Ok(false)
+}
+
+/// With some parts damaged, beside the model's.
+pub fn choose_damaged(case: &Case) -> Compared {
+    let [_, rows, haves] = case.sizes();
+    let mut random = Random(case.numbers[0]);
+    let one = random.case(0..rows.min(1_024) + 1, 0..haves.min(16) + 1);
+    let (s, mut haves) = lend(&one.haves, &mut random);
+    let (mut table, mut need) = (one.table, one.need.concat());
+    for _ in 0..1 + random.below(2) {
+        match random.below(3) {
+            0 if !haves.is_empty() => {
+                let word = random.below(haves.len());
+                haves[word] = match random.below(3) {
+                    0 => random.number(),
+                    1 => haves[word].wrapping_sub(1),
+                    _ => haves[word].wrapping_add(1),
+                };
+            }
+            1 => random.damage(&mut table),
+            _ => random.damage(&mut need),
+        }
+    }
+    let rooms = match random.one_in(4) {
+        true => Rooms::One(random.below(200)),
+        false => Rooms::Enough,
+    };
+    let selection = Selection {
+        table: &table,
+        s: &s,
+        haves: &haves,
+        need: &need,
+    };
+    let answers = compare(selection, rooms)?;
+    Ok(answers.iter().any(|answer| apart(answer[0])))
+}

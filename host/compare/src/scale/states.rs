@@ -1,0 +1,64 @@
+//! Saved states read and written.
+
+use super::case::{apart, room, Case, Compared};
+use crate::inputs::Random;
+use crate::model::number_bytes;
+use crate::states::{compare_reads, Reading};
+use crate::writes::{compare_write, Write};
+
+/// Shared heads, now and then around their limit.
+fn count(random: &mut Random) -> usize {
+    match random.one_in(300) {
+        true => 1_020 + random.below(8),
+        false => random.below(6),
+    }
+}
+
+/// A saved state, mostly good, and room for its shared heads.
+pub fn state(random: &mut Random) -> Case {
+    let count = count(random);
+    let after = random.below(4);
+    let heads = random.bytes(32 * count + after);
+    let mut s = [&[0x43][..], &number_bytes(count as u64), &heads].concat();
+    for _ in 0..random.below(3) {
+        random.damage(&mut s);
+    }
+    let room = match random.one_in(4) {
+        true => random.below(100),
+        false => 32 * count,
+    };
+    Case::new([s], [room as u64])
+}
+
+pub fn read(case: &Case) -> Compared {
+    let tally = compare_reads(&[Reading {
+        s: &case.bytes[0],
+        room: room(case.numbers[0]),
+    }])?;
+    Ok(tally.answers[4] + tally.answers[7] > 0)
+}
+
+/// Lent heads, how many of them are shared, and the room to write them.
+pub fn written(random: &mut Random) -> Case {
+    let count = count(random);
+    let more = random.below(40);
+    let lent = random.bytes(32 * count + more);
+    let said = match random.below(8) {
+        0 => random.word(),
+        1 => count as u64 + 1,
+        _ => count as u64,
+    };
+    let room = match random.one_in(3) {
+        true => random.below(64 * count + 8),
+        false => 32 * count + 3,
+    };
+    Case::new([lent], [said, room as u64])
+}
+
+pub fn write(case: &Case) -> Compared {
+    let write = Write::State {
+        shared: &case.bytes[0],
+        count: case.numbers[0] as usize,
+    };
+    Ok(apart(compare_write(write, room(case.numbers[1]))?[0]))
+}

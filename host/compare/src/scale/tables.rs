@@ -1,0 +1,69 @@
+//! Tables checked, heads, rows beyond, and what is missing.
+
+use super::case::{apart, room, Case, Compared};
+use crate::inputs::table::{
+    row_faults, table_bytes, waiting_bytes, waiting_faults, LIKENESSES, SHAPES,
+};
+use crate::inputs::Random;
+use crate::model::table::HASH;
+use crate::tables::{compare, Call, Rooms, NAMES};
+
+/// Tables and a list over a few hashes, so that they meet, each now and then damaged;
+/// how many rows were there before, and room for what is found.
+pub fn tables(random: &mut Random) -> Case {
+    let most = if random.one_in(50) { 100 } else { 12 };
+    let (held, waits, unknown) = (random.below(most), random.below(8), random.below(8));
+    let likeness = random.of(&LIKENESSES);
+    let all = random.hashes(held + waits + unknown, likeness);
+    let shape = random.of(&SHAPES);
+    let rows = random.rows_of(&all[..held], shape);
+    let waiting = random.waiting_rows(&all[held..held + waits], &all);
+    let (mut table, mut queue) = (table_bytes(&rows), waiting_bytes(&waiting));
+    let mut hashes = Vec::new();
+    for _ in 0..random.below(8).min(all.len()) {
+        hashes.extend(random.of(&all));
+    }
+    if random.one_in(6) && held > 0 {
+        let row = random.below(held);
+        let faults = row_faults(&rows, row);
+        let (_, record) = &faults[random.below(faults.len())];
+        table[record.len() * row..][..record.len()].copy_from_slice(record);
+    }
+    if random.one_in(6) && waits > 0 {
+        let row = random.below(waits);
+        let faults = waiting_faults(&rows, &waiting, row);
+        let (_, record) = &faults[random.below(faults.len())];
+        queue[record.len() * row..][..record.len()].copy_from_slice(record);
+    }
+    for bytes in [&mut table, &mut queue, &mut hashes] {
+        if random.one_in(12) {
+            random.damage(bytes);
+        }
+    }
+    let numbers = [random.below(held + 2), random.below(HASH * most)];
+    Case::new([table, queue, hashes], numbers.map(|n| n as u64))
+}
+
+/// All five calls, with room enough and with the room that is told.
+pub fn calls(case: &Case) -> Compared {
+    let [table, waiting, hashes] = &case.bytes[..] else {
+        return Ok(false);
+    };
+    let before = case.numbers[0] as usize;
+    let all = [
+        Call::CheckTable { table },
+        Call::CheckTables { table, waiting },
+        Call::Heads { table, before },
+        Call::Beyond { table, hashes },
+        Call::Missing {
+            table,
+            waiting,
+            hashes,
+        },
+    ];
+    let told = Rooms::One(room(case.numbers[1]));
+    let tally = compare(&all.map(|call| (call, Rooms::Enough)))?;
+    compare(&all.map(|call| (call, told)))?;
+    let refused = |word: usize| (0..NAMES.len()).any(|kind| tally.of(kind, word) > 0);
+    Ok((1..12).any(|word| apart(word as u64) && refused(word)))
+}

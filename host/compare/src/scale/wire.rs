@@ -1,0 +1,49 @@
+//! Numbers, prefixed strings and hash lists.
+
+use super::case::{apart, room, Case, Compared};
+use crate::inputs::Random;
+use crate::wire::{compare, READERS};
+use crate::writes::{compare_write, Write};
+use bisquetower::raw::Read;
+
+pub fn item(random: &mut Random) -> Case {
+    let (bytes, at, end) = random.input(Random::item);
+    Case::new([bytes], [at as u64, end as u64])
+}
+
+/// Reads an item with one of the readers.
+pub fn read<const READER: usize>(case: &Case) -> Compared {
+    let [at, end] = case.sizes();
+    let tally = compare(&[Read {
+        reader: READERS[READER],
+        bytes: &case.bytes[0],
+        at,
+        end,
+    }])?;
+    Ok(tally.cut_filter_numbers + tally.counts_past_limit > 0)
+}
+
+/// Bytes to be written in some way, now and then hashes around their limit.
+pub fn written(random: &mut Random) -> Case {
+    let length = match random.one_in(200) {
+        true => 32 * (1_020 + random.below(8)),
+        false => random.below(200),
+    };
+    let whole = random.one_in(2);
+    let bytes = random.bytes(if whole { length / 32 * 32 } else { length });
+    let room = random.below(2 * length + 12) as u64;
+    let way = random.below(3) as u64;
+    Case::new([bytes], [way, random.number(), room])
+}
+
+pub fn write(case: &Case) -> Compared {
+    let [way, number, lent] = case.numbers[..] else {
+        return Ok(false);
+    };
+    let write = match way {
+        0 => Write::Number(number),
+        1 => Write::Prefixed(&case.bytes[0]),
+        _ => Write::Hashes(&case.bytes[0]),
+    };
+    Ok(apart(compare_write(write, room(lent))?[0]))
+}
