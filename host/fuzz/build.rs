@@ -4,8 +4,9 @@ fn main() {
     println!("cargo::rerun-if-env-changed=FUZZER_ARCHIVE");
     match std::env::var("FUZZER_ARCHIVE") {
         Ok(archive) => {
-            println!("cargo::rustc-link-arg-bins={archive}");
-            println!("cargo::rustc-link-arg-bins=-lstdc++");
+            for word in [&archive, "-lstdc++", "-lm", "-lgcc", "-lc"] {
+                println!("cargo::rustc-link-arg-bins={word}");
+            }
         }
         Err(_) => println!("cargo::error=`make fuzz` builds this"),
     }

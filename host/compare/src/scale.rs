@@ -90,7 +90,7 @@ pub fn run(kinds: &[Kind], seed: u64, until: Until, mut each: impl FnMut(&[Count
     let mut counts = vec![Count::default(); kinds.len()];
     let mut round = 0;
     while !over(round) {
-        for (kind, k) in kinds.iter().zip(0..) {
+        for (k, kind) in kinds.iter().enumerate() {
             if matches!(until, Until::Time(_)) && over(round) {
                 break;
             }
@@ -98,9 +98,9 @@ pub fn run(kinds: &[Kind], seed: u64, until: Until, mut each: impl FnMut(&[Count
             let mut random = stream(seed, kind.name, round);
             for _ in 0..kind.a_round {
                 let case = (kind.make)(&mut random);
-                counts[k as usize].add(kind, case, round);
+                counts[k].add(kind, case, round);
             }
-            counts[k as usize].took += starts.elapsed();
+            counts[k].took += starts.elapsed();
             each(&counts);
         }
         round += 1;

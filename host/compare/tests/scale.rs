@@ -94,7 +94,10 @@ fn what_is_told_is_run_again() {
         assert_eq!(alone[0].worst, all[k].worst);
     }
     assert!(text.contains("  bytes, 1 bytes\n    07\n"), "{text}");
-    assert!(text.contains("    00 00 00 00\n    00 00 00 00\n"), "{text}");
+    assert!(
+        text.contains("    00 00 00 00\n    00 00 00 00\n"),
+        "{text}"
+    );
     assert!(!text.contains("nothing"), "{text}");
     let rows = table(&MADE_UP, &all);
     assert_eq!(rows.lines().count(), 2 + MADE_UP.len(), "{rows}");

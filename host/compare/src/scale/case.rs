@@ -26,10 +26,14 @@ impl Case {
         bytes + self.numbers.iter().map(number).sum::<u64>()
     }
 
-    pub fn sizes<const N: usize>(&self) -> [usize; N] {
-        let numbers = self.numbers.iter().map(|&n| n as usize);
-        let numbers: Vec<usize> = numbers.collect();
-        numbers.try_into().expect("the kind's numbers")
+    /// The bytes, as many as the kind has.
+    pub fn lent<const B: usize>(&self) -> &[Vec<u8>; B] {
+        self.bytes[..].try_into().expect("the kind's bytes")
+    }
+
+    /// The numbers, as many as the kind has.
+    pub fn told<const N: usize>(&self) -> [u64; N] {
+        self.numbers[..].try_into().expect("the kind's numbers")
     }
 }
 

@@ -1,7 +1,7 @@
 //! Filters read, written, built and asked.
 
 use super::case::{apart, room, Case, Compared};
-use crate::filters::{compare_question, compare_reads, Build, Haves, Part};
+use crate::filters::{compare_question, compare_reads, have_of, Build, Haves, Part};
 use crate::inputs::Random;
 use crate::model::filter::{self, field_size, Filter};
 use crate::writes::{compare_write, Write};
@@ -12,8 +12,8 @@ pub fn filter(random: &mut Random) -> Case {
 }
 
 pub fn read(case: &Case) -> Compared {
-    let [at, end] = case.sizes();
-    let s = &case.bytes[0];
+    let ([s], places) = (case.lent(), case.told());
+    let [at, end] = places.map(|place| place as usize);
     let tally = compare_reads(&[Part { s, at, end }])?;
     Ok(tally.cut_numbers + tally.no_bits + tally.past_size > 0)
 }
@@ -41,14 +41,12 @@ pub fn written(random: &mut Random) -> Case {
 }
 
 pub fn write(case: &Case) -> Compared {
-    let [entries, bits, probes, lent] = case.numbers[..] else {
-        return Ok(false);
-    };
+    let ([field], [entries, bits, probes, lent]) = (case.lent(), case.told());
     let filter = Filter {
         entries,
         bits,
         probes,
-        field: &case.bytes[0],
+        field,
     };
     let answer = compare_write(Write::Filter(filter), room(lent))?;
     Ok(apart(answer[0]))
@@ -73,10 +71,7 @@ pub fn to_build(random: &mut Random) -> Case {
 }
 
 pub fn build(case: &Case) -> Compared {
-    let [bits, probes, lent] = case.numbers[..] else {
-        return Ok(false);
-    };
-    let hashes = &case.bytes[0];
+    let ([hashes], [bits, probes, lent]) = (case.lent(), case.told());
     let build = Build {
         bits,
         probes,
@@ -96,54 +91,42 @@ pub fn question(random: &mut Random) -> Case {
 
 /// Asks one filter: beside the crate's if it is one, else beside the model's alone.
 pub fn ask(case: &Case) -> Compared {
-    let [entries, bits, probes] = case.numbers[..] else {
-        return Ok(false);
-    };
-    let field = &case.bytes[0];
+    let ([field, hash], [entries, bits, probes]) = (case.lent(), case.told());
     let one = Filter {
         entries,
         bits,
         probes,
         field,
     };
-    if let (Ok(hash), Ok(_)) = (case.bytes[1][..].try_into(), filter::bytes(&one)) {
+    if let (Ok(hash), Ok(_)) = (hash[..].try_into(), filter::bytes(&one)) {
         Haves::one(one).compare(&[hash])?;
         return Ok(false);
     }
-    let have = [0, 0, entries, bits, probes, 0, field.len() as u64];
-    Ok(apart(compare_question(field, &have, &case.bytes[1])?[0]))
+    Ok(apart(compare_question(field, &have_of(&one), hash)?[0]))
 }
 
-/// A seed, and how many haves.
+/// A seed, and most haves.
 pub fn several(random: &mut Random) -> Case {
     Case::new([], [random.word(), 1 + random.below(16) as u64])
 }
 
 /// Asks several haves over one buffer, as they are and with a word of them changed.
 pub fn ask_several(case: &Case) -> Compared {
-    let mut random = Random(case.numbers[0]);
-    let parts: Vec<_> = (0..case.numbers[1])
-        .map(|_| loop {
-            let ([entries, bits, probes], field) = numbers_and_field(&mut random);
-            let field_of = |field| Filter {
-                entries,
-                bits,
-                probes,
-                field,
-            };
-            if filter::bytes(&field_of(&field)).is_ok() {
-                break ([entries, bits, probes], field);
-            }
-        })
+    let [seed, count] = case.told();
+    let mut random = Random(seed);
+    let parts: Vec<_> = (0..count.min(16))
+        .map(|_| numbers_and_field(&mut random))
         .collect();
-    let filters: Vec<Filter> = parts
+    let filters = parts
         .iter()
-        .map(|([entries, bits, probes], field)| Filter {
-            entries: *entries,
-            bits: *bits,
-            probes: *probes,
+        .map(|&([entries, bits, probes], ref field)| Filter {
+            entries,
+            bits,
+            probes,
             field,
-        })
+        });
+    let filters: Vec<Filter> = filters
+        .filter(|filter| filter::bytes(filter).is_ok())
         .collect();
     let (s, mut haves) = random.haves(&filters);
     let hash = random.probing(64);

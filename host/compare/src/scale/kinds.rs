@@ -69,7 +69,7 @@ pub const KINDS: &[Kind] = &[
     Kind {
         name: "haves asked",
         bytes: &[],
-        numbers: &["seed", "haves"],
+        numbers: &["seed", "most haves"],
         a_round: 1_000,
         make: filters::several,
         held: filters::ask_several,

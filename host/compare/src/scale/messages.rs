@@ -15,10 +15,9 @@ pub fn message(random: &mut Random) -> Case {
 /// Reads a message with room enough, and writes what was read; and reads it with just
 /// the room that is told.
 pub fn read(case: &Case) -> Compared {
-    let s = &case.bytes[0];
+    let ([s], rooms) = (case.lent(), case.told());
     let tally = compare(&[s])?;
-    let rooms = [case.numbers[0], case.numbers[1]].map(room);
-    compare_lists(s, &[rooms])?;
+    compare_lists(s, &[rooms.map(room)])?;
     Ok(tally.cut_numbers + tally.answers[4] + tally.answers[5] > 0)
 }
 
@@ -29,9 +28,10 @@ pub fn written(random: &mut Random) -> Case {
 
 /// Writes a message from its parts into some room.
 pub fn write(case: &Case) -> Compared {
-    let mut random = Random(case.numbers[0]);
+    let [seed, spoilt] = case.told();
+    let mut random = Random(seed);
     let mut parts = random.own_parts();
-    if case.numbers[1] > 0 {
+    if spoilt > 0 {
         match random.below(6) {
             0 => random.damage(&mut parts.heads),
             1 => random.damage(&mut parts.need),

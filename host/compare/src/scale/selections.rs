@@ -1,7 +1,7 @@
 //! Hashes to send.
 
 use super::case::{apart, Case, Compared};
-use crate::inputs::selection::lend;
+use crate::inputs::selection::{lend, Case as Choice};
 use crate::inputs::Random;
 use crate::selections::{compare, compare_cases, Selection};
 use crate::tables::Rooms;
@@ -15,20 +15,23 @@ pub fn selection(random: &mut Random) -> Case {
     Case::new([], [random.word(), rows as u64, haves as u64])
 }
 
+fn drawn(case: &Case) -> (Choice, Random) {
+    let [seed, rows, haves] = case.told();
+    let mut random = Random(seed);
+    let [rows, haves] = [rows.min(1_024), haves.min(16)].map(|most| 0..most as usize + 1);
+    (random.case(rows, haves), random)
+}
+
 /// The whole list in its order, beside the model's and the crate's.
 pub fn choose(case: &Case) -> Compared {
-    let [_, rows, haves] = case.sizes();
-    let mut random = Random(case.numbers[0]);
-    let one = random.case(0..rows.min(1_024) + 1, 0..haves.min(16) + 1);
+    let (one, mut random) = drawn(case);
     compare_cases(&[one], &mut random)?;
     Ok(false)
 }
 
 /// With some parts damaged, beside the model's.
 pub fn choose_damaged(case: &Case) -> Compared {
-    let [_, rows, haves] = case.sizes();
-    let mut random = Random(case.numbers[0]);
-    let one = random.case(0..rows.min(1_024) + 1, 0..haves.min(16) + 1);
+    let (one, mut random) = drawn(case);
     let (s, mut haves) = lend(&one.haves, &mut random);
     let (mut table, mut need) = (one.table, one.need.concat());
     for _ in 0..1 + random.below(2) {

@@ -13,6 +13,7 @@ use crate::states::{check_many, published, words_of};
 use crate::talks::talks;
 use crate::units::proved;
 use bisquetower::raw;
+use std::ops::Range;
 
 /// A seed, and most rows; now and then as many as there may be.
 pub fn unit(random: &mut Random) -> Case {
@@ -25,11 +26,13 @@ pub fn unit(random: &mut Random) -> Case {
 
 /// A seed, and most rows of two units.
 pub fn two_units(random: &mut Random) -> Case {
-    Case::new([], [random.word(), 1 + random.below(24) as u64])
+    Case::new([], [random.word(), random.below(24) as u64])
 }
 
-fn rows(case: &Case) -> std::ops::Range<usize> {
-    0..case.numbers[1].min(1_024) as usize + 1
+/// The numbers of a case's seed, and how many rows there may be.
+fn drawn(case: &Case) -> (Random, Range<usize>) {
+    let [seed, rows] = case.told();
+    (Random(seed), 0..rows.min(1_024) as usize + 1)
 }
 
 /// Makes a session bad, most of the time.
@@ -57,8 +60,8 @@ fn resize(random: &mut Random, rooms: &mut [usize]) {
 
 /// A session of any content, good or bad, checked; and its words set read-only or not.
 pub fn check(case: &Case) -> Compared {
-    let mut random = Random(case.numbers[0]);
-    let graph = random.graph(rows(case));
+    let (mut random, rows) = drawn(case);
+    let graph = random.graph(rows);
     let mut session = Lent::in_guise(&random.session(&graph), &mut random);
     if random.one_in(2) {
         spoil(&mut random, &mut session);
@@ -86,8 +89,8 @@ pub fn check(case: &Case) -> Compared {
 /// What a unit says next: beside the model's in every word and byte, and beside the
 /// crate's if nothing is spoilt.
 pub fn plan(case: &Case) -> Compared {
-    let mut random = Random(case.numbers[0]);
-    let saying = random.saying(rows(case));
+    let (mut random, rows) = drawn(case);
+    let saying = random.saying(rows);
     let mut session = Lent::in_guise(&saying.session, &mut random);
     let (mut table, mut waiting) = (saying.table.clone(), saying.waiting.clone());
     let spoilt = random.one_in(5);
@@ -113,8 +116,8 @@ pub fn plan(case: &Case) -> Compared {
 
 /// What a message does to a session, in the same way.
 pub fn receive(case: &Case) -> Compared {
-    let mut random = Random(case.numbers[0]);
-    let hearing = random.hearing(rows(case));
+    let (mut random, rows) = drawn(case);
+    let hearing = random.hearing(rows);
     let outcome = publish(&hearing);
     let mut session = Lent::in_guise(&hearing.session, &mut random);
     let (mut table, mut before, loaded) = match &outcome {
@@ -152,8 +155,8 @@ pub fn receive(case: &Case) -> Compared {
 
 /// Two units that talk until both are silent: of the library, and one of each.
 pub fn talk(case: &Case) -> Compared {
-    let most = case.numbers[1].clamp(1, 1_024) as usize;
-    talks(proved, &mut Random(case.numbers[0]), 1, most);
+    let (mut random, rows) = drawn(case);
+    talks(proved, &mut random, 1, rows.len());
     Ok(false)
 }
 
@@ -165,6 +168,7 @@ pub fn script_bytes(random: &mut Random) -> Case {
 
 /// Two units at odds: of the library, and one of each.
 pub fn play(case: &Case) -> Compared {
-    script::compare(&case.bytes[0]);
+    let [bytes] = case.lent();
+    script::compare(bytes);
     Ok(false)
 }

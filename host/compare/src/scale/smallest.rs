@@ -32,7 +32,7 @@ pub fn smallest(kind: &Kind, case: Case, why: String) -> (Case, String) {
 /// numbers.
 fn smaller(kind: &Kind, case: &Case) -> Vec<Case> {
     let mut variants = Vec::new();
-    for ((_, item), k) in kind.bytes.iter().zip(0..) {
+    for (k, (_, item)) in kind.bytes.iter().enumerate() {
         let bytes = &case.bytes[k];
         let items = bytes.len().div_ceil(*item);
         let mut out = items;
@@ -46,15 +46,15 @@ fn smaller(kind: &Kind, case: &Case) -> Vec<Case> {
             out /= 2;
         }
     }
-    for (number, k) in case.numbers.iter().zip(0..) {
+    for (k, number) in case.numbers.iter().enumerate() {
         for less in [0, number / 2, number.saturating_sub(1)] {
             let mut variant = case.clone();
             variant.numbers[k] = less;
             variants.push(variant);
         }
     }
-    for (bytes, k) in case.bytes.iter().zip(0..) {
-        for (&byte, place) in bytes.iter().zip(0..) {
+    for (k, bytes) in case.bytes.iter().enumerate() {
+        for (place, &byte) in bytes.iter().enumerate() {
             for less in [0, byte & byte.wrapping_sub(1)] {
                 let mut variant = case.clone();
                 variant.bytes[k][place] = less;

@@ -31,10 +31,9 @@ pub fn state(random: &mut Random) -> Case {
 }
 
 pub fn read(case: &Case) -> Compared {
-    let tally = compare_reads(&[Reading {
-        s: &case.bytes[0],
-        room: room(case.numbers[0]),
-    }])?;
+    let ([s], [lent]) = (case.lent(), case.told());
+    let room = room(lent);
+    let tally = compare_reads(&[Reading { s, room }])?;
     Ok(tally.answers[4] + tally.answers[7] > 0)
 }
 
@@ -56,9 +55,8 @@ pub fn written(random: &mut Random) -> Case {
 }
 
 pub fn write(case: &Case) -> Compared {
-    let write = Write::State {
-        shared: &case.bytes[0],
-        count: case.numbers[0] as usize,
-    };
-    Ok(apart(compare_write(write, room(case.numbers[1]))?[0]))
+    let ([shared], [count, lent]) = (case.lent(), case.told());
+    let count = count as usize;
+    let answer = compare_write(Write::State { shared, count }, room(lent))?;
+    Ok(apart(answer[0]))
 }

@@ -46,10 +46,8 @@ pub fn tables(random: &mut Random) -> Case {
 
 /// All five calls, with room enough and with the room that is told.
 pub fn calls(case: &Case) -> Compared {
-    let [table, waiting, hashes] = &case.bytes[..] else {
-        return Ok(false);
-    };
-    let before = case.numbers[0] as usize;
+    let ([table, waiting, hashes], [before, lent]) = (case.lent(), case.told());
+    let before = before as usize;
     let all = [
         Call::CheckTable { table },
         Call::CheckTables { table, waiting },
@@ -61,7 +59,7 @@ pub fn calls(case: &Case) -> Compared {
             hashes,
         },
     ];
-    let told = Rooms::One(room(case.numbers[1]));
+    let told = Rooms::One(room(lent));
     let tally = compare(&all.map(|call| (call, Rooms::Enough)))?;
     compare(&all.map(|call| (call, told)))?;
     let refused = |word: usize| (0..NAMES.len()).any(|kind| tally.of(kind, word) > 0);

@@ -13,12 +13,12 @@ pub fn item(random: &mut Random) -> Case {
 
 /// Reads an item with one of the readers.
 pub fn read<const READER: usize>(case: &Case) -> Compared {
-    let [at, end] = case.sizes();
+    let ([bytes], [at, end]) = (case.lent(), case.told());
     let tally = compare(&[Read {
         reader: READERS[READER],
-        bytes: &case.bytes[0],
-        at,
-        end,
+        bytes,
+        at: at as usize,
+        end: end as usize,
     }])?;
     Ok(tally.cut_filter_numbers + tally.counts_past_limit > 0)
 }
@@ -37,13 +37,11 @@ pub fn written(random: &mut Random) -> Case {
 }
 
 pub fn write(case: &Case) -> Compared {
-    let [way, number, lent] = case.numbers[..] else {
-        return Ok(false);
-    };
+    let ([bytes], [way, number, lent]) = (case.lent(), case.told());
     let write = match way {
         0 => Write::Number(number),
-        1 => Write::Prefixed(&case.bytes[0]),
-        _ => Write::Hashes(&case.bytes[0]),
+        1 => Write::Prefixed(bytes),
+        _ => Write::Hashes(bytes),
     };
     Ok(apart(compare_write(write, room(lent))?[0]))
 }
