@@ -68,9 +68,7 @@ fn differences_are_counted_and_made_small() {
     assert!((200..800).contains(&sevens.apart), "{sevens:?}");
     let smallest = Case::new([vec![7], Vec::new()], [1_000, 0]);
     let worst = sevens.worst.as_ref().expect("some differ");
-    // The number has as many bits as 1,000, the least that differs.
-    assert_eq!(worst.case.bytes, smallest.bytes);
-    assert_eq!(worst.case.size(), smallest.size(), "{worst:?}");
+    assert_eq!(worst.case, smallest);
     assert_eq!(worst.why, "a seven");
 
     let worst = rows.worst.as_ref().expect("some panic");

@@ -18,12 +18,13 @@ impl Case {
         }
     }
 
-    /// Less for fewer bytes, for zeros among them and for smaller numbers.
-    pub fn size(&self) -> u64 {
-        let byte = |&byte: &u8| 64 + u64::from(byte.count_ones());
-        let number = |&n: &u64| u64::from(u64::BITS - n.leading_zeros());
-        let bytes: u64 = self.bytes.iter().flatten().map(byte).sum();
-        bytes + self.numbers.iter().map(number).sum::<u64>()
+    /// How many bytes there are, how many of their bits are set, and what the numbers
+    /// add up to: less in the first of these that differs is smaller.
+    pub fn size(&self) -> (usize, u32, u128) {
+        let bytes = || self.bytes.iter().flatten();
+        let bits = bytes().map(|byte| byte.count_ones()).sum();
+        let numbers = self.numbers.iter().map(|&n| u128::from(n)).sum();
+        (bytes().count(), bits, numbers)
     }
 
     /// The bytes, as many as the kind has.

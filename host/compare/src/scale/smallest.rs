@@ -47,9 +47,9 @@ fn smaller(kind: &Kind, case: &Case) -> Vec<Case> {
         }
     }
     for (k, number) in case.numbers.iter().enumerate() {
-        for less in [0, number / 2, number.saturating_sub(1)] {
+        for halves in 0..u64::BITS {
             let mut variant = case.clone();
-            variant.numbers[k] = less;
+            variant.numbers[k] = number - (number >> halves);
             variants.push(variant);
         }
     }
