@@ -3,7 +3,11 @@
 
 use compare::inputs::Random;
 use compare::scale::case::{Case, Compared, Kind};
+use compare::scale::script::compare;
 use compare::scale::{run, table, told, Count, Until, KINDS};
+use compare::talks::What;
+use compare::tally::Tally;
+use compare::units::Heard;
 use std::time::Duration;
 
 fn made(random: &mut Random) -> Case {
@@ -110,11 +114,32 @@ fn a_seed_is_a_run() {
     assert!(none.iter().all(|count| count.inputs == 0));
 }
 
+/// Random bytes are scripts in which everything happens.
+#[test]
+fn scripts_are_varied() {
+    let mut random = Random(1);
+    let mut tally = Tally::default();
+    for _ in 0..150 {
+        let length = 16 + random.below(160);
+        for step in compare(&random.bytes(length)) {
+            tally.count(match step.what {
+                What::Spoke(Some(_)) => "said something",
+                What::Spoke(None) => "said nothing",
+                What::Heard(Heard::Taken) => "taken",
+                What::Heard(Heard::NotLoaded) => "not loaded",
+                What::Heard(Heard::NotRead) => "not read",
+            });
+        }
+    }
+    tally.has(200, &["said something", "said nothing", "taken"]);
+    tally.has(5, &["not loaded", "not read"]);
+}
+
 /// A few inputs of every kind.
 #[test]
 fn every_kind_agrees() {
     let few = |kind: &Kind| Kind {
-        a_round: kind.a_round.min(4),
+        a_round: kind.a_round.min(20),
         ..*kind
     };
     let kinds: Vec<Kind> = KINDS.iter().map(few).collect();

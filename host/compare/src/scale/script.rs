@@ -2,6 +2,7 @@
 //! start, and what happens to them. Any bytes are a script, and a shorter one is less.
 
 use crate::inputs::filter::hash_of;
+use crate::inputs::message::Draft;
 use crate::model::have::OwnHave;
 use crate::model::message::parse;
 use crate::model::session::Value;
@@ -10,10 +11,10 @@ use crate::talks::{compare_pairs, Pair, Start, Step};
 use crate::units::{load, proved, Make};
 use crate_under_test::facade::{Automerge, Change, ChangeHash};
 
-/// Has a script done by units of the library and of the crate, in every pairing, and
-/// counts the steps. A step that differs panics.
-pub fn compare(script: &[u8]) -> usize {
-    compare_pairs(proved, |makes| play(script, makes)).len()
+/// Has a script done by units of the library and of the crate, in every pairing: the
+/// crate's steps. One that differs panics.
+pub fn compare(script: &[u8]) -> Vec<Step> {
+    compare_pairs(proved, |makes| play(script, makes))
 }
 
 /// The bytes that are left; 0 once there are none.
@@ -30,7 +31,8 @@ impl<'a> Bytes<'a> {
         usize::from(self.byte()) % limit
     }
 
-    fn some(&mut self, most: usize) -> &'a [u8] {
+    fn some(&mut self) -> &'a [u8] {
+        let most = self.below(48);
         let (some, rest) = self.0.split_at(self.0.len().min(most));
         self.0 = rest;
         some
@@ -97,6 +99,17 @@ impl<'a> Bytes<'a> {
         }
     }
 
+    /// A message with a chunk that may be anything.
+    fn message(&mut self, changes: &[Change]) -> Draft {
+        Draft {
+            heads: self.list(changes),
+            need: self.list(changes),
+            chunks: vec![self.some().to_vec()],
+            flags: Some(vec![0x02, self.byte()]),
+            ..Draft::new()
+        }
+    }
+
     /// A unit with some of the changes; those whose dependencies it hasn't wait.
     fn start(&mut self, changes: &[Change]) -> Start {
         let mut document = Automerge::new();
@@ -151,16 +164,23 @@ fn play(script: &[u8], makes: [Make; 2]) -> Vec<Step> {
             }
             14 => {
                 if let Some(mut message) = under_way[unit].pop() {
-                    let place = (bytes.below(256) * 256 + bytes.below(256)) % message.len();
+                    let place = bytes.below(message.len());
+                    // Changes stand near a message's end.
+                    let place = match byte & 16 {
+                        0 => place,
+                        _ => message.len() - 1 - place,
+                    };
                     message[place] ^= bytes.byte();
                     under_way[unit].extend(Some(message).filter(|message| limited(message)));
                 }
             }
             15 => {
-                let most = bytes.below(256);
-                let message = bytes.some(most);
-                if limited(message) {
-                    pair.hear(unit, message);
+                let message = match byte & 16 {
+                    0 => bytes.message(&changes).bytes(),
+                    _ => bytes.some().to_vec(),
+                };
+                if limited(&message) {
+                    pair.hear(unit, &message);
                 }
             }
             _ => {}
