@@ -43,8 +43,18 @@ pub mod tables;
 pub mod talks;
 pub mod tally;
 pub mod units;
+pub mod walk;
 pub mod wire;
 pub mod writes;
+
+/// How much a test of the library does: where that is emulated, and where it is linked
+/// and takes its own time alone.
+pub const fn scaled(emulated: usize, linked: usize) -> usize {
+    match bisquetower::raw::LINKED {
+        true => linked,
+        false => emulated,
+    }
+}
 
 /// That the library's words are the model's.
 fn same_answer<const WORDS: usize>(

@@ -11,6 +11,7 @@ pub mod selection;
 pub mod session;
 pub mod state;
 pub mod table;
+pub mod walk;
 
 use bisquetower::raw::{Read, Reader};
 

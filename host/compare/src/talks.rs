@@ -188,7 +188,7 @@ fn heads_of(document: &Automerge) -> Vec<Hash> {
 }
 
 /// A document of some rows and of all that they are on.
-fn document_of(rows: &[Row], part: &[usize]) -> Automerge {
+pub(crate) fn document_of(rows: &[Row], part: &[usize]) -> Automerge {
     let mut document = Automerge::new();
     for &row in part {
         let mut open = vec![row];

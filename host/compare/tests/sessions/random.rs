@@ -5,6 +5,7 @@ use compare::guarded::FILLS;
 use compare::inputs::session::{Hearing, Saying};
 use compare::inputs::{Random, Seed};
 use compare::model::state::WORDS;
+use compare::scaled;
 use compare::sessions::lent::Lent;
 use compare::sessions::library::{compare_plans, compare_receipts, Planning, Receiving};
 use compare::sessions::{publish, same_as_the_crate, same_session};
@@ -126,14 +127,14 @@ fn often(seen: &Seen, least: u64, answers: &[usize]) {
 #[test]
 fn random_plans() {
     let seed = Seed::fixed();
-    let seen = plan_steps(&mut seed.random(0), 100, 200, 0..10);
+    let seen = plan_steps(&mut seed.random(0), scaled(100, 2_500), 200, 0..10);
     often(&seen, 100, &[0, 6, 7, 9, 10]);
 }
 
 #[test]
 fn random_receipts() {
     let seed = Seed::fixed();
-    let seen = receive_steps(&mut seed.random(1), 100, 200, 0..10);
+    let seen = receive_steps(&mut seed.random(1), scaled(100, 2_500), 200, 0..10);
     often(&seen, 100, &[0, 1, 6, 7, 8, 10, 11]);
 }
 

@@ -2,21 +2,24 @@
 //! message as two of the crate do.
 
 use compare::inputs::Seed;
+use compare::scaled;
 use compare::talks::{scripts, talks};
 use compare::units::proved;
 
 #[test]
 fn random_talks() {
     let seed = Seed::fixed();
-    let steps = talks(proved, &mut seed.random(0), 200, 24);
-    assert!(steps > 8_000, "{steps}");
+    let steps = talks(proved, &mut seed.random(0), scaled(200, 2_000), 24);
+    println!("{steps} steps");
+    assert!(steps > scaled(8_000, 80_000), "{steps}");
 }
 
 #[test]
 fn random_scripts() {
     let seed = Seed::fixed();
-    let steps = scripts(proved, &mut seed.random(1), 200, 12);
-    assert!(steps > 8_000, "{steps}");
+    let steps = scripts(proved, &mut seed.random(1), scaled(200, 2_000), 12);
+    println!("{steps} steps");
+    assert!(steps > scaled(8_000, 80_000), "{steps}");
 }
 
 /// A few with another seed each time.
