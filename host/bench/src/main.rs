@@ -14,6 +14,7 @@ mod measure;
 mod message;
 mod runs;
 mod selection;
+mod session;
 mod tables;
 mod wire;
 
@@ -31,6 +32,7 @@ fn main() -> ExitCode {
         tables::measure_all();
         message::measure_all();
         selection::measure_all();
+        session::measure_all();
         return ExitCode::SUCCESS;
     }
     let processor = std::env::consts::ARCH;

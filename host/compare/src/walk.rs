@@ -62,9 +62,13 @@ impl Random {
         let shape = self.of(&SHAPES);
         let rows = self.rows_of(&hashes, shape);
         let mut lacks = vec![false; count];
-        let tries = if self.one_in(16) { 0 } else { 1 + count / 6 };
-        for _ in 0..tries {
-            lacks[self.below(count)] |= self.one_in(2);
+        let some = if self.one_in(16) {
+            0
+        } else {
+            1 + self.below(1 + count / 6)
+        };
+        for _ in 0..some {
+            lacks[self.below(count)] = true;
         }
         for row in 0..count {
             lacks[row] |= rows[row].dependencies.iter().any(|&on| lacks[on]);

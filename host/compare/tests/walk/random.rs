@@ -30,7 +30,7 @@ fn random_catch_ups() {
         spread.rounds()
     );
     print!("{spread}");
-    assert!(2 * kept > count as u64, "{kept}");
+    assert!(3 * kept > count as u64, "{kept}");
     assert!(10 * longest > kept, "{longest}");
 }
 

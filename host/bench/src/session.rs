@@ -1,0 +1,392 @@
+//! Sessions: a first message planned, messages received, and whole catch-ups through
+//! bytes. The library tests its tables in each call, and the crate loads what a message
+//! brings, which here is the host's to do; both are measured apart, as the rest.
+
+use crate::measure::{line_of, Line};
+use bisquetower::raw;
+use compare::inputs::table::{table_bytes, Likeness, Shape};
+use compare::inputs::Random;
+use compare::model::session::Value;
+use compare::model::state::WORDS;
+use compare::model::table::{HASH, ROW};
+use compare::tables::document;
+use compare::talks::Pair;
+use compare::units::{load, published, table_of, waiting_of};
+use crate_under_test::facade::{Automerge, Message, State, SyncDoc};
+use std::hint::black_box;
+
+const SIZES: [(&str, usize); 3] = [("64 rows", 64), ("256 rows", 256), ("1,024 rows", 1_024)];
+
+/// Rows that a validator lacks, and of how many; more than a third would go as the
+/// document.
+const CATCH_UPS: [(&str, &str, usize, &[usize]); 3] = [
+    ("catch up 10", "catch up 10: rest", 10, &[0, 1, 2]),
+    ("catch up 100", "catch up 100: rest", 100, &[2]),
+    ("catch up 300", "catch up 300: rest", 300, &[2]),
+];
+
+/// How many copies of what the crate takes away or changes are made at a time.
+const AT_A_TIME: usize = 8;
+
+const STATION: usize = 0;
+const VALIDATOR: usize = 1;
+
+pub fn measure_all() {
+    let tenths = SIZES.map(|(size, rows)| (size, Talk::new(rows, rows / 10)));
+    type Of = fn(&Talk, &str, &str);
+    let lines: [(&str, Of); 6] = [
+        ("plan", Talk::plan),
+        ("plan: rest", Talk::rest_of_plan),
+        ("receive have", |talk, name, size| {
+            talk.receive(name, size, 0)
+        }),
+        ("receive have: rest", |talk, name, size| {
+            talk.rest_of_receive(name, size, 0)
+        }),
+        ("receive rows", |talk, name, size| {
+            talk.receive(name, size, 1)
+        }),
+        ("receive rows: rest", |talk, name, size| {
+            talk.rest_of_receive(name, size, 1)
+        }),
+    ];
+    for (name, measure) in lines {
+        for (size, talk) in &tenths {
+            measure(talk, name, size);
+        }
+    }
+    for (name, rest, lacking, sizes) in CATCH_UPS {
+        let talks = sizes.iter().map(|&k| SIZES[k]);
+        let talks = talks.map(|(size, rows)| (size, Talk::new(rows, lacking)));
+        let talks: Vec<(&str, Talk)> = talks.collect();
+        for (size, talk) in &talks {
+            talk.whole(name, size);
+        }
+        for (size, talk) in &talks {
+            talk.rest_of_whole(rest, size);
+        }
+    }
+}
+
+/// A session and the buffers that a host keeps for it and for what it says, each as
+/// long as it may have to be.
+struct Desk {
+    words: [u64; WORDS],
+    hashes: [Vec<u8>; 5],
+    haves: Vec<u64>,
+    bytes: Vec<u8>,
+    said: [Vec<u8>; 4],
+    message: Vec<u8>,
+}
+
+const LIST: usize = HASH * 1_024;
+
+impl Desk {
+    fn fresh() -> Desk {
+        Desk {
+            words: [0; WORDS],
+            hashes: [(); 5].map(|()| vec![0; LIST]),
+            haves: vec![0; 7 * 16],
+            bytes: vec![0; 655_360],
+            said: [LIST, LIST, 40_960, 2 * LIST].map(|size| vec![0; size]),
+            message: vec![0; 1 << 20],
+        }
+    }
+
+    fn plan(&mut self, table: &[u8], waiting: &[u8]) -> [u64; 16] {
+        let [shared, last_sent, their_heads, their_need, sent] = &mut self.hashes;
+        let [heads, need, have, list] = &mut self.said;
+        raw::plan(
+            &mut self.words,
+            shared,
+            last_sent,
+            their_heads,
+            their_need,
+            &self.haves,
+            &self.bytes,
+            sent,
+            table,
+            waiting,
+            heads,
+            need,
+            have,
+            list,
+        )
+    }
+
+    /// Writes what was planned, with these chunks; the message's length.
+    fn write(&mut self, plan: &[u64; 16], chunks: &[u8], lengths: &[u64]) -> usize {
+        let [heads, need, have, _] = &self.said;
+        let words = 7 * plan[7] as usize;
+        let answer = raw::write_message(
+            plan[2],
+            &heads[..HASH * plan[5] as usize],
+            &need[..HASH * plan[6] as usize],
+            have,
+            &plan[8..8 + words],
+            chunks,
+            lengths,
+            plan[3],
+            &mut self.message,
+        );
+        assert_eq!(answer[0], 0);
+        answer[1] as usize
+    }
+
+    fn receive(&mut self, table: &[u8], before: usize, message: &[u8]) {
+        let [shared, last_sent, their_heads, their_need, sent] = &mut self.hashes;
+        let answer = raw::receive(
+            &mut self.words,
+            shared,
+            last_sent,
+            their_heads,
+            their_need,
+            &mut self.haves,
+            &mut self.bytes,
+            sent,
+            table,
+            before,
+            message,
+            1,
+        );
+        assert_eq!(answer[0], 0);
+    }
+
+    /// How many shared heads there are, and heads of the peer.
+    fn heads(&self) -> u64 {
+        self.words[0] + self.words[3]
+    }
+}
+
+/// A message: over what it is planned, what it brings and beside what it is heard.
+struct Step {
+    from: usize,
+    table: Vec<u8>,
+    waiting: Vec<u8>,
+    chunks: Vec<u8>,
+    lengths: Vec<u64>,
+    before: usize,
+    after: Vec<u8>,
+    message: Vec<u8>,
+    /// The hearer's session before it.
+    hearer: Value,
+}
+
+/// A station with rows on up to three of the eight before them, a validator that
+/// lacks the last of them, and the messages by which it comes to hold them.
+struct Talk {
+    documents: [Automerge; 2],
+    steps: Vec<Step>,
+}
+
+impl Talk {
+    fn new(rows: usize, lacking: usize) -> Talk {
+        let mut random = Random(3);
+        let hashes = random.hashes(rows, Likeness::Spread);
+        let table = table_bytes(&random.rows_of(&hashes, Shape::Recent));
+        let held = &table[..ROW * (rows - lacking)];
+        let documents = [document(&table, &[]), document(held, &[])];
+        let starts = documents.clone().map(|one| (one, Value::default()));
+        let mut pair = Pair::new([published; 2], starts);
+        let (mut steps, mut turn) = (Vec::new(), VALIDATOR);
+        while steps.is_empty() || pair.held(STATION) != pair.held(VALIDATOR) {
+            steps.push(step(&mut pair, turn));
+            turn = 1 - turn;
+        }
+        let talk = Talk { documents, steps };
+        let mut desks = [Desk::fresh(), Desk::fresh()];
+        for step in &talk.steps {
+            let length = take(&mut desks, step);
+            assert_eq!(desks[step.from].message[..length], step.message);
+        }
+        talk
+    }
+
+    /// A run's number is how many heads and haves are said.
+    fn plan(&self, name: &str, size: &str) {
+        let step = &self.steps[0];
+        let mut desk = Desk::fresh();
+        let library = || {
+            desk.words = [0; WORDS];
+            let answer = desk.plan(black_box(&step.table), &[]);
+            black_box(&desk.said);
+            answer[5] + answer[7]
+        };
+        let document = &self.documents[VALIDATOR];
+        let published = |mut state: State| {
+            let message = document.generate_sync_message(&mut state);
+            let message = black_box(message).expect("a first message");
+            (message.heads.len() + message.have.len()) as u64
+        };
+        let note = "library: into lent buffers; crate: Vecs, over the stand-in document";
+        measure(name, size, note, library, State::new, published);
+    }
+
+    fn rest_of_plan(&self, name: &str, size: &str) {
+        let table = &self.steps[0].table;
+        let rows = self.documents[VALIDATOR].rows().len() as u64;
+        let library = || raw::check_table(black_box(table))[1];
+        let note = "library: the table tested; crate: nothing";
+        measure(name, size, note, library, || rows, black_box);
+    }
+
+    /// A run's number is how many heads are shared, and heard.
+    fn receive(&self, name: &str, size: &str, step: usize) {
+        let step = &self.steps[step];
+        let lent = compare::sessions::lent::Lent::laid(&step.hearer);
+        let mut desk = Desk::fresh();
+        let kept = [
+            &lent.shared,
+            &lent.last_sent,
+            &lent.their_heads,
+            &lent.their_need,
+            &lent.sent,
+        ];
+        let library = || {
+            desk.words = lent.words;
+            for (buffer, list) in desk.hashes.iter_mut().zip(kept) {
+                buffer[..list.len()].copy_from_slice(list);
+            }
+            desk.receive(black_box(&step.after), step.before, &step.message);
+            black_box(&desk.hashes);
+            desk.heads()
+        };
+        let (document, state) = self.hearing(step);
+        let given = || (document.clone(), state.clone());
+        let published = |(mut document, mut state): (Automerge, State)| {
+            let message = Message::decode(black_box(&step.message)).expect("a good message");
+            let heard = document.receive_sync_message(&mut state, message);
+            heard.expect("it loads");
+            let theirs = state.their_heads.as_ref().map_or(0, Vec::len);
+            (state.shared_heads.len() + theirs) as u64
+        };
+        let note = "library: reads the bytes and tests the table; crate: reads and loads";
+        measure(name, size, note, library, given, published);
+    }
+
+    /// The crate's unit that hears a message, before it.
+    fn hearing(&self, step: &Step) -> (&Automerge, State) {
+        let state = compare::sessions::published::state(&step.hearer);
+        (&self.documents[1 - step.from], state)
+    }
+
+    fn rest_of_receive(&self, name: &str, size: &str, step: usize) {
+        let step = &self.steps[step];
+        let library = || raw::check_table(black_box(&step.after))[1];
+        let (document, state) = self.hearing(step);
+        let given = || (document.clone(), state.clone());
+        let published = |(mut document, state): (Automerge, State)| {
+            assert!(load(&mut document, black_box(&step.chunks)));
+            black_box(&state);
+            document.rows().len() as u64
+        };
+        let note = "library: the table tested; crate: the changes loaded by the stand-in";
+        measure(name, size, note, library, given, published);
+    }
+
+    /// A run's number is how many bytes were said.
+    fn whole(&self, name: &str, size: &str) {
+        let mut desks = [Desk::fresh(), Desk::fresh()];
+        let library = || {
+            for desk in &mut desks {
+                desk.words = [0; WORDS];
+            }
+            let lengths = self.steps.iter().map(|step| take(&mut desks, step));
+            lengths.sum::<usize>() as u64
+        };
+        let published = |mut units: [(Automerge, State); 2]| {
+            let mut said = 0;
+            for step in &self.steps {
+                let (document, state) = &mut units[step.from];
+                let message = document.generate_sync_message(state);
+                let message = black_box(message.expect("something to say").encode());
+                said += message.len() as u64;
+                let message = Message::decode(&message).expect("a good message");
+                let (document, state) = &mut units[1 - step.from];
+                let heard = document.receive_sync_message(state, message);
+                heard.expect("it loads");
+            }
+            said
+        };
+        let note = "library: change bytes ready, the host's loading left out; crate: loads too";
+        measure(name, size, note, library, || self.units(), published);
+    }
+
+    fn units(&self) -> [(Automerge, State); 2] {
+        self.documents.clone().map(|one| (one, State::new()))
+    }
+
+    fn rest_of_whole(&self, name: &str, size: &str) {
+        let library = || {
+            let mut rows = 0;
+            for step in &self.steps {
+                raw::check_tables(black_box(&step.table), &step.waiting);
+                rows = raw::check_table(black_box(&step.after))[1];
+            }
+            rows
+        };
+        let published = |mut units: [(Automerge, State); 2]| {
+            for step in &self.steps {
+                let (document, _) = &mut units[1 - step.from];
+                assert!(load(document, black_box(&step.chunks)));
+            }
+            units[VALIDATOR].0.rows().len() as u64
+        };
+        let note = "library: the tables tested; crate: the changes loaded by the stand-in";
+        measure(name, size, note, library, || self.units(), published);
+    }
+}
+
+/// The next message of two units of the crate.
+fn step(pair: &mut Pair, from: usize) -> Step {
+    let hearer = pair.units[1 - from].session();
+    let before = pair.rows(1 - from).len();
+    let message = pair.speak(from).expect("something to say");
+    let chunks = Message::decode(&message).expect("a good message").changes;
+    let lengths = chunks.iter().map(|chunk| chunk.len() as u64).collect();
+    let speaker = pair.units[from].document();
+    let (table, waiting) = (table_of(speaker), waiting_of(speaker));
+    pair.hear(1 - from, &message);
+    Step {
+        from,
+        table,
+        waiting,
+        chunks: chunks.iter().flatten().copied().collect(),
+        lengths,
+        before,
+        after: table_of(pair.units[1 - from].document()),
+        message,
+        hearer,
+    }
+}
+
+/// The same message by the library, heard; its length.
+fn take(desks: &mut [Desk; 2], step: &Step) -> usize {
+    let [station, validator] = desks;
+    let (from, to) = match step.from {
+        STATION => (station, validator),
+        _ => (validator, station),
+    };
+    let plan = from.plan(black_box(&step.table), &step.waiting);
+    assert_eq!(plan[0], 0);
+    let length = from.write(&plan, &step.chunks, &step.lengths);
+    to.receive(black_box(&step.after), step.before, &from.message[..length]);
+    length
+}
+
+fn measure<T>(
+    name: &str,
+    size: &str,
+    note: &str,
+    library: impl FnMut() -> u64,
+    given: impl FnMut() -> T,
+    published: impl FnMut(T) -> u64,
+) {
+    let what = Line {
+        name,
+        size,
+        calls: 1,
+        note,
+    };
+    line_of(what, library, AT_A_TIME, given, published);
+}
