@@ -1,5 +1,5 @@
 //! Sessions: a first message planned, messages received, and whole catch-ups through
-//! bytes. The library tests its tables in each call, and the crate loads what a message
+//! bytes. The library tests its table in each call, and the crate loads what a message
 //! brings, which here is the host's to do; both are measured apart, as the rest.
 
 use crate::measure::{line_of, Line};
@@ -156,6 +156,29 @@ impl Desk {
     fn heads(&self) -> u64 {
         self.words[0] + self.words[3]
     }
+
+    /// Tests a table and does nothing else, since a message of no bytes is refused; how
+    /// many rows it has.
+    fn test(&mut self, table: &[u8]) -> u64 {
+        let [shared, last_sent, their_heads, their_need, sent] = &mut self.hashes;
+        self.words = [0; WORDS];
+        let answer = raw::receive(
+            &mut self.words,
+            shared,
+            last_sent,
+            their_heads,
+            their_need,
+            &mut self.haves,
+            &mut self.bytes,
+            sent,
+            table,
+            0,
+            &[],
+            1,
+        );
+        assert_eq!(answer, [1, 0, 0, 0]);
+        (table.len() / ROW) as u64
+    }
 }
 
 /// A message: over what it is planned, what it brings and beside what it is heard.
@@ -172,7 +195,7 @@ struct Step {
     hearer: Value,
 }
 
-/// A station with rows on up to three of the eight before them, a validator that
+/// A station with two rows on one and one on the two, again and again, a validator that
 /// lacks the last of them, and the messages by which it comes to hold them.
 struct Talk {
     documents: [Automerge; 2],
@@ -183,7 +206,7 @@ impl Talk {
     fn new(rows: usize, lacking: usize) -> Talk {
         let mut random = Random(3);
         let hashes = random.hashes(rows, Likeness::Spread);
-        let table = table_bytes(&random.rows_of(&hashes, Shape::Recent));
+        let table = table_bytes(&random.rows_of(&hashes, Shape::Diamonds));
         let held = &table[..ROW * (rows - lacking)];
         let documents = [document(&table, &[]), document(held, &[])];
         let starts = documents.clone().map(|one| (one, Value::default()));
@@ -225,7 +248,8 @@ impl Talk {
     fn rest_of_plan(&self, name: &str, size: &str) {
         let table = &self.steps[0].table;
         let rows = self.documents[VALIDATOR].rows().len() as u64;
-        let library = || raw::check_table(black_box(table))[1];
+        let mut desk = Desk::fresh();
+        let library = || desk.test(black_box(table));
         let note = "library: the table tested; crate: nothing";
         measure(name, size, note, library, || rows, black_box);
     }
@@ -272,7 +296,8 @@ impl Talk {
 
     fn rest_of_receive(&self, name: &str, size: &str, step: usize) {
         let step = &self.steps[step];
-        let library = || raw::check_table(black_box(&step.after))[1];
+        let mut desk = Desk::fresh();
+        let library = || desk.test(black_box(&step.after));
         let (document, state) = self.hearing(step);
         let given = || (document.clone(), state.clone());
         let published = |(mut document, state): (Automerge, State)| {
@@ -317,11 +342,12 @@ impl Talk {
     }
 
     fn rest_of_whole(&self, name: &str, size: &str) {
+        let mut desk = Desk::fresh();
         let library = || {
             let mut rows = 0;
             for step in &self.steps {
-                raw::check_tables(black_box(&step.table), &step.waiting);
-                rows = raw::check_table(black_box(&step.after))[1];
+                desk.test(black_box(&step.table));
+                rows = desk.test(black_box(&step.after));
             }
             rows
         };
