@@ -22,8 +22,9 @@ pub fn print_best() -> Result<(), String> {
     }
     println!("Nanoseconds a call, the best of {BATCHES} batches in each of {RUNS} runs; ratio: crate / library;");
     println!(
-        "growth: the library's time over that of the line above, where that has the same name.\n"
+        "growth: the library's time over that of the line above, where that has the same name;"
     );
+    println!("own: a line without its rest, where that is more than a twenty-fifth of the line.\n");
     print_columns(
         ["name", "size", "library", "crate", "ratio", "growth"],
         "note",
@@ -53,12 +54,18 @@ pub fn print_best() -> Result<(), String> {
     Ok(())
 }
 
-/// Of every two lines of which one is the other's rest: the other without it.
+/// Less than this part of a line is lost in how its time differs from run to run.
+const LOST: f64 = 0.04;
+
+/// Of every two lines of which one is the other's rest: the other without it, where
+/// that is enough to be told.
 fn differences(lines: &[Times]) -> Vec<Times> {
     let pairs = lines.iter().filter_map(|whole| {
         let rest = format!("{}{REST}", whole.name);
         let is_rest = |line: &&Times| line.name == rest && line.size == whole.size;
-        Some((whole, lines.iter().find(is_rest)?))
+        let rest = lines.iter().find(is_rest)?;
+        let enough = whole.library - rest.library > LOST * whole.library;
+        enough.then_some((whole, rest))
     });
     pairs
         .map(|(whole, rest)| Times {

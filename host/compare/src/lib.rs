@@ -24,6 +24,8 @@
 //! `sessions` has the steps of a session. `units` are whole units of the crate, of the
 //! model and of the library, `talks` pairs of them that talk at random, and `scenarios`
 //! what two units go through by name; there every step of every pair is the same.
+//! `walk` has two units of the library catch up beside the model of 01's walk, which
+//! knows nothing of sessions.
 //! `scale` runs all of these comparisons for as long as is asked.
 
 pub mod filters;

@@ -51,6 +51,10 @@ pub struct Seen {
     pub same_later: usize,
 }
 
+/// The columns of `Seen`, as a line over them.
+pub const COLUMNS: &str =
+    "  talks  lacking  carried  messages: middle  most  same rows  with saved states";
+
 impl fmt::Display for Seen {
     fn fmt(&self, f: &mut fmt::Formatter) -> fmt::Result {
         let mut messages = self.messages.clone();
@@ -65,12 +69,8 @@ impl fmt::Display for Seen {
             same_later,
             ..
         } = self;
-        write!(
-            f,
-            "{talks} talks, {lacking} rows lacking, {carried} carried, messages {middle} in the \
-             middle and {most} at most, the same rows after {same}, and after {same_later} \
-             with saved states"
-        )
+        write!(f, "{talks:>7}{lacking:>9}{carried:>9}{middle:>18}")?;
+        write!(f, "{most:>6}{same:>11}{same_later:>19}")
     }
 }
 

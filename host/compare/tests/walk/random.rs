@@ -24,7 +24,7 @@ fn random_catch_ups() {
     let count = scaled(500, 20_000);
     let (spread, dropped) = catch_ups(&mut seed.random(0), count);
     let (kept, longest) = (spread.catch_ups(), spread.at_the_bound());
-    println!("{count} catch-ups, {dropped} dropped, {kept} with rows lacking by list in");
+    println!("\n{count} catch-ups, {dropped} dropped, {kept} with rows lacking by list in");
     println!(
         "{} rounds, {longest} of them as long as may be",
         spread.rounds()
