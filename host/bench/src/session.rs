@@ -9,9 +9,12 @@ use compare::inputs::Random;
 use compare::model::session::Value;
 use compare::model::state::WORDS;
 use compare::model::table::{HASH, ROW};
+use compare::sessions::lent::Lent;
+use compare::sessions::published::state;
 use compare::tables::document;
 use compare::talks::Pair;
 use compare::units::{load, published, table_of, waiting_of};
+use compare::walk::{STATION, VALIDATOR};
 use crate_under_test::facade::{Automerge, Message, State, SyncDoc};
 use std::hint::black_box;
 
@@ -27,9 +30,6 @@ const CATCH_UPS: [(&str, &str, usize, &[usize]); 3] = [
 
 /// How many copies of what the crate takes away or changes are made at a time.
 const AT_A_TIME: usize = 8;
-
-const STATION: usize = 0;
-const VALIDATOR: usize = 1;
 
 pub fn measure_all() {
     let tenths = SIZES.map(|(size, rows)| (size, Talk::new(rows, rows / 10)));
@@ -134,8 +134,12 @@ impl Desk {
     }
 
     fn receive(&mut self, table: &[u8], before: usize, message: &[u8]) {
+        assert_eq!(self.hear(table, before, message), [0; 4]);
+    }
+
+    fn hear(&mut self, table: &[u8], before: usize, message: &[u8]) -> [u64; 4] {
         let [shared, last_sent, their_heads, their_need, sent] = &mut self.hashes;
-        let answer = raw::receive(
+        raw::receive(
             &mut self.words,
             shared,
             last_sent,
@@ -148,8 +152,7 @@ impl Desk {
             before,
             message,
             1,
-        );
-        assert_eq!(answer[0], 0);
+        )
     }
 
     /// How many shared heads there are, and heads of the peer.
@@ -160,23 +163,7 @@ impl Desk {
     /// Tests a table and does nothing else, since a message of no bytes is refused; how
     /// many rows it has.
     fn test(&mut self, table: &[u8]) -> u64 {
-        let [shared, last_sent, their_heads, their_need, sent] = &mut self.hashes;
-        self.words = [0; WORDS];
-        let answer = raw::receive(
-            &mut self.words,
-            shared,
-            last_sent,
-            their_heads,
-            their_need,
-            &mut self.haves,
-            &mut self.bytes,
-            sent,
-            table,
-            0,
-            &[],
-            1,
-        );
-        assert_eq!(answer, [1, 0, 0, 0]);
+        assert_eq!(self.hear(table, 0, &[]), [1, 0, 0, 0]);
         (table.len() / ROW) as u64
     }
 }
@@ -225,17 +212,25 @@ impl Talk {
         talk
     }
 
-    /// A run's number is how many heads and haves are said.
+    /// The station's first message, if it spoke first. A run's number is how many heads
+    /// and haves are said.
     fn plan(&self, name: &str, size: &str) {
-        let step = &self.steps[0];
+        let document = &self.documents[STATION];
+        let table = table_of(document);
         let mut desk = Desk::fresh();
+        let plan = desk.plan(&table, &[]);
+        let length = desk.write(&plan, &[], &[]);
+        let first = document.generate_sync_message(&mut State::new());
+        assert_eq!(
+            desk.message[..length],
+            first.expect("a first message").encode()
+        );
         let library = || {
             desk.words = [0; WORDS];
-            let answer = desk.plan(black_box(&step.table), &[]);
+            let answer = desk.plan(black_box(&table), &[]);
             black_box(&desk.said);
             answer[5] + answer[7]
         };
-        let document = &self.documents[VALIDATOR];
         let published = |mut state: State| {
             let message = document.generate_sync_message(&mut state);
             let message = black_box(message).expect("a first message");
@@ -246,10 +241,10 @@ impl Talk {
     }
 
     fn rest_of_plan(&self, name: &str, size: &str) {
-        let table = &self.steps[0].table;
-        let rows = self.documents[VALIDATOR].rows().len() as u64;
+        let table = table_of(&self.documents[STATION]);
+        let rows = self.documents[STATION].rows().len() as u64;
         let mut desk = Desk::fresh();
-        let library = || desk.test(black_box(table));
+        let library = || desk.test(black_box(&table));
         let note = "library: the table tested; crate: nothing";
         measure(name, size, note, library, || rows, black_box);
     }
@@ -257,9 +252,9 @@ impl Talk {
     /// A run's number is how many heads are shared, and heard.
     fn receive(&self, name: &str, size: &str, step: usize) {
         let step = &self.steps[step];
-        let lent = compare::sessions::lent::Lent::laid(&step.hearer);
+        let lent = Lent::laid(&step.hearer);
         let mut desk = Desk::fresh();
-        let kept = [
+        let lists = [
             &lent.shared,
             &lent.last_sent,
             &lent.their_heads,
@@ -268,7 +263,7 @@ impl Talk {
         ];
         let library = || {
             desk.words = lent.words;
-            for (buffer, list) in desk.hashes.iter_mut().zip(kept) {
+            for (buffer, list) in desk.hashes.iter_mut().zip(lists) {
                 buffer[..list.len()].copy_from_slice(list);
             }
             desk.receive(black_box(&step.after), step.before, &step.message);
@@ -290,8 +285,7 @@ impl Talk {
 
     /// The crate's unit that hears a message, before it.
     fn hearing(&self, step: &Step) -> (&Automerge, State) {
-        let state = compare::sessions::published::state(&step.hearer);
-        (&self.documents[1 - step.from], state)
+        (&self.documents[1 - step.from], state(&step.hearer))
     }
 
     fn rest_of_receive(&self, name: &str, size: &str, step: usize) {
