@@ -13,7 +13,7 @@ use std::fmt;
 
 #[derive(Clone, Copy, Debug, PartialEq, Eq)]
 pub enum Case {
-    /// The validator lacks more than a third of the rows and its filter hides none.
+    /// The validator lacks all rows but one, and its filter is not crowded.
     Document,
     NoRows,
     NewAtStation,
