@@ -1,7 +1,16 @@
-//! The proved sync library, called from Rust.
+//! The proved sync library, called from Rust: the `sync` module of automerge 0.11.0,
+//! ported to a language in which every function is proved to meet its contract.
+//!
+//! A program keeps its document and implements [`Host`]; for each peer it keeps a
+//! [`Session`], which says what to send and takes what comes. docs/MIGRATING.md has the
+//! way from automerge's own module, side by side.
 //!
 //! ```text
-//!   message     a message that was read, part by part
+//!   Session  generate, receive       Host, Memory    the document's side
+//!     |
+//!   Message, Have, Filter, SavedState, Table, Waiting, hashes_to_send
+//!     |
+//!   message     a message that was read, part by part, without a copy
 //!     |
 //!   refusal     an answer as a result: numbers, or a refusal that can be read
 //!     |
@@ -10,13 +19,14 @@
 //!   libsync.a   proved; docs/ABI.md is its page
 //! ```
 //!
-//! A reader says where an item stands in the bytes it is lent and copies
-//! nothing. `ac 02` is the number 300, and the next place is 2; of a number that
-//! is cut, the refusal tells the place where it starts.
+//! Nothing here decides what a filter, a message or a session is: every answer is the
+//! library's. Whatever breaks a rule gets a numbered [`Refusal`] that says what is wrong
+//! and where.
 //!
 //! ```
 //! use bisquetower::{raw, refusal};
 //!
+//! // `ac 02` is the number 300, and the next place is 2.
 //! let bytes = [0xac, 0x02, 0x80];
 //! let [value, next, _] = refusal::answer(raw::read_number(&bytes, 0, 3)).unwrap();
 //! assert_eq!((value, next), (300, 2));
@@ -26,6 +36,35 @@
 //! assert_eq!(cut.sentence(), "the input ends inside the item that starts at place 2");
 //! ```
 
+#![deny(missing_docs)]
+
+mod error;
+mod filter;
+mod flags;
+mod hash;
+mod have;
+mod host;
+mod memory;
 pub mod message;
 pub mod raw;
 pub mod refusal;
+mod room;
+mod said;
+mod saved;
+mod selection;
+mod session;
+mod table;
+
+pub use error::Error;
+pub use filter::Filter;
+pub use flags::{MessageFlags, MessageVersion};
+pub use hash::{ChangeHash, NotAHash};
+pub use have::Have;
+pub use host::Host;
+pub use memory::{Change, Memory, MemoryError};
+pub use refusal::Refusal;
+pub use said::Message;
+pub use saved::SavedState;
+pub use selection::hashes_to_send;
+pub use session::Session;
+pub use table::{Table, Waiting};

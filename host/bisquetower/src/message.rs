@@ -19,9 +19,13 @@
 use crate::raw;
 use crate::refusal::{answer, Refusal};
 
-/// Words of the answer, of a have and of a chunk.
+/// Words of the answer.
 pub const ANSWER_WORDS: usize = 12;
+
+/// Words of a have.
 pub const HAVE_WORDS: usize = 7;
+
+/// Words of a chunk.
 pub const CHUNK_WORDS: usize = 2;
 
 /// As many haves as a message may have.
@@ -33,6 +37,7 @@ pub const HASH: usize = 32;
 /// How the answer says that there is no flags section.
 pub const NO_FLAGS: u64 = 256;
 
+/// A message over the bytes that it was read from.
 #[derive(Clone, Copy, Debug)]
 pub struct Message<'a> {
     bytes: &'a [u8],
@@ -49,10 +54,15 @@ pub struct Message<'a> {
 /// filter.
 #[derive(Clone, Copy, Debug, PartialEq, Eq)]
 pub struct Have<'a> {
+    /// Hashes one after the other.
     pub last_sync: &'a [u8],
+    /// The filter's entries.
     pub entries: u64,
+    /// Its bits per entry.
     pub bits: u64,
+    /// Its probes.
     pub probes: u64,
+    /// Its bit field.
     pub field: &'a [u8],
 }
 
@@ -100,15 +110,17 @@ impl<'a> Message<'a> {
         self.version
     }
 
-    /// Hashes one after the other, here and in the need.
+    /// The sender's heads, one after the other.
     pub fn heads(&self) -> &'a [u8] {
         self.heads
     }
 
+    /// What the sender asks for, one hash after the other.
     pub fn need(&self) -> &'a [u8] {
         self.need
     }
 
+    /// What the sender has.
     pub fn haves(&self) -> impl ExactSizeIterator<Item = Have<'a>> {
         let bytes = self.bytes;
         self.haves.chunks(HAVE_WORDS).map(move |words| Have {
@@ -125,6 +137,7 @@ impl<'a> Message<'a> {
         self.haves
     }
 
+    /// The changes that the message carries.
     pub fn chunks(&self) -> impl ExactSizeIterator<Item = &'a [u8]> {
         let bytes = self.bytes;
         let words = self.chunks.chunks(CHUNK_WORDS);

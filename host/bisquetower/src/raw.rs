@@ -39,18 +39,26 @@ pub const UNWRITTEN: u64 = u64::from_be_bytes(*b"NOT SET!");
 /// The four calls that read, by name.
 #[derive(Clone, Copy, Debug, PartialEq, Eq)]
 pub enum Reader {
+    /// `read_number`
     Number,
+    /// `read_filter_number`
     FilterNumber,
+    /// `read_prefixed`
     Prefixed,
+    /// `read_hashes`
     Hashes,
 }
 
 /// A call that reads the item at `at`, in `bytes` up to `end`.
 #[derive(Clone, Copy, Debug, PartialEq, Eq)]
 pub struct Read<'a> {
+    /// Which call.
     pub reader: Reader,
+    /// What it is lent.
     pub bytes: &'a [u8],
+    /// Where it begins to read.
     pub at: usize,
+    /// Where it ends at the latest.
     pub end: usize,
 }
 

@@ -5,7 +5,9 @@ use std::fmt;
 /// Why a call refused: 01's number, and the value that goes with it.
 #[derive(Clone, Copy, Debug, PartialEq, Eq)]
 pub struct Refusal {
+    /// 1 to 11.
     pub number: u64,
+    /// A place, a row, a byte, a length or 0, by the number.
     pub value: u64,
 }
 
@@ -15,6 +17,7 @@ pub trait Answer {
     /// One less than there are words.
     type Numbers;
 
+    /// The numbers, or the refusal.
     fn numbers(self) -> Result<Self::Numbers, Refusal>;
 }
 

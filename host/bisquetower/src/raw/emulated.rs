@@ -115,6 +115,7 @@ pub struct Batch<'a> {
 }
 
 impl<'a> Batch<'a> {
+    /// No calls yet.
     pub fn new() -> Self {
         Batch::default()
     }

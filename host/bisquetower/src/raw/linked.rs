@@ -9,6 +9,7 @@ use std::marker::PhantomData;
 pub struct Batch<'a>(PhantomData<&'a mut [u8]>);
 
 impl Batch<'_> {
+    /// No calls yet.
     #[inline]
     pub fn new() -> Self {
         Batch(PhantomData)

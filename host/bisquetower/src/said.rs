@@ -1,0 +1,131 @@
+//! Messages as values.
+
+use crate::flags::{MessageFlags, MessageVersion};
+use crate::hash::{bytes_of, hashes_in, ChangeHash};
+use crate::have::{self, Have};
+use crate::message::{self, CHUNK_WORDS, HAVES, HAVE_WORDS, NO_FLAGS};
+use crate::refusal::{answer, Refusal};
+use crate::{raw, room};
+
+/// The most bytes that a number takes on the wire.
+const NUMBER: usize = 10;
+
+/// As many chunks as are read without asking again.
+const CHUNKS: usize = 64;
+
+/// What a unit says to another. [`message::Message`] is the same without a copy, for
+/// readers who lend their own lists.
+///
+/// ```
+/// use bisquetower::{Message, MessageFlags, MessageVersion};
+///
+/// let bytes = b"\x43\0\0\0\x01\x04sync\x02\x02\x84";
+/// let message = Message::decode(bytes)?;
+/// assert_eq!(message.version, MessageVersion::V2);
+/// assert_eq!(message.changes, [b"sync"]);
+/// assert!(message.flags.unwrap().contains(MessageFlags::SUPPORTS_SYNC_RESET));
+/// assert_eq!(message.encode()?, bytes);
+///
+/// let cut = Message::decode(&bytes[..7]).unwrap_err();
+/// assert_eq!(cut.to_string(), "refusal 1, value 5: the input ends inside the item that starts at place 5");
+/// # Ok::<(), bisquetower::Refusal>(())
+/// ```
+#[derive(Clone, Debug, Default, PartialEq, Eq)]
+pub struct Message {
+    /// The sender's heads.
+    pub heads: Vec<ChangeHash>,
+    /// Changes that the sender misses and asks for by name.
+    pub need: Vec<ChangeHash>,
+    /// What the sender has.
+    pub have: Vec<Have>,
+    /// Changes for the reader to load, as bytes that only hosts look into.
+    pub changes: Vec<Vec<u8>>,
+    /// None if there is no flags section; an empty section is no flags.
+    pub flags: Option<MessageFlags>,
+    /// How the message carries its changes.
+    pub version: MessageVersion,
+}
+
+impl Message {
+    /// Reads a message.
+    pub fn decode(bytes: &[u8]) -> Result<Message, Refusal> {
+        let (mut haves, mut chunks) = (vec![0; HAVES * HAVE_WORDS], vec![0; CHUNKS * CHUNK_WORDS]);
+        let mut words = raw::read_message(bytes, &mut haves, &mut chunks);
+        if let Err(Refusal { number: 7, value }) = answer(words) {
+            chunks.resize(value as usize, 0);
+            words = raw::read_message(bytes, &mut haves, &mut chunks);
+        }
+        let view = message::Message::of(bytes, words, &haves, &chunks)?;
+        Ok(Message {
+            heads: hashes_in(view.heads()),
+            need: hashes_in(view.need()),
+            have: have::haves_in(view.have_words(), bytes),
+            changes: view.chunks().map(<[u8]>::to_vec).collect(),
+            flags: view.flags().map(MessageFlags),
+            version: MessageVersion::of(view.version()),
+        })
+    }
+
+    /// Its bytes: refusal 4 if a part or the whole passes its limit.
+    pub fn encode(&self) -> Result<Vec<u8>, Refusal> {
+        let lent = Lent::new(self);
+        room::written(lent.room(), |out| lent.write(out))
+    }
+
+    /// Writes its bytes into a buffer of the caller's and tells how many: refusal 7 if
+    /// the buffer is too short, with the length wanted.
+    pub fn encode_into(&self, out: &mut [u8]) -> Result<usize, Refusal> {
+        let [length, ..] = answer(Lent::new(self).write(out))?;
+        Ok(length as usize)
+    }
+}
+
+/// A message's parts as the call that writes takes them.
+struct Lent {
+    version: u64,
+    heads: Vec<u8>,
+    need: Vec<u8>,
+    haves: Vec<u64>,
+    bytes: Vec<u8>,
+    chunks: Vec<u8>,
+    lengths: Vec<u64>,
+    flags: u64,
+}
+
+impl Lent {
+    fn new(message: &Message) -> Lent {
+        let (haves, bytes) = have::lend(&message.have);
+        let flags = message.flags.map_or(NO_FLAGS, |flags| flags.0.into());
+        Lent {
+            version: message.version.number(),
+            heads: bytes_of(&message.heads),
+            need: bytes_of(&message.need),
+            haves,
+            bytes,
+            chunks: message.changes.concat(),
+            lengths: message.changes.iter().map(|c| c.len() as u64).collect(),
+            flags,
+        }
+    }
+
+    /// Room for all of its parts and every number between them.
+    fn room(&self) -> usize {
+        let parts = [&self.heads, &self.need, &self.bytes, &self.chunks];
+        let parts: usize = parts.iter().map(|part| part.len()).sum();
+        parts + NUMBER * (5 + self.haves.len() + self.lengths.len())
+    }
+
+    fn write(&self, out: &mut [u8]) -> [u64; 4] {
+        raw::write_message(
+            self.version,
+            &self.heads,
+            &self.need,
+            &self.bytes,
+            &self.haves,
+            &self.chunks,
+            &self.lengths,
+            self.flags,
+            out,
+        )
+    }
+}

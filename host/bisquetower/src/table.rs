@@ -1,0 +1,200 @@
+//! Change tables and waiting tables (docs/ABI.md has how their rows stand).
+
+use crate::hash::{bytes_of, hashes_in, ChangeHash, HASH};
+use crate::refusal::{answer, Refusal};
+use crate::{raw, room};
+use std::collections::HashMap;
+
+/// Bytes of a change row and of a waiting row.
+const ROW: usize = 64;
+const WAITING_ROW: usize = 544;
+
+/// Row numbers that a change row has room for, and hashes that a waiting row has.
+const DEPENDENCIES: usize = 15;
+
+/// The changes that a unit holds, each below those that depend on it: hashes and row
+/// numbers, checked by the library.
+///
+/// ```
+/// use bisquetower::{ChangeHash, Table};
+///
+/// let hash = |name: u8| ChangeHash([name; 32]);
+/// let [a, b, c] = [b'a', b'b', b'c'].map(hash);
+/// let table = Table::from_changes([(a, vec![]), (b, vec![a]), (c, vec![a])])?;
+/// assert_eq!(table.heads(), [b, c]);
+/// assert_eq!(table.beyond(&[b])?, [c]);
+/// assert_eq!(table.dependencies(1), [0]);
+///
+/// // A row stands above what it depends on: the first bad row is told.
+/// let bad = Table::from_changes([(a, vec![]), (b, vec![c])]).unwrap_err();
+/// assert_eq!((bad.number, bad.value), (6, 1));
+/// # Ok::<(), bisquetower::Refusal>(())
+/// ```
+#[derive(Clone, Debug, Default, PartialEq, Eq)]
+pub struct Table(Vec<u8>);
+
+impl Table {
+    /// The table of records, if it is good.
+    pub fn new(bytes: impl Into<Vec<u8>>) -> Result<Table, Refusal> {
+        let bytes = bytes.into();
+        answer(raw::check_table(&bytes))?;
+        Ok(Table(bytes))
+    }
+
+    /// The table of changes and their dependencies, if it is good: every dependency is
+    /// the hash of a change before its own.
+    pub fn from_changes<D: AsRef<[ChangeHash]>>(
+        changes: impl IntoIterator<Item = (ChangeHash, D)>,
+    ) -> Result<Table, Refusal> {
+        let mut rows = Rows::default();
+        for (hash, dependencies) in changes {
+            rows.push(hash, dependencies.as_ref());
+        }
+        Table::new(rows.bytes)
+    }
+
+    /// How many rows it has.
+    pub fn rows(&self) -> usize {
+        self.0.len() / ROW
+    }
+
+    /// Its records.
+    pub fn as_bytes(&self) -> &[u8] {
+        &self.0
+    }
+
+    /// The hash of a row. Panics if there is no such row, here and below.
+    pub fn hash(&self, row: usize) -> ChangeHash {
+        let record = &self.0[ROW * row..][..HASH];
+        ChangeHash(record.try_into().expect("so long"))
+    }
+
+    /// Every row's hash, in table order.
+    pub fn hashes(&self) -> Vec<ChangeHash> {
+        (0..self.rows()).map(|row| self.hash(row)).collect()
+    }
+
+    /// The rows that a row depends on, ascending.
+    pub fn dependencies(&self, row: usize) -> Vec<usize> {
+        let numbers = self.0[ROW * row + HASH..][..ROW - HASH].chunks_exact(2);
+        let mut numbers = numbers.map(|two| u16::from_le_bytes([two[0], two[1]]).into());
+        let count = numbers.next().unwrap_or_default();
+        numbers.take(count).collect()
+    }
+
+    /// The rows that no row depends on, ascending.
+    pub fn heads(&self) -> Vec<ChangeHash> {
+        let rows = self.rows();
+        let heads = room::written(HASH * rows, |out| raw::heads(&self.0, rows, out));
+        hashes_in(&heads.expect("a good table has heads"))
+    }
+
+    /// The rows that are neither among these hashes nor below one, in table order:
+    /// refusal 4 for more hashes than a list has.
+    pub fn beyond(&self, hashes: &[ChangeHash]) -> Result<Vec<ChangeHash>, Refusal> {
+        let lent = bytes_of(hashes);
+        let room = HASH * self.rows();
+        room::written(room, |out| raw::beyond(&self.0, &lent, out)).map(|b| hashes_in(&b))
+    }
+
+    /// What is missing of these hashes and of all that waiting changes ask for them,
+    /// each once, ascending: refusal 4 for more than a list has.
+    pub fn missing(
+        &self,
+        waiting: &Waiting,
+        hashes: &[ChangeHash],
+    ) -> Result<Vec<ChangeHash>, Refusal> {
+        let lent = bytes_of(hashes);
+        let missing = room::written(lent.len(), |out| {
+            raw::missing(&self.0, &waiting.0, &lent, out)
+        });
+        missing.map(|bytes| hashes_in(&bytes))
+    }
+}
+
+/// Changes that came before what they depend on: hashes alone, checked by the library.
+#[derive(Clone, Debug, Default, PartialEq, Eq)]
+pub struct Waiting(Vec<u8>);
+
+impl Waiting {
+    /// The table of records beside a change table, if it is good.
+    pub fn new(bytes: impl Into<Vec<u8>>, table: &Table) -> Result<Waiting, Refusal> {
+        let bytes = bytes.into();
+        answer(raw::check_tables(&table.0, &bytes))?;
+        Ok(Waiting(bytes))
+    }
+
+    /// The table of changes and their dependencies beside a change table, if it is
+    /// good: none stands twice or in the change table.
+    pub fn from_changes<D: AsRef<[ChangeHash]>>(
+        changes: impl IntoIterator<Item = (ChangeHash, D)>,
+        table: &Table,
+    ) -> Result<Waiting, Refusal> {
+        let mut bytes = Vec::new();
+        for (hash, dependencies) in changes {
+            push_waiting(&mut bytes, hash, dependencies.as_ref());
+        }
+        Waiting::new(bytes, table)
+    }
+
+    /// How many changes wait.
+    pub fn rows(&self) -> usize {
+        self.0.len() / WAITING_ROW
+    }
+
+    /// Its records.
+    pub fn as_bytes(&self) -> &[u8] {
+        &self.0
+    }
+
+    /// The hash of a waiting change. Panics if there is no such row.
+    pub fn hash(&self, row: usize) -> ChangeHash {
+        let record = &self.0[WAITING_ROW * row..][..HASH];
+        ChangeHash(record.try_into().expect("so long"))
+    }
+}
+
+/// Records of a change table that grows. What a row can't say makes it a bad row, so
+/// that the library tells it.
+#[derive(Clone, Debug, Default)]
+pub(crate) struct Rows {
+    pub(crate) bytes: Vec<u8>,
+    numbers: HashMap<ChangeHash, usize>,
+}
+
+impl Rows {
+    pub(crate) fn push(&mut self, hash: ChangeHash, dependencies: &[ChangeHash]) {
+        let own = self.bytes.len() / ROW;
+        // A row below itself is bad, as is one that depends on what isn't there.
+        let number = |dependency| self.numbers.get(dependency).copied().unwrap_or(own);
+        let mut numbers: Vec<usize> = dependencies.iter().map(number).collect();
+        numbers.sort_unstable();
+        numbers.dedup();
+        let mut fields = [0; 1 + DEPENDENCIES];
+        let all = std::iter::once(numbers.len()).chain(numbers);
+        for (field, number) in fields.iter_mut().zip(all) {
+            *field = u16::try_from(number).unwrap_or(u16::MAX);
+        }
+        self.bytes.extend(hash.0);
+        self.bytes
+            .extend(fields.iter().flat_map(|n| n.to_le_bytes()));
+        self.numbers.entry(hash).or_insert(own);
+    }
+
+    /// The row of a hash.
+    pub(crate) fn find(&self, hash: &ChangeHash) -> Option<usize> {
+        self.numbers.get(hash).copied()
+    }
+}
+
+/// Adds a waiting row; one with too many dependencies is a bad row.
+pub(crate) fn push_waiting(bytes: &mut Vec<u8>, hash: ChangeHash, dependencies: &[ChangeHash]) {
+    let end = bytes.len() + WAITING_ROW;
+    bytes.extend(hash.0);
+    bytes.push(u8::try_from(dependencies.len()).unwrap_or(u8::MAX));
+    bytes.extend([0; HASH - 1]);
+    bytes.extend(bytes_of(
+        &dependencies[..dependencies.len().min(DEPENDENCIES)],
+    ));
+    bytes.resize(end, 0);
+}

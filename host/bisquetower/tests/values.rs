@@ -1,0 +1,190 @@
+//! Filters, messages, saved states and tables as values, at their bounds.
+
+use bisquetower::{
+    hashes_to_send, ChangeHash, Filter, Have, Memory, Message, MessageFlags, MessageVersion,
+    Refusal, SavedState, Session, Table, Waiting,
+};
+
+fn hash(n: usize) -> ChangeHash {
+    let mut hash = [0x5a; 32];
+    hash[..8].copy_from_slice(&(n as u64).to_le_bytes());
+    ChangeHash(hash)
+}
+
+fn hashes(count: usize) -> Vec<ChangeHash> {
+    (0..count).map(hash).collect()
+}
+
+fn refusal(number: u64, value: u64) -> Refusal {
+    Refusal { number, value }
+}
+
+/// Every part, more chunks than are read at first, and a filter of each kind.
+#[test]
+fn a_message_is_read_back() {
+    let mut flags = MessageFlags::new();
+    flags.set(MessageFlags::READ_ONLY);
+    let have = |count| Have {
+        last_sync: hashes(count),
+        bloom: Filter::from_hashes(&hashes(count)).unwrap(),
+    };
+    let message = Message {
+        heads: hashes(3),
+        need: hashes(2),
+        have: vec![have(5), Have::default(), have(1)],
+        changes: (0..300).map(|length| vec![7; length % 5]).collect(),
+        flags: Some(flags),
+        version: MessageVersion::V1,
+    };
+    let bytes = message.encode().unwrap();
+    assert_eq!(Message::decode(&bytes), Ok(message.clone()));
+
+    let mut out = vec![0; bytes.len()];
+    assert_eq!(message.encode_into(&mut out), Ok(bytes.len()));
+    assert_eq!(out, bytes);
+    let short = message.encode_into(&mut out[1..]);
+    assert_eq!(short, Err(refusal(7, bytes.len() as u64)));
+}
+
+#[test]
+fn no_section_and_an_empty_one_differ() {
+    let read = |bytes: &[u8]| Message::decode(bytes).unwrap();
+    let none = read(b"\x42\0\0\0\0");
+    let empty = read(b"\x42\0\0\0\0\0");
+    assert_eq!((none.flags, empty.flags), (None, Some(MessageFlags::new())));
+    assert_eq!(none.encode().unwrap(), b"\x42\0\0\0\0");
+}
+
+#[test]
+fn limits_of_a_message() {
+    let long = Message {
+        heads: hashes(1_025),
+        ..Message::default()
+    };
+    assert_eq!(long.encode(), Err(refusal(4, 0)));
+    let large = Message {
+        changes: vec![vec![0; 4_194_304]],
+        ..Message::default()
+    };
+    assert_eq!(large.encode(), Err(refusal(4, 0)));
+    assert_eq!(Message::decode(b""), Err(refusal(1, 0)));
+    assert_eq!(Message::decode(b"\x41"), Err(refusal(2, 0x41)));
+}
+
+/// What a fresh session says of an empty document, and a read-only one.
+#[test]
+fn first_words() {
+    let said = |mut session: Session| {
+        let message = session.generate(&Memory::new()).unwrap();
+        message.expect("the first message").encode().unwrap()
+    };
+    assert_eq!(said(Session::new()), b"\x42\0\0\x01\0\0\0\x02\x02\x84");
+    assert_eq!(
+        said(Session::new_read_only()),
+        b"\x42\0\0\x01\0\0\0\x02\x02\x86"
+    );
+}
+
+#[test]
+fn filters_at_their_bounds() {
+    let all = hashes(819);
+    let filter = Filter::with(80, 64, &all).unwrap();
+    assert_eq!(filter.bits().len(), 8_190);
+    assert!(filter.contains_hashes(&all).iter().all(|&yes| yes));
+    assert_eq!(Filter::parse(&filter.to_bytes()), Ok(filter));
+    assert_eq!(Filter::with(81, 64, &all), Err(refusal(10, 0)));
+    assert_eq!(Filter::with(10, 65, &all), Err(refusal(10, 0)));
+    assert_eq!(Filter::from_hashes(&hashes(1_025)), Err(refusal(4, 0)));
+
+    assert_eq!(Filter::parse(&[]), Ok(Filter::default()));
+    assert_eq!(Filter::default().to_bytes(), []);
+    assert!(!Filter::default().contains_hash(&hash(0)));
+    assert_eq!(Filter::parse_first(&[0, 3, 100, 9]).unwrap().1, 3);
+}
+
+/// The filter of the hash whose words are 1, 2, 3, and a hash that it mistakes for it.
+#[test]
+fn a_false_yes() {
+    let words = |words: [u32; 3]| {
+        let mut hash = [0; 32];
+        for (part, word) in hash.chunks_mut(4).zip(words) {
+            part.copy_from_slice(&word.to_le_bytes());
+        }
+        ChangeHash(hash)
+    };
+    let filter = Filter::from_hashes(&[words([1, 2, 3])]).unwrap();
+    assert_eq!(filter.to_bytes(), [1, 10, 7, 0x0b, 0x0f]);
+    let asked = [words([1, 0, 0]), words([2, 0, 0])];
+    assert_eq!(filter.contains_hashes(&asked), [true, false]);
+}
+
+#[test]
+fn saved_states_at_their_bounds() {
+    let state = |count| SavedState {
+        shared_heads: hashes(count),
+    };
+    let bytes = state(1_024).encode().unwrap();
+    assert_eq!(SavedState::decode(&bytes), Ok(state(1_024)));
+    assert_eq!(state(1_025).encode(), Err(refusal(10, 0)));
+    let cut = &bytes[..bytes.len() - 1];
+    let last = (3 + 32 * 1_023) as u64;
+    assert_eq!(SavedState::decode(cut), Err(refusal(1, last)));
+    assert_eq!(SavedState::decode(b"\x42"), Err(refusal(2, 0x42)));
+}
+
+#[test]
+fn a_table_of_the_most_rows() {
+    let chain = |rows: usize| {
+        (0..rows).map(|row| {
+            let on: Vec<ChangeHash> = row.checked_sub(1).map(hash).into_iter().collect();
+            (hash(row), on)
+        })
+    };
+    let table = Table::from_changes(chain(1_024)).unwrap();
+    assert_eq!((table.rows(), table.heads()), (1_024, vec![hash(1_023)]));
+    assert_eq!(
+        table.beyond(&[hash(1_020)]).unwrap(),
+        [1_021, 1_022, 1_023].map(hash)
+    );
+    assert_eq!(Table::from_changes(chain(1_025)), Err(refusal(4, 0)));
+    assert_eq!(Table::new(&table.as_bytes()[..63]), Err(refusal(6, 0)));
+}
+
+#[test]
+fn bad_rows_are_told() {
+    let fifteen: Vec<_> = (0..15).map(|n| (hash(n), vec![])).collect();
+    let on = |count| {
+        let mut rows = fifteen.clone();
+        rows.push((hash(15), vec![]));
+        rows.push((hash(16), hashes(count)));
+        Table::from_changes(rows).map(|table| table.dependencies(16).len())
+    };
+    assert_eq!((on(15), on(16)), (Ok(15), Err(refusal(6, 16))));
+    let twice = Table::from_changes([(hash(0), vec![]), (hash(0), vec![])]);
+    assert_eq!(twice, Err(refusal(6, 1)));
+    let none = Table::from_changes([(hash(0), vec![hash(1)])]);
+    assert_eq!(none, Err(refusal(6, 0)));
+}
+
+/// A waiting change asks for what it depends on, and this for what lies under it.
+#[test]
+fn what_is_missing_through_waiting_changes() {
+    let table = Table::from_changes([(hash(0), vec![])]).unwrap();
+    let changes = [(hash(3), vec![hash(2)]), (hash(2), vec![hash(0), hash(1)])];
+    let waiting = Waiting::from_changes(changes, &table).unwrap();
+    assert_eq!((waiting.rows(), waiting.hash(1)), (2, hash(2)));
+    let missing = table.missing(&waiting, &[hash(3), hash(9), hash(0)]);
+    assert_eq!(missing.unwrap(), [hash(1), hash(9)]);
+    let held = Waiting::from_changes([(hash(0), vec![])], &table);
+    assert_eq!(held, Err(refusal(9, 0)));
+    let many = Waiting::from_changes([(hash(1), hashes(16))], &table);
+    assert_eq!(many, Err(refusal(9, 0)));
+}
+
+#[test]
+fn without_a_have_needs_alone_are_sent() {
+    let table = Table::from_changes([(hash(0), vec![]), (hash(1), vec![hash(0)])]).unwrap();
+    let need = [hash(1), hash(7), hash(1)];
+    let sent = hashes_to_send(&table, &[], &need).unwrap();
+    assert_eq!(sent, [hash(1), hash(1)]);
+}
