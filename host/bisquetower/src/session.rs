@@ -3,6 +3,8 @@
 mod generate;
 mod receive;
 
+pub use generate::Plan;
+
 use crate::hash::{hashes_in, ChangeHash, HASH};
 use crate::have::{haves_in, Have};
 use crate::message::HAVE_WORDS;

@@ -3,7 +3,8 @@
 use super::{Lists, Session};
 use crate::hash::{hashes_in, ChangeHash, HASH};
 use crate::have::haves_in;
-use crate::{raw, refusal, Error, Host, Message, MessageFlags, MessageVersion};
+use crate::refusal::{answer, Refusal};
+use crate::{raw, Error, Host, Message, MessageFlags, MessageVersion};
 use std::borrow::Cow;
 
 /// The most bytes of a hash list, of a have, and of the hashes to send.
@@ -14,6 +15,17 @@ const TO_SEND: usize = 65_536;
 /// How the answer says that there is nothing to say.
 const NOTHING: u64 = 0;
 
+/// A message whose changes the host is still to lend.
+#[derive(Clone, Debug, PartialEq, Eq)]
+pub struct Plan {
+    /// The message without its changes.
+    pub message: Message,
+    /// Whether the whole document goes, and not the changes one by one.
+    pub document: bool,
+    /// The hashes of the changes that go; of a document, those of all rows.
+    pub hashes: Vec<ChangeHash>,
+}
+
 impl Session {
     /// What to say to the peer next; none if there is nothing to say, or an answer is
     /// awaited. The message is a value: [`Message::encode`] makes its bytes.
@@ -21,22 +33,16 @@ impl Session {
     pub fn generate<H: Host>(&mut self, host: &H) -> Result<Option<Message>, Error<H::Error>> {
         // The session changes once the host has lent everything.
         let mut next = self.clone();
-        let Some(planned) = next.plan(&host.table(), &host.waiting())? else {
-            *self = next;
-            return Ok(None);
-        };
-        let changes = match planned.document {
-            true => vec![host.save().map_err(Error::Lend)?],
-            false => lent_changes(host, &planned).map_err(Error::Lend)?,
-        };
+        let plan = next.plan(&host.table(), &host.waiting())?;
+        let message = plan.map(|plan| plan.lend(host)).transpose();
+        let message = message.map_err(Error::Lend)?;
         *self = next;
-        Ok(Some(Message {
-            changes,
-            ..planned.message
-        }))
+        Ok(message)
     }
 
-    fn plan(&mut self, table: &[u8], waiting: &[u8]) -> Result<Option<Planned>, refusal::Refusal> {
+    /// What `generate` is to say, over tables as bytes: for hosts that make the changes'
+    /// bytes themselves. The session takes it as said.
+    pub fn plan(&mut self, table: &[u8], waiting: &[u8]) -> Result<Option<Plan>, Refusal> {
         let mut heads = vec![0; LIST];
         let (mut need, mut have, mut list) = (vec![0; LIST], vec![0; HAVE], vec![0; TO_SEND]);
         let Lists {
@@ -67,7 +73,7 @@ impl Session {
             &mut list,
         );
         self.trim();
-        let answer = refusal::answer(words)?;
+        let answer = answer(words)?;
         let [what, version, flags, document, head_count, need_count, have_count, ..] = answer;
         if what == NOTHING {
             return Ok(None);
@@ -77,7 +83,7 @@ impl Session {
             0 => &[],
             _ => &answer[7..14],
         };
-        Ok(Some(Planned {
+        Ok(Some(Plan {
             message: Message {
                 heads: first(&heads, head_count),
                 need: first(&need, need_count),
@@ -87,24 +93,26 @@ impl Session {
                 version: MessageVersion::of(version),
             },
             document: document != 0,
-            list: first(&list, answer[14]),
+            hashes: first(&list, answer[14]),
         }))
     }
 }
 
-/// A message whose changes are still to be lent: those of the list, or the document.
-struct Planned {
-    message: Message,
-    document: bool,
-    list: Vec<ChangeHash>,
-}
-
-/// The changes of a list: each a chunk in version 1, all of them one in version 2.
-fn lent_changes<H: Host>(host: &H, planned: &Planned) -> Result<Vec<Vec<u8>>, H::Error> {
-    let changes = planned.list.iter().map(|hash| host.change(hash));
-    let changes: Vec<Cow<[u8]>> = changes.collect::<Result<_, _>>()?;
-    Ok(match planned.message.version {
-        MessageVersion::V2 if !changes.is_empty() => vec![changes.concat()],
-        _ => changes.into_iter().map(Cow::into_owned).collect(),
-    })
+impl Plan {
+    /// The message with its changes: each a chunk in version 1, all of them one in
+    /// version 2; a document is one.
+    pub fn lend<H: Host>(self, host: &H) -> Result<Message, H::Error> {
+        let mut message = self.message;
+        if self.document {
+            message.changes = vec![host.save()?];
+            return Ok(message);
+        }
+        let changes = self.hashes.iter().map(|hash| host.change(hash));
+        let changes: Vec<Cow<[u8]>> = changes.collect::<Result<_, _>>()?;
+        message.changes = match message.version {
+            MessageVersion::V2 if !changes.is_empty() => vec![changes.concat()],
+            _ => changes.into_iter().map(Cow::into_owned).collect(),
+        };
+        Ok(message)
+    }
 }

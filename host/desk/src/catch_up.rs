@@ -1,0 +1,41 @@
+//! `catch-up`: two units talk through the proved sessions.
+
+mod json;
+mod lines;
+mod svg;
+mod talk;
+
+use crate::args::Options;
+use crate::failure::Failure;
+use crate::{files, table};
+use std::path::Path;
+
+pub use talk::{Said, Talk};
+
+const OPTIONS: Options = Options {
+    command: "catch-up",
+    switches: &["--json", "--force"],
+    valued: &["--svg"],
+};
+
+pub fn run(words: &[String]) -> Result<String, Failure> {
+    let args = OPTIONS.read(words)?;
+    let [station, validator] = OPTIONS.names(&args, "a station's table and a validator's")?;
+    if station == "-" && validator == "-" {
+        return Err(OPTIONS.wrong("standard input can be one of the tables, not both"));
+    }
+    let station = table::read(&station)?;
+    let validator = table::read(&validator)?;
+    let talk = Talk::of(&station, &validator)?;
+    if let Some(file) = args.value("--svg") {
+        files::write(
+            Path::new(file),
+            svg::draw(&talk).as_bytes(),
+            args.has("--force"),
+        )?;
+    }
+    Ok(match args.has("--json") {
+        true => json::text(&talk),
+        false => lines::text(&talk),
+    })
+}

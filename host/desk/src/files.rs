@@ -1,0 +1,67 @@
+//! Files that are read, up to what the library looks at, and files that are written.
+
+use crate::failure::Failure;
+use std::fs::{self, File, OpenOptions};
+use std::io::{ErrorKind, Read, Write};
+use std::path::Path;
+
+/// One byte more than the longest message: a file that goes on is refused or ignored
+/// just as these bytes are.
+const MOST: u64 = 4_194_304 + 1;
+
+/// The first bytes of a file, or of standard input for `-`.
+pub fn read(name: &str) -> Result<Vec<u8>, Failure> {
+    let mut bytes = Vec::new();
+    let done = match name {
+        "-" => std::io::stdin().take(MOST).read_to_end(&mut bytes),
+        name => File::open(name).and_then(|file| file.take(MOST).read_to_end(&mut bytes)),
+    };
+    match done {
+        Ok(_) => Ok(bytes),
+        Err(error) => {
+            let next = match error.kind() {
+                ErrorKind::NotFound => {
+                    "name a file that is there; `bisquetower sample DIR` makes some."
+                }
+                ErrorKind::PermissionDenied => "give yourself the right to read it.",
+                _ => "name a file that holds bytes, or - for standard input.",
+            };
+            Err(Failure::file(
+                format!("{name} can't be read: {error}"),
+                next,
+            ))
+        }
+    }
+}
+
+/// Writes a file; one that is there stays unless `force` is set.
+pub fn write(path: &Path, bytes: &[u8], force: bool) -> Result<(), Failure> {
+    let mut options = OpenOptions::new();
+    options.write(true);
+    match force {
+        true => options.create(true).truncate(true),
+        false => options.create_new(true),
+    };
+    let done = options
+        .open(path)
+        .and_then(|mut file| file.write_all(bytes));
+    done.map_err(|error| match error.kind() {
+        ErrorKind::AlreadyExists => Failure::file(
+            format!("{} is there already", path.display()),
+            "name another, or write over it with --force.",
+        ),
+        _ => unwritten(path, &error),
+    })
+}
+
+/// Makes a folder, unless it is there.
+pub fn make_folder(path: &Path) -> Result<(), Failure> {
+    fs::create_dir_all(path).map_err(|error| unwritten(path, &error))
+}
+
+fn unwritten(path: &Path, error: &std::io::Error) -> Failure {
+    Failure::file(
+        format!("{} can't be written: {error}", path.display()),
+        "name a folder that is there and that you may write to.",
+    )
+}

@@ -1,0 +1,47 @@
+//! `inspect`: what a file holds, in columns, or why it is refused and where.
+
+mod kind;
+mod shown;
+
+use crate::args::Options;
+use crate::failure::Failure;
+use crate::{files, hex};
+use bisquetower::Refusal;
+pub use kind::Kind;
+
+const OPTIONS: Options = Options {
+    command: "inspect",
+    switches: &["--full"],
+    valued: &["--as"],
+};
+
+pub fn run(words: &[String]) -> Result<String, Failure> {
+    let args = OPTIONS.read(words)?;
+    let [file] = OPTIONS.names(&args, "one file")?;
+    let named = match args.value("--as") {
+        Some(name) => Some(Kind::named(name).ok_or_else(|| {
+            OPTIONS.wrong(format!(
+                "{name} is no kind: message, state, filter or table"
+            ))
+        })?),
+        None => Kind::of_file(&file),
+    };
+    let bytes = files::read(&file)?;
+    let kind = named.unwrap_or_else(|| Kind::guess(&bytes));
+    let shown = kind.show(&bytes, args.has("--full"));
+    let shown = shown.map_err(|refusal| refused(&file, kind, &bytes, refusal))?;
+    let other = match named {
+        None => kind.hint(&bytes),
+        Some(_) => String::new(),
+    };
+    Ok(format!("{file}: {shown}{other}"))
+}
+
+/// The refusal, and the bytes at its place.
+pub fn refused(file: &str, kind: Kind, bytes: &[u8], refusal: Refusal) -> Failure {
+    let mut what = format!("{file}, read as a {kind}: {refusal}\n");
+    if let Some(place) = kind.place(refusal) {
+        what += &hex::view(bytes, place);
+    }
+    Failure::refused(what.trim_end(), kind.advice(refusal))
+}

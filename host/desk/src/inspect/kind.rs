@@ -1,0 +1,142 @@
+//! What a file may hold, and how that is told when it isn't named.
+
+use super::shown;
+use bisquetower::raw;
+use bisquetower::refusal::answer;
+use bisquetower::{message, Filter, Message, Refusal, SavedState, Table};
+use std::fmt;
+use std::path::Path;
+
+#[derive(Clone, Copy, Debug, PartialEq, Eq)]
+pub enum Kind {
+    Message,
+    State,
+    Filter,
+    Table,
+}
+
+/// In the order in which they are tried.
+const KINDS: [Kind; 4] = [Kind::Message, Kind::State, Kind::Table, Kind::Filter];
+
+/// Bytes of a change row.
+const ROW: usize = 64;
+
+impl Kind {
+    pub fn named(name: &str) -> Option<Kind> {
+        KINDS.into_iter().find(|kind| kind.name() == name)
+    }
+
+    /// As the end of a file's name says.
+    pub fn of_file(file: &str) -> Option<Kind> {
+        Kind::named(Path::new(file).extension()?.to_str()?)
+    }
+
+    /// The first kind that takes all the bytes, else one that takes some of them. What
+    /// nothing takes is read as what its first byte or its length looks like.
+    pub fn guess(bytes: &[u8]) -> Kind {
+        if bytes.is_empty() {
+            return Kind::Message;
+        }
+        let takes = |whole: bool| {
+            let mut kinds = KINDS.into_iter();
+            kinds.find(|kind| match kind.read(bytes) {
+                Ok(next) => next == bytes.len() || !whole,
+                Err(_) => false,
+            })
+        };
+        let looks = match bytes[0] {
+            0x42 | 0x43 => Kind::Message,
+            _ if bytes.len() >= ROW => Kind::Table,
+            _ => Kind::Message,
+        };
+        takes(true).or(takes(false)).unwrap_or(looks)
+    }
+
+    /// What else the bytes may be.
+    pub fn hint(self, bytes: &[u8]) -> String {
+        let whole = |kind: &Kind| *kind != self && kind.read(bytes) == Ok(bytes.len());
+        let others = KINDS.iter().filter(|kind| whole(kind));
+        let others: Vec<String> = others.map(|kind| format!("--as {}", kind.name())).collect();
+        match others.is_empty() {
+            true => String::new(),
+            false => format!("  (it can be read otherwise too: {})\n", others.join(", ")),
+        }
+    }
+
+    /// The place after all that is read.
+    fn read(self, bytes: &[u8]) -> Result<usize, Refusal> {
+        match self {
+            Kind::Message => {
+                let (mut haves, mut chunks) = (vec![0; 112], vec![0; 8_192]);
+                let read = message::Message::read(bytes, &mut haves, &mut chunks)?;
+                Ok(read.next())
+            }
+            Kind::State => {
+                SavedState::decode(bytes)?;
+                let [_, _, next] = answer(raw::read_hashes(bytes, 1, bytes.len()))?;
+                Ok(next as usize)
+            }
+            Kind::Filter => Filter::parse_first(bytes).map(|(_, next)| next),
+            Kind::Table => Table::new(bytes).map(|table| table.as_bytes().len()),
+        }
+    }
+
+    pub fn show(self, bytes: &[u8], full: bool) -> Result<String, Refusal> {
+        let next = self.read(bytes)?;
+        let mut text = match self {
+            Kind::Message => shown::message(&Message::decode(bytes)?, next, full),
+            Kind::State => shown::state(&SavedState::decode(bytes)?, next, full),
+            Kind::Filter => shown::filter(&Filter::parse(bytes)?, next),
+            Kind::Table => shown::table(&Table::new(bytes)?, full),
+        };
+        if next < bytes.len() {
+            text += &shown::rest(bytes.len() - next, next);
+        }
+        Ok(text)
+    }
+
+    /// Where a refusal points, if it points at a byte.
+    pub fn place(self, refusal: Refusal) -> Option<usize> {
+        let value = refusal.value as usize;
+        match (refusal.number, self) {
+            (2, _) => Some(0),
+            (6, _) => Some(ROW * value),
+            // As a whole, not at its first byte.
+            (4, Kind::Message | Kind::Table) if value == 0 => None,
+            (1 | 3 | 4 | 5, _) => Some(value),
+            _ => None,
+        }
+    }
+
+    /// What to do about a refusal.
+    pub fn advice(self, refusal: Refusal) -> &'static str {
+        match (refusal.number, self) {
+            (1, _) => "the bytes end too early: have them sent or copied again, whole.",
+            (2, Kind::State) => "a saved state begins with 43: name another kind with --as.",
+            (2, _) => "a message begins with 42 or 43: name another kind with --as state, filter or table.",
+            (4, Kind::Table) => "a table has at most 1,024 rows of 64 bytes.",
+            (4, _) => "01's limits are passed: docs/ABI.md lists them, and no unit that keeps them sends this.",
+            (6, _) => "look at that row: it must be whole, its hash stand once, its rows ascend and be below it.",
+            _ => "the bytes break a rule of the format: have them sent or copied again.",
+        }
+    }
+
+    fn name(self) -> &'static str {
+        match self {
+            Kind::Message => "message",
+            Kind::State => "state",
+            Kind::Filter => "filter",
+            Kind::Table => "table",
+        }
+    }
+}
+
+impl fmt::Display for Kind {
+    fn fmt(&self, f: &mut fmt::Formatter<'_>) -> fmt::Result {
+        f.write_str(match self {
+            Kind::State => "saved state",
+            Kind::Table => "change table",
+            other => other.name(),
+        })
+    }
+}

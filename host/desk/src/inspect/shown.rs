@@ -1,0 +1,109 @@
+//! What a message, a saved state, a filter and a table hold, in columns.
+
+use crate::paint::Paint;
+use crate::text::{count, hashes, number, Columns};
+use bisquetower::{Filter, Have, Message, MessageFlags, MessageVersion, SavedState, Table};
+
+pub fn message(message: &Message, length: usize, full: bool) -> String {
+    let version = match message.version {
+        MessageVersion::V1 => 1,
+        MessageVersion::V2 => 2,
+    };
+    let mut columns = Columns::default();
+    let n = |list: usize| number(list);
+    let Message {
+        heads,
+        need,
+        have,
+        changes,
+        flags,
+        ..
+    } = message;
+    columns.rows("heads", &n(heads.len()), &hashes(heads, full));
+    columns.rows("need", &n(need.len()), &hashes(need, full));
+    let haves: Vec<String> = have.iter().map(told_have).collect();
+    columns.rows("haves", &n(have.len()), &haves);
+    let bytes = changes.iter().map(Vec::len).sum();
+    let chunks = match changes.len() {
+        0 => String::new(),
+        _ => format!("{} together", count(bytes, "byte")),
+    };
+    columns.row("chunks", &n(changes.len()), &chunks);
+    let (bits, flags) = told_flags(*flags);
+    columns.row("flags", &bits, &flags);
+    let title = format!("a message of version {version}, {}", count(length, "byte"));
+    format!("{}\n{columns}", Paint::of_output().bold(&title))
+}
+
+fn told_have(have: &Have) -> String {
+    let Have { last_sync, bloom } = have;
+    let synced = count(last_sync.len(), "last-sync hash").replace("hashs", "hashes");
+    format!("{synced}; filter: {}", told_filter(bloom))
+}
+
+fn told_flags(flags: Option<MessageFlags>) -> (String, String) {
+    let Some(flags) = flags else {
+        return ("-".to_string(), "no section".to_string());
+    };
+    let names = [
+        (MessageFlags::SYNC_RESET, "asks for a reset"),
+        (MessageFlags::READ_ONLY, "takes no changes"),
+        (MessageFlags::SUPPORTS_SYNC_RESET, "understands resets"),
+    ];
+    let set = names.iter().filter(|(flag, _)| flags.contains(*flag));
+    let set: Vec<&str> = set.map(|(_, name)| *name).collect();
+    (flags.bits().to_string(), set.join(", "))
+}
+
+pub fn state(state: &SavedState, length: usize, full: bool) -> String {
+    let mut columns = Columns::default();
+    let heads = &state.shared_heads;
+    columns.rows("shared heads", &number(heads.len()), &hashes(heads, full));
+    let title = format!("a saved state, {}", count(length, "byte"));
+    format!("{}\n{columns}", Paint::of_output().bold(&title))
+}
+
+pub fn filter(filter: &Filter, length: usize) -> String {
+    let title = format!("a filter, {}", count(length, "byte"));
+    let title = Paint::of_output().bold(&title);
+    format!("{title}\n  {}\n", told_filter(filter))
+}
+
+fn told_filter(filter: &Filter) -> String {
+    let entries = match filter.num_entries() {
+        1 => "1 entry".to_string(),
+        n => format!("{} entries", number(n as usize)),
+    };
+    let set: u32 = filter.bits().iter().map(|byte| byte.count_ones()).sum();
+    let field = 8 * filter.bits().len();
+    let bits = filter.num_bits_per_entry();
+    let probes = filter.num_probes();
+    let filled = match field {
+        0 => String::new(),
+        _ => format!(", {set} of {field} bits set"),
+    };
+    format!("{entries}, {bits} bits each, {probes} probes{filled}")
+}
+
+pub fn table(table: &Table, full: bool) -> String {
+    let mut columns = Columns::default();
+    let heads = table.heads();
+    columns.row("rows", &number(table.rows()), "");
+    columns.rows("heads", &number(heads.len()), &hashes(&heads, full));
+    let dependencies: usize = (0..table.rows())
+        .map(|row| table.dependencies(row).len())
+        .sum();
+    columns.row(
+        "dependencies",
+        &number(dependencies),
+        "of all rows together",
+    );
+    let title = Paint::of_output().bold("a change table");
+    format!("{title}\n{columns}")
+}
+
+/// Bytes that no reader looks at.
+pub fn rest(bytes: usize, place: usize) -> String {
+    let told = format!("{} from place {place} on, ignored", count(bytes, "byte"));
+    format!("  {}\n", Paint::of_output().faint(&told))
+}

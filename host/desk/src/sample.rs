@@ -1,0 +1,87 @@
+//! `sample`: tables and captures to try the other commands on.
+
+mod tables;
+
+use crate::args::Options;
+use crate::catch_up::{Said, Talk};
+use crate::failure::Failure;
+use crate::files;
+use crate::text::count;
+use bisquetower::Filter;
+use std::path::Path;
+
+const OPTIONS: Options = Options {
+    command: "sample",
+    switches: &["--force"],
+    valued: &[],
+};
+
+/// Bytes of a row.
+const ROW: usize = 64;
+
+pub fn run(words: &[String]) -> Result<String, Failure> {
+    let args = OPTIONS.read(words)?;
+    let [folder] = OPTIONS.names(&args, "one folder")?;
+    let force = args.has("--force");
+    let all = samples()?;
+    let paths = all.iter().map(|(name, _)| Path::new(&folder).join(name));
+    let paths: Vec<_> = paths.collect();
+    // Either all of them are written or none.
+    if let Some(there) = paths.iter().find(|path| path.exists() && !force) {
+        return Err(Failure::file(
+            format!("{} is there already", there.display()),
+            "name another folder, or write over its files with --force.",
+        ));
+    }
+    files::make_folder(Path::new(&folder))?;
+    for (path, (_, bytes)) in paths.iter().zip(&all) {
+        files::write(path, bytes, force)?;
+    }
+    let (files, at) = (count(all.len(), "file"), Path::new(&folder).display());
+    let look = "bisquetower inspect";
+    Ok(format!(
+        "{files} in {at}. To look at them:\n  \
+         bisquetower table {at}/station.table\n  \
+         bisquetower catch-up {at}/station.table {at}/validator.table\n  \
+         {look} {at}/2-station.message\n  \
+         {look} {at}/cut.message\n"
+    ))
+}
+
+/// Names and bytes: good ones, then damaged ones.
+fn samples() -> Result<Vec<(String, Vec<u8>)>, Failure> {
+    let (station, validator) = tables::sample()?;
+    let talk = Talk::of(&station, &validator)?;
+    let filter = Filter::from_hashes(&validator.hashes()).map_err(tables::refused)?;
+    let [station_state, validator_state] = talk.states;
+    let mut samples = vec![
+        ("station.table".to_string(), station.as_bytes().to_vec()),
+        ("validator.table".to_string(), validator.as_bytes().to_vec()),
+        ("station.state".to_string(), station_state),
+        ("validator.state".to_string(), validator_state),
+        ("validator.filter".to_string(), filter.to_bytes()),
+    ];
+    let first = talk.messages[0].bytes.clone();
+    for (k, Said { by_station, bytes }) in talk.messages.into_iter().enumerate() {
+        let who = if by_station { "station" } else { "validator" };
+        samples.push((format!("{}-{who}.message", k + 1), bytes));
+    }
+    samples.extend(damaged(first, station.as_bytes().to_vec()));
+    Ok(samples)
+}
+
+fn damaged(message: Vec<u8>, table: Vec<u8>) -> [(String, Vec<u8>); 5] {
+    let cut_message = message[..message.len() / 2].to_vec();
+    let cut_table = table[..table.len() - ROW / 2].to_vec();
+    // Row 700 takes the hash of the row above it.
+    let mut bad_table = table;
+    bad_table.copy_within(ROW * 699..ROW * 699 + 32, ROW * 700);
+    [
+        ("cut.message", cut_message),
+        ("long-number.message", vec![0x42, 0x80, 0x00]),
+        ("no-bits.filter", vec![0x01, 0x00, 0x07]),
+        ("bad-row.table", bad_table),
+        ("cut.table", cut_table),
+    ]
+    .map(|(name, bytes)| (name.to_string(), bytes))
+}

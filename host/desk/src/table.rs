@@ -1,0 +1,88 @@
+//! `table`: how large a change table is, and its first bad row.
+
+use crate::args::Options;
+use crate::failure::Failure;
+use crate::files;
+use crate::inspect;
+use crate::paint::Paint;
+use crate::text::{count, hashes, number, Columns};
+use bisquetower::{raw, refusal, Refusal, Table};
+
+const OPTIONS: Options = Options {
+    command: "table",
+    switches: &["--full"],
+    valued: &[],
+};
+
+/// Bytes of a row.
+const ROW: usize = 64;
+
+pub fn run(words: &[String]) -> Result<String, Failure> {
+    let args = OPTIONS.read(words)?;
+    let [file] = OPTIONS.names(&args, "one file")?;
+    let bytes = files::read(&file)?;
+    let full = args.has("--full");
+    let paint = Paint::of_output();
+    match refusal::answer(raw::check_table(&bytes)) {
+        Ok(_) => {
+            let shown = shown(&bytes, "none", full);
+            let good = paint.good("a good change table");
+            Ok(format!("{file}: {good}\n{shown}"))
+        }
+        // The rows above the first bad one are a table.
+        Err(refusal @ Refusal { number: 6, value }) => {
+            let above = &bytes[..ROW * value as usize];
+            let bad = paint.bad("a bad change table; of its rows above the first bad one");
+            let shown = shown(above, &value.to_string(), full);
+            Err(refused(&file, &bytes, refusal).showing(format!("{file}: {bad}\n{shown}")))
+        }
+        Err(refusal) => Err(refused(&file, &bytes, refusal)),
+    }
+}
+
+/// A table's file that has to be good.
+pub fn read(file: &str) -> Result<Table, Failure> {
+    let bytes = files::read(file)?;
+    Table::new(bytes.clone()).map_err(|refusal| refused(file, &bytes, refusal))
+}
+
+fn refused(file: &str, bytes: &[u8], refusal: Refusal) -> Failure {
+    inspect::refused(file, inspect::Kind::Table, bytes, refusal)
+}
+
+/// What good rows are, in columns.
+fn shown(rows: &[u8], first_bad: &str, full: bool) -> String {
+    let table = Table::new(rows).expect("rows above the first bad one are good");
+    let mut columns = Columns::default();
+    let heads = table.heads();
+    columns.row("rows", &number(table.rows()), "");
+    columns.rows("heads", &number(heads.len()), &hashes(&heads, full));
+    let dependencies = |row: &usize| table.dependencies(*row).len();
+    if let Some(widest) = first_of_most(table.rows(), dependencies) {
+        let on = count(dependencies(&widest), "row");
+        columns.row("widest", &number(widest), &format!("depends on {on}"));
+        let depths = depths(&table);
+        let deepest = first_of_most(table.rows(), |row| depths[*row]).unwrap_or(widest);
+        let below = count(depths[deepest], "row");
+        let told = format!("the longest way down passes {below}");
+        columns.row("deepest", &number(deepest), &told);
+    }
+    columns.row("first bad row", first_bad, "");
+    columns.to_string()
+}
+
+/// The first row that has most of something; none of no rows.
+fn first_of_most(rows: usize, of: impl Fn(&usize) -> usize) -> Option<usize> {
+    (0..rows).rev().max_by_key(of)
+}
+
+/// For each row, the rows on the longest way down from it.
+fn depths(table: &Table) -> Vec<usize> {
+    let mut depths: Vec<usize> = Vec::with_capacity(table.rows());
+    for row in 0..table.rows() {
+        let below = table.dependencies(row).into_iter();
+        let depth = below.map(|row| depths[row] + 1).max();
+        depths.push(depth.unwrap_or(0));
+    }
+    depths
+}

@@ -1,0 +1,77 @@
+//! Numbers and hashes as they are shown.
+
+use bisquetower::ChangeHash;
+
+/// Digits of a hash that is shown in short.
+const SHORT: usize = 16;
+
+/// How many hashes of a list are shown in short.
+const FEW: usize = 4;
+
+/// A number with its thousands told apart.
+pub fn number(n: usize) -> String {
+    let digits = n.to_string();
+    let mut text = String::new();
+    for (k, digit) in digits.chars().enumerate() {
+        if k > 0 && (digits.len() - k) % 3 == 0 {
+            text.push(',');
+        }
+        text.push(digit);
+    }
+    text
+}
+
+/// A number of things, in the singular where it is one.
+pub fn count(n: usize, thing: &str) -> String {
+    match n {
+        1 => format!("1 {thing}"),
+        _ => format!("{} {thing}s", number(n)),
+    }
+}
+
+/// Hashes in a line, or all of them in full.
+pub fn hashes(list: &[ChangeHash], full: bool) -> Vec<String> {
+    if full {
+        return list.iter().map(ChangeHash::to_string).collect();
+    }
+    let short = |hash: &ChangeHash| hash.to_string()[..SHORT].to_string();
+    let mut line: Vec<String> = list.iter().take(FEW).map(short).collect();
+    if list.len() > FEW {
+        line.push(format!("and {} more", number(list.len() - FEW)));
+    }
+    match line.is_empty() {
+        true => Vec::new(),
+        false => vec![line.join("  ")],
+    }
+}
+
+/// Rows of a name, a number and what there is to tell, in columns.
+#[derive(Debug, Default)]
+pub struct Columns(Vec<[String; 3]>);
+
+impl Columns {
+    pub fn row(&mut self, name: &str, n: &str, told: &str) {
+        self.0.push([name, n, told].map(str::to_string));
+    }
+
+    /// A row with its lines below each other.
+    pub fn rows(&mut self, name: &str, n: &str, told: &[String]) {
+        let first = told.first().map_or("", String::as_str);
+        self.row(name, n, first);
+        for line in told.iter().skip(1) {
+            self.row("", "", line);
+        }
+    }
+}
+
+impl std::fmt::Display for Columns {
+    fn fmt(&self, f: &mut std::fmt::Formatter<'_>) -> std::fmt::Result {
+        let width = |k: usize| self.0.iter().map(|row| row[k].chars().count()).max();
+        let (names, numbers) = (width(0).unwrap_or(0), width(1).unwrap_or(0));
+        for [name, n, told] in &self.0 {
+            let line = format!("  {name:names$}  {n:>numbers$}  {told}");
+            writeln!(f, "{}", line.trim_end())?;
+        }
+        Ok(())
+    }
+}
