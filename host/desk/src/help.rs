@@ -5,55 +5,58 @@ use crate::failure::Failure;
 const ALL: &str = "\
 bisquetower: messages, tables and catch-ups, through the proved sync library
 
-  bisquetower inspect FILE                what a message, saved state, filter or table holds
-  bisquetower table FILE                  rows, heads, widest, deepest, first bad row
-  bisquetower catch-up STATION VALIDATOR  two units talk until both hold the same rows
-  bisquetower sample DIR                  tables and captures to try it on
-  bisquetower COMMAND --help              what a command takes
+  inspect FILE                what a message, saved state, filter or table holds
+  table FILE                  rows, heads, widest, deepest, first bad row
+  catch-up STATION VALIDATOR  two units talk until both hold the same rows
+  sample DIR                  tables and captures to try it on
+
+`bisquetower COMMAND --help` says what a command takes.
 
 A FILE that is - is standard input. Nothing is written over without --force.
 Colours are for terminals, and never used if NO_COLOR is set.
 
-Exit status: 0 done; 1 the library refused; 2 wrong words, or a file that can't be
-read or written.
+Exit status: 0 done; 1 the library refused; 2 wrong words, or a file that can't
+be read or written.
 ";
 
 const INSPECT: &str = "\
 bisquetower inspect FILE [--as KIND] [--full]
 
-Shows what a file holds, in columns. What is refused is shown with its number, what
-it means, and the bytes around the place that it names.
+Shows what a file holds, in columns. What is refused is shown with its number,
+what it means, and the bytes around the place that it names.
 
-  --as KIND   message, state, filter or table. Without it the end of the file's name
-              says (x.message, x.state, x.filter, x.table), else the bytes: the first
-              kind that takes all of them.
+  --as KIND   message, state, filter or table. Without it the end of the file's
+              name says (x.message, x.state, x.filter, x.table), else the bytes:
+              the first kind that takes all of them.
   --full      hashes whole and all of them
 ";
 
 const TABLE: &str = "\
 bisquetower table FILE [--full]
 
-Checks a change table and shows its rows and heads, the first row that depends on most
-rows (widest), the first with the longest way down (deepest), and the first bad row.
-Of a bad table the rows above that one are shown.
+Checks a change table and shows its rows and heads, the first row that depends
+on most rows (widest), the first with the longest way down (deepest), and the
+first bad row. Of a bad table the rows above that one are shown.
 
   --full      hashes whole and all of them
 
-A row is 64 bytes: a hash; how many rows it depends on (two bytes, little-endian, at
-most 15); fifteen such row numbers, ascending and below its own, the others 0.
+A row is 64 bytes: a hash; how many rows it depends on (two bytes,
+little-endian, at most 15); fifteen such row numbers, ascending and below its
+own, the others 0.
 ";
 
 const CATCH_UP: &str = "\
 bisquetower catch-up STATION VALIDATOR [--json] [--svg FILE [--force]]
 
-Two units with these change tables talk through the proved sessions, the validator
-first, until both are silent. A line a round: rows that the validator held before it,
-asked for, was sent, false yeses of its filter among the rows that it lacked, rows
-that wait after it, and bytes both ways. A validator that holds a part of the
-station's table and misses m rows holds all of it after at most m + 1 rounds.
+Two units with these change tables talk through the proved sessions, the
+validator first, until both are silent. A line a round: rows that the validator
+held before it, asked for and was sent, false yeses of its filter among the rows
+that it lacked, rows that wait after it, and bytes both ways. A validator that
+holds a part of the station's table and misses m rows holds all of it after at
+most m + 1 rounds, where replies go by list.
 
   --json      the same as JSON
-  --svg FILE  draws the rounds: rows held, sent and still missing
+  --svg FILE  draws the rounds: rows taken, waiting, sent and still missing
 
 Changes go as their names and dependencies, without contents.
 ";
@@ -61,9 +64,9 @@ Changes go as their names and dependencies, without contents.
 const SAMPLE: &str = "\
 bisquetower sample DIR [--force]
 
-Writes files to try the other commands on: a station's table of 1,024 rows and that of
-a validator 120 rows short, each message of their catch-up, both saved states, a
-filter, and damaged ones.
+Writes files to try the other commands on: a station's table of 1,024 rows and
+that of a validator 120 rows short, each message of their catch-up, both saved
+states, a filter, and damaged ones.
 
   --force     write over files that are there
 ";

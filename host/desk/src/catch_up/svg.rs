@@ -1,5 +1,5 @@
-//! A talk as a drawing: a bar for each round, of the station's rows as the validator
-//! stands to them.
+//! A talk as a drawing: a bar for each round, of the rows that the validator lacked at
+//! first. Those that it held from the start would dwarf them.
 
 use super::talk::{Round, Talk};
 use crate::text::{count, number};
@@ -16,7 +16,7 @@ const SHARE: f64 = 0.7;
 
 /// Names and colours of a bar's parts, from its foot.
 const PARTS: [(&str, &str); 4] = [
-    ("held before", "#2b6cb0"),
+    ("taken before", "#2b6cb0"),
     ("waiting before", "#d69e2e"),
     ("sent in the round", "#38a169"),
     ("still missing", "#cbd5e0"),
@@ -27,9 +27,9 @@ const NUMBERED: usize = 40;
 
 pub fn draw(talk: &Talk) -> String {
     let title = format!(
-        "Catch-up: {}, {} missing",
-        count(talk.station_rows, "row"),
-        number(talk.missing)
+        "The {} that the validator lacked, of {}",
+        count(talk.missing, "row"),
+        number(talk.station_rows)
     );
     let rounds = count(talk.took, "round");
     let bound = match talk.bound() {
@@ -45,14 +45,14 @@ pub fn draw(talk: &Talk) -> String {
     );
     svg += &text(LEFT, 26.0, "start", 17, &title);
     svg += &text(LEFT, 46.0, "start", 13, &bound);
-    svg += &scale(talk.station_rows);
+    svg += &scale(talk.missing);
     for (k, round) in talk.rounds.iter().enumerate() {
         svg += &bar(k, round, talk);
     }
     svg + &legend() + "</svg>\n"
 }
 
-/// Lines at none of the rows, half and all of them.
+/// Lines at none of the rows and at all of them.
 fn scale(rows: usize) -> String {
     let mark = |(n, part): (usize, f64)| {
         let y = TOP + HEIGHT * (1.0 - part);
@@ -69,9 +69,10 @@ fn bar(k: usize, round: &Round, talk: &Talk) -> String {
     let room = WIDTH / talk.rounds.len() as f64;
     let width = (room * SHARE).min(WIDEST);
     let x = LEFT + room * (k as f64 + 0.5) - width / 2.0;
-    let rows = talk.station_rows;
-    let sent = rows - round.held - round.waited - round.missing;
-    let parts = [round.held, round.waited, sent, round.missing];
+    let rows = talk.missing;
+    let taken = round.held - (talk.station_rows - talk.missing);
+    let sent = rows - taken - round.waited - round.missing;
+    let parts = [taken, round.waited, sent, round.missing];
     let mut y = TOP + HEIGHT;
     let mut svg = String::new();
     for (n, (name, colour)) in parts.into_iter().zip(PARTS) {

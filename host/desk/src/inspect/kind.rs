@@ -115,7 +115,7 @@ impl Kind {
             (2, Kind::State) => "a saved state begins with 43: name another kind with --as.",
             (2, _) => "a message begins with 42 or 43: name another kind with --as state, filter or table.",
             (4, Kind::Table) => "a table has at most 1,024 rows of 64 bytes.",
-            (4, _) => "01's limits are passed: docs/ABI.md lists them, and no unit that keeps them sends this.",
+            (4, _) => "a list has at most 1,024 hashes, a filter 8,192 bytes and 64 probes, a message 16 haves, 4,096 chunks and 4,194,304 bytes.",
             (6, _) => "look at that row: it must be whole, its hash stand once, its rows ascend and be below it.",
             _ => "the bytes break a rule of the format: have them sent or copied again.",
         }

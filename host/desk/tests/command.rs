@@ -1,0 +1,86 @@
+//! The command itself: help, wrong words, and what it writes over.
+
+mod common;
+
+use common::{folder, run, samples, text};
+use std::fs;
+
+const COMMANDS: [&str; 4] = ["inspect", "table", "catch-up", "sample"];
+
+/// Lines and columns of a screen.
+const SCREEN: (usize, usize) = (24, 80);
+
+#[test]
+fn help_fits_a_screen() {
+    let all = run(&["--help"]).ended(0).out;
+    for command in COMMANDS {
+        assert!(all.contains(command), "{command}");
+        let own = run(&[command, "--help"]).ended(0).out;
+        assert!(own.starts_with(&format!("bisquetower {command} ")), "{own}");
+        for text in [&all, &own] {
+            assert!(text.lines().count() <= SCREEN.0, "{text}");
+            assert!(text.lines().all(|line| line.len() <= SCREEN.1), "{text}");
+        }
+    }
+    assert_eq!(run(&["help"]).ended(0).out, all);
+    assert_eq!(run(&["-h"]).ended(0).out, all);
+}
+
+#[test]
+fn wrong_words() {
+    let wrong = |words: &[&str], what: &str| {
+        let run = run(words).ended(2);
+        assert!(run.err.contains(what) && run.out.is_empty(), "{run:?}");
+    };
+    wrong(&[], "no command is named");
+    wrong(&["look"], "there is no command look");
+    wrong(&["inspect"], "one file is wanted, not 0 names");
+    wrong(&["table", "a", "b"], "one file is wanted, not 2 names");
+    wrong(&["inspect", "a", "--all"], "there is no option --all");
+    wrong(&["inspect", "a", "--as"], "--as wants a value");
+    wrong(&["inspect", "a", "--as", "fare"], "fare is no kind");
+    wrong(&["inspect", "a", "--full=yes"], "--full takes no value");
+    wrong(&["sample"], "one folder is wanted");
+}
+
+#[test]
+fn nothing_is_written_over() {
+    let folder = samples("command-samples");
+    let table = folder.join("station.table");
+    fs::write(&table, b"mine").unwrap();
+    let again = run(&["sample", text(&folder)]).ended(2).err;
+    assert!(again.contains("is there already"), "{again}");
+    assert_eq!(fs::read(&table).unwrap(), b"mine");
+    run(&["sample", text(&folder), "--force"]).ended(0);
+    assert_eq!(fs::read(&table).unwrap().len(), 65_536);
+}
+
+/// One file that is there is enough, and the others aren't written either.
+#[test]
+fn all_samples_or_none() {
+    let folder = folder("command-one");
+    fs::write(folder.join("no-bits.filter"), b"mine").unwrap();
+    run(&["sample", text(&folder)]).ended(2);
+    assert_eq!(fs::read_dir(&folder).unwrap().count(), 1);
+}
+
+#[test]
+fn a_folder_that_cant_be_made() {
+    let folder = folder("command-file");
+    let file = folder.join("file");
+    fs::write(&file, b"").unwrap();
+    run(&["sample", text(&file.join("below"))]).ended(2);
+}
+
+/// A pipe is no terminal.
+#[test]
+fn no_colours_in_a_pipe() {
+    let folder = folder("command-colours");
+    let path = folder.join("none.table");
+    fs::write(&path, b"").unwrap();
+    let shown = run(&["table", text(&path)]).ended(0).out;
+    let refused = run(&["inspect", "--as", "message", text(&path)])
+        .ended(1)
+        .err;
+    assert!(!shown.contains('\x1b') && !refused.contains('\x1b'));
+}

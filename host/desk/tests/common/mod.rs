@@ -1,0 +1,67 @@
+//! Runs of the command, and the samples that they are made on.
+
+use std::io::Write;
+use std::path::{Path, PathBuf};
+use std::process::{Command, Stdio};
+
+/// What a run left: its exit status, what it showed and what it complained of.
+#[derive(Debug)]
+pub struct Run {
+    pub status: i32,
+    pub out: String,
+    pub err: String,
+}
+
+impl Run {
+    /// The exit status is this one; a failed run says what to do next.
+    pub fn ended(self, status: i32) -> Run {
+        assert_eq!(self.status, status, "{self:?}");
+        assert_eq!(self.err.contains("next: "), status != 0, "{self:?}");
+        self
+    }
+}
+
+pub fn run(words: &[&str]) -> Run {
+    run_with(words, b"")
+}
+
+/// A run with bytes on its standard input.
+pub fn run_with(words: &[&str], input: &[u8]) -> Run {
+    let mut child = Command::new(env!("CARGO_BIN_EXE_bisquetower"))
+        .args(words)
+        .stdin(Stdio::piped())
+        .stdout(Stdio::piped())
+        .stderr(Stdio::piped())
+        .spawn()
+        .expect("the command starts");
+    let mut stdin = child.stdin.take().expect("a pipe");
+    // A command that doesn't read its input may be gone by now.
+    let _ = stdin.write_all(input);
+    drop(stdin);
+    let left = child.wait_with_output().expect("the command ends");
+    let text = |bytes| String::from_utf8(bytes).expect("text");
+    Run {
+        status: left.status.code().expect("no signal"),
+        out: text(left.stdout),
+        err: text(left.stderr),
+    }
+}
+
+/// An empty folder of this name, for a test of its own.
+pub fn folder(name: &str) -> PathBuf {
+    let folder = Path::new(env!("CARGO_TARGET_TMPDIR")).join(name);
+    let _ = std::fs::remove_dir_all(&folder);
+    std::fs::create_dir_all(&folder).expect("a folder");
+    folder
+}
+
+/// A folder of this name that has the samples.
+pub fn samples(name: &str) -> PathBuf {
+    let folder = folder(name);
+    run(&["sample", text(&folder)]).ended(0);
+    folder
+}
+
+pub fn text(path: &Path) -> &str {
+    path.to_str().expect("text")
+}

@@ -1,0 +1,157 @@
+//! Files that are inspected: good, damaged, missing, empty and huge.
+
+mod common;
+
+use common::{folder, run, run_with, samples, text};
+use std::fs::{self, File};
+
+fn inspect(bytes: &[u8]) -> common::Run {
+    run_with(&["inspect", "-"], bytes)
+}
+
+#[test]
+fn the_samples() {
+    let folder = samples("inspect-samples");
+    let show = |name: &str| run(&["inspect", text(&folder.join(name))]);
+    let first = show("1-validator.message").ended(0).out;
+    assert!(
+        first.contains("a message of version 1, 1,401 bytes"),
+        "{first}"
+    );
+    assert!(
+        first.contains("904 entries, 10 bits each, 7 probes"),
+        "{first}"
+    );
+    assert!(show("2-station.message").ended(0).out.contains("version 2"));
+    assert!(show("station.table").ended(0).out.contains("1,024"));
+    assert!(show("validator.state")
+        .ended(0)
+        .out
+        .contains("shared heads  30"));
+    assert!(show("validator.filter")
+        .ended(0)
+        .out
+        .contains("904 entries"));
+
+    let refused = |name: &str| show(name).ended(1).err;
+    assert!(refused("cut.message").contains("refusal 1, value 261"));
+    assert!(refused("long-number.message").contains("refusal 3, value 1"));
+    assert!(refused("no-bits.filter").contains("refusal 5, value 0"));
+    assert!(refused("bad-row.table").contains("refusal 6, value 700"));
+    assert!(refused("cut.table").contains("refusal 6, value 1023"));
+}
+
+#[test]
+fn a_message_from_standard_input() {
+    let shown = inspect(b"\x43\0\0\0\x01\x04sync\x02\x02\x87more")
+        .ended(0)
+        .out;
+    assert!(
+        shown.starts_with("-: a message of version 2, 13 bytes\n"),
+        "{shown}"
+    );
+    assert!(shown.contains("chunks  1  4 bytes together"), "{shown}");
+    let flags = "flags   7  asks for a reset, takes no changes, understands resets";
+    assert!(shown.contains(flags), "{shown}");
+    assert!(
+        shown.contains("4 bytes from place 13 on, ignored"),
+        "{shown}"
+    );
+    let none = inspect(b"\x42\0\0\0\0").ended(0).out;
+    assert!(none.contains("flags   -  no section"), "{none}");
+}
+
+/// The mark stands under the byte that the refusal names.
+#[test]
+fn the_mark_is_under_the_place() {
+    let refused = inspect(b"\x42\0\0\0\x01\x02\xaa").ended(1).err;
+    let lines: Vec<&str> = refused.lines().collect();
+    assert!(lines[0].contains("refusal 1, value 5"), "{refused}");
+    assert_eq!(
+        lines[1],
+        "  00000000  42 00 00 00 01 02 aa                             B......"
+    );
+    assert_eq!(lines[2], "                           ^^ place 5");
+    assert_eq!(lines[1].find("02 aa"), lines[2].find("^^"));
+
+    // A place at the end of a full line has a line of its own.
+    let sixteen = [&b"\x42\0\0\0\x01\x0a"[..], &[7; 10]].concat();
+    let refused = inspect(&[&sixteen[..], &[0x80]].concat()).ended(1).err;
+    assert!(refused.contains("refusal 1, value 16"), "{refused}");
+    let refused = inspect(b"\x42").ended(1).err;
+    assert!(refused.contains("^^ place 1 the end"), "{refused}");
+}
+
+#[test]
+fn no_bytes() {
+    let refused = inspect(b"").ended(1).err;
+    assert!(
+        refused.contains("read as a message: refusal 1, value 0"),
+        "{refused}"
+    );
+    let shown = |kind| run_with(&["inspect", "--as", kind, "-"], b"");
+    assert!(shown("state").ended(1).err.contains("refusal 1, value 0"));
+    assert!(shown("filter").ended(0).out.contains("0 entries"));
+    assert!(shown("table").ended(0).out.contains("rows          0"));
+}
+
+#[test]
+fn a_file_that_is_not_there() {
+    let missing = run(&["inspect", "no/such/file"]).ended(2).err;
+    assert!(missing.contains("no/such/file can't be read"), "{missing}");
+    let folder = folder("inspect-folder");
+    run(&["inspect", text(&folder)]).ended(2);
+}
+
+/// Gigabytes are refused, or read as far as they count, without being held.
+#[test]
+fn a_huge_file() {
+    let folder = folder("inspect-huge");
+    let name = folder.join("huge.message");
+    let file = File::create(&name).unwrap();
+    file.set_len(8 << 30).unwrap();
+    let refused = run(&["inspect", text(&name)]).ended(1).err;
+    assert!(refused.contains("refusal 4, value 0"), "{refused}");
+    let table = run(&["table", text(&name)]).ended(1).err;
+    assert!(table.contains("refusal 4, value 0"), "{table}");
+    let filter = run(&["inspect", "--as", "filter", text(&name)])
+        .ended(0)
+        .out;
+    assert!(
+        filter.contains("0 entries, 0 bits each, 0 probes"),
+        "{filter}"
+    );
+    fs::remove_file(name).unwrap();
+}
+
+/// 43 begins messages and saved states: what takes all the bytes is shown, and what else
+/// they may be is told.
+#[test]
+fn a_kind_is_told_by_the_bytes() {
+    let state = [&b"\x43\x01"[..], &[9; 32]].concat();
+    assert!(inspect(&state)
+        .ended(0)
+        .out
+        .contains("a saved state, 34 bytes"));
+    assert!(inspect(&[1, 10, 7, 0x0b, 0x0f])
+        .ended(0)
+        .out
+        .contains("a filter, 5 bytes"));
+    let mut row = [0; 64];
+    row[0] = 9;
+    assert!(inspect(&row).ended(0).out.contains("a change table"));
+    let both = inspect(b"\x43\x00").ended(0).out;
+    assert!(both.contains("a saved state, 2 bytes"), "{both}");
+    let text = inspect(b"hello").ended(1).err;
+    assert!(text.contains("refusal 2, value 104"), "{text}");
+}
+
+#[test]
+fn full_hashes() {
+    let heads: Vec<u8> = (1..=6u8).flat_map(|n| [n; 32]).collect();
+    let state = [&b"\x43\x06"[..], &heads].concat();
+    let short = inspect(&state).ended(0).out;
+    assert!(short.contains("0404040404040404  and 2 more"), "{short}");
+    let full = run_with(&["inspect", "--full", "-"], &state).ended(0).out;
+    assert!(full.contains(&"06".repeat(32)), "{full}");
+}
