@@ -1,9 +1,16 @@
-# `make run` shows the library at work; `make test` proves and tests all of it; `make bench` measures. Each does its own
-# set-up. docs/WORKING.md has what is useful while something is changed.
-.PHONY: run test lib bench compare fuzz check edit edits samples stack tools
+# `make run` shows a validator that catches up; `make test` proves and tests all of it; `make bench` measures; `make install`
+# puts the command, the archive and its C header below PREFIX. Each does its own set-up. docs/WORKING.md has what is useful
+# while something is changed.
+.PHONY: run test lib bench compare fuzz install check edit edits samples stack tools
 
+PREFIX ?= /usr/local
+
+# A sample station of 1,024 rows and a validator that is 120 rows short.
 run: lib
-	@cd host && cargo run --offline --quiet --release --package bisquetower --example sample
+	@bash host/desk/show
+
+install: lib
+	@bash host/desk/install "$(PREFIX)"
 
 test:
 	@bash .ci/test

@@ -1,6 +1,6 @@
 //! Links the proved library, which `make lib` builds at the repository's root
-//! (cargo has no part in that), and writes the calls of the module `raw` from the
-//! library's own source.
+//! (cargo has no part in that), and writes the calls of the module `raw` and the C
+//! header from the library's own source.
 //!
 //! The library is for x86-64. There it is linked into the crate. On another
 //! processor it is linked into the program src/raw/caller.c, which the emulator
@@ -12,6 +12,8 @@
 mod calls;
 #[path = "build/exported.rs"]
 mod exported;
+#[path = "build/header.rs"]
+mod header;
 #[path = "build/kit.rs"]
 mod kit;
 
@@ -62,8 +64,8 @@ fn build() -> Result<(), String> {
 /// The most arguments that caller.c passes.
 const ARGUMENTS: usize = 32;
 
-/// Writes calls.rs, which the module `raw` includes, and calls.h, which caller.c
-/// does.
+/// Writes calls.rs, which the module `raw` includes, calls.h, which caller.c does, and
+/// the header for programs in C.
 fn write_calls(crates: &Path, way: Way) -> Result<(), String> {
     println!("cargo::rerun-if-changed={}", crates.display());
     let functions = exported::read_crates(crates)?;
@@ -76,7 +78,8 @@ fn write_calls(crates: &Path, way: Way) -> Result<(), String> {
         fs::write(&path, text).map_err(|error| format!("{}: {error}", path.display()))
     };
     write("calls.rs", calls::rust_text(&functions, way))?;
-    write("calls.h", calls::c_text(&functions))
+    write("calls.h", calls::c_text(&functions))?;
+    write("bisquetower.h", header::c_header(&functions))
 }
 
 /// Builds the program that calls the library, and tells emulated.rs where it and

@@ -12,10 +12,11 @@ pub trait Host {
     type Error;
 
     /// The change table: a row for each change that is held, each above those that
-    /// depend on it. [`Table::from_changes`](crate::Table::from_changes) makes one.
+    /// depend on it. [`Table::lay`](crate::Table::lay) makes its records.
     fn table(&self) -> Cow<'_, [u8]>;
 
     /// The waiting table: a row for each change that came before what it depends on.
+    /// [`Waiting::lay`](crate::Waiting::lay) makes its records.
     fn waiting(&self) -> Cow<'_, [u8]>;
 
     /// The bytes of a change that is held, as `load` takes them.

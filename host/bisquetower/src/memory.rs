@@ -1,8 +1,8 @@
 //! A host in memory.
 
 use crate::hash::{ChangeHash, HASH};
-use crate::table::{push_waiting, Rows};
-use crate::Host;
+use crate::table::Rows;
+use crate::{Host, Waiting};
 use std::borrow::Cow;
 use std::fmt;
 
@@ -120,11 +120,8 @@ impl Host for Memory {
     }
 
     fn waiting(&self) -> Cow<'_, [u8]> {
-        let mut bytes = Vec::new();
-        for change in &self.waiting {
-            push_waiting(&mut bytes, change.hash, &change.dependencies);
-        }
-        Cow::Owned(bytes)
+        let rows = self.waiting.iter().map(|c| (c.hash, &c.dependencies));
+        Cow::Owned(Waiting::lay(rows))
     }
 
     fn change(&self, hash: &ChangeHash) -> Result<Cow<'_, [u8]>, MemoryError> {

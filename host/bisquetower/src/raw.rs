@@ -32,6 +32,9 @@ pub use calls::*;
 /// takes is its own and not an emulator's.
 pub const LINKED: bool = cfg!(linked);
 
+/// The functions' header for programs in C; `make install` puts it in place.
+pub const HEADER: &str = include_str!(concat!(env!("OUT_DIR"), "/bisquetower.h"));
+
 /// What every word of an answer holds before a call. Each call writes all of its
 /// words, so one that still holds this was left out.
 pub const UNWRITTEN: u64 = u64::from_be_bytes(*b"NOT SET!");

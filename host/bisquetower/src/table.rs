@@ -46,11 +46,19 @@ impl Table {
     pub fn from_changes<D: AsRef<[ChangeHash]>>(
         changes: impl IntoIterator<Item = (ChangeHash, D)>,
     ) -> Result<Table, Refusal> {
+        Table::new(Table::lay(changes))
+    }
+
+    /// The records of changes and their dependencies, for hosts to lend: nothing is
+    /// checked, and what a row can't say makes it a bad row, which the calls refuse.
+    pub fn lay<D: AsRef<[ChangeHash]>>(
+        changes: impl IntoIterator<Item = (ChangeHash, D)>,
+    ) -> Vec<u8> {
         let mut rows = Rows::default();
         for (hash, dependencies) in changes {
             rows.push(hash, dependencies.as_ref());
         }
-        Table::new(rows.bytes)
+        rows.bytes
     }
 
     /// How many rows it has.
@@ -130,11 +138,26 @@ impl Waiting {
         changes: impl IntoIterator<Item = (ChangeHash, D)>,
         table: &Table,
     ) -> Result<Waiting, Refusal> {
+        Waiting::new(Waiting::lay(changes), table)
+    }
+
+    /// The records of changes and their dependencies, for hosts to lend: nothing is
+    /// checked, and one with too many dependencies is a bad row.
+    pub fn lay<D: AsRef<[ChangeHash]>>(
+        changes: impl IntoIterator<Item = (ChangeHash, D)>,
+    ) -> Vec<u8> {
         let mut bytes = Vec::new();
         for (hash, dependencies) in changes {
-            push_waiting(&mut bytes, hash, dependencies.as_ref());
+            let dependencies = dependencies.as_ref();
+            let end = bytes.len() + WAITING_ROW;
+            bytes.extend(hash.0);
+            bytes.push(u8::try_from(dependencies.len()).unwrap_or(u8::MAX));
+            bytes.extend([0; HASH - 1]);
+            let few = dependencies.len().min(DEPENDENCIES);
+            bytes.extend(bytes_of(&dependencies[..few]));
+            bytes.resize(end, 0);
         }
-        Waiting::new(bytes, table)
+        bytes
     }
 
     /// How many changes wait.
@@ -154,8 +177,7 @@ impl Waiting {
     }
 }
 
-/// Records of a change table that grows. What a row can't say makes it a bad row, so
-/// that the library tells it.
+/// Records of a change table that grows, and where each hash stands.
 #[derive(Clone, Debug, Default)]
 pub(crate) struct Rows {
     pub(crate) bytes: Vec<u8>,
@@ -185,16 +207,4 @@ impl Rows {
     pub(crate) fn find(&self, hash: &ChangeHash) -> Option<usize> {
         self.numbers.get(hash).copied()
     }
-}
-
-/// Adds a waiting row; one with too many dependencies is a bad row.
-pub(crate) fn push_waiting(bytes: &mut Vec<u8>, hash: ChangeHash, dependencies: &[ChangeHash]) {
-    let end = bytes.len() + WAITING_ROW;
-    bytes.extend(hash.0);
-    bytes.push(u8::try_from(dependencies.len()).unwrap_or(u8::MAX));
-    bytes.extend([0; HASH - 1]);
-    bytes.extend(bytes_of(
-        &dependencies[..dependencies.len().min(DEPENDENCIES)],
-    ));
-    bytes.resize(end, 0);
 }

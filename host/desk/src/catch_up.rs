@@ -27,15 +27,17 @@ pub fn run(words: &[String]) -> Result<String, Failure> {
     let station = table::read(&station)?;
     let validator = table::read(&validator)?;
     let talk = Talk::of(&station, &validator)?;
+    let mut drawn = String::new();
     if let Some(file) = args.value("--svg") {
         files::write(
             Path::new(file),
             svg::draw(&talk).as_bytes(),
             args.has("--force"),
         )?;
+        drawn = format!("The rounds are drawn in {file}.\n");
     }
     Ok(match args.has("--json") {
         true => json::text(&talk),
-        false => lines::text(&talk),
+        false => lines::text(&talk) + &drawn,
     })
 }

@@ -1,0 +1,125 @@
+//! The C header: what it declares, and a program in C that reads messages with it.
+
+#[path = "../build/exported.rs"]
+#[allow(dead_code)]
+mod exported;
+#[path = "../build/header.rs"]
+mod header;
+#[path = "../build/kit.rs"]
+mod kit;
+
+use bisquetower::raw;
+use std::fs;
+use std::io::Write;
+use std::path::{Path, PathBuf};
+use std::process::{Command, Output, Stdio};
+
+fn here() -> &'static Path {
+    Path::new(env!("CARGO_MANIFEST_DIR"))
+}
+
+/// Every exported function is declared, once.
+#[test]
+fn the_header_declares_every_call() {
+    for name in raw::NAMES {
+        let declared = raw::HEADER.matches(&format!("\nvoid {name}(")).count();
+        assert_eq!(declared, 1, "{name}");
+    }
+    assert_eq!(raw::HEADER.matches("\nvoid ").count(), raw::NAMES.len());
+}
+
+#[test]
+fn every_kind_of_parameter_in_c() {
+    let source = "
+// One.
+#[no_mangle]
+pub extern \"C\" fn bt_all(s: &[u8], out: &mut [u64], hash: &[u8; 32], words: &mut [u64; 4], at: usize, n: u16, on: bool)
+{
+}
+";
+    let functions = exported::read_source(source).unwrap();
+    let text = header::c_header(&functions);
+    let declared = "
+/* One. */
+void bt_all(
+    const uint8_t *s, size_t s_length,
+    uint64_t *out, size_t out_length,
+    const uint8_t hash[32],
+    uint64_t words[4],
+    size_t at,
+    uint16_t n,
+    bool on);
+";
+    assert!(text.contains(declared), "{text}");
+}
+
+/// Builds tests/c/read_message.c with the header and the archive, for x86-64.
+fn program() -> PathBuf {
+    let folder = Path::new(env!("CARGO_TARGET_TMPDIR")).join("c");
+    fs::create_dir_all(&folder).unwrap();
+    fs::write(folder.join("bisquetower.h"), raw::HEADER).unwrap();
+    let (c, program) = (here().join("tests/c"), folder.join("read_message"));
+    let tools = kit::tools().expect("the kit that proved the library");
+    let built = Command::new(tools.join("clang"))
+        .args(["--target=x86_64-unknown-linux-gnu", "-fuse-ld=lld"])
+        .args([
+            "-std=c11",
+            "-O2",
+            "-Wall",
+            "-Wextra",
+            "-Wpedantic",
+            "-Werror",
+        ])
+        .args(["-ffreestanding", "-fno-builtin", "-fno-stack-protector"])
+        .args(["-nostdlib", "-static", "-I"])
+        .args([&folder, Path::new("-I"), &c.join("alone")])
+        .args([c.join("read_message.c"), c.join("alone/start.c")])
+        .arg(here().join("../../target/staticlib/libsync.a"))
+        .arg("-o")
+        .arg(&program)
+        .output()
+        .expect("the kit's clang runs");
+    let said = String::from_utf8_lossy(&built.stderr);
+    assert!(built.status.success(), "{said}");
+    program
+}
+
+/// What the program says of a message.
+fn read(program: &Path, message: &[u8]) -> Output {
+    let mut command = match cfg!(target_arch = "x86_64") {
+        true => Command::new(program),
+        false => {
+            let tools = kit::tools().expect("the kit that proved the library");
+            let mut emulated = Command::new(tools.join("qemu-x86_64"));
+            emulated.arg(program);
+            emulated
+        }
+    };
+    let mut child = command
+        .stdin(Stdio::piped())
+        .stdout(Stdio::piped())
+        .spawn()
+        .expect("it starts");
+    let mut stdin = child.stdin.take().expect("a pipe");
+    stdin.write_all(message).expect("it reads");
+    drop(stdin);
+    child.wait_with_output().expect("it ends")
+}
+
+#[test]
+fn a_program_in_c_reads_messages() {
+    let program = program();
+    let said = |message: &[u8], status: i32, line: &str| {
+        let left = read(&program, message);
+        assert_eq!(String::from_utf8_lossy(&left.stdout), format!("{line}\n"));
+        assert_eq!(left.status.code(), Some(status));
+    };
+    let all = "version 2, heads 0, need 0, haves 1, chunks 1, flags 4";
+    said(b"\x43\0\0\x01\0\0\x01\x04sync\x02\x02\x84", 0, all);
+    let none = "version 1, heads 0, need 0, haves 0, chunks 0, flags 256";
+    said(b"\x42\0\0\0\0", 0, none);
+    said(b"\x42\0\0\0\x01\x02\xaa", 1, "refusal 1, value 5");
+    said(b"\x41", 1, "refusal 2, value 65");
+    said(b"", 1, "refusal 1, value 0");
+    said(&vec![0x42; 4_194_305], 1, "refusal 4, value 0");
+}
