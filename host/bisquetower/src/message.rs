@@ -31,6 +31,9 @@ pub const CHUNK_WORDS: usize = 2;
 /// As many haves as a message may have.
 pub const HAVES: usize = 16;
 
+/// As many chunks as a message may have.
+pub const CHUNKS: usize = 4_096;
+
 /// Bytes of a hash.
 pub const HASH: usize = 32;
 

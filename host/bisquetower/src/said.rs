@@ -11,7 +11,7 @@ use crate::{raw, room};
 const NUMBER: usize = 10;
 
 /// As many chunks as are read without asking again.
-const CHUNKS: usize = 64;
+const FEW_CHUNKS: usize = 64;
 
 /// What a unit says to another. [`message::Message`] is the same without a copy, for
 /// readers who lend their own lists.
@@ -49,7 +49,10 @@ pub struct Message {
 impl Message {
     /// Reads a message.
     pub fn decode(bytes: &[u8]) -> Result<Message, Refusal> {
-        let (mut haves, mut chunks) = (vec![0; HAVES * HAVE_WORDS], vec![0; CHUNKS * CHUNK_WORDS]);
+        let (mut haves, mut chunks) = (
+            vec![0; HAVES * HAVE_WORDS],
+            vec![0; FEW_CHUNKS * CHUNK_WORDS],
+        );
         let mut words = raw::read_message(bytes, &mut haves, &mut chunks);
         if let Err(Refusal { number: 7, value }) = answer(words) {
             chunks.resize(value as usize, 0);

@@ -5,10 +5,6 @@ use crate::refusal::{answer, Refusal};
 use crate::{raw, room};
 use std::collections::HashMap;
 
-/// Bytes of a change row and of a waiting row.
-const ROW: usize = 64;
-const WAITING_ROW: usize = 544;
-
 /// Row numbers that a change row has room for, and hashes that a waiting row has.
 const DEPENDENCIES: usize = 15;
 
@@ -34,6 +30,9 @@ const DEPENDENCIES: usize = 15;
 pub struct Table(Vec<u8>);
 
 impl Table {
+    /// Bytes of a row.
+    pub const ROW: usize = 64;
+
     /// The table of records, if it is good.
     pub fn new(bytes: impl Into<Vec<u8>>) -> Result<Table, Refusal> {
         let bytes = bytes.into();
@@ -63,7 +62,7 @@ impl Table {
 
     /// How many rows it has.
     pub fn rows(&self) -> usize {
-        self.0.len() / ROW
+        self.0.len() / Table::ROW
     }
 
     /// Its records.
@@ -73,7 +72,7 @@ impl Table {
 
     /// The hash of a row. Panics if there is no such row, here and below.
     pub fn hash(&self, row: usize) -> ChangeHash {
-        let record = &self.0[ROW * row..][..HASH];
+        let record = &self.0[Table::ROW * row..][..HASH];
         ChangeHash(record.try_into().expect("so long"))
     }
 
@@ -84,7 +83,7 @@ impl Table {
 
     /// The rows that a row depends on, ascending.
     pub fn dependencies(&self, row: usize) -> Vec<usize> {
-        let numbers = self.0[ROW * row + HASH..][..ROW - HASH].chunks_exact(2);
+        let numbers = self.0[Table::ROW * row + HASH..][..Table::ROW - HASH].chunks_exact(2);
         let mut numbers = numbers.map(|two| u16::from_le_bytes([two[0], two[1]]).into());
         let count = numbers.next().unwrap_or_default();
         numbers.take(count).collect()
@@ -125,6 +124,9 @@ impl Table {
 pub struct Waiting(Vec<u8>);
 
 impl Waiting {
+    /// Bytes of a row.
+    pub const ROW: usize = 544;
+
     /// The table of records beside a change table, if it is good.
     pub fn new(bytes: impl Into<Vec<u8>>, table: &Table) -> Result<Waiting, Refusal> {
         let bytes = bytes.into();
@@ -149,7 +151,7 @@ impl Waiting {
         let mut bytes = Vec::new();
         for (hash, dependencies) in changes {
             let dependencies = dependencies.as_ref();
-            let end = bytes.len() + WAITING_ROW;
+            let end = bytes.len() + Waiting::ROW;
             bytes.extend(hash.0);
             bytes.push(u8::try_from(dependencies.len()).unwrap_or(u8::MAX));
             bytes.extend([0; HASH - 1]);
@@ -162,7 +164,7 @@ impl Waiting {
 
     /// How many changes wait.
     pub fn rows(&self) -> usize {
-        self.0.len() / WAITING_ROW
+        self.0.len() / Waiting::ROW
     }
 
     /// Its records.
@@ -172,7 +174,7 @@ impl Waiting {
 
     /// The hash of a waiting change. Panics if there is no such row.
     pub fn hash(&self, row: usize) -> ChangeHash {
-        let record = &self.0[WAITING_ROW * row..][..HASH];
+        let record = &self.0[Waiting::ROW * row..][..HASH];
         ChangeHash(record.try_into().expect("so long"))
     }
 }
@@ -186,7 +188,7 @@ pub(crate) struct Rows {
 
 impl Rows {
     pub(crate) fn push(&mut self, hash: ChangeHash, dependencies: &[ChangeHash]) {
-        let own = self.bytes.len() / ROW;
+        let own = self.bytes.len() / Table::ROW;
         // A row below itself is bad, as is one that depends on what isn't there.
         let number = |dependency| self.numbers.get(dependency).copied().unwrap_or(own);
         let mut numbers: Vec<usize> = dependencies.iter().map(number).collect();

@@ -9,6 +9,7 @@ bisquetower: messages, tables and catch-ups, through the proved sync library
   table FILE                  rows, heads, widest, deepest, first bad row
   catch-up STATION VALIDATOR  two units talk until both hold the same rows
   sample DIR                  tables and captures to try it on
+  compare                     the library beside the crate's own code
 
 `bisquetower COMMAND --help` says what a command takes.
 
@@ -71,6 +72,20 @@ states, a filter, and damaged ones.
   --force     write over files that are there
 ";
 
+const COMPARE: &str = "\
+bisquetower compare [SUBJECT ..] [--seconds N] [--seed N]
+
+Holds the library's answers against those of automerge's own sync code and of
+the rules in plain Rust, over random inputs, some of them damaged, until time is
+up or an answer differs. On a terminal a line shows how many were compared so
+far, and how many a second.
+
+  SUBJECT      items, filters, states, messages, selections, planning,
+               receiving, talks; all if none is named
+  --seconds N  how long a subject takes, one batch at least; 5 if not told
+  --seed N     the inputs of this seed; others each time if not told
+";
+
 /// The help of the command that is named, or of all.
 pub fn run(words: &[String]) -> Result<String, Failure> {
     let command = words.first().map(String::as_str);
@@ -80,6 +95,7 @@ pub fn run(words: &[String]) -> Result<String, Failure> {
         Some("table") => TABLE,
         Some("catch-up") => CATCH_UP,
         Some("sample") => SAMPLE,
+        Some("compare") => COMPARE,
         Some(other) => return Err(Failure::usage(format!("there is no command {other}"), "")),
     };
     Ok(text.to_string())

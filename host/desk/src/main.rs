@@ -3,6 +3,7 @@
 
 mod args;
 mod catch_up;
+mod comparison;
 mod failure;
 mod files;
 mod help;
@@ -49,6 +50,7 @@ fn run(words: &[String]) -> Result<String, Failure> {
         "table" => table::run,
         "catch-up" => catch_up::run,
         "sample" => sample::run,
+        "compare" => comparison::run,
         "help" | "--help" | "-h" => help::run,
         other => return Err(Failure::usage(format!("there is no command {other}"), "")),
     };

@@ -7,7 +7,7 @@ use crate::catch_up::{Said, Talk};
 use crate::failure::Failure;
 use crate::files;
 use crate::text::count;
-use bisquetower::Filter;
+use bisquetower::{Filter, Table};
 use std::path::Path;
 
 const OPTIONS: Options = Options {
@@ -15,9 +15,6 @@ const OPTIONS: Options = Options {
     switches: &["--force"],
     valued: &[],
 };
-
-/// Bytes of a row.
-const ROW: usize = 64;
 
 pub fn run(words: &[String]) -> Result<String, Failure> {
     let args = OPTIONS.read(words)?;
@@ -72,10 +69,10 @@ fn samples() -> Result<Vec<(String, Vec<u8>)>, Failure> {
 
 fn damaged(message: Vec<u8>, table: Vec<u8>) -> [(String, Vec<u8>); 5] {
     let cut_message = message[..message.len() / 2].to_vec();
-    let cut_table = table[..table.len() - ROW / 2].to_vec();
-    // Row 700 takes the hash of the row above it.
+    let cut_table = table[..table.len() - Table::ROW / 2].to_vec();
+    // Row 700 is the row above it again.
     let mut bad_table = table;
-    bad_table.copy_within(ROW * 699..ROW * 699 + 32, ROW * 700);
+    bad_table.copy_within(Table::ROW * 699..Table::ROW * 700, Table::ROW * 700);
     [
         ("cut.message", cut_message),
         ("long-number.message", vec![0x42, 0x80, 0x00]),

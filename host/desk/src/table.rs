@@ -14,9 +14,6 @@ const OPTIONS: Options = Options {
     valued: &[],
 };
 
-/// Bytes of a row.
-const ROW: usize = 64;
-
 pub fn run(words: &[String]) -> Result<String, Failure> {
     let args = OPTIONS.read(words)?;
     let [file] = OPTIONS.names(&args, "one file")?;
@@ -31,7 +28,7 @@ pub fn run(words: &[String]) -> Result<String, Failure> {
         }
         // The rows above the first bad one are a table.
         Err(refusal @ Refusal { number: 6, value }) => {
-            let above = &bytes[..ROW * value as usize];
+            let above = &bytes[..Table::ROW * value as usize];
             let bad = paint.bad("a bad change table; of its rows above the first bad one");
             let shown = shown(above, &value.to_string(), full);
             Err(refused(&file, &bytes, refusal).showing(format!("{file}: {bad}\n{shown}")))

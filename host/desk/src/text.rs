@@ -23,9 +23,14 @@ pub fn number(n: usize) -> String {
 
 /// A number of things, in the singular where it is one.
 pub fn count(n: usize, thing: &str) -> String {
+    let things = match thing.strip_suffix("ry") {
+        Some(start) => format!("{start}ries"),
+        None if thing.ends_with('h') => format!("{thing}es"),
+        None => format!("{thing}s"),
+    };
     match n {
         1 => format!("1 {thing}"),
-        _ => format!("{} {thing}s", number(n)),
+        _ => format!("{} {things}", number(n)),
     }
 }
 

@@ -1,7 +1,7 @@
 //! What a message does.
 
 use super::{Lists, Session};
-use crate::{raw, refusal, Error, Host, Message};
+use crate::{raw, refusal, Error, Host, Message, Table};
 
 /// The most words and bytes of kept haves, and the most bytes of a hash list.
 const HAVES: usize = 112;
@@ -19,7 +19,7 @@ impl Session {
         host: &mut H,
         message: &[u8],
     ) -> Result<(), Error<H::Error>> {
-        let before = host.table().len() / 64;
+        let before = host.table().len() / Table::ROW;
         // A message that isn't read brings nothing; the step below refuses it.
         let changes = Message::decode(message).map_or(Vec::new(), |message| message.changes);
         let loaded = match changes.is_empty() || self.is_read_only() {

@@ -1,6 +1,7 @@
 //! What a file may hold, and how that is told when it isn't named.
 
 use super::shown;
+use bisquetower::message::{CHUNKS, CHUNK_WORDS, HAVES, HAVE_WORDS};
 use bisquetower::raw;
 use bisquetower::refusal::answer;
 use bisquetower::{message, Filter, Message, Refusal, SavedState, Table};
@@ -17,9 +18,6 @@ pub enum Kind {
 
 /// In the order in which they are tried.
 const KINDS: [Kind; 4] = [Kind::Message, Kind::State, Kind::Table, Kind::Filter];
-
-/// Bytes of a change row.
-const ROW: usize = 64;
 
 impl Kind {
     pub fn named(name: &str) -> Option<Kind> {
@@ -46,7 +44,7 @@ impl Kind {
         };
         let looks = match bytes[0] {
             0x42 | 0x43 => Kind::Message,
-            _ if bytes.len() >= ROW => Kind::Table,
+            _ if bytes.len() >= Table::ROW => Kind::Table,
             _ => Kind::Message,
         };
         takes(true).or(takes(false)).unwrap_or(looks)
@@ -67,7 +65,8 @@ impl Kind {
     fn read(self, bytes: &[u8]) -> Result<usize, Refusal> {
         match self {
             Kind::Message => {
-                let (mut haves, mut chunks) = (vec![0; 112], vec![0; 8_192]);
+                let mut haves = vec![0; HAVES * HAVE_WORDS];
+                let mut chunks = vec![0; CHUNKS * CHUNK_WORDS];
                 let read = message::Message::read(bytes, &mut haves, &mut chunks)?;
                 Ok(read.next())
             }
@@ -100,7 +99,7 @@ impl Kind {
         let value = refusal.value as usize;
         match (refusal.number, self) {
             (2, _) => Some(0),
-            (6, _) => Some(ROW * value),
+            (6, _) => Some(Table::ROW * value),
             // As a whole, not at its first byte.
             (4, Kind::Message | Kind::Table) if value == 0 => None,
             (1 | 3 | 4 | 5, _) => Some(value),

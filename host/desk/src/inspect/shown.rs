@@ -37,7 +37,7 @@ pub fn message(message: &Message, length: usize, full: bool) -> String {
 
 fn told_have(have: &Have) -> String {
     let Have { last_sync, bloom } = have;
-    let synced = count(last_sync.len(), "last-sync hash").replace("hashs", "hashes");
+    let synced = count(last_sync.len(), "last-sync hash");
     format!("{synced}; filter: {}", told_filter(bloom))
 }
 
@@ -70,10 +70,7 @@ pub fn filter(filter: &Filter, length: usize) -> String {
 }
 
 fn told_filter(filter: &Filter) -> String {
-    let entries = match filter.num_entries() {
-        1 => "1 entry".to_string(),
-        n => format!("{} entries", number(n as usize)),
-    };
+    let entries = count(filter.num_entries() as usize, "entry");
     let set: u32 = filter.bits().iter().map(|byte| byte.count_ones()).sum();
     let field = 8 * filter.bits().len();
     let bits = filter.num_bits_per_entry();

@@ -1,11 +1,9 @@
 //! The command itself: help, wrong words, and what it writes over.
 
-mod common;
-
-use common::{folder, run, samples, text};
+use crate::{folder, run, samples, text};
 use std::fs;
 
-const COMMANDS: [&str; 4] = ["inspect", "table", "catch-up", "sample"];
+const COMMANDS: [&str; 5] = ["inspect", "table", "catch-up", "sample", "compare"];
 
 /// Lines and columns of a screen.
 const SCREEN: (usize, usize) = (24, 80);

@@ -1,4 +1,14 @@
-//! Runs of the command, and the samples that they are made on.
+//! The command, run as its users run it: what it shows, what it complains of, and its
+//! exit status.
+
+#[path = "desk/catch_up.rs"]
+mod catch_up;
+#[path = "desk/command.rs"]
+mod command;
+#[path = "desk/comparison.rs"]
+mod comparison;
+#[path = "desk/inspect.rs"]
+mod inspect;
 
 use std::io::Write;
 use std::path::{Path, PathBuf};
@@ -6,27 +16,27 @@ use std::process::{Command, Stdio};
 
 /// What a run left: its exit status, what it showed and what it complained of.
 #[derive(Debug)]
-pub struct Run {
-    pub status: i32,
-    pub out: String,
-    pub err: String,
+struct Run {
+    status: i32,
+    out: String,
+    err: String,
 }
 
 impl Run {
     /// The exit status is this one; a failed run says what to do next.
-    pub fn ended(self, status: i32) -> Run {
+    fn ended(self, status: i32) -> Run {
         assert_eq!(self.status, status, "{self:?}");
         assert_eq!(self.err.contains("next: "), status != 0, "{self:?}");
         self
     }
 }
 
-pub fn run(words: &[&str]) -> Run {
+fn run(words: &[&str]) -> Run {
     run_with(words, b"")
 }
 
 /// A run with bytes on its standard input.
-pub fn run_with(words: &[&str], input: &[u8]) -> Run {
+fn run_with(words: &[&str], input: &[u8]) -> Run {
     let mut child = Command::new(env!("CARGO_BIN_EXE_bisquetower"))
         .args(words)
         .stdin(Stdio::piped())
@@ -48,7 +58,7 @@ pub fn run_with(words: &[&str], input: &[u8]) -> Run {
 }
 
 /// An empty folder of this name, for a test of its own.
-pub fn folder(name: &str) -> PathBuf {
+fn folder(name: &str) -> PathBuf {
     let folder = Path::new(env!("CARGO_TARGET_TMPDIR")).join(name);
     let _ = std::fs::remove_dir_all(&folder);
     std::fs::create_dir_all(&folder).expect("a folder");
@@ -56,12 +66,12 @@ pub fn folder(name: &str) -> PathBuf {
 }
 
 /// A folder of this name that has the samples.
-pub fn samples(name: &str) -> PathBuf {
+fn samples(name: &str) -> PathBuf {
     let folder = folder(name);
     run(&["sample", text(&folder)]).ended(0);
     folder
 }
 
-pub fn text(path: &Path) -> &str {
+fn text(path: &Path) -> &str {
     path.to_str().expect("text")
 }

@@ -1,9 +1,7 @@
 //! Catch-ups and tables.
 
-mod common;
-
+use crate::{folder, run, run_with, samples, text};
 use bisquetower::{ChangeHash, Table};
-use common::{folder, run, run_with, samples, text};
 use std::fs;
 use std::path::Path;
 

@@ -1,11 +1,9 @@
 //! Files that are inspected: good, damaged, missing, empty and huge.
 
-mod common;
-
-use common::{folder, run, run_with, samples, text};
+use crate::{folder, run, run_with, samples, text, Run};
 use std::fs::{self, File};
 
-fn inspect(bytes: &[u8]) -> common::Run {
+fn inspect(bytes: &[u8]) -> Run {
     run_with(&["inspect", "-"], bytes)
 }
 
