@@ -8,6 +8,9 @@ use crate::{raw, room};
 const BITS_PER_ENTRY: u32 = 10;
 const PROBES: u32 = 7;
 
+/// Room for a filter's three numbers.
+const NUMBERS: usize = 16;
+
 /// A set of changes in some ten bits each. It never says no to one that was put in,
 /// and yes to about one in a hundred that wasn't.
 ///
@@ -65,6 +68,28 @@ impl Filter {
         })
     }
 
+    /// The filter of these numbers over a field: refusal 10 if they break a filter's
+    /// rules or the field has another size.
+    pub fn from_parts(
+        entries: u64,
+        bits: u64,
+        probes: u64,
+        field: &[u8],
+    ) -> Result<Filter, Refusal> {
+        // Writing it is what tests the numbers.
+        let room = field.len() + NUMBERS;
+        room::written(room, |out| {
+            raw::write_filter(entries, bits, probes, field, out)
+        })?;
+        let field = field.to_vec();
+        Ok(Filter {
+            entries,
+            bits,
+            probes,
+            field,
+        })
+    }
+
     /// Reads a filter; what stands after its field is ignored.
     pub fn parse(bytes: &[u8]) -> Result<Filter, Refusal> {
         Filter::parse_first(bytes).map(|(filter, _)| filter)
@@ -91,7 +116,7 @@ impl Filter {
             probes,
             field,
         } = self;
-        let room = field.len() + 16;
+        let room = field.len() + NUMBERS;
         let written = room::written(room, |out| {
             raw::write_filter(*entries, *bits, *probes, field, out)
         });

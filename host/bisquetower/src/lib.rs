@@ -66,5 +66,5 @@ pub use refusal::Refusal;
 pub use said::Message;
 pub use saved::SavedState;
 pub use selection::hashes_to_send;
-pub use session::{Plan, Session};
+pub use session::{Plan, Session, SessionParts};
 pub use table::{Table, Waiting};

@@ -1,9 +1,11 @@
 //! Sessions: what a unit knows of the sync with one peer.
 
 mod generate;
+mod parts;
 mod receive;
 
 pub use generate::Plan;
+pub use parts::SessionParts;
 
 use crate::hash::{hashes_in, ChangeHash, HASH};
 use crate::have::{haves_in, Have};
