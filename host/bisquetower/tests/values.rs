@@ -96,6 +96,11 @@ fn filters_at_their_bounds() {
     assert_eq!(Filter::with(10, 65, &all), Err(refusal(10, 0)));
     assert_eq!(Filter::from_hashes(&hashes(1_025)), Err(refusal(4, 0)));
 
+    let parts = |entries, length| Filter::from_parts(entries, 10, 7, &all[0].0[..length]);
+    assert_eq!(parts(2, 3).map(|filter| filter.num_entries()), Ok(2));
+    assert_eq!(parts(2, 4), Err(refusal(10, 0)));
+    assert_eq!(Filter::from_parts(1, 0, 7, &[]), Err(refusal(10, 0)));
+
     assert_eq!(Filter::parse(&[]), Ok(Filter::default()));
     assert_eq!(Filter::default().to_bytes(), []);
     assert!(!Filter::default().contains_hash(&hash(0)));

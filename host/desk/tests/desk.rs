@@ -13,6 +13,7 @@ mod inspect;
 use std::io::Write;
 use std::path::{Path, PathBuf};
 use std::process::{Command, Stdio};
+use std::sync::OnceLock;
 
 /// What a run left: its exit status, what it showed and what it complained of.
 #[derive(Debug)]
@@ -65,11 +66,14 @@ fn folder(name: &str) -> PathBuf {
     folder
 }
 
-/// A folder of this name that has the samples.
-fn samples(name: &str) -> PathBuf {
-    let folder = folder(name);
-    run(&["sample", text(&folder)]).ended(0);
-    folder
+/// The samples, for tests that only read them.
+fn samples() -> &'static Path {
+    static SAMPLES: OnceLock<PathBuf> = OnceLock::new();
+    SAMPLES.get_or_init(|| {
+        let folder = folder("samples");
+        run(&["sample", text(&folder)]).ended(0);
+        folder
+    })
 }
 
 fn text(path: &Path) -> &str {

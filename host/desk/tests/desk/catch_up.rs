@@ -41,9 +41,8 @@ fn field(json: &str, name: &str) -> usize {
 /// Three false yeses hide each other: a round for each, and the first.
 #[test]
 fn the_sample_takes_four_rounds() {
-    let folder = samples("catch-up-sample");
-    let [station, validator] = ["station.table", "validator.table"].map(|name| folder.join(name));
-    let svg = folder.join("rounds.svg");
+    let [station, validator] = ["station.table", "validator.table"].map(|n| samples().join(n));
+    let svg = folder("catch-up-sample").join("rounds.svg");
     let words = [
         "catch-up",
         text(&station),
@@ -179,8 +178,7 @@ fn what_a_table_is() {
 /// Of a bad table the rows above the bad one are shown.
 #[test]
 fn the_first_bad_row() {
-    let folder = samples("table-bad");
-    let bad = run(&["table", text(&folder.join("bad-row.table"))]).ended(1);
+    let bad = run(&["table", text(&samples().join("bad-row.table"))]).ended(1);
     assert!(bad.out.contains("first bad row  700"), "{bad:?}");
     assert!(bad.err.contains("refusal 6, value 700"), "{bad:?}");
 }

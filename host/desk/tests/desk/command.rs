@@ -1,6 +1,6 @@
 //! The command itself: help, wrong words, and what it writes over.
 
-use crate::{folder, run, samples, text};
+use crate::{folder, run, text};
 use std::fs;
 
 const COMMANDS: [&str; 5] = ["inspect", "table", "catch-up", "sample", "compare"];
@@ -43,7 +43,8 @@ fn wrong_words() {
 
 #[test]
 fn nothing_is_written_over() {
-    let folder = samples("command-samples");
+    let folder = folder("command-samples");
+    run(&["sample", text(&folder)]).ended(0);
     let table = folder.join("station.table");
     fs::write(&table, b"mine").unwrap();
     let again = run(&["sample", text(&folder)]).ended(2).err;

@@ -9,8 +9,7 @@ fn inspect(bytes: &[u8]) -> Run {
 
 #[test]
 fn the_samples() {
-    let folder = samples("inspect-samples");
-    let show = |name: &str| run(&["inspect", text(&folder.join(name))]);
+    let show = |name: &str| run(&["inspect", text(&samples().join(name))]);
     let first = show("1-validator.message").ended(0).out;
     assert!(
         first.contains("a message of version 1, 1,401 bytes"),
