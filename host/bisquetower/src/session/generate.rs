@@ -28,7 +28,10 @@ pub struct Plan {
 
 impl Session {
     /// What to say to the peer next; none if there is nothing to say, or an answer is
-    /// awaited. The message is a value: [`Message::encode`] makes its bytes.
+    /// awaited. The message is a value: [`Message::encode`] makes its bytes, and refuses
+    /// one that passes the limit, though the session takes it as said.
+    ///
+    /// Where the library is linked this takes up to 640 KiB of the thread's stack.
     #[doc(alias = "generate_sync_message")]
     pub fn generate<H: Host>(&mut self, host: &H) -> Result<Option<Message>, Error<H::Error>> {
         // The session changes once the host has lent everything.

@@ -13,6 +13,8 @@ const NOT_LOADED: u64 = 8;
 impl Session {
     /// Takes a message from the peer. The host loads its changes, unless the session is
     /// read-only or the message is refused.
+    ///
+    /// Where the library is linked this takes up to 256 KiB of the thread's stack.
     #[doc(alias = "receive_sync_message")]
     pub fn receive<H: Host>(
         &mut self,

@@ -14,6 +14,7 @@ pub fn text(talk: &Talk) -> String {
         ("missing", talk.missing.to_string()),
         ("foreign", talk.foreign.to_string()),
         ("bound", option(talk.bound())),
+        ("by_list", talk.by_list().to_string()),
         ("took", talk.took.to_string()),
         ("messages", talk.messages.len().to_string()),
         ("bytes", talk.bytes().to_string()),

@@ -40,18 +40,21 @@ pub fn text(talk: &Talk) -> String {
 fn outcome(talk: &Talk, paint: Paint) -> String {
     let took = count(talk.took, "round");
     let all = "the validator holds the station's table";
-    match talk.bound() {
+    let done = paint.good(&format!("After {took} {all}"));
+    let promise = match talk.bound() {
+        Some(bound) if talk.by_list() => format!("proved: at most {} (m + 1)", number(bound)),
         Some(bound) => {
-            let done = paint.good(&format!("After {took} {all}"));
-            let most = count(bound, "round");
-            format!("{done}; proved: at most {most} (m + 1).\n")
+            let bound = number(bound);
+            format!("m + 1 is {bound}, promised for replies by list, and the document went here")
         }
         None => {
             let foreign = count(talk.foreign, "row");
-            let why = format!("the validator holds {foreign} that the station lacked");
-            format!("After {took} {all}; m + 1 isn't promised here: {why}.\n")
+            format!(
+                "m + 1 isn't promised here: the validator holds {foreign} that the station lacked"
+            )
         }
-    }
+    };
+    format!("{done}; {promise}.\n")
 }
 
 fn cells(k: usize, round: &Round) -> [String; 8] {

@@ -61,6 +61,11 @@ impl Talk {
         (self.foreign == 0).then_some(self.missing + 1)
     }
 
+    /// Whether every reply was a list of changes, as the bound wants it.
+    pub fn by_list(&self) -> bool {
+        self.rounds.iter().all(|round| !round.document)
+    }
+
     pub fn bytes(&self) -> usize {
         self.messages.iter().map(|said| said.bytes.len()).sum()
     }

@@ -53,7 +53,7 @@ fn the_sample_takes_four_rounds() {
     let shown = run(&words).ended(0).out;
     assert!(shown.contains("A station of 1,024 rows and a validator of 904, 120 short."));
     assert!(shown.contains("After 4 rounds"), "{shown}");
-    assert!(shown.contains("at most 121 rounds (m + 1)"), "{shown}");
+    assert!(shown.contains("proved: at most 121 (m + 1)"), "{shown}");
 
     let drawn = fs::read_to_string(&svg).unwrap();
     assert!(drawn.starts_with("<svg ") && drawn.ends_with("</svg>\n"));
@@ -105,6 +105,10 @@ fn a_validator_without_rows() {
     let shown = run_with(&["catch-up", &station, "-"], b"").ended(0).out;
     assert!(shown.contains("4 document"), "{shown}");
     assert!(shown.contains("After 1 round the"), "{shown}");
+    assert!(
+        shown.contains("m + 1 is 5, promised for replies by list"),
+        "{shown}"
+    );
 }
 
 /// Where both lack rows, both get them, and no bound is told.
