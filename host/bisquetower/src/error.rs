@@ -6,7 +6,8 @@ use std::fmt;
 /// Why a session's step wasn't taken. `H` is what the host's own calls fail with.
 #[derive(Clone, Debug, PartialEq, Eq)]
 pub enum Error<H> {
-    /// The library refused, and the session is as it was.
+    /// The library refused, and the session is as it was. A message's changes may have
+    /// been loaded by then, where they lead past a limit.
     Refused(Refusal),
     /// The host couldn't lend a change or its document, and the session is as it was.
     Lend(H),

@@ -23,7 +23,7 @@ pub fn run(words: &[String]) -> Result<String, Failure> {
     let all = samples()?;
     let paths = all.iter().map(|(name, _)| Path::new(&folder).join(name));
     let paths: Vec<_> = paths.collect();
-    // Either all of them are written or none.
+    // Where one is there, none is written.
     if let Some(there) = paths.iter().find(|path| path.exists() && !force) {
         return Err(Failure::file(
             format!("{} is there already", there.display()),
