@@ -21,7 +21,7 @@ bench: lib
 
 # Every comparison with the crate and the model: make compare SECONDS=120, or ROUNDS=5; SEED=1 makes it run again.
 compare: lib
-	@bash host/compare/run $(if $(ROUNDS),--rounds $(ROUNDS),--seconds $(or $(SECONDS),120)) $(if $(SEED),--seed $(SEED)) $(if $(KIND),--kind '$(KIND)')
+	@bash host/compare/run $(if $(ROUNDS),--rounds $(ROUNDS),--seconds $(or $(SECONDS),120)) $(if $(SEED),--seed $(SEED)) $(if $(KIND),'$(KIND)')
 
 # The comparisons with inputs that libFuzzer makes: make fuzz TARGET=message SECONDS=600. Nothing depends on it.
 fuzz: lib

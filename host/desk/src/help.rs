@@ -73,16 +73,16 @@ states, a filter, and damaged ones.
 ";
 
 const COMPARE: &str = "\
-bisquetower compare [SUBJECT ..] [--seconds N] [--seed N]
+bisquetower compare [KIND ..] [--seconds N | --rounds N] [--seed N]
 
 Holds the library's answers against those of automerge's own sync code and of
-the rules in plain Rust, over random inputs, some of them damaged, until time is
-up or an answer differs. On a terminal a line shows how many were compared so
-far, and how many a second.
+the rules in plain Rust, over random inputs, some of them damaged. At the end a
+row for each kind: inputs, those to which docs/DIFFERENCES.md says that answers
+stand apart, and differences, the smallest of which is shown.
 
-  SUBJECT      items, filters, states, messages, selections, planning,
-               receiving, talks; all if none is named
-  --seconds N  how long a subject takes, one batch at least; 5 if not told
+  KIND         a name of the table's first column, in quotes; all if none
+  --seconds N  how long it takes; 120 if not told
+  --rounds N   so many rounds of each kind instead
   --seed N     the inputs of this seed; others each time if not told
 ";
 

@@ -1,49 +1,46 @@
-//! The comparison with the crate's code, a batch of each subject.
+//! The comparison with the crate's code, a round of some kinds.
 
 use crate::run;
 
-const SUBJECTS: [&str; 8] = [
-    "items",
-    "filters",
-    "states",
-    "messages",
-    "selections",
-    "planning",
-    "receiving",
-    "talks",
-];
-
-/// How many answers of a subject were compared.
-fn compared(shown: &str, subject: &str) -> usize {
-    let mut lines = shown.lines().map(str::split_whitespace);
-    let line = lines.find(|words| words.clone().next() == Some(subject));
-    let count = line.expect("a line").nth(1).expect("a count");
-    count.replace(',', "").parse().expect("a number")
+/// The columns of a kind's row: inputs, apart, differences.
+fn counts(shown: &str, kind: &str) -> Vec<u64> {
+    let row = shown.lines().find_map(|line| line.strip_prefix(kind));
+    let words = row.expect("a row").split_whitespace().take(3);
+    words.map(|word| word.parse().expect("a number")).collect()
 }
 
 #[test]
-fn a_batch_of_each_subject() {
-    let words = ["compare", "--seconds", "0", "--seed", "20120047200"];
+fn a_round_of_some_kinds() {
+    let words = [
+        "compare",
+        "filters read",
+        "messages written",
+        "--rounds",
+        "1",
+        "--seed",
+        "7",
+    ];
     let shown = run(&words).ended(0).out;
-    let counts = SUBJECTS.map(|subject| compared(&shown, subject));
-    assert!(counts.iter().all(|&count| count >= 50), "{shown}");
+    for kind in ["filters read", "messages written"] {
+        let [inputs, _, differences] = counts(&shown, kind)[..] else {
+            panic!("{shown}")
+        };
+        assert!(inputs >= 10 && differences == 0, "{shown}");
+    }
     assert!(
-        shown.contains("none differs (--seed 20120047200)"),
+        shown.contains("seed 7") && !shown.contains("plans"),
         "{shown}"
     );
 }
 
-/// The same seed has the same inputs, another has others.
+/// The same seed has the same inputs.
 #[test]
 fn a_seed_tells_the_inputs() {
-    let talks = |seed: &str| {
-        let shown = run(&["compare", "talks", "--seconds", "0", "--seed", seed]);
-        compared(&shown.ended(0).out, "talks")
+    let apart = |seed: &str| {
+        let words = ["compare", "filters read", "--rounds", "1", "--seed", seed];
+        counts(&run(&words).ended(0).out, "filters read")
     };
-    assert_eq!(talks("1"), talks("1"));
-    assert!((2..6)
-        .map(|seed| talks(&seed.to_string()))
-        .any(|n| n != talks("1")));
+    assert_eq!(apart("1"), apart("1"));
 }
 
 #[test]
