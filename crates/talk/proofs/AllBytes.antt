@@ -35,7 +35,7 @@ use Rattle.talk.specs.Memory.{HostBytes}
 pub bytes-none : Bytes []
 bytes-none i = omega arith
 
-bytes-cons : (b : ℕ) (bs : List ℕ) → b < 256 → Bytes bs → Bytes (b ∷ bs)
+pub bytes-cons : (b : ℕ) (bs : List ℕ) → b < 256 → Bytes bs → Bytes (b ∷ bs)
 bytes-cons b bs h t zero = h
 bytes-cons b bs h t (suc i) = t i
 
@@ -52,7 +52,7 @@ pub bytes-sets : (vs l : List ℕ) (i : ℕ) → Bytes l → Bytes vs → Bytes 
 bytes-sets [] l i b v = b
 bytes-sets (x ∷ vs) l i b v = bytes-sets vs (set l i x) (suc i) (bytes-set l i x b (bytes-head x vs v)) (bytes-tail x vs v)
 
-zeros-bytes : (n : ℕ) → Bytes (replicate n 0)
+pub zeros-bytes : (n : ℕ) → Bytes (replicate n 0)
 zeros-bytes zero = bytes-none
 zeros-bytes (suc n) = bytes-cons 0 (replicate n 0) (omega arith) (zeros-bytes n)
 
