@@ -42,11 +42,15 @@ use Rattle.tables.specs.Bytes.{
 use Rattle.tables.specs.Table.{Row, rows, held}
 use Rattle.tables.specs.Waiting.{Waiting, waiting}
 use Rattle.tables.specs.declared.check.Checked.the-variants.{Good}
-use Rattle.walk.specs.Talk.{Host, Reached, Granted}
+use Rattle.walk.specs.Round.{Part}
+use Rattle.walk.specs.Talk.{Reached, Granted}
 use Rattle.walk.proofs.Example.{a, b, c, one, three, cWaits, part-one}
 use Rattle.walk.proofs.TalkExample.{held-by-b, waiting-at-b, waiting-at-a, lent, all-granted}
-use Rattle.talk.specs.Memory.{Tabled, Beside}
+use Rattle.talk.specs.Calls.{Both, TalkOfCalls, AllGranted, CallsEnd, Lends}
+use Rattle.talk.specs.Memory.{Fresh, Out, RoomyOut, Tabled, Beside}
 use Rattle.talk.proofs.AllBytes.{bytes-none, bytes-cons, bytes-append, zeros-bytes}
+use Rattle.talk.proofs.Goes.{calls-go}
+use Rattle.talk.proofs.Talk.{calls-corollary}
 
 -- ---- tables as bytes: a hash, a count and fifteen row numbers; a waiting hash, its count and fifteen hashes
 
@@ -77,3 +81,127 @@ unfolding
     rowGoodOf firstBad checkedWith tableCheckedOf asksCountOf waitingRowOf waitingRowsOf wholeWaitingOf bytesAt fillOf unaskedOf waitingGoodOf
     waitingCheckedOf rows held waiting
 computed = (refl, refl, refl, refl, refl, refl)
+
+-- nothing waits in no bytes
+none-waits : (t : List Row) → (waitingOf [] ≡ []) × (waitingChecked t [] ≡ Good 0)
+unfolding firstBad checkedWith waitingRowsOf wholeWaitingOf waitingCheckedOf
+none-waits t = (refl, refl)
+
+hash-bytes : (h : ℕ) → Bytes (hashBytes h)
+unfolding hashBytes
+hash-bytes h = big-endian-bytes-bytes (sizes .hash) h
+
+a-bytes : Bytes a-row
+a-bytes = bytes-append (hashBytes a) (replicate 32 0) (hash-bytes a) (zeros-bytes 32)
+
+counted-one : Bytes (1 ∷ replicate 31 0)
+counted-one = bytes-cons 1 (replicate 31 0) (omega arith) (zeros-bytes 31)
+
+b-bytes : Bytes b-row
+b-bytes = bytes-append (hashBytes b) (1 ∷ replicate 31 0) (hash-bytes b) counted-one
+
+c-bytes : Bytes c-row
+c-bytes =
+    bytes-append (hashBytes c) (1 ∷ 0 ∷ 1 ∷ replicate 29 0) (hash-bytes c)
+    (bytes-cons 1 (0 ∷ 1 ∷ replicate 29 0) (omega arith)
+    (bytes-cons 0 (1 ∷ replicate 29 0) (omega arith) (bytes-cons 1 (replicate 29 0) (omega arith) (zeros-bytes 29))))
+
+all-bytes : Bytes all-rows
+all-bytes = bytes-append a-row (b-row ++ c-row) a-bytes (bytes-append b-row c-row b-bytes c-bytes)
+
+waits-bytes : Bytes c-waits
+waits-bytes =
+    bytes-append (hashBytes c) ((1 ∷ replicate 31 0) ++ (hashBytes b ++ replicate 448 0)) (hash-bytes c)
+    (bytes-append (1 ∷ replicate 31 0) (hashBytes b ++ replicate 448 0) counted-one
+    (bytes-append (hashBytes b) (replicate 448 0) (hash-bytes b) (zeros-bytes 448)))
+
+tabled-one : Tabled a-row
+tabled-one = record { rows = 1; good = computed .1; bytes = a-bytes }
+
+tabled-three : Tabled all-rows
+tabled-three = record { rows = 3; good = computed .3; bytes = all-bytes }
+
+beside-none : (t : List Row) → Beside t []
+beside-none t = record { rows = 0; good = none-waits t .1; bytes = bytes-none }
+
+-- ---- what the hosts have before each round
+
+abbrev at-b : ℕ → List ℕ
+at-b zero = a-row
+at-b (suc zero) = a-row
+at-b (suc (suc zero)) = a-row
+at-b (suc (suc (suc k))) = all-rows
+
+abbrev waits-b : ℕ → List ℕ
+waits-b zero = []
+waits-b (suc zero) = []
+waits-b (suc (suc zero)) = c-waits
+waits-b (suc (suc (suc k))) = []
+
+abbrev waits-a : ℕ → List ℕ
+waits-a k = []
+
+tables-are : (k : ℕ) → held-by-b k ≡ tableOf (at-b k)
+tables-are zero = sym (computed .0)
+tables-are (suc zero) = sym (computed .0)
+tables-are (suc (suc zero)) = sym (computed .0)
+tables-are (suc (suc (suc k))) = sym (computed .2)
+
+waits-are : (k : ℕ) → waiting-at-b k ≡ waitingOf (waits-b k)
+waits-are zero = sym (none-waits [] .0)
+waits-are (suc zero) = sym (none-waits [] .0)
+waits-are (suc (suc zero)) = sym (computed .4)
+waits-are (suc (suc (suc k))) = sym (none-waits [] .0)
+
+tabled-b : (k : ℕ) → Tabled (at-b k)
+tabled-b zero = tabled-one
+tabled-b (suc zero) = tabled-one
+tabled-b (suc (suc zero)) = tabled-one
+tabled-b (suc (suc (suc k))) = tabled-three
+
+beside-b : (k : ℕ) → Beside (tableOf (at-b k)) (waits-b k)
+beside-b zero = beside-none (tableOf a-row)
+beside-b (suc zero) = beside-none (tableOf a-row)
+beside-b (suc (suc zero)) =
+    subst (λ (t : List Row). Beside t c-waits) (sym (computed .0)) (record { rows = 1; good = computed .5; bytes = waits-bytes })
+beside-b (suc (suc (suc k))) = beside-none (tableOf all-rows)
+
+lends : (o : Out) → RoomyOut o → (buffer : List ℕ) → sizes .message ≤ length buffer → Lends all-rows at-b waits-b waits-a lent
+lends o wide buffer room =
+    record {
+      tableA = tabled-three;
+      tableB = tabled-b;
+      waitsA = λ k. beside-none (tableOf all-rows);
+      waitsB = beside-b;
+      changes = λ k. record { change = λ h. bytes-none; document = bytes-none };
+      out = o;
+      wide = wide;
+      buffer = buffer;
+      room = room;
+    }
+
+-- ---- all is granted
+
+abbrev Grants : List Row → (ℕ → List Row) → (ℕ → List Waiting) → (ℕ → List Waiting) → Type 0
+Grants A B W U = (k : ℕ) → Reached defaultBits defaultProbes A B W U lent k → Granted defaultBits defaultProbes A B W U lent k
+
+granted : AllGranted all-rows at-b waits-b waits-a lent
+granted =
+    subst (λ (A : List Row). Grants A (λ k. tableOf (at-b k)) (λ k. waitingOf (waits-b k)) (λ k. waitingOf (waits-a k))) (sym (computed .2))
+    (subst (λ (U : ℕ → List Waiting). Grants three (λ k. tableOf (at-b k)) (λ k. waitingOf (waits-b k)) U) (fun-ext (λ k. sym (none-waits [] .0)))
+    (subst (λ (W : ℕ → List Waiting). Grants three (λ k. tableOf (at-b k)) W waiting-at-a) (fun-ext waits-are)
+    (subst (λ (B : ℕ → List Row). Grants three B waiting-at-b waiting-at-a) (fun-ext tables-are) all-granted)))
+
+part : Part (tableOf all-rows) (tableOf a-row)
+part =
+    subst (λ (A : List Row). Part A (tableOf a-row)) (sym (computed .2)) (subst (λ (B : List Row). Part three B) (sym (computed .0)) part-one)
+
+-- over any fresh memories and buffers with room there is a talk of so many rounds, and the corollary speaks of it
+pub calls-example : (s : Both) → Fresh (s .atA) → Fresh (s .atB)
+    → (o : Out) → RoomyOut o
+    → (buffer : List ℕ) → sizes .message ≤ length buffer
+    → (n : ℕ)
+    → (talk : TalkOfCalls all-rows at-b waits-b waits-a lent n) × CallsEnd all-rows at-b waits-b waits-a lent n talk
+calls-example s freshA freshB o wide buffer room n =
+    let talk = calls-go all-rows at-b waits-b waits-a lent (lends o wide buffer room) s freshA freshB n in
+    (talk, calls-corollary all-rows at-b waits-b waits-a lent n talk tabled-three part (none-waits [] .0) granted)
