@@ -1,6 +1,6 @@
 -- The walk's example as bytes: its tables are good, so the hosts can make these calls, and what is granted holds of them. So the corollary of the calls is
 -- about something. Assumes nothing.
-use Prim.Native.Nat.{ℕ, zero, suc, _≤_}
+use Prim.Native.Nat.{ℕ, zero, suc, _+_, _-_, _*_, _≤_}
 use mathlib.Core.List.{List, [], _∷_, _++_}
 use mathlib.Core.Path.{_≡_, refl, sym, subst, fun-ext}
 use native.Mathlib.Omega.{arith}
@@ -52,22 +52,32 @@ use Rattle.talk.proofs.AllBytes.{bytes-none, bytes-cons, bytes-append, 
 use Rattle.talk.proofs.Goes.{calls-go}
 use Rattle.talk.proofs.Talk.{calls-corollary}
 
--- ---- tables as bytes: a hash, a count and fifteen row numbers; a waiting hash, its count and fifteen hashes
+-- ---- tables as bytes
+
+-- Bytes behind the hash of a row, between the count of a waiting row and its hashes, and of its unused hashes where one is used.
+abbrev whole : ℕ
+whole = 2 * (1 + sizes .dependencies)
+
+abbrev fill : ℕ
+fill = sizes .hash - 1
+
+abbrev unused : ℕ
+unused = sizes .hash * (sizes .dependencies - 1)
 
 abbrev a-row : List ℕ
-a-row = hashBytes a ++ replicate 32 0
+a-row = hashBytes a ++ replicate whole 0
 
 abbrev b-row : List ℕ
-b-row = hashBytes b ++ (1 ∷ replicate 31 0)
+b-row = hashBytes b ++ (1 ∷ replicate (whole - 1) 0)
 
 abbrev c-row : List ℕ
-c-row = hashBytes c ++ (1 ∷ 0 ∷ 1 ∷ replicate 29 0)
+c-row = hashBytes c ++ (1 ∷ 0 ∷ 1 ∷ replicate (whole - 3) 0)
 
 abbrev all-rows : List ℕ
 all-rows = a-row ++ (b-row ++ c-row)
 
 abbrev c-waits : List ℕ
-c-waits = hashBytes c ++ ((1 ∷ replicate 31 0) ++ (hashBytes b ++ replicate 448 0))
+c-waits = hashBytes c ++ ((1 ∷ replicate fill 0) ++ (hashBytes b ++ replicate unused 0))
 
 computed :
     (tableOf a-row ≡ one)
@@ -92,28 +102,29 @@ unfolding hashBytes
 hash-bytes h = big-endian-bytes-bytes (sizes .hash) h
 
 a-bytes : Bytes a-row
-a-bytes = bytes-append (hashBytes a) (replicate 32 0) (hash-bytes a) (zeros-bytes 32)
+a-bytes = bytes-append (hashBytes a) (replicate whole 0) (hash-bytes a) (zeros-bytes whole)
 
-counted-one : Bytes (1 ∷ replicate 31 0)
-counted-one = bytes-cons 1 (replicate 31 0) (omega arith) (zeros-bytes 31)
+counted-one : (n : ℕ) → Bytes (1 ∷ replicate n 0)
+counted-one n = bytes-cons 1 (replicate n 0) (omega arith) (zeros-bytes n)
 
 b-bytes : Bytes b-row
-b-bytes = bytes-append (hashBytes b) (1 ∷ replicate 31 0) (hash-bytes b) counted-one
+b-bytes = bytes-append (hashBytes b) (1 ∷ replicate (whole - 1) 0) (hash-bytes b) (counted-one (whole - 1))
 
 c-bytes : Bytes c-row
 c-bytes =
-    bytes-append (hashBytes c) (1 ∷ 0 ∷ 1 ∷ replicate 29 0) (hash-bytes c)
-    (bytes-cons 1 (0 ∷ 1 ∷ replicate 29 0) (omega arith)
-    (bytes-cons 0 (1 ∷ replicate 29 0) (omega arith) (bytes-cons 1 (replicate 29 0) (omega arith) (zeros-bytes 29))))
+    let rest : List ℕ = 1 ∷ replicate (whole - 3) 0 in
+    bytes-append (hashBytes c) (1 ∷ 0 ∷ rest) (hash-bytes c)
+    (bytes-cons 1 (0 ∷ rest) (omega arith) (bytes-cons 0 rest (omega arith) (counted-one (whole - 3))))
 
 all-bytes : Bytes all-rows
 all-bytes = bytes-append a-row (b-row ++ c-row) a-bytes (bytes-append b-row c-row b-bytes c-bytes)
 
 waits-bytes : Bytes c-waits
 waits-bytes =
-    bytes-append (hashBytes c) ((1 ∷ replicate 31 0) ++ (hashBytes b ++ replicate 448 0)) (hash-bytes c)
-    (bytes-append (1 ∷ replicate 31 0) (hashBytes b ++ replicate 448 0) counted-one
-    (bytes-append (hashBytes b) (replicate 448 0) (hash-bytes b) (zeros-bytes 448)))
+    let rest : List ℕ = hashBytes b ++ replicate unused 0 in
+    bytes-append (hashBytes c) ((1 ∷ replicate fill 0) ++ rest) (hash-bytes c)
+    (bytes-append (1 ∷ replicate fill 0) rest (counted-one fill)
+    (bytes-append (hashBytes b) (replicate unused 0) (hash-bytes b) (zeros-bytes unused)))
 
 tabled-one : Tabled a-row
 tabled-one = record { rows = 1; good = computed .1; bytes = a-bytes }

@@ -38,7 +38,7 @@ speaks answer = eqb (getD answer 0 0) 0 && not (eqb (getD answer 1 0) 0)
 abbrev pub recordsIn : List ℕ → List ℕ
 recordsIn answer = take (haveWords * getD answer 7 0) (drop 8 answer)
 
--- The plan that words and buffers are.
+-- The plan that words and buffers are; `statedWords` (session_calls SessionCalls) has the order of the words.
 abbrev pub planIn : List ℕ → Out → Plan
 planIn answer o =
     record {
@@ -99,7 +99,7 @@ pub record Both : Type 0 where
   pub atA : Memory
   pub atB : Memory
 
--- A message was planned and written, and carries these hashes.
+-- A message was planned and written, and carries these hashes: word 0 of an answer is 0 where nothing is refused, word 1 of a plan's is 2 for a message.
 pub record SaidSo (answer written : List ℕ) (o : Out) (hashes : List ℕ) : Type 0 where
   pub planned : getD answer 0 0 ≡ 0
   pub message : getD answer 1 0 ≡ 2
