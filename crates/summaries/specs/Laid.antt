@@ -1,7 +1,7 @@
 -- What internal contracts speak of: the first haves of a list laid as words in an array. No rule of 01 stands here.
 use Prim.Native.Nat.{ℕ, zero, suc, _+_, _*_, min}
 use mathlib.Core.Bool.{cond}
-use mathlib.Core.List.{List, [], _∷_}
+use mathlib.Core.List.{List}
 use lib.Dec.{leb}
 use lib.ListN.{length, getD, replicate, take}
 use lib.Seq.{sets}

@@ -1,7 +1,11 @@
 -- Haves as lent records. 01, Shapes that can't come over: a message's haves are handed on as one lent list of records, after the form in which they
--- are numbers in arrays. A list of records means the list of their words: what is said of haves as words is said of it.
-use Prim.Native.Nat.{ℕ}
+-- are numbers in arrays. A list of records means the list of their words: what is said of haves as words is said of it. That a record's words are the
+-- have that it names is the law `summaries-mean`.
+use Prim.Native.Nat.{ℕ, _+_}
 use mathlib.Core.List.{List, [], _∷_, _++_}
+use lib.Seq.{slice}
+use Rattle.bloom.specs.Have.{Have}
+use Rattle.rules.specs.Hash.{hashesAt}
 use Rattle.summaries.specs.declared.summary.HaveSummary.{HaveSummary}
 
 -- The words of a record, in their order.
@@ -12,6 +16,20 @@ wordsOf h = h .place ∷ h .count ∷ h .entries ∷ h .bits ∷ h .probes ∷ h
 unfoldable pub summaryWords : List HaveSummary → List ℕ
 summaryWords [] = []
 summaryWords (h ∷ hs) = wordsOf h ++ summaryWords hs
+
+-- The have that a record names over the lent bytes: its last-sync hashes, and its filter with the field that stands there.
+unfoldable pub haveOf : List ℕ → HaveSummary → Have
+haveOf s h =
+    record {
+      lastSync = hashesAt s (h .place) (h .count);
+      filter =
+          record {
+            entries = h .entries;
+            bits = h .bits;
+            probes = h .probes;
+            field = slice (h .field) (h .field + h .size) s;
+          };
+    }
 
 -- ---- what internal contracts speak of; no rule of 01 stands here
 

@@ -4,7 +4,6 @@ use crate::summary::get_or;
 use bloom::have::HAVE_WORDS;
 use rules::sizes::HAVES;
 ghost use mathlib.Core.Path.{_≡_};
-ghost use lib.ListN.{length};
 ghost use Rattle.summaries.specs.Laid.{nothingLaid, withNext, laidOne, laidMany, laidSteps};
 
 // Haves that are laid at most: one more than a list may have, so that a list that is too long is seen to be.

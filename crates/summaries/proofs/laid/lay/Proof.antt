@@ -33,7 +33,7 @@ use denote.Triple.Table.{entered, cited}
 use denote.Triple.Walked.{says, Stays, stay-none-slice, walkOf, goes-none-slice, Walks, ends-at, walked, walk-meets}
 use denote.Exit.{yes}
 use denote.Triple.Clauses.{ensured, lasts}
-use Rattle.summaries.specs.Laid.{nothingLaid, laidOne, laidMany, laidSteps}
+use Rattle.summaries.specs.Laid.{nothingLaid, laidMany, laidSteps}
 use Rattle.summaries.specs.declared.laid.Laid.{Laid}
 use Rattle.summaries.specs.declared.summary.HaveSummary.{HaveSummary}
 use Rattle.summaries.proofs.laid.Laid as T

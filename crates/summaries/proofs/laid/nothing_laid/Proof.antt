@@ -3,8 +3,6 @@ use mathlib.Core.Path.{refl}
 use Rattle.summaries.specs.Laid.{nothingLaid}
 use Rattle.summaries.proofs.laid.nothing_laid.Statement.{statement}
 use Rattle.summaries.proofs.laid.nothing_laid.Tie as tie
-use Rattle.summaries.proofs.laid.nothing_laid.Reads as reads
-use Rattle.summaries.proofs.laid.nothing_laid.Lts as lts
 
 -- src/laid.rt:20:1
 returns : tie.Need-returns

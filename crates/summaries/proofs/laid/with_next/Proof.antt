@@ -4,8 +4,6 @@ use Rattle.summaries.proofs.LaidLaws.{next-none, next-full, next-stored
 use borrow.Author.Needs.{needs}
 use Rattle.summaries.proofs.laid.with_next.Statement.{statement}
 use Rattle.summaries.proofs.laid.with_next.Tie as tie
-use Rattle.summaries.proofs.laid.with_next.Reads as reads
-use Rattle.summaries.proofs.laid.with_next.Lts as lts
 
 -- src/laid.rt:36:9
 returns : tie.Need-returns

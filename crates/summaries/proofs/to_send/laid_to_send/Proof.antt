@@ -1,9 +1,8 @@
 -- `summaries::to_send::laid_to_send` meets its contract: the selection's own, at the words that are laid. Assumes nothing.
 use mathlib.Core.List.{List}
-use mathlib.Core.Path.{_≡_, sym, subst}
+use mathlib.Core.Path.{sym, subst}
 use Prim.Native.Nat.{ℕ}
 use denote.Ref.{now}
-use lib.ListN.{length}
 use lib.Seq.{length-take-le}
 use Rattle.rules.specs.Output.{Written}
 use Rattle.selection.specs.ToSend.{toSendOutput}
@@ -11,10 +10,6 @@ use Rattle.summaries.proofs.LaidLaws.{used-fits, used-is}
 use borrow.Author.Needs.{needs, length-unmapped}
 use Rattle.summaries.proofs.to_send.laid_to_send.Statement.{statement}
 use Rattle.summaries.proofs.to_send.laid_to_send.Tie as tie
-use Rattle.summaries.proofs.to_send.laid_to_send.Reads as reads
-use Rattle.summaries.proofs.to_send.laid_to_send.Lts as lts
-use Rattle.selection.proofs.to_send.get_hashes_to_send.Reads as get-hashes-to-send-reads
-use Rattle.summaries.proofs.to_send.at_most.Reads as at-most-reads
 
 -- src/to_send.rt:27:9
 at-most-requires : tie.Need-at-most-requires
