@@ -20,44 +20,55 @@ use std::hint::black_box;
 
 const SIZES: [(&str, usize); 3] = [("64 rows", 64), ("256 rows", 256), ("1,024 rows", 1_024)];
 
-/// Rows that a validator lacks, and of how many; more than a third would go as the
-/// document.
-const CATCH_UPS: [(&str, &str, usize, &[usize]); 3] = [
-    ("catch up 10", "catch up 10: rest", 10, &[0, 1, 2]),
-    ("catch up 100", "catch up 100: rest", 100, &[2]),
-    ("catch up 300", "catch up 300: rest", 300, &[2]),
+/// One head or two: two rows on one and one on the two, again and again.
+const NARROW: Shape = Shape::Diamonds;
+
+/// A head in five rows: rows on up to three of the eight before them.
+const WIDE: Shape = Shape::Recent;
+
+/// Rows that a validator lacks, of what shape and of how many; more than a third would
+/// go as the document.
+const CATCH_UPS: [(&str, &str, Shape, usize, &[usize]); 4] = [
+    ("catch up 10", "catch up 10: rest", NARROW, 10, &[0, 1, 2]),
+    ("catch up 100", "catch up 100: rest", NARROW, 100, &[2]),
+    ("catch up 300", "catch up 300: rest", NARROW, 300, &[2]),
+    ("catch wide 10", "catch wide 10: rest", WIDE, 10, &[0, 1, 2]),
 ];
 
 /// How many copies of what the crate takes away or changes are made at a time.
 const AT_A_TIME: usize = 8;
 
+type Measure = fn(&Talk, &str, &str);
+
+const RECEIVE_HAVE: Measure = |talk, name, size| talk.receive(name, size, 0);
+const REST_OF_HAVE: Measure = |talk, name, size| talk.rest_of_receive(name, size, 0);
+const RECEIVE_ROWS: Measure = |talk, name, size| talk.receive(name, size, 1);
+const REST_OF_ROWS: Measure = |talk, name, size| talk.rest_of_receive(name, size, 1);
+
+const STEPS: [(&str, Shape, Measure); 12] = [
+    ("plan", NARROW, Talk::plan),
+    ("plan: rest", NARROW, Talk::rest_of_plan),
+    ("receive have", NARROW, RECEIVE_HAVE),
+    ("receive have: rest", NARROW, REST_OF_HAVE),
+    ("receive rows", NARROW, RECEIVE_ROWS),
+    ("receive rows: rest", NARROW, REST_OF_ROWS),
+    ("plan wide", WIDE, Talk::plan),
+    ("plan wide: rest", WIDE, Talk::rest_of_plan),
+    ("have wide", WIDE, RECEIVE_HAVE),
+    ("have wide: rest", WIDE, REST_OF_HAVE),
+    ("rows wide", WIDE, RECEIVE_ROWS),
+    ("rows wide: rest", WIDE, REST_OF_ROWS),
+];
+
 pub fn measure_all() {
-    let tenths = SIZES.map(|(size, rows)| (size, Talk::new(rows, rows / 10)));
-    type Of = fn(&Talk, &str, &str);
-    let lines: [(&str, Of); 6] = [
-        ("plan", Talk::plan),
-        ("plan: rest", Talk::rest_of_plan),
-        ("receive have", |talk, name, size| {
-            talk.receive(name, size, 0)
-        }),
-        ("receive have: rest", |talk, name, size| {
-            talk.rest_of_receive(name, size, 0)
-        }),
-        ("receive rows", |talk, name, size| {
-            talk.receive(name, size, 1)
-        }),
-        ("receive rows: rest", |talk, name, size| {
-            talk.rest_of_receive(name, size, 1)
-        }),
-    ];
-    for (name, measure) in lines {
-        for (size, talk) in &tenths {
-            measure(talk, name, size);
+    for (name, shape, measure) in STEPS {
+        for (size, rows) in SIZES {
+            measure(&Talk::new(rows, shape, rows / 10), name, size);
         }
     }
-    for (name, rest, lacking, sizes) in CATCH_UPS {
+    for (name, rest, shape, lacking, sizes) in CATCH_UPS {
         let talks = sizes.iter().map(|&k| SIZES[k]);
-        let talks = talks.map(|(size, rows)| (size, Talk::new(rows, lacking)));
+        let talks = talks.map(|(size, rows)| (size, Talk::new(rows, shape, lacking)));
         let talks: Vec<(&str, Talk)> = talks.collect();
         for (size, talk) in &talks {
             talk.whole(name, size);
@@ -182,18 +193,18 @@ struct Step {
     hearer: Value,
 }
 
-/// A station with two rows on one and one on the two, again and again, a validator that
-/// lacks the last of them, and the messages by which it comes to hold them.
+/// A station, a validator that lacks the last of its rows, and the messages by which it
+/// comes to hold them.
 struct Talk {
     documents: [Automerge; 2],
     steps: Vec<Step>,
 }
 
 impl Talk {
-    fn new(rows: usize, lacking: usize) -> Talk {
+    fn new(rows: usize, shape: Shape, lacking: usize) -> Talk {
         let mut random = Random(3);
         let hashes = random.hashes(rows, Likeness::Spread);
-        let table = table_bytes(&random.rows_of(&hashes, Shape::Diamonds));
+        let table = table_bytes(&random.rows_of(&hashes, shape));
         let held = &table[..ROW * (rows - lacking)];
         let documents = [document(&table, &[]), document(held, &[])];
         let starts = documents.clone().map(|one| (one, Value::default()));
