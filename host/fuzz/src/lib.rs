@@ -1,6 +1,6 @@
 //! What is compared of the bytes that libFuzzer makes. A difference panics.
 
-use compare::filters::{compare_reads as compare_filters, Part};
+use compare::filters::{compare_reads as compare_filters, Build, Haves, Part};
 use compare::messages::{compare as compare_messages, compare_lists};
 use compare::model::filter::{self, Filter};
 use compare::scale::script;
@@ -38,12 +38,19 @@ pub fn message(data: &[u8]) {
     agreed(compare_lists(data, &[[0, 0], [7, 2], [13, 3], [40, 16]]));
 }
 
-/// Two bytes that say where a filter stands and where its part ends, and the filter:
-/// read there and alone, and written again.
+/// Two bytes, and a filter: read alone, and where the two say that it stands and ends;
+/// written again, and asked for the last bytes as a hash. The two are also the bits and
+/// probes of a filter that is built over the bytes.
 pub fn filter(data: &[u8]) {
     let [at, cut, s @ ..] = data else {
         return;
     };
+    let build = Build {
+        bits: (*at).into(),
+        probes: (*cut).into(),
+        hashes: s,
+    };
+    agreed(compare_rooms(Write::Built(build), [0, 8, 4_096]));
     let there = Part {
         s,
         at: usize::from(*at) % 8,
@@ -63,6 +70,9 @@ pub fn filter(data: &[u8]) {
     let wanted = filter::bytes(&read).map_or(8, |bytes| bytes.len());
     let rooms = [0, wanted.saturating_sub(1), wanted, wanted + 3];
     agreed(compare_rooms(Write::Filter(read), rooms));
+    if let Some(hash) = s.last_chunk() {
+        agreed(Haves::one(read).compare(&[*hash]));
+    }
 }
 
 /// A saved state, read with room enough and with too little, and its heads written.
