@@ -18,12 +18,13 @@ impl Case {
         }
     }
 
-    /// How many bytes there are, how many of their bits are set, and what the numbers
-    /// add up to: less in the first of these that differs is smaller.
-    pub fn size(&self) -> (usize, u32, u128) {
+    /// How many bytes there are, how many of their bits are set, and the numbers, the
+    /// last one first, for a seed is the first: less in the first of these that differs
+    /// is smaller.
+    pub fn size(&self) -> (usize, u32, Vec<u64>) {
         let bytes = || self.bytes.iter().flatten();
         let bits = bytes().map(|byte| byte.count_ones()).sum();
-        let numbers = self.numbers.iter().map(|&n| u128::from(n)).sum();
+        let numbers = self.numbers.iter().rev().copied().collect();
         (bytes().count(), bits, numbers)
     }
 
