@@ -26,9 +26,10 @@ bisquetower inspect FILE [--as KIND] [--full]
 Shows what a file holds, in columns. What is refused is shown with its number,
 what it means, and the bytes around the place that it names.
 
-  --as KIND   message, state, filter or table. Without it the end of the file's
-              name says (x.message, x.state, x.filter, x.table), else the bytes:
-              the first kind that takes all of them.
+  --as KIND   message, state, filter, table or waiting (a table of changes that
+              wait). Without it the end of the file's name says (x.message and
+              so on), else the bytes: the first kind that takes all of them, of
+              which waiting is none.
   --full      hashes whole and all of them
 ";
 
@@ -66,8 +67,8 @@ const SAMPLE: &str = "\
 bisquetower sample DIR [--force]
 
 Writes files to try the other commands on: a station's table of 1,024 rows and
-that of a validator 120 rows short, each message of their catch-up, both saved
-states, a filter, and damaged ones.
+that of a validator 120 rows short, each message of their catch-up, what waited,
+both saved states, a filter, and damaged ones.
 
   --force     write over files that are there
 ";

@@ -21,7 +21,7 @@ pub fn run(words: &[String]) -> Result<String, Failure> {
     let named = match args.value("--as") {
         Some(name) => Some(Kind::named(name).ok_or_else(|| {
             OPTIONS.wrong(format!(
-                "{name} is no kind: message, state, filter or table"
+                "{name} is no kind: message, state, filter, table or waiting"
             ))
         })?),
         None => Kind::of_file(&file),

@@ -57,6 +57,7 @@ fn samples() -> Result<Vec<(String, Vec<u8>)>, Failure> {
         ("station.state".to_string(), station_state),
         ("validator.state".to_string(), validator_state),
         ("validator.filter".to_string(), filter.to_bytes()),
+        ("validator.waiting".to_string(), talk.waiting),
     ];
     let first = talk.messages[0].bytes.clone();
     for (k, Said { by_station, bytes }) in talk.messages.into_iter().enumerate() {

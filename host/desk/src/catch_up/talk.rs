@@ -38,6 +38,8 @@ pub struct Talk {
     pub took: usize,
     /// Every message, in order.
     pub messages: Vec<Said>,
+    /// The validator's waiting table when it was longest.
+    pub waiting: Vec<u8>,
     /// Saved states in the end: the station's, the validator's.
     pub states: [Vec<u8>; 2],
 }
@@ -124,6 +126,10 @@ impl Talk {
             (round.sent, round.document) = (plan.hashes.len(), plan.document);
             round.reply_bytes = bytes.len();
             self.said(true, bytes);
+        }
+        let waits = validator.memory.waiting();
+        if waits.len() > self.waiting.len() {
+            self.waiting = waits.into_owned();
         }
         let (_, waiting, missing) = standing(&validator.memory, all);
         (round.waiting, round.missing) = (waiting, missing.len());

@@ -4,7 +4,7 @@ use super::shown;
 use bisquetower::message::{CHUNKS, CHUNK_WORDS, HAVES, HAVE_WORDS};
 use bisquetower::raw;
 use bisquetower::refusal::answer;
-use bisquetower::{message, Filter, Message, Refusal, SavedState, Table};
+use bisquetower::{message, Filter, Message, Refusal, SavedState, Table, Waiting};
 use std::fmt;
 use std::path::Path;
 
@@ -14,14 +14,16 @@ pub enum Kind {
     State,
     Filter,
     Table,
+    Waiting,
 }
 
-/// In the order in which they are tried.
-const KINDS: [Kind; 4] = [Kind::Message, Kind::State, Kind::Table, Kind::Filter];
+/// Those that are told by the bytes, in the order in which they are tried.
+const TOLD: [Kind; 4] = [Kind::Message, Kind::State, Kind::Table, Kind::Filter];
 
 impl Kind {
     pub fn named(name: &str) -> Option<Kind> {
-        KINDS.into_iter().find(|kind| kind.name() == name)
+        let mut kinds = TOLD.into_iter().chain([Kind::Waiting]);
+        kinds.find(|kind| kind.name() == name)
     }
 
     /// As the end of a file's name says.
@@ -36,7 +38,7 @@ impl Kind {
             return Kind::Message;
         }
         let takes = |whole: bool| {
-            let mut kinds = KINDS.into_iter();
+            let mut kinds = TOLD.into_iter();
             kinds.find(|kind| match kind.read(bytes) {
                 Ok(next) => next == bytes.len() || !whole,
                 Err(_) => false,
@@ -53,7 +55,7 @@ impl Kind {
     /// What else the bytes may be.
     pub fn hint(self, bytes: &[u8]) -> String {
         let whole = |kind: &Kind| *kind != self && kind.read(bytes) == Ok(bytes.len());
-        let others = KINDS.iter().filter(|kind| whole(kind));
+        let others = TOLD.iter().filter(|kind| whole(kind));
         let others: Vec<String> = others.map(|kind| format!("--as {}", kind.name())).collect();
         match others.is_empty() {
             true => String::new(),
@@ -77,6 +79,7 @@ impl Kind {
             }
             Kind::Filter => Filter::parse_first(bytes).map(|(_, next)| next),
             Kind::Table => Table::new(bytes).map(|table| table.as_bytes().len()),
+            Kind::Waiting => waiting(bytes).map(|table| table.as_bytes().len()),
         }
     }
 
@@ -87,6 +90,7 @@ impl Kind {
             Kind::State => shown::state(&SavedState::decode(bytes)?, next, full),
             Kind::Filter => shown::filter(&Filter::parse(bytes)?, next),
             Kind::Table => shown::table(&Table::new(bytes)?, full),
+            Kind::Waiting => shown::waiting(&waiting(bytes)?, full),
         };
         if next < bytes.len() {
             text += &shown::rest(bytes.len() - next, next);
@@ -100,8 +104,9 @@ impl Kind {
         match (refusal.number, self) {
             (2, _) => Some(0),
             (6, _) => Some(Table::ROW * value),
+            (9, _) => Some(Waiting::ROW * value),
             // As a whole, not at its first byte.
-            (4, Kind::Message | Kind::Table) if value == 0 => None,
+            (4, Kind::Message | Kind::Table | Kind::Waiting) if value == 0 => None,
             (1 | 3 | 4 | 5, _) => Some(value),
             _ => None,
         }
@@ -114,8 +119,10 @@ impl Kind {
             (2, Kind::State) => "a saved state begins with 43: name another kind with --as.",
             (2, _) => "a message begins with 42 or 43: name another kind with --as state, filter or table.",
             (4, Kind::Table) => "a table has at most 1,024 rows of 64 bytes.",
+            (4, Kind::Waiting) => "a waiting table has at most 1,024 rows of 544 bytes.",
             (4, _) => "a list has at most 1,024 hashes, a filter 8,192 bytes and 64 probes, a message 16 haves, 4,096 chunks and 4,194,304 bytes.",
             (6, _) => "look at that row: it must be whole, its hash stand once, its rows ascend and be below it.",
+            (9, _) => "look at that row: it must be whole, its hash stand once, what is unused be zero.",
             _ => "the bytes break a rule of the format: have them sent or copied again.",
         }
     }
@@ -126,6 +133,7 @@ impl Kind {
             Kind::State => "state",
             Kind::Filter => "filter",
             Kind::Table => "table",
+            Kind::Waiting => "waiting",
         }
     }
 }
@@ -135,7 +143,13 @@ impl fmt::Display for Kind {
         f.write_str(match self {
             Kind::State => "saved state",
             Kind::Table => "change table",
+            Kind::Waiting => "waiting table",
             other => other.name(),
         })
     }
+}
+
+/// A waiting table, beside a change table without rows.
+fn waiting(bytes: &[u8]) -> Result<Waiting, Refusal> {
+    Waiting::new(bytes, &Table::default())
 }

@@ -2,7 +2,8 @@
 
 use crate::paint::Paint;
 use crate::text::{count, hashes, number, Columns};
-use bisquetower::{Filter, Have, Message, MessageFlags, MessageVersion, SavedState, Table};
+use bisquetower::{ChangeHash, Filter, Have, Message, MessageFlags, MessageVersion};
+use bisquetower::{SavedState, Table, Waiting};
 
 pub fn message(message: &Message, length: usize, full: bool) -> String {
     let version = match message.version {
@@ -96,6 +97,19 @@ pub fn table(table: &Table, full: bool) -> String {
         "of all rows together",
     );
     let title = Paint::of_output().bold("a change table");
+    format!("{title}\n{columns}")
+}
+
+/// Changes that wait, and what they depend on that is neither held nor waits.
+pub fn waiting(waiting: &Waiting, full: bool) -> String {
+    let rows: Vec<ChangeHash> = (0..waiting.rows()).map(|row| waiting.hash(row)).collect();
+    let mut columns = Columns::default();
+    columns.rows("waiting", &number(rows.len()), &hashes(&rows, full));
+    // More than a list has aren't told.
+    if let Ok(lacking) = Table::default().missing(waiting, &rows) {
+        columns.rows("lacking", &number(lacking.len()), &hashes(&lacking, full));
+    }
+    let title = Paint::of_output().bold("a waiting table");
     format!("{title}\n{columns}")
 }
 

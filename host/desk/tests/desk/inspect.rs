@@ -25,6 +25,11 @@ fn the_samples() {
         .ended(0)
         .out
         .contains("shared heads  30"));
+    let waiting = show("validator.waiting").ended(0).out;
+    assert!(
+        waiting.contains("waiting  3") && waiting.contains("lacking  1"),
+        "{waiting}"
+    );
     assert!(show("validator.filter")
         .ended(0)
         .out
@@ -141,6 +146,22 @@ fn a_kind_is_told_by_the_bytes() {
     assert!(both.contains("a saved state, 2 bytes"), "{both}");
     let text = inspect(b"hello").ended(1).err;
     assert!(text.contains("refusal 2, value 104"), "{text}");
+}
+
+/// A waiting table whose second row is the first again, and one that is cut.
+#[test]
+fn bad_waiting_tables() {
+    let table = fs::read(samples().join("validator.waiting")).unwrap();
+    let row = &table[..544];
+    let show = |bytes: &[u8]| run_with(&["inspect", "--as", "waiting", "-"], bytes);
+    assert!(show(row).ended(0).out.contains("waiting  1"));
+    let twice = show(&[row, row].concat()).ended(1).err;
+    assert!(twice.contains("refusal 9, value 1"), "{twice}");
+    assert!(twice.contains("^^ place 544"), "{twice}");
+    assert!(show(&table[..543])
+        .ended(1)
+        .err
+        .contains("refusal 9, value 0"));
 }
 
 #[test]
