@@ -127,6 +127,18 @@ fn a_read_only_unit_takes_nothing_until_it_is_switched() {
     assert_eq!(validator.host.changes(), station.host.changes());
 }
 
+/// Changes that were under way when the unit was switched are left alone.
+#[test]
+fn changes_that_come_to_a_read_only_unit() {
+    let (mut station, mut validator) = (unit(chain(30)), unit(chain(25)));
+    say(&mut validator, &mut station);
+    validator.session.set_read_only(true);
+    let reply = say(&mut station, &mut validator).unwrap();
+    assert_eq!(reply.changes.len(), 1);
+    assert_eq!(validator.host.changes().len(), 25);
+    assert_eq!(validator.session.their_heads(), Some(vec![hash(29)]));
+}
+
 #[test]
 fn a_saved_session_goes_on() {
     let (mut station, mut validator) = (unit(chain(40)), unit(chain(35)));
@@ -259,6 +271,24 @@ fn memory_refuses_what_it_cant_keep() {
     let mut other = Memory::new();
     other.load(&memory.save().unwrap()).unwrap();
     assert_eq!(other.changes(), memory.changes());
+}
+
+/// A dependency that is named twice and a change that waits already are one.
+#[test]
+fn memory_makes_good_tables() {
+    let mut memory = chain(2);
+    let twice = Change {
+        dependencies: vec![hash(1), hash(0), hash(1)],
+        ..change(2)
+    };
+    memory.add(twice).unwrap();
+    for _ in 0..2 {
+        memory.add(change(9)).unwrap();
+    }
+    assert_eq!(memory.changes().len(), 3);
+    assert_eq!(memory.waiting_changes(), [change(9)]);
+    let said = Session::new().generate(&memory).unwrap();
+    assert_eq!(said.unwrap().heads, [hash(2)]);
 }
 
 #[test]

@@ -52,6 +52,13 @@ fn the_sample_takes_four_rounds() {
     ];
     let shown = run(&words).ended(0).out;
     assert!(shown.contains("A station of 1,024 rows and a validator of 904, 120 short."));
+    let rounds = "
+    1     904       0          7     117        1       1,401         9,572
+    2   1,020       1          -       1        2       1,000         2,009
+    3   1,020       1          -       1        3       1,000         2,009
+    4   1,020       1          -       1        0       1,000         2,009
+";
+    assert!(shown.contains(rounds), "{shown}");
     assert!(shown.contains("After 4 rounds"), "{shown}");
     assert!(shown.contains("proved: at most 121 (m + 1)"), "{shown}");
 
@@ -175,6 +182,13 @@ fn what_a_table_is() {
     ] {
         assert!(shown.contains(part), "{part}: {shown}");
     }
+    let sample = run(&["table", text(&samples().join("station.table"))]);
+    let sample = sample.ended(0).out;
+    assert!(sample.contains("64  depends on 3 rows"), "{sample}");
+    assert!(
+        sample.contains("994  the longest way down passes 117 rows"),
+        "{sample}"
+    );
     let none = run_with(&["table", "-"], b"").ended(0).out;
     assert!(none.contains("rows              0"), "{none}");
 }
