@@ -44,4 +44,14 @@ sessions-bind =
                 (joined (ap (λ (l : Lent). l .bytes) same)
                 (joined (ap (λ (l : Lent). l .sent) same) refl))))))))))),
           );
+      heard-count = λ κs a x y u v p q. (once p q, refl);
+      is-silent = λ κs a x y u v p q. (once p q, refl);
+      decide-puts-of = λ κs a x y u v p q. (once p q, refl);
+      check-plan = λ κs a x y u v p q. (once p q, refl);
+      forgets = λ κs a x y u v p q. (once p q, refl);
+      take-flags = λ κs a x y u v p q. (once p q, refl);
+      taking-puts-of = λ κs a x y u v p q. (once p q, refl);
+      check-receive = λ κs a x y u v p q. (once p q, refl);
+      loads-changes = λ κs a x y u v p q. (once p q, refl);
+      load-failed = λ κs a x y u v p q. (once p q, refl);
     }

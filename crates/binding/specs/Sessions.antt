@@ -4,6 +4,7 @@ use Rattle.state.proofs.session.Session.new as of-new
 use Rattle.state.proofs.session.Session.new_read_only as of-new-read-only
 use Rattle.state.proofs.session.Session.restored as of-restored
 use Rattle.state.proofs.session.Session.set_read_only as of-set-read-only
+use Rattle.state.proofs.session.heard_count as of-heard-count
 use Rattle.lent.proofs.good.haves_good as of-haves-good
 use Rattle.lent.proofs.good.session_good as of-session-good
 use Rattle.lent.proofs.list.list_good as of-list-good
@@ -13,7 +14,16 @@ use Rattle.saved.proofs.saved.encode as of-saved-encode
 use Rattle.saved.proofs.saved.parse as of-saved-parse
 use Rattle.saved.proofs.saved.decode as of-saved-decode
 use Rattle.plan.proofs.plan.generate_sync_message as of-generate-sync-message
+use Rattle.plan.proofs.check.check_plan as of-check-plan
 use Rattle.receive.proofs.receive.receive_sync_message as of-receive-sync-message
+use Rattle.planning.proofs.silence.is_silent as of-is-silent
+use Rattle.decide.proofs.put.puts_of as of-decide-puts-of
+use Rattle.receiving.proofs.flags.forgets as of-forgets
+use Rattle.receiving.proofs.flags.take_flags as of-take-flags
+use Rattle.taking.proofs.put.puts_of as of-taking-puts-of
+use Rattle.drafting.proofs.check.check_receive as of-check-receive
+use Rattle.drafting.proofs.make.loads_changes as of-loads-changes
+use Rattle.drafting.proofs.make.load_failed as of-load-failed
 
 pub record SessionsBind : Type 0 where
   -- the crate state
@@ -21,6 +31,7 @@ pub record SessionsBind : Type 0 where
   pub new-read-only : Binds of-new-read-only.ended of-new-read-only.Reads.Post
   pub restored : Binds of-restored.ended of-restored.Reads.Post
   pub set-read-only : Binds of-set-read-only.ended of-set-read-only.Reads.Post
+  pub heard-count : Binds of-heard-count.ended of-heard-count.Reads.Post
   -- the crate lent
   pub haves-good : Binds of-haves-good.ended of-haves-good.Reads.Post
   pub session-good : Binds of-session-good.ended of-session-good.Reads.Post
@@ -33,5 +44,19 @@ pub record SessionsBind : Type 0 where
   pub saved-decode : Binds of-saved-decode.ended of-saved-decode.Reads.Post
   -- the crate plan
   pub generate-sync-message : Binds of-generate-sync-message.ended of-generate-sync-message.Reads.Post
+  pub check-plan : Binds of-check-plan.ended of-check-plan.Reads.Post
   -- the crate receive
   pub receive-sync-message : Binds of-receive-sync-message.ended of-receive-sync-message.Reads.Post
+  -- the crate planning
+  pub is-silent : Binds of-is-silent.ended of-is-silent.Reads.Post
+  -- the crate decide
+  pub decide-puts-of : Binds of-decide-puts-of.ended of-decide-puts-of.Reads.Post
+  -- the crate receiving
+  pub forgets : Binds of-forgets.ended of-forgets.Reads.Post
+  pub take-flags : Binds of-take-flags.ended of-take-flags.Reads.Post
+  -- the crate taking
+  pub taking-puts-of : Binds of-taking-puts-of.ended of-taking-puts-of.Reads.Post
+  -- the crate drafting
+  pub check-receive : Binds of-check-receive.ended of-check-receive.Reads.Post
+  pub loads-changes : Binds of-loads-changes.ended of-loads-changes.Reads.Post
+  pub load-failed : Binds of-load-failed.ended of-load-failed.Reads.Post

@@ -152,3 +152,36 @@ fn every_edit_that_is_named_exists() {
     }
     assert!(count > 100, "{count}");
 }
+
+/// The contract of every public function that requires nothing is shown to have one
+/// result: crates/binding has a line for it. The program isn't called by anyone.
+#[test]
+fn every_public_contract_is_bound() {
+    let mut bound = Vec::new();
+    for path in files(&root().join("crates/binding/specs"), ".antt") {
+        let text = read(&path);
+        let lines = text
+            .lines()
+            .filter_map(|line| line.strip_prefix("use Rattle·"));
+        let lines = lines.filter_map(|line| line.split_once(".proofs."));
+        for (krate, rest) in lines {
+            let (path, _) = rest.split_once(" as ").expect("a name of its own");
+            bound.push((krate.to_string(), path.to_string()));
+        }
+    }
+    let is_bound = |f: &Function| {
+        let Home { krate, file, name } = &f.home;
+        let (start, end) = (format!("{file}."), format!(".{name}"));
+        bound
+            .iter()
+            .any(|(of, path)| of == krate && path.starts_with(&start) && path.ends_with(&end))
+    };
+    let functions = functions::all();
+    let open: Vec<String> = functions
+        .iter()
+        .filter(|f| f.public && !f.requires() && f.home.krate != "replay")
+        .filter(|f| !is_bound(f))
+        .map(Function::path)
+        .collect();
+    assert!(open.is_empty(), "{open:#?}");
+}
