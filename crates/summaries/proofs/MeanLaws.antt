@@ -1,12 +1,13 @@
--- The haves that the words of summaries are: those that the summaries name.
-use Prim.Native.Nat.{ℕ, suc, _+_, _*_, _/_}
+-- The haves that the words of summaries are: those that the summaries name. And the summaries of words: their words are the same.
+use Prim.Native.Nat.{ℕ, zero, suc, _+_, _*_, _%_, _≤_, _<_}
 use mathlib.Core.List.{List, [], _∷_, _++_, map, append-assoc}
 use mathlib.Core.Path.{_≡_, refl, sym, ap, _∙_}
 use native.Mathlib.Omega.{arith}
-use lib.ListN.{length, getD, length-append}
-use lib.Seq.{getD-append-add}
+use lib.ListN.{length, getD, drop, length-append, drop-of-length-le}
+use lib.Seq.{getD-append-add, drop-cons}
+use borrow.Author.Tests.{lt-leb}
 use Rattle.bloom.specs.Have.{Have, haveWords, haveCount, filterWith, haveIn, havesFrom, havesOf}
-use Rattle.summaries.specs.Summary.{wordsOf, summaryWords, haveOf}
+use Rattle.summaries.specs.Summary.{wordsOf, summaryWords, haveOf, summaryIn, summariesFrom, summariesOf}
 use Rattle.summaries.specs.declared.summary.HaveSummary.{HaveSummary}
 use Rattle.summaries.proofs.LaidLaws.{words-long}
 
@@ -44,3 +45,44 @@ module _ (s : List ℕ) where
   summaries-mean hs =
       let count : haveCount (summaryWords hs) ≡ length hs = let e = words-long hs in omega arith in
       ap (λ (n : ℕ). havesFrom s (summaryWords hs) 0 n) count ∙ all-mean hs [] 0 refl
+
+-- ---- words, taken as summaries, are the words again
+
+module _ (words : List ℕ) where
+  -- seven words off the front
+  seven-off : (at : ℕ) → at + haveWords ≤ length words
+      → drop at words
+      ≡ (getD words at 0 ∷ getD words (at + 1) 0 ∷ getD words (at + 2) 0 ∷ getD words (at + 3) 0 ∷ getD words (at + 4) 0 ∷ getD words (at + 5) 0 ∷ getD words (at + 6) 0 ∷ [])
+      ++ drop (at + 7) words
+  seven-off at fits =
+      let i1 : suc at ≡ at + 1 = omega arith in
+      let i2 : suc (at + 1) ≡ at + 2 = omega arith in
+      let i3 : suc (at + 2) ≡ at + 3 = omega arith in
+      let i4 : suc (at + 3) ≡ at + 4 = omega arith in
+      let i5 : suc (at + 4) ≡ at + 5 = omega arith in
+      let i6 : suc (at + 5) ≡ at + 6 = omega arith in
+      let i7 : suc (at + 6) ≡ at + 7 = omega arith in
+      let d0 = drop-cons words at 0 (omega arith) in
+      let d1 = drop-cons words (at + 1) 0 (omega arith) in
+      let d2 = drop-cons words (at + 2) 0 (omega arith) in
+      let d3 = drop-cons words (at + 3) 0 (omega arith) in
+      let d4 = drop-cons words (at + 4) 0 (omega arith) in
+      let d5 = drop-cons words (at + 5) 0 (omega arith) in
+      let d6 = drop-cons words (at + 6) 0 (omega arith) in
+      rw (d0, i1, d1, i2, d2, i3, d3, i4, d4, i5, d5, i6, d6, i7)
+
+  words-from : (count i : ℕ) → haveWords * (i + count) ≡ length words → summaryWords (summariesFrom words i count) ≡ drop (i * haveWords) words
+  unfolding summariesFrom summaryIn summaryWords
+  words-from zero i whole =
+      let end : length words ≤ i * haveWords = omega arith in
+      sym (drop-of-length-le words end)
+  words-from (suc count) i whole =
+      let more : i < haveCount words = omega arith in
+      let on : i * haveWords + 7 ≡ suc i * haveWords = omega arith in
+      let rest = words-from count (suc i) (omega arith) in
+      rw (lt-leb _ _ more, rest, ← on) (sym (seven-off (i * haveWords) (omega arith)))
+
+  -- so the haves of a message go on as records as they are
+  pub words-back : length words % haveWords ≡ 0 → summaryWords (summariesOf words) ≡ words
+  unfolding summariesOf
+  words-back whole = words-from (haveCount words) 0 (omega arith)

@@ -1,10 +1,13 @@
 -- Haves as lent records. 01, Shapes that can't come over: a message's haves are handed on as one lent list of records, after the form in which they
 -- are numbers in arrays. A list of records means the list of their words: what is said of haves as words is said of it. That a record's words are the
 -- have that it names is the law `summaries-mean`.
-use Prim.Native.Nat.{ℕ, _+_}
+use Prim.Native.Nat.{ℕ, zero, suc, _+_, _*_}
+use mathlib.Core.Bool.{cond}
 use mathlib.Core.List.{List, [], _∷_, _++_}
+use lib.Dec.{leb}
+use lib.ListN.{getD}
 use lib.Seq.{slice}
-use Rattle.bloom.specs.Have.{Have}
+use Rattle.bloom.specs.Have.{Have, haveWords, haveCount}
 use Rattle.rules.specs.Hash.{hashesAt}
 use Rattle.summaries.specs.declared.summary.HaveSummary.{HaveSummary}
 
@@ -31,8 +34,6 @@ haveOf s h =
           };
     }
 
--- ---- what internal contracts speak of; no rule of 01 stands here
-
 -- What stands behind a list's end.
 abbrev pub noHave : HaveSummary
 noHave =
@@ -45,3 +46,25 @@ noHave =
       field = 0;
       size = 0;
     }
+
+-- Record i of haves that are words, so many from record i on, and those of a whole list.
+unfoldable pub summaryIn : List ℕ → ℕ → HaveSummary
+summaryIn words i =
+    cond (leb (haveCount words) i)
+    noHave
+    (record {
+      place = getD words (i * haveWords) 0;
+      count = getD words (i * haveWords + 1) 0;
+      entries = getD words (i * haveWords + 2) 0;
+      bits = getD words (i * haveWords + 3) 0;
+      probes = getD words (i * haveWords + 4) 0;
+      field = getD words (i * haveWords + 5) 0;
+      size = getD words (i * haveWords + 6) 0;
+    })
+
+unfoldable pub summariesFrom : List ℕ → ℕ → ℕ → List HaveSummary
+summariesFrom words i zero = []
+summariesFrom words i (suc count) = summaryIn words i ∷ summariesFrom words (suc i) count
+
+unfoldable pub summariesOf : List ℕ → List HaveSummary
+summariesOf words = summariesFrom words 0 (haveCount words)

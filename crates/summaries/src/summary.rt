@@ -1,7 +1,8 @@
 // A have as a record: the words of `bloom::have`, by name.
+use bloom::have::HAVE_WORDS;
 ghost use mathlib.Core.Path.{_≡_};
 ghost use lib.ListN.{getD};
-ghost use Rattle.summaries.specs.Summary.{noHave};
+ghost use Rattle.summaries.specs.Summary.{noHave, summaryIn};
 
 pub struct HaveSummary {
     // Where the last-sync hashes stand, and how many they are.
@@ -13,6 +14,33 @@ pub struct HaveSummary {
     pub probes: u64,
     pub field: u64,
     pub size: u64,
+}
+
+// Record i of haves that are words, as reading a message leaves them; zeros behind the last whole record.
+pub fn summary_in(words: &[u64], i: usize) -> HaveSummary
+    ensures { λ r. ⌜ r ≡ summaryIn (now (words .entry)) i ⌝ }
+{
+    if words.len() / HAVE_WORDS <= i {
+        return HaveSummary {
+            place: 0,
+            count: 0,
+            entries: 0,
+            bits: 0,
+            probes: 0,
+            field: 0,
+            size: 0,
+        };
+    }
+    let at = i * HAVE_WORDS;
+    HaveSummary {
+        place: words[at],
+        count: words[at + 1],
+        entries: words[at + 2],
+        bits: words[at + 3],
+        probes: words[at + 4],
+        field: words[at + 5],
+        size: words[at + 6],
+    }
 }
 
 // The have at a place of the list; zeros behind its end.

@@ -4,7 +4,6 @@ use Rattle.summaries.specs.Laid.{nothingLaid}
 use Rattle.summaries.proofs.laid.nothing_laid.Statement.{statement}
 use Rattle.summaries.proofs.laid.nothing_laid.Tie as tie
 
--- src/laid.rt:20:1
 returns : tie.Need-returns
 unfolding nothingLaid
 returns c = refl

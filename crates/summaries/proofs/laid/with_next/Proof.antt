@@ -5,103 +5,78 @@ use borrow.Author.Needs.{needs}
 use Rattle.summaries.proofs.laid.with_next.Statement.{statement}
 use Rattle.summaries.proofs.laid.with_next.Tie as tie
 
--- src/laid.rt:36:9
 returns : tie.Need-returns
 returns c = sym (next-none _ _ _ (c .if1 .taken))
 
--- src/laid.rt:39:9
 returns-2 : tie.Need-returns-2
 returns-2 c = sym (next-full _ _ _ (c .before .if1 .left) (c .if2 .taken))
 
--- src/laid.rt:41:14
 mul-at : tie.Need-mul-at
 mul-at c = search needs
 
--- src/laid.rt:43:5
 mul-words : tie.Need-mul-words
 mul-words c = search needs
 
--- src/laid.rt:43:5
 array-write-words : tie.Need-array-write-words
 array-write-words c = search needs
 
--- src/laid.rt:44:11
 add-words : tie.Need-add-words
 add-words c = search needs
 
--- src/laid.rt:44:5
 mul-words-2 : tie.Need-mul-words-2
 mul-words-2 c = search needs
 
--- src/laid.rt:44:5
 array-write-words-2 : tie.Need-array-write-words-2
 array-write-words-2 c = search needs
 
--- src/laid.rt:45:11
 add-words-2 : tie.Need-add-words-2
 add-words-2 c = search needs
 
--- src/laid.rt:45:5
 mul-words-3 : tie.Need-mul-words-3
 mul-words-3 c = search needs
 
--- src/laid.rt:45:5
 array-write-words-3 : tie.Need-array-write-words-3
 array-write-words-3 c = search needs
 
--- src/laid.rt:46:11
 add-words-3 : tie.Need-add-words-3
 add-words-3 c = search needs
 
--- src/laid.rt:46:5
 mul-words-4 : tie.Need-mul-words-4
 mul-words-4 c = search needs
 
--- src/laid.rt:46:5
 array-write-words-4 : tie.Need-array-write-words-4
 array-write-words-4 c = search needs
 
--- src/laid.rt:47:11
 add-words-4 : tie.Need-add-words-4
 add-words-4 c = search needs
 
--- src/laid.rt:47:5
 mul-words-5 : tie.Need-mul-words-5
 mul-words-5 c = search needs
 
--- src/laid.rt:47:5
 array-write-words-5 : tie.Need-array-write-words-5
 array-write-words-5 c = search needs
 
--- src/laid.rt:48:11
 add-words-5 : tie.Need-add-words-5
 add-words-5 c = search needs
 
--- src/laid.rt:48:5
 mul-words-6 : tie.Need-mul-words-6
 mul-words-6 c = search needs
 
--- src/laid.rt:48:5
 array-write-words-6 : tie.Need-array-write-words-6
 array-write-words-6 c = search needs
 
--- src/laid.rt:49:11
 add-words-6 : tie.Need-add-words-6
 add-words-6 c = search needs
 
--- src/laid.rt:49:5
 mul-words-7 : tie.Need-mul-words-7
 mul-words-7 c = search needs
 
--- src/laid.rt:49:5
 array-write-words-7 : tie.Need-array-write-words-7
 array-write-words-7 c = search needs
 
--- src/laid.rt:52:16
 add-t8 : tie.Need-add-t8
 add-t8 c = search needs
 
--- src/laid.rt:31:1
 returns-3 : tie.Need-returns-3
 returns-3 c = let p = c .before in next-stored _ _ _ (p .before .if1 .left) (p .if2 .left)
 

@@ -11,35 +11,28 @@ use borrow.Author.Needs.{needs, length-unmapped}
 use Rattle.summaries.proofs.to_send.laid_to_send.Statement.{statement}
 use Rattle.summaries.proofs.to_send.laid_to_send.Tie as tie
 
--- src/to_send.rt:27:9
 at-most-requires : tie.Need-at-most-requires
 at-most-requires c κs = search needs
 
--- src/to_send.rt:29:47
 mul-words : tie.Need-mul-words
 mul-words c = search needs
 
--- src/to_send.rt:29:38
 array-share-prefix-words : tie.Need-array-share-prefix-words
 array-share-prefix-words c =
     let start = c .before .before .before .before .before .before in
     used-fits (start .args .laid .count) _ (start .args .laid .words) (c .before .at-most .ensures)
     (length-unmapped ℕ (start .args .laid .words) _ (start .good .1 .1 .0 .1 .1 .0 .1 .0 .1))
 
--- src/to_send.rt:29:38
 slice-aggregate-get-hashes-to-send : tie.Need-slice-aggregate-get-hashes-to-send
 slice-aggregate-get-hashes-to-send c =
     sym (length-take-le _ _ (array-share-prefix-words (c .before)))
 
--- src/to_send.rt:29:5
 get-hashes-to-send-requires : tie.Need-get-hashes-to-send-requires
 get-hashes-to-send-requires c κs = search needs
 
--- src/to_send.rt:23:1
 same-length : tie.Need-same-length
 same-length c = search needs
 
--- src/to_send.rt:23:1
 returns : tie.Need-returns
 returns c =
     let call = c .before .before in
