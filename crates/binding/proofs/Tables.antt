@@ -15,4 +15,5 @@ tables-bind =
       lay = λ κs a x y u v p q. (once p q, refl);
       get-or = λ κs a x y u v p q. (once p q, refl);
       summaries-to-send = λ κs a x y u v p q. (once p q, refl);
+      summary-in = λ κs a x y u v p q. (once p q, refl);
     }

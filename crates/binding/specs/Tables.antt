@@ -9,6 +9,7 @@ use Rattle.selection.proofs.to_send.get_hashes_to_send as of-get-hashes-to-send
 use Rattle.summaries.proofs.laid.lay as of-lay
 use Rattle.summaries.proofs.summary.get_or as of-get-or
 use Rattle.summaries.proofs.to_send.summaries_to_send as of-summaries-to-send
+use Rattle.summaries.proofs.summary.summary_in as of-summary-in
 
 pub record TablesBind : Type 0 where
   -- the crate tables
@@ -25,3 +26,4 @@ pub record TablesBind : Type 0 where
   pub lay : Binds of-lay.ended of-lay.Reads.Post
   pub get-or : Binds of-get-or.ended of-get-or.Reads.Post
   pub summaries-to-send : Binds of-summaries-to-send.ended of-summaries-to-send.Reads.Post
+  pub summary-in : Binds of-summary-in.ended of-summary-in.Reads.Post

@@ -18,11 +18,8 @@ fn home(bracket: &str) -> Option<(&str, &str)> {
         [krate, file] | ["crates", krate, "specs" | "proofs", file, "antt"] => (krate, file),
         _ => return None,
     };
-    let exists = |folder: &str| {
-        let path = root().join("crates").join(krate).join(folder);
-        path.join(file).with_extension("antt").is_file()
-    };
-    (exists("specs") || exists("proofs")).then_some((krate, file))
+    let is_crate = root().join("crates").join(krate).is_dir();
+    (is_crate && file.starts_with(char::is_uppercase)).then_some((krate, file))
 }
 
 /// The citations of a line: names in back-ticks, each of the next bracket that names a
