@@ -142,6 +142,10 @@ fn a_kind_is_told_by_the_bytes() {
     let mut row = [0; 64];
     row[0] = 9;
     assert!(inspect(&row).ended(0).out.contains("a change table"));
+    // A message of six bytes, with others that are ignored; all are a table's row.
+    row[0] = 0x42;
+    let shown = inspect(&row).ended(0).out;
+    assert!(shown.contains("a change table"), "{shown}");
     let both = inspect(b"\x43\x00").ended(0).out;
     assert!(both.contains("a saved state, 2 bytes"), "{both}");
     let text = inspect(b"hello").ended(1).err;
