@@ -146,8 +146,14 @@ fn a_kind_is_told_by_the_bytes() {
     row[0] = 0x42;
     let shown = inspect(&row).ended(0).out;
     assert!(shown.contains("a change table"), "{shown}");
-    let both = inspect(b"\x43\x00").ended(0).out;
-    assert!(both.contains("a saved state, 2 bytes"), "{both}");
+    // A filter of one entry with 480 bits is a table's row too.
+    row[..4].copy_from_slice(&[0x01, 0xe0, 0x03, 0x07]);
+    let both = inspect(&row).ended(0).out;
+    assert!(both.contains("a change table"), "{both}");
+    assert!(
+        both.contains("it can be read otherwise too: --as filter"),
+        "{both}"
+    );
     let text = inspect(b"hello").ended(1).err;
     assert!(text.contains("refusal 2, value 104"), "{text}");
 }
