@@ -11,8 +11,8 @@ pub trait Host {
     /// What lending and loading fail with.
     type Error;
 
-    /// The change table: a row for each change that is held, each above those that
-    /// depend on it. [`Table::lay`](crate::Table::lay) makes its records.
+    /// The change table: a row for each change that is held, each after those that it
+    /// depends on. [`Table::lay`](crate::Table::lay) makes its records.
     fn table(&self) -> Cow<'_, [u8]>;
 
     /// The waiting table: a row for each change that came before what it depends on.

@@ -1,4 +1,4 @@
-//! Change tables and waiting tables (docs/ABI.md has how their rows stand).
+//! Change tables and waiting tables.
 
 use crate::hash::{bytes_of, hashes_in, ChangeHash, HASH};
 use crate::refusal::{answer, Refusal};
@@ -8,8 +8,12 @@ use std::collections::HashMap;
 /// Row numbers that a change row has room for, and hashes that a waiting row has.
 const DEPENDENCIES: usize = 15;
 
-/// The changes that a unit holds, each below those that depend on it: hashes and row
+/// The changes that a unit holds, each after those that it depends on: hashes and row
 /// numbers, checked by the library.
+///
+/// A row is 64 bytes: its hash; on how many rows it depends (two bytes, little-endian,
+/// at most 15); fifteen such row numbers, those in use ascending and less than its own,
+/// the others 0. No hash stands twice.
 ///
 /// ```
 /// use bisquetower::{ChangeHash, Table};
@@ -21,7 +25,7 @@ const DEPENDENCIES: usize = 15;
 /// assert_eq!(table.beyond(&[b])?, [c]);
 /// assert_eq!(table.dependencies(1), [0]);
 ///
-/// // A row stands above what it depends on: the first bad row is told.
+/// // A row stands after what it depends on: the first bad row is told.
 /// let bad = Table::from_changes([(a, vec![]), (b, vec![c])]).unwrap_err();
 /// assert_eq!((bad.number, bad.value), (6, 1));
 /// # Ok::<(), bisquetower::Refusal>(())
@@ -120,6 +124,10 @@ impl Table {
 }
 
 /// Changes that came before what they depend on: hashes alone, checked by the library.
+///
+/// A row is 544 bytes: its hash; on how many changes it depends (one byte, at most 15) and
+/// 31 zeros; fifteen hashes, those that aren't in use zero. No hash of a row stands twice
+/// or in the change table.
 #[derive(Clone, Debug, Default, PartialEq, Eq)]
 pub struct Waiting(Vec<u8>);
 
@@ -189,7 +197,7 @@ pub(crate) struct Rows {
 impl Rows {
     pub(crate) fn push(&mut self, hash: ChangeHash, dependencies: &[ChangeHash]) {
         let own = self.bytes.len() / Table::ROW;
-        // A row below itself is bad, as is one that depends on what isn't there.
+        // A row that depends on itself is bad, as one on what isn't there has to be.
         let number = |dependency| self.numbers.get(dependency).copied().unwrap_or(own);
         let mut numbers: Vec<usize> = dependencies.iter().map(number).collect();
         numbers.sort_unstable();

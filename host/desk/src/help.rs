@@ -38,13 +38,13 @@ bisquetower table FILE [--full]
 
 Checks a change table and shows its rows and heads, the first row that depends
 on most rows (widest), the first with the longest way down (deepest), and the
-first bad row. Of a bad table the rows above that one are shown.
+first bad row. Of a bad table the rows before that one are shown.
 
   --full      hashes whole and all of them
 
 A row is 64 bytes: a hash; how many rows it depends on (two bytes,
-little-endian, at most 15); fifteen such row numbers, ascending and below its
-own, the others 0.
+little-endian, at most 15); fifteen such row numbers, ascending and less than
+its own, the others 0.
 ";
 
 const CATCH_UP: &str = "\

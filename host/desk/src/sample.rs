@@ -71,7 +71,7 @@ fn samples() -> Result<Vec<(String, Vec<u8>)>, Failure> {
 fn damaged(message: Vec<u8>, table: Vec<u8>) -> [(String, Vec<u8>); 5] {
     let cut_message = message[..message.len() / 2].to_vec();
     let cut_table = table[..table.len() - Table::ROW / 2].to_vec();
-    // Row 700 is the row above it again.
+    // Row 700 is the row before it again.
     let mut bad_table = table;
     bad_table.copy_within(Table::ROW * 699..Table::ROW * 700, Table::ROW * 700);
     [

@@ -26,11 +26,11 @@ pub fn run(words: &[String]) -> Result<String, Failure> {
             let good = paint.good("a good change table");
             Ok(format!("{file}: {good}\n{shown}"))
         }
-        // The rows above the first bad one are a table.
+        // The rows before the first bad one are a table.
         Err(refusal @ Refusal { number: 6, value }) => {
-            let above = &bytes[..Table::ROW * value as usize];
-            let bad = paint.bad("a bad change table; of its rows above the first bad one");
-            let shown = shown(above, &value.to_string(), full);
+            let before = &bytes[..Table::ROW * value as usize];
+            let bad = paint.bad("a bad change table; of its rows before the first bad one");
+            let shown = shown(before, &value.to_string(), full);
             Err(refused(&file, &bytes, refusal).showing(format!("{file}: {bad}\n{shown}")))
         }
         Err(refusal) => Err(refused(&file, &bytes, refusal)),
@@ -49,7 +49,7 @@ fn refused(file: &str, bytes: &[u8], refusal: Refusal) -> Failure {
 
 /// What good rows are, in columns.
 fn shown(rows: &[u8], first_bad: &str, full: bool) -> String {
-    let table = Table::new(rows).expect("rows above the first bad one are good");
+    let table = Table::new(rows).expect("rows before the first bad one are good");
     let mut columns = Columns::default();
     let heads = table.heads();
     columns.row("rows", &number(table.rows()), "");

@@ -121,7 +121,7 @@ impl Kind {
             (4, Kind::Table) => "a table has at most 1,024 rows of 64 bytes.",
             (4, Kind::Waiting) => "a waiting table has at most 1,024 rows of 544 bytes.",
             (4, _) => "a list has at most 1,024 hashes, a filter 8,192 bytes and 64 probes, a message 16 haves, 4,096 chunks and 4,194,304 bytes.",
-            (6, _) => "look at that row: it must be whole, its hash stand once, its rows ascend and be below it.",
+            (6, _) => "look at that row: it must be whole, its hash stand once, what it depends on ascend and come before it.",
             (9, _) => "look at that row: it must be whole, its hash stand once, what is unused be zero.",
             _ => "the bytes break a rule of the format: have them sent or copied again.",
         }

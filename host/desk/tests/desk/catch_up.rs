@@ -193,7 +193,7 @@ fn what_a_table_is() {
     assert!(none.contains("rows              0"), "{none}");
 }
 
-/// Of a bad table the rows above the bad one are shown.
+/// Of a bad table the rows before the bad one are shown.
 #[test]
 fn the_first_bad_row() {
     let bad = run(&["table", text(&samples().join("bad-row.table"))]).ended(1);
