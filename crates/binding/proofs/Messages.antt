@@ -23,9 +23,5 @@ messages-bind =
       parse = λ κs a x y u v p q. (once p q, refl);
       message-size = λ κs a x y u v p q. (once (p .each V1) (q .each V1), refl);
       encode = λ κs a x y u v p q. (once (p .answer) (q .answer), joined (once (p .content) (q .content)) refl);
-      reader-message-heads = λ κs a x y u v p q. (once p q, refl);
       reader-hashes-at = λ κs a x y u v p q. (once p q, refl);
-      reader-new = λ κs a x y u v p q. (once p q, refl);
-      reader-moved = λ κs a x y u v p q. (once p q, refl);
-      reader-hashes = λ κs a x y u v p q. (once p q, refl);
     }

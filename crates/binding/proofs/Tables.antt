@@ -12,8 +12,5 @@ tables-bind =
       heads = λ κs a x y u v p q. (once (p .answer) (q .answer), skip (skip (joined (once (p .content) (q .content)) refl)));
       missing = λ κs a x y u v p q. (once (p .answer) (q .answer), skip (skip (skip (joined (once (p .content) (q .content)) refl))));
       get-hashes-to-send = λ κs a x y u v p q. (once (p .answer) (q .answer), skip (skip (skip (skip (joined (once (p .content) (q .content)) refl)))));
-      lay = λ κs a x y u v p q. (once p q, refl);
-      get-or = λ κs a x y u v p q. (once p q, refl);
-      summaries-to-send = λ κs a x y u v p q. (once p q, refl);
       summary-in = λ κs a x y u v p q. (once p q, refl);
     }

@@ -16,11 +16,7 @@ use Rattle.decode.proofs.parse.parse_section as of-parse-section
 use Rattle.decode.proofs.parse.parse as of-parse
 use Rattle.size.proofs.size.message_size as of-message-size
 use Rattle.encode.proofs.encode.encode as of-encode
-use Rattle.reader.proofs.heads.message_heads as of-reader-message-heads
 use Rattle.reader.proofs.reader.hashes_at as of-reader-hashes-at
-use Rattle.reader.proofs.reader.new as of-reader-new
-use Rattle.reader.proofs.reader.moved as of-reader-moved
-use Rattle.reader.proofs.reader.hashes as of-reader-hashes
 
 pub record MessagesBind : Type 0 where
   -- the crate message
@@ -45,8 +41,4 @@ pub record MessagesBind : Type 0 where
   -- the crate encode
   pub encode : Binds of-encode.ended of-encode.Reads.Post
   -- the crate reader
-  pub reader-message-heads : Binds of-reader-message-heads.ended of-reader-message-heads.Reads.Post
   pub reader-hashes-at : Binds of-reader-hashes-at.ended of-reader-hashes-at.Reads.Post
-  pub reader-new : Binds of-reader-new.ended of-reader-new.Reads.Post
-  pub reader-moved : Binds of-reader-moved.ended of-reader-moved.Reads.Post
-  pub reader-hashes : Binds of-reader-hashes.ended of-reader-hashes.Reads.Post

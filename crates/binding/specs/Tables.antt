@@ -6,9 +6,6 @@ use Rattle.graph.proofs.beyond.beyond as of-beyond
 use Rattle.graph.proofs.heads.heads as of-heads
 use Rattle.missing.proofs.missing.missing as of-missing
 use Rattle.selection.proofs.to_send.get_hashes_to_send as of-get-hashes-to-send
-use Rattle.summaries.proofs.laid.lay as of-lay
-use Rattle.summaries.proofs.summary.get_or as of-get-or
-use Rattle.summaries.proofs.to_send.summaries_to_send as of-summaries-to-send
 use Rattle.summaries.proofs.summary.summary_in as of-summary-in
 
 pub record TablesBind : Type 0 where
@@ -23,7 +20,4 @@ pub record TablesBind : Type 0 where
   -- the crate selection
   pub get-hashes-to-send : Binds of-get-hashes-to-send.ended of-get-hashes-to-send.Reads.Post
   -- the crate summaries
-  pub lay : Binds of-lay.ended of-lay.Reads.Post
-  pub get-or : Binds of-get-or.ended of-get-or.Reads.Post
-  pub summaries-to-send : Binds of-summaries-to-send.ended of-summaries-to-send.Reads.Post
   pub summary-in : Binds of-summary-in.ended of-summary-in.Reads.Post
