@@ -1,4 +1,5 @@
 pub mod AllBytes
+pub mod Demand
 pub mod Example
 pub mod Goes
 pub mod Planning

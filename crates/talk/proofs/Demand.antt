@@ -1,0 +1,20 @@
+-- Demand 3 holds. Assumes nothing.
+use Rattle.walk.proofs.Corollary.{corollary}
+use Rattle.walk.proofs.Talk.{theorem-2}
+use Rattle.walk.proofs.Theorem1.{theorem-1}
+use Rattle.walk.proofs.Walk01.{walk01-walks}
+use Rattle.talk.specs.Demand.{Demand}
+use Rattle.talk.proofs.Goes.{calls-go}
+use Rattle.talk.proofs.Talk.{calls-are-steps, calls-corollary}
+
+pub demand : Demand
+demand =
+    record {
+      ends = theorem-1;
+      walk = walk01-walks;
+      sessions = theorem-2;
+      caughtUp = corollary;
+      calls = calls-are-steps;
+      called = calls-corollary;
+      goes = calls-go;
+    }
