@@ -6,7 +6,7 @@
 //! processor it is linked into the program src/raw/caller.c, which the emulator
 //! of the kit that proved the library runs; src/raw/emulated.rs speaks with it.
 //! SYNC_ARCHIVE names another libsync.a, for the processor at hand; that one is
-//! then linked into the crate. host/bench alone is run so.
+//! then linked into the crate. `make bench`, `make compare` and `make fuzz` are run so.
 
 #[path = "build/calls.rs"]
 mod calls;

@@ -2,7 +2,7 @@
 //! them, and one of nearly 4 MiB.
 
 use crate::measure::{line, line_of, Line};
-use bisquetower::message::Message as View;
+use bisquetower::message::View;
 use bisquetower::raw;
 use compare::inputs::message::Draft;
 use compare::inputs::table::Likeness;

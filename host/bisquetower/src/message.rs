@@ -3,16 +3,16 @@
 //! them, and copies nothing.
 //!
 //! ```
-//! use bisquetower::message::{Message, CHUNK_WORDS, HAVES, HAVE_WORDS};
+//! use bisquetower::message::{View, CHUNK_WORDS, HAVES, HAVE_WORDS};
 //!
 //! // Version 2, no heads, no need, no have, one chunk, no flags.
 //! let bytes = b"\x43\0\0\0\x01\x04sync";
 //! let (mut haves, mut chunks) = ([0; HAVES * HAVE_WORDS], [0; CHUNK_WORDS]);
-//! let message = Message::read(bytes, &mut haves, &mut chunks).unwrap();
+//! let message = View::read(bytes, &mut haves, &mut chunks).unwrap();
 //! assert_eq!((message.version(), message.flags()), (2, None));
 //! assert_eq!(message.chunks().collect::<Vec<_>>(), [b"sync"]);
 //!
-//! let cut = Message::read(&bytes[..7], &mut haves, &mut chunks).unwrap_err();
+//! let cut = View::read(&bytes[..7], &mut haves, &mut chunks).unwrap_err();
 //! assert_eq!((cut.number, cut.value), (1, 5));
 //! ```
 
@@ -42,7 +42,7 @@ pub const NO_FLAGS: u64 = 256;
 
 /// A message over the bytes that it was read from.
 #[derive(Clone, Copy, Debug)]
-pub struct Message<'a> {
+pub struct View<'a> {
     bytes: &'a [u8],
     version: u64,
     heads: &'a [u8],
@@ -69,16 +69,16 @@ pub struct Have<'a> {
     pub field: &'a [u8],
 }
 
-impl<'a> Message<'a> {
+impl<'a> View<'a> {
     /// Reads a message. The lists get `HAVE_WORDS` words a have and `CHUNK_WORDS` a
     /// chunk; one that is too short is refusal 7.
     pub fn read(
         bytes: &'a [u8],
         haves: &'a mut [u64],
         chunks: &'a mut [u64],
-    ) -> Result<Message<'a>, Refusal> {
+    ) -> Result<View<'a>, Refusal> {
         let words = raw::read_message(bytes, haves, chunks);
-        Message::of(bytes, words, haves, chunks)
+        View::of(bytes, words, haves, chunks)
     }
 
     /// The message of an answer and of the lists that `raw::read_message` left with
@@ -88,10 +88,10 @@ impl<'a> Message<'a> {
         words: [u64; ANSWER_WORDS],
         haves: &'a [u64],
         chunks: &'a [u64],
-    ) -> Result<Message<'a>, Refusal> {
+    ) -> Result<View<'a>, Refusal> {
         let [version, heads, head_count, need, need_count, _, have_count, _, chunk_count, flags, next] =
             answer(words)?;
-        Ok(Message {
+        Ok(View {
             bytes,
             version,
             heads: hashes(bytes, heads, head_count),

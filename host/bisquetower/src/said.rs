@@ -13,7 +13,7 @@ const NUMBER: usize = 10;
 /// As many chunks as are read without asking again.
 const FEW_CHUNKS: usize = 64;
 
-/// What a unit says to another. [`message::Message`] is the same without a copy, for
+/// What a unit says to another. [`message::View`] is the same without a copy, for
 /// readers who lend their own lists.
 ///
 /// ```
@@ -58,7 +58,7 @@ impl Message {
             chunks.resize(value as usize, 0);
             words = raw::read_message(bytes, &mut haves, &mut chunks);
         }
-        let view = message::Message::of(bytes, words, &haves, &chunks)?;
+        let view = message::View::of(bytes, words, &haves, &chunks)?;
         Ok(Message {
             heads: hashes_in(view.heads()),
             need: hashes_in(view.need()),

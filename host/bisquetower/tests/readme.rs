@@ -6,7 +6,11 @@ use bisquetower::{Change, ChangeHash, Memory, Session};
 #[test]
 fn the_page_shows_what_is_run() {
     let page = include_str!("../../../README.md");
-    let shown = page.split("```").nth(1).expect("a block").trim_start_matches("rust\n");
+    let shown = page
+        .split("```")
+        .nth(1)
+        .expect("a block")
+        .trim_start_matches("rust\n");
     let here = include_str!("readme.rs");
     assert!(shown.lines().count() >= 7);
     for line in shown.lines() {

@@ -14,7 +14,7 @@ use crate::model::message::{ANSWER_WORDS, CHUNK_WORDS, NO_FLAGS};
 use crate::model::{self, Refused};
 use crate::same_answer;
 use beside::{beside_crate, Beside};
-use bisquetower::message::Message as View;
+use bisquetower::message::View;
 use bisquetower::raw::{self, Batch};
 use bisquetower::refusal::Refusal;
 use parts::{parts, Chunks};

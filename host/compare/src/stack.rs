@@ -9,7 +9,7 @@ use crate::model::message::CHUNKS;
 use crate::model::table::{Hash, DEPENDENCIES, HASH, HASHES, ROWS, WAITING_ROWS};
 use crate::sessions::lent::Lent;
 use crate::sessions::library::{plan, receive, Planning, Receiving};
-use bisquetower::message::{Message, CHUNK_WORDS, HAVES, HAVE_WORDS};
+use bisquetower::message::{View, CHUNK_WORDS, HAVES, HAVE_WORDS};
 use bisquetower::raw;
 use std::collections::BTreeMap;
 
@@ -250,7 +250,7 @@ fn messages(random: &mut Random) -> Vec<Deep> {
     };
     let read = s.clone();
     let (mut haves, mut chunks) = lists();
-    let view = Message::read(&read, &mut haves, &mut chunks).expect("a good message");
+    let view = View::read(&read, &mut haves, &mut chunks).expect("a good message");
     let own = Chunks::of(&view);
     let [heads, need] = [view.heads(), view.need()].map(<[u8]>::to_vec);
     let haves = view.have_words().to_vec();

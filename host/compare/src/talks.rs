@@ -208,7 +208,7 @@ pub(crate) fn document_of(rows: &[Row], part: &[usize]) -> Automerge {
 
 /// Whether a message keeps every limit, and what it brings does: beyond them the crate
 /// goes on.
-fn limited(message: &[u8]) -> bool {
+pub fn limited(message: &[u8]) -> bool {
     let places = match parse(message) {
         Ok(places) => places,
         Err((number, _)) => return number < 4,

@@ -5,7 +5,7 @@ use house::edits::{self, Edit};
 use house::functions::{self, Function};
 use house::names::{names, Home};
 use house::reach::House;
-use house::{document, files, read, root};
+use house::{crates, document, files, read, root};
 
 /// The functions that stand in a document: `crate::file::name` or, in a line that names
 /// the file so, `name` alone.
@@ -190,4 +190,36 @@ fn every_public_contract_is_bound() {
         .map(Function::path)
         .collect();
     assert!(open.is_empty(), "{open:#?}");
+}
+
+/// Every edit stands in docs/EDITS.md with what it does wrong, and those that docs/LOOSE.md
+/// names are edits.
+#[test]
+fn every_edit_is_told() {
+    let (page, loose) = (document("EDITS.md"), document("LOOSE.md"));
+    let edits = edits::all();
+    for Edit {
+        krate, name, slip, ..
+    } in &edits
+    {
+        let section = page
+            .split("\n## ")
+            .find(|part| part.starts_with(&format!("{krate}\n")));
+        let row = format!("| `{name}` | {slip} | ");
+        assert!(
+            section.is_some_and(|part| part.contains(&row)),
+            "{krate}/{name}"
+        );
+    }
+    let rows = page.lines().filter(|line| line.starts_with("| `")).count();
+    assert_eq!(rows, edits.len());
+    let (_, hollow) = loose.split_once("## Hollow programs").expect("a section");
+    let named = hollow
+        .split([' ', ','])
+        .filter_map(|word| word.split_once('/'));
+    let crates = crates();
+    for (krate, name) in named.filter(|(krate, _)| crates.iter().any(|one| one == krate)) {
+        let is = |edit: &Edit| edit.krate == krate && edit.name == name;
+        assert!(edits.iter().any(is), "{krate}/{name}");
+    }
 }

@@ -2,7 +2,7 @@
 
 use crate::model::table::HASH;
 use crate::published;
-use bisquetower::message::{Have, Message as View};
+use bisquetower::message::{Have, View};
 use bisquetower::refusal::Refusal;
 use crate_under_test::facade::{self, ChangeHash, Message, MessageVersion};
 

@@ -1,7 +1,7 @@
 //! A message as it is passed to be written.
 
 use crate::model::message::{Parts, NO_FLAGS};
-use bisquetower::message::Message as View;
+use bisquetower::message::View;
 use bisquetower::raw::{self, Batch};
 
 /// The chunks of a message that was read, one after the other, and their lengths.

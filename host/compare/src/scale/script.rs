@@ -4,10 +4,9 @@
 use crate::inputs::filter::hash_of;
 use crate::inputs::message::Draft;
 use crate::model::have::OwnHave;
-use crate::model::message::parse;
 use crate::model::session::Value;
 use crate::model::table::{Hash, DEPENDENCIES};
-use crate::talks::{compare_pairs, Pair, Start, Step};
+use crate::talks::{compare_pairs, limited, Pair, Start, Step};
 use crate::units::{load, proved, Make};
 use crate_under_test::facade::{Automerge, Change, ChangeHash};
 
@@ -187,18 +186,4 @@ fn play(script: &[u8], makes: [Make; 2]) -> Vec<Step> {
         }
     }
     pair.steps
-}
-
-/// Whether a message and the changes that it brings keep every limit: past one the
-/// crate goes on.
-fn limited(message: &[u8]) -> bool {
-    let places = match parse(message) {
-        Ok(places) => places,
-        Err((number, _)) => return number < 4,
-    };
-    let chunk = |[place, length]: &[u64; 2]| &message[*place as usize..][..*length as usize];
-    let chunks: Vec<&[u8]> = places.chunks.iter().map(chunk).collect();
-    let changes = Change::read_all(&chunks.concat()).unwrap_or_default();
-    let few = |change: &Change| change.dependencies().len() <= DEPENDENCIES;
-    changes.iter().all(few)
 }

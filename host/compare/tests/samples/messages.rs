@@ -1,7 +1,7 @@
 //! Messages.
 
 use crate::{count, refuses, stored, varied, Out};
-use bisquetower::message::{Message, ANSWER_WORDS, CHUNK_WORDS, HAVES, HAVE_WORDS};
+use bisquetower::message::{View, ANSWER_WORDS, CHUNK_WORDS, HAVES, HAVE_WORDS};
 use bisquetower::raw::{Batch, UNWRITTEN};
 use bisquetower::refusal::Refusal;
 use compare::messages::parts::{self, parts, Chunks};
@@ -24,8 +24,8 @@ impl Asked {
         }
     }
 
-    fn view<'a>(&'a self, s: &'a [u8]) -> Result<Message<'a>, Refusal> {
-        Message::of(s, self.answer, &self.haves, &self.chunks)
+    fn view<'a>(&'a self, s: &'a [u8]) -> Result<View<'a>, Refusal> {
+        View::of(s, self.answer, &self.haves, &self.chunks)
     }
 }
 
@@ -46,7 +46,7 @@ fn read(records: &[Record]) -> Vec<Asked> {
 
 /// A message that was read, to be written again.
 struct Again<'a> {
-    view: Message<'a>,
+    view: View<'a>,
     chunks: Chunks,
     out: Out,
 }

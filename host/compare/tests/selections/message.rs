@@ -1,7 +1,7 @@
 //! From a message straight to what is sent.
 
 use crate::ROOM;
-use bisquetower::message::{Message, CHUNK_WORDS, HAVES, HAVE_WORDS};
+use bisquetower::message::{View, CHUNK_WORDS, HAVES, HAVE_WORDS};
 use bisquetower::raw;
 use compare::inputs::message::Draft;
 use compare::inputs::Random;
@@ -31,7 +31,7 @@ fn from_a_message() {
         let s = draft.bytes();
 
         let (mut haves, mut chunks) = ([0; HAVE_WORDS * HAVES], [0; CHUNK_WORDS]);
-        let view = Message::read(&s, &mut haves, &mut chunks).expect("a good message");
+        let view = View::read(&s, &mut haves, &mut chunks).expect("a good message");
         let mut out = vec![0; ROOM];
         let (haves, need) = (view.have_words(), view.need());
         let answer = raw::hashes_to_send(&case.table, &s, haves, need, &mut out);

@@ -69,7 +69,7 @@ impl Kind {
             Kind::Message => {
                 let mut haves = vec![0; HAVES * HAVE_WORDS];
                 let mut chunks = vec![0; CHUNKS * CHUNK_WORDS];
-                let read = message::Message::read(bytes, &mut haves, &mut chunks)?;
+                let read = message::View::read(bytes, &mut haves, &mut chunks)?;
                 Ok(read.next())
             }
             Kind::State => {

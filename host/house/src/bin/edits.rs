@@ -22,7 +22,7 @@ fn main() {
         if last != krate {
             let _ = write!(
                 page,
-                "\n## {krate}\n\n| edit | what is wrong | what no longer holds |\n|---|---|---|\n"
+                "\n## {krate}\n\n| edit | the rule that it breaks, or its slip | what no longer holds |\n|---|---|---|\n"
             );
             last = krate.clone();
         }
