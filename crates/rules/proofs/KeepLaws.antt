@@ -13,7 +13,7 @@ use lib.ListN.{length, getD, take}
 use Rattle.rules.specs.Hash.{IsHash, AreHashes}
 use Rattle.rules.specs.Order.{member, keep, every, often, Once, ascends}
 use Rattle.rules.proofs.Cases.{split, both, other, true-false, either, or-left, and-true, and-false}
-use Rattle.rules.proofs.OrderLaws.{member-here, member-there, member-behind, member-not-behind, member-none, member-append, member-index, index-member, ascends-tail, ascends-first}
+use Rattle.rules.proofs.OrderLaws.{member-here, member-there, member-behind, member-not-behind, member-none, member-append, member-index, index-member, ascends-tail, ascends-first, ascends-cons}
 
 -- ---- members
 
@@ -63,6 +63,15 @@ pub keep-most : (p : ℕ → Bool) (l : List ℕ) → length (keep p l) ≤ leng
 unfolding keep
 keep-most p [] = omega arith
 keep-most p (x ∷ xs) = split (p x) (λ e. rw e (omega (arith, keep-most p xs))) (λ e. rw e (omega (arith, keep-most p xs)))
+
+pub keep-ascends : (p : ℕ → Bool) (l : List ℕ) → ascends l ≡ true → ascends (keep p l) ≡ true
+unfolding keep ascends
+keep-ascends p [] a = refl
+keep-ascends p (x ∷ xs) a =
+    let rest : ascends (keep p xs) ≡ true = keep-ascends p xs (ascends-tail x xs a) in
+    split (p x)
+    (λ e. rw e (ascends-cons x (keep p xs) rest (λ y m. ascends-first x xs a y (both (p y) (member y xs) (sym (keep-member p xs y) ∙ m) .1))))
+    (λ e. rw e rest)
 
 pub keep-none : (p : ℕ → Bool) (l : List ℕ) → ((h : ℕ) → member h l ≡ true → p h ≡ false) → keep p l ≡ []
 unfolding keep

@@ -20,8 +20,8 @@ use Rattle.rules.specs.Sizes.{sizes}
 use Rattle.rules.specs.declared.refusal.Refusal.{Refusal}
 use Rattle.rules.specs.declared.refusal.Refusal.the-variants.{PastSize, LoadFailed, BadRowsBefore}
 use Rattle.rules.proofs.Cases.{split, both}
-use Rattle.rules.proofs.KeepLaws.{keep-member, keep-most, once-ascends}
-use Rattle.rules.proofs.OrderLaws.{ascend-ascends, ascend-members, member-append, ascends-cons, ascends-first, ascends-tail, member-none}
+use Rattle.rules.proofs.KeepLaws.{keep-member, keep-most, keep-ascends, once-ascends}
+use Rattle.rules.proofs.OrderLaws.{ascend-ascends, ascend-members, member-append, member-none}
 use Rattle.state.specs.Session.{State}
 use Rattle.tables.specs.Table.{Row, held}
 use Rattle.session.specs.Plan.{empty}
@@ -92,15 +92,6 @@ module _ (before : ℕ) (t : List Row) (s : State) (m : Said) where
   shared-few e h = rw (shared-taken e) h
 
 -- ---- the hashes sent
-
-keep-ascends : (p : ℕ → Bool) (l : List ℕ) → ascends l ≡ true → ascends (keep p l) ≡ true
-unfolding keep ascends
-keep-ascends p [] a = refl
-keep-ascends p (x ∷ xs) a =
-    let rest : ascends (keep p xs) ≡ true = keep-ascends p xs (ascends-tail x xs a) in
-    split (p x)
-    (λ e. rw e (ascends-cons x (keep p xs) rest (λ y m. ascends-first x xs a y (both (p y) (member y xs) (sym (keep-member p xs y) ∙ m) .1))))
-    (λ e. rw e rest)
 
 pub flagged-ascends : (flags : Section) (sent : List ℕ) → ascends sent ≡ true → ascends (sentFlagged flags sent) ≡ true
 unfolding sentFlagged ascends

@@ -7,7 +7,7 @@ use std::path::Path;
 
 /// One byte more than the longest message: a file that goes on is refused or ignored
 /// just as these bytes are.
-const MOST: u64 = 4_194_304 + 1;
+pub const MOST: u64 = 4_194_304 + 1;
 
 /// The first bytes of a file, or of standard input for `-`.
 pub fn read(name: &str) -> Result<Vec<u8>, Failure> {

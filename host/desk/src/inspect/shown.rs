@@ -1,5 +1,6 @@
 //! What a message, a saved state, a filter and a table hold, in columns.
 
+use crate::files::MOST;
 use crate::paint::Paint;
 use crate::text::{count, hashes, number, Columns};
 use bisquetower::{ChangeHash, Filter, Have, Message, MessageFlags, MessageVersion};
@@ -113,8 +114,12 @@ pub fn waiting(waiting: &Waiting, full: bool) -> String {
     format!("{title}\n{columns}")
 }
 
-/// Bytes that no reader looks at.
+/// Bytes that no reader looks at; how many isn't known of a file that goes on.
 pub fn rest(bytes: usize, place: usize) -> String {
-    let told = format!("{} from place {place} on, ignored", count(bytes, "byte"));
+    let many = match (place + bytes) as u64 == MOST {
+        true => "all bytes".to_string(),
+        false => count(bytes, "byte"),
+    };
+    let told = format!("{many} from place {place} on, ignored");
     format!("  {}\n", Paint::of_output().faint(&told))
 }

@@ -123,6 +123,10 @@ fn a_huge_file() {
         filter.contains("0 entries, 0 bits each, 0 probes"),
         "{filter}"
     );
+    assert!(
+        filter.contains("all bytes from place 3 on, ignored"),
+        "{filter}"
+    );
     fs::remove_file(name).unwrap();
 }
 
