@@ -6,7 +6,7 @@ use crate::text::{count, number};
 
 /// Where the bars stand, in the drawing's units.
 const LEFT: f64 = 64.0;
-const TOP: f64 = 64.0;
+const TOP: f64 = 76.0;
 const WIDTH: f64 = 640.0;
 const HEIGHT: f64 = 260.0;
 
