@@ -13,6 +13,7 @@ use Rattle.rules.specs.declared.refusal.Refusal.the-variants.{
   BadWaitingRow,
   BadNumbers,
   BadRowsBefore,
+  BadIndex,
 }
 
 -- The column "No.".
@@ -28,6 +29,7 @@ numberOf LoadFailed = 8
 numberOf (BadWaitingRow row) = 9
 numberOf BadNumbers = 10
 numberOf BadRowsBefore = 11
+numberOf BadIndex = 12
 
 -- The column "Returns".
 abbrev pub valueOf : Refusal → ℕ
@@ -42,3 +44,4 @@ valueOf LoadFailed = 0
 valueOf (BadWaitingRow row) = row
 valueOf BadNumbers = 0
 valueOf BadRowsBefore = 0
+valueOf BadIndex = 0

@@ -25,6 +25,8 @@ pub enum Refusal {
     BadNumbers,
     // 11: more rows before loading than there are rows.
     BadRowsBefore,
+    // 12: the index doesn't fit its change table.
+    BadIndex,
 }
 
 impl Refusal {
@@ -43,6 +45,7 @@ impl Refusal {
             Refusal::BadWaitingRow(_) => 9,
             Refusal::BadNumbers => 10,
             Refusal::BadRowsBefore => 11,
+            Refusal::BadIndex => 12,
         }
     }
 
@@ -61,6 +64,7 @@ impl Refusal {
             Refusal::BadWaitingRow(row) => row as u64,
             Refusal::BadNumbers => 0,
             Refusal::BadRowsBefore => 0,
+            Refusal::BadIndex => 0,
         }
     }
 }

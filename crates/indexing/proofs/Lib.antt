@@ -1,0 +1,4 @@
+-- Laws that the crates above cite.
+pub mod BuildLaws
+pub mod ExtendLaws
+pub mod Promises
