@@ -29,7 +29,7 @@ use Rattle.state.specs.Session.{State}
 use Rattle.state.specs.Value.{Lent, valueOf}
 use Rattle.state.specs.declared.session.Session.{Session}
 use Rattle.tables.specs.Table.{Row, rows}
-use Rattle.tables.specs.Waiting.{Waiting}
+use Rattle.waiting.specs.Waiting.{Waiting}
 use Rattle.kept.specs.Kept.{Stand, Kept, Stays, PlannedRoom, plannedIn, ReceivedRoom, receivedIn}
 use Rattle.kept.proofs.Sessions.{kept-value, kept-good, good-kept, good-state}
 use Rattle.kept.proofs.Stands.{stand-none, stand-sets, heard-sets, haves-sets}

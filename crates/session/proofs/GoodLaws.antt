@@ -37,7 +37,7 @@ use Rattle.rules.proofs.KeepLaws.{hashes-member, hashes-each, hashes-inside}
 use Rattle.state.specs.Session.{State, fresh, freshReadOnly, restored, setReadOnly}
 use Rattle.state.proofs.SessionLaws.{switch-same, switch-on, switch-off}
 use Rattle.tables.specs.Table.{Row, rows, held}
-use Rattle.tables.specs.Waiting.{Waiting}
+use Rattle.waiting.specs.Waiting.{Waiting}
 use Rattle.session.specs.Good.{SoundTable, SoundHaves, WhereHeard, GoodState, SoundSaid}
 use Rattle.session.specs.Plan.{
   Plan,

@@ -25,8 +25,8 @@ use Rattle.selection.specs.ToSend.{toSendLess}
 use Rattle.selection.proofs.SelectLaws.{less-few, less-held, less-hashes}
 use Rattle.state.specs.Session.{State}
 use Rattle.tables.specs.Table.{Row, GoodTable, rows, held}
-use Rattle.tables.specs.Waiting.{Waiting}
 use Rattle.tables.proofs.TableLaws.{length-rows}
+use Rattle.waiting.specs.Waiting.{Waiting}
 use Rattle.session.specs.Plan.{
   Body,
   Plan,

@@ -23,7 +23,7 @@ use Rattle.rules.specs.declared.refusal.Refusal.the-variants.{PastSize}
 use Rattle.selection.specs.ToSend.{toSendLess}
 use Rattle.state.specs.Session.{State}
 use Rattle.tables.specs.Table.{Row, rows, held}
-use Rattle.tables.specs.Waiting.{Waiting}
+use Rattle.waiting.specs.Waiting.{Waiting}
 
 -- What a message carries: hashes, whose changes the host lends, and whether these go as the whole document. Nothing is a list of none.
 pub record Body : Type 0 where

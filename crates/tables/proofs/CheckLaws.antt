@@ -11,13 +11,12 @@ use borrow.Author.Tests.{ltb-true, ltb-false, eqb-true, eqb-false, lt-ltb, le-lt
 use lib.Dec.{ltb, eqb}
 use lib.ListN.{length}
 use Rattle.rules.specs.Sizes.{sizes}
-use Rattle.rules.specs.declared.refusal.Refusal.the-variants.{PastSize, BadRow, BadWaitingRow}
+use Rattle.rules.specs.declared.refusal.Refusal.the-variants.{PastSize, BadRow}
 use Rattle.rules.proofs.Cases.{split}
-use Rattle.tables.specs.Bytes.{rowSize, firstBad, checkedWith, tableCheckedOf, tableChecked, waitingSize, waitingCheckedOf, waitingChecked}
-use Rattle.tables.specs.Table.{Row}
+use Rattle.tables.specs.Bytes.{rowSize, firstBad, checkedWith, tableCheckedOf, tableChecked}
 use Rattle.tables.specs.declared.check.Checked.{Checked}
 use Rattle.tables.specs.declared.check.Checked.the-variants.{Good, Refused}
-use Rattle.tables.proofs.Today.{rowGood, waitingGood}
+use Rattle.tables.proofs.Today.{rowGood}
 
 -- ---- rows
 
@@ -145,7 +144,7 @@ fewer n most size h b =
     absurd (omega arith))
     (λ e. ltb-false most n e)
 
--- ---- the two tables
+-- ---- a change table
 
 module _ (s : List ℕ) where
   pub table-past : sizes .rows * rowSize < length s → tableChecked s ≡ Refused (PastSize 0)
@@ -165,23 +164,3 @@ module _ (s : List ℕ) where
       pub table-fine : length s % rowSize ≡ 0 → tableChecked s ≡ Good (length s / rowSize)
       unfolding tableCheckedOf
       table-fine h = check-good _ (rowGood s) rowSize (sizes .rows) (length s) few r e none h
-
-module _ (t : List Row) (s : List ℕ) where
-  pub waiting-past : sizes .waitingRows * waitingSize < length s → waitingChecked t s ≡ Refused (PastSize 0)
-  unfolding waitingCheckedOf
-  waiting-past h = check-past _ (waitingGood t s) waitingSize (sizes .waitingRows) (length s) h
-
-  module _ (few : length s ≤ sizes .waitingRows * waitingSize) where
-    pub waiting-bad : (r : ℕ) → r ≡ firstBad (waitingGood t s) 0 (length s / waitingSize) → r < length s / waitingSize
-        → waitingChecked t s ≡ Refused (BadWaitingRow r)
-    unfolding waitingCheckedOf
-    waiting-bad r e h = check-bad _ (waitingGood t s) waitingSize (sizes .waitingRows) (length s) few r e h
-
-    module _ (r : ℕ) (e : r ≡ firstBad (waitingGood t s) 0 (length s / waitingSize)) (none : length s / waitingSize ≤ r) where
-      pub waiting-partial : (length s % waitingSize ≡ 0 → ⊥) → waitingChecked t s ≡ Refused (BadWaitingRow (length s / waitingSize))
-      unfolding waitingCheckedOf
-      waiting-partial h = check-partial _ (waitingGood t s) waitingSize (sizes .waitingRows) (length s) few r e none h
-
-      pub waiting-fine : length s % waitingSize ≡ 0 → waitingChecked t s ≡ Good (length s / waitingSize)
-      unfolding waitingCheckedOf
-      waiting-fine h = check-good _ (waitingGood t s) waitingSize (sizes .waitingRows) (length s) few r e none h

@@ -1,5 +1,5 @@
--- A search for the first row that has a hash, over change rows and waiting rows at once: rows are the numbers that a function gives, and each
--- law is one turn of the loop, with its test as a hypothesis.
+-- A search for the first row that has a hash, over rows of any kind: rows are the numbers that a function gives, and each law is one turn of the
+-- loop, with its test as a hypothesis.
 use Prim.Native.Nat.{ℕ, zero, suc, _+_, _-_, _*_, _≤_, _<_}
 use mathlib.Core.Bool.{true, false}
 use mathlib.Core.List.{List, [], _∷_}
@@ -9,9 +9,8 @@ use native.Mathlib.Numerals.{add-one}
 use native.Mathlib.Omega.{arith}
 use lib.Dec.{eqb}
 use Rattle.rules.specs.Hash.{hashAt}
-use Rattle.tables.specs.Bytes.{rowOf, rowsOf, rowSize, rowsAt, waitingRowOf, waitingRowsOf, waitingSize, waitingsAt}
+use Rattle.tables.specs.Bytes.{rowOf, rowsOf, rowSize, rowsAt}
 use Rattle.tables.specs.Table.{rows, indexIn}
-use Rattle.tables.specs.Waiting.{waiting}
 
 -- so many of the numbers that f gives, from i on
 unfoldable pub listed : (ℕ → ℕ) → ℕ → ℕ → List ℕ
@@ -22,11 +21,6 @@ pub rows-listed : (s : List ℕ) (i count : ℕ) → rows (rowsAt s i count) ≡
 unfolding rows rowsOf rowOf listed
 rows-listed s i zero = refl
 rows-listed s i (suc count) = ap (λ (l : List ℕ). hashAt s (i * rowSize) ∷ l) (rows-listed s (suc i) count)
-
-pub waiting-listed : (s : List ℕ) (i count : ℕ) → waiting (waitingsAt s i count) ≡ listed (λ k. hashAt s (k * waitingSize)) i count
-unfolding waiting waitingRowsOf waitingRowOf listed
-waiting-listed s i zero = refl
-waiting-listed s i (suc count) = ap (λ (l : List ℕ). hashAt s (i * waitingSize) ∷ l) (waiting-listed s (suc i) count)
 
 module _ (f : ℕ → ℕ) (h n : ℕ) where
   -- what the search finds from row i on
@@ -60,6 +54,3 @@ module _ (f : ℕ → ℕ) (h n : ℕ) where
 -- the search over the rows of a table, from its start
 pub seek-rows : (s : List ℕ) (h n : ℕ) → seeking (λ k. hashAt s (k * rowSize)) h n 0 ≡ indexIn (rows (rowsAt s 0 n)) h
 seek-rows s h n = seek-starts _ h n ∙ sym (ap (λ (l : List ℕ). indexIn l h) (rows-listed s 0 n))
-
-pub seek-waiting : (s : List ℕ) (h n : ℕ) → seeking (λ k. hashAt s (k * waitingSize)) h n 0 ≡ indexIn (waiting (waitingsAt s 0 n)) h
-seek-waiting s h n = seek-starts _ h n ∙ sym (ap (λ (l : List ℕ). indexIn l h) (waiting-listed s 0 n))

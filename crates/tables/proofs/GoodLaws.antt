@@ -38,9 +38,6 @@ good-part s n k g h =
       good = rw (take-rows-at s 0 k n h) at (good-take k (rowsAt s 0 n) (g .good));
     }
 
-pub accepted-part : (s : List ℕ) (n k : ℕ) → tableChecked s ≡ Good n → k ≤ n → GoodRows s k
-accepted-part s n k e h = good-part s n k (accepted-rows s n e) h
-
 -- a dependency stands before its row
 pub good-down : (s : List ℕ) (n : ℕ) → GoodRows s n → (i k : ℕ) → i < n → member k (usedAt s i) ≡ true → k < i
 good-down s n g i k h m = g .good .down i k (rw (length-rows-at s 0 n) h) (rw (deps-of-row s n i h) m)

@@ -7,4 +7,3 @@ pub mod Promises
 pub mod RowLaws
 pub mod TableLaws
 pub mod Today
-pub mod WaitingLaws

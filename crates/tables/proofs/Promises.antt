@@ -2,4 +2,3 @@
 pub use Rattle.tables.proofs.ExtendLaws.{held-append, deps-stay, good-append}
 pub use Rattle.tables.proofs.GoodLaws.{good-differ, rows-hashes, rows-few}
 pub use Rattle.tables.proofs.TableLaws.{rows-at-index, length-table, deps-of-table, hash-of-table, take-table, good-accepted, decoded-hash, decoded-count, decoded-dep, decoded-below, decoded-prefix}
-pub use Rattle.tables.proofs.WaitingLaws.{waiting-hashes, waitings-good, good-waiting-accepted, index-of-waiting, decoded-asks, decoded-waiting}

@@ -3,7 +3,7 @@ use Prim.Native.Nat.{ℕ}
 use mathlib.Core.Bool.{Bool}
 use mathlib.Core.List.{List}
 use Rattle.rules.specs.Sizes.{sizes}
-use Rattle.tables.specs.Bytes.{unusedOf, rowOf, rowGoodOf, asksPlaceOf, waitingGoodOf}
+use Rattle.tables.specs.Bytes.{unusedOf, rowOf, rowGoodOf}
 use Rattle.tables.specs.Table.{Row}
 
 abbrev pub unusedAt : List ℕ → ℕ → List ℕ
@@ -14,9 +14,3 @@ rowAt s i = rowOf (sizes .dependencies) s i
 
 abbrev pub rowGood : List ℕ → ℕ → Bool
 rowGood s i = rowGoodOf (sizes .dependencies) s i
-
-abbrev pub asksPlace : ℕ → ℕ
-asksPlace i = asksPlaceOf (sizes .dependencies) i
-
-abbrev pub waitingGood : List Row → List ℕ → ℕ → Bool
-waitingGood t s i = waitingGoodOf (sizes .dependencies) t s i

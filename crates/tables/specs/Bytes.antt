@@ -1,5 +1,5 @@
--- The house records of change rows and waiting rows, and when a table is bad. 01, Change table and waiting table; Refusal numbers, 4, 6 and 9: bytes at
--- the end that are no whole record are a bad row with the next number.
+-- The house records of change rows, and when a table is bad. 01, Change table; Refusal numbers, 4 and 6: bytes at the end that are no whole record
+-- are a bad row with the next number.
 -- A row has room for d dependencies. All of it is said over d, in names that end in `Of`; the names without it are for as many dependencies as a
 -- change may have.
 use Prim.Native.Nat.{ℕ, zero, suc, _+_, _-_, _*_, _/_, _%_, _≤_, _<_}
@@ -7,12 +7,11 @@ use mathlib.Core.Bool.{Bool, true, false, cond, not, _&&_}
 use mathlib.Core.List.{List, [], _∷_}
 use lib.Dec.{ltb, leb, eqb}
 use lib.ListN.{length, getD}
-use Rattle.rules.specs.Hash.{hashAt, hashesAt}
+use Rattle.rules.specs.Hash.{hashAt}
 use Rattle.rules.specs.Order.{member, every, ascends}
 use Rattle.rules.specs.Sizes.{sizes}
-use Rattle.rules.specs.declared.refusal.Refusal.the-variants.{PastSize, BadRow, BadWaitingRow}
-use Rattle.tables.specs.Table.{Row, GoodTable, rows, held}
-use Rattle.tables.specs.Waiting.{Waiting, waiting}
+use Rattle.rules.specs.declared.refusal.Refusal.the-variants.{PastSize, BadRow}
+use Rattle.tables.specs.Table.{Row, GoodTable, rows}
 use Rattle.tables.specs.declared.check.Checked.{Checked}
 use Rattle.tables.specs.declared.check.Checked.the-variants.{Good, Refused}
 
@@ -23,8 +22,6 @@ u16At s at = getD s at 0 + 256 * getD s (at + 1) 0
 unfoldable pub u16sAt : List ℕ → ℕ → ℕ → List ℕ
 u16sAt s at zero = []
 u16sAt s at (suc count) = u16At s at ∷ u16sAt s (at + 2) count
-
--- ---- change rows
 
 -- Change row: hash, count (two bytes), and d row numbers (two bytes each).
 abbrev pub rowSizeOf : ℕ → ℕ
@@ -115,72 +112,3 @@ pub record GoodRows (s : List ℕ) (n : ℕ) : Type 0 where
   pub inside : n * rowSize ≤ length s
   pub counts : (i : ℕ) → i < n → depCount s i ≤ sizes .dependencies
   pub good : GoodTable (rowsAt s 0 n)
-
--- ---- waiting rows
-
--- Waiting row: hash, count byte and zeros up to the size of a hash, and d hashes.
-abbrev pub waitingSizeOf : ℕ → ℕ
-waitingSizeOf d = sizes .hash * (2 + d)
-
-unfoldable pub asksCountOf : ℕ → List ℕ → ℕ → ℕ
-asksCountOf d s i = getD s (i * waitingSizeOf d + sizes .hash) 0
-
--- Where the first hash that row i asks for stands.
-abbrev pub asksPlaceOf : ℕ → ℕ → ℕ
-asksPlaceOf d i = i * waitingSizeOf d + 2 * sizes .hash
-
-unfoldable pub waitingRowOf : ℕ → List ℕ → ℕ → Waiting
-waitingRowOf d s i =
-    record {
-      hash = hashAt s (i * waitingSizeOf d);
-      asks = hashesAt s (asksPlaceOf d i) (asksCountOf d s i);
-    }
-
-unfoldable pub waitingRowsOf : ℕ → List ℕ → ℕ → ℕ → List Waiting
-waitingRowsOf d s i zero = []
-waitingRowsOf d s i (suc count) = waitingRowOf d s i ∷ waitingRowsOf d s (suc i) count
-
-unfoldable pub wholeWaitingOf : ℕ → List ℕ → List Waiting
-wholeWaitingOf d s = waitingRowsOf d s 0 (length s / waitingSizeOf d)
-
--- So many bytes from a place on.
-unfoldable pub bytesAt : List ℕ → ℕ → ℕ → List ℕ
-bytesAt s at zero = []
-bytesAt s at (suc count) = getD s at 0 ∷ bytesAt s (at + 1) count
-
--- The bytes between the count and the hashes, and the hashes not in use.
-unfoldable pub fillOf : ℕ → List ℕ → ℕ → List ℕ
-fillOf d s i = bytesAt s (i * waitingSizeOf d + sizes .hash + 1) (sizes .hash - 1)
-
-unfoldable pub unaskedOf : ℕ → List ℕ → ℕ → List ℕ
-unaskedOf d s i = hashesAt s (asksPlaceOf d i + sizes .hash * asksCountOf d s i) (d - asksCountOf d s i)
-
--- A good waiting row: its count is at most d, and zeros follow it; unused hashes are zero; its own hash stands neither in an earlier waiting row
--- nor in the change table.
-unfoldable pub waitingGoodOf : ℕ → List Row → List ℕ → ℕ → Bool
-waitingGoodOf d t s i =
-    leb (asksCountOf d s i) d
-    && zeros (fillOf d s i)
-    && zeros (unaskedOf d s i)
-    && not (member (hashAt s (i * waitingSizeOf d)) (waiting (waitingRowsOf d s 0 i)))
-    && not (held t (hashAt s (i * waitingSizeOf d)))
-
--- A waiting table beside a change table: 4, then 9.
-unfoldable pub waitingCheckedOf : ℕ → List Row → List ℕ → Checked
-waitingCheckedOf d t s = checkedWith (λ i. Refused (BadWaitingRow i)) (waitingGoodOf d t s) (waitingSizeOf d) (sizes .waitingRows) (length s)
-
--- The same of rows that have room for as many dependencies as a change may have.
-abbrev pub waitingSize : ℕ
-waitingSize = waitingSizeOf (sizes .dependencies)
-
-abbrev pub asksCount : List ℕ → ℕ → ℕ
-asksCount s i = asksCountOf (sizes .dependencies) s i
-
-abbrev pub waitingsAt : List ℕ → ℕ → ℕ → List Waiting
-waitingsAt s i count = waitingRowsOf (sizes .dependencies) s i count
-
-abbrev pub waitingOf : List ℕ → List Waiting
-waitingOf s = wholeWaitingOf (sizes .dependencies) s
-
-abbrev pub waitingChecked : List Row → List ℕ → Checked
-waitingChecked t s = waitingCheckedOf (sizes .dependencies) t s

@@ -1,4 +1,3 @@
 pub mod Bytes
 pub mod Calls
 pub mod Table
-pub mod Waiting

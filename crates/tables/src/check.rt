@@ -19,7 +19,7 @@ pub enum Checked {
 }
 
 // Whether the numbers in use of row i ascend and are below it.
-fn numbers_good(table: &[u8], i: usize) -> bool
+pub fn numbers_good(table: &[u8], i: usize) -> bool
     requires { ⌜ ((i + 1) * rowSize ≤ length (now table)) × (depCount (now table) i ≤ sizes .dependencies) ⌝ }
     ensures { λ r. ⌜ r ≡ numbersGood i (usedAt (now (table .entry)) i) ⌝ }
 {
@@ -41,7 +41,7 @@ fn numbers_good(table: &[u8], i: usize) -> bool
 }
 
 // Whether the other numbers of row i are 0.
-fn zeros_good(table: &[u8], i: usize) -> bool
+pub fn zeros_good(table: &[u8], i: usize) -> bool
     requires { ⌜ ((i + 1) * rowSize ≤ length (now table)) × (depCount (now table) i ≤ sizes .dependencies) ⌝ }
     ensures { λ r. ⌜ r ≡ zeros (unusedOf (sizes .dependencies) (now (table .entry)) i) ⌝ }
 {

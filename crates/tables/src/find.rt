@@ -1,15 +1,13 @@
 // Rows found by their hashes.
 use crate::row::ROW_SIZE;
-use crate::row::WAITING_SIZE;
 use rules::hashes::same_hash;
 ghost use mathlib.Core.Path.{_≡_};
 ghost use Prim.Native.Nat.{_+_, _*_, _≤_};
 ghost use lib.ListN.{length};
 ghost use Rattle.rules.specs.Hash.{hashAt};
 ghost use Rattle.rules.specs.Sizes.{sizes};
-ghost use Rattle.tables.specs.Bytes.{rowSize, rowsAt, waitingSize, waitingsAt};
+ghost use Rattle.tables.specs.Bytes.{rowSize, rowsAt};
 ghost use Rattle.tables.specs.Table.{rows, indexIn};
-ghost use Rattle.tables.specs.Waiting.{waiting};
 
 // The first of the first n rows that has the hash at a place, or n where none has.
 pub fn find_row(table: &[u8], n: usize, bytes: &[u8], at: usize) -> usize
@@ -19,21 +17,6 @@ pub fn find_row(table: &[u8], n: usize, bytes: &[u8], at: usize) -> usize
     let mut i = 0;
     while i < n {
         if same_hash(table, i * ROW_SIZE, bytes, at) {
-            return i;
-        }
-        i += 1;
-    }
-    n
-}
-
-// The same of waiting rows.
-pub fn find_waiting(table: &[u8], n: usize, bytes: &[u8], at: usize) -> usize
-    requires { ⌜ (n * waitingSize ≤ length (now table)) × (at + sizes .hash ≤ length (now bytes)) ⌝ }
-    ensures { λ r. ⌜ r ≡ indexIn (waiting (waitingsAt (now (table .entry)) 0 n)) (hashAt (now (bytes .entry)) at) ⌝ }
-{
-    let mut i = 0;
-    while i < n {
-        if same_hash(table, i * WAITING_SIZE, bytes, at) {
             return i;
         }
         i += 1;

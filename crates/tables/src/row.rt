@@ -9,10 +9,6 @@ ghost use Rattle.tables.specs.Bytes.{u16At, rowSize, depCount};
 
 // Bytes of a change row.
 pub const ROW_SIZE: usize = HASH_SIZE + 2 * (1 + DEPENDENCIES);
-// Bytes of a waiting row: a hash, a count and zeros in the room of another, and as many hashes as a change may have dependencies.
-pub const WAITING_SIZE: usize = HASH_SIZE * (2 + DEPENDENCIES);
-// Where the hashes that a waiting row asks for stand in it.
-pub const ASKS_PLACE: usize = 2 * HASH_SIZE;
 
 // The little-endian number that two bytes are.
 pub fn u16_at(bytes: &[u8], at: usize) -> usize

@@ -61,7 +61,7 @@ use Rattle.session.proofs.PlanLaws.{
 use Rattle.session.proofs.ReceiveLaws.{shared-taken, left-members, left-inside, receive-is}
 use Rattle.state.specs.Session.{State}
 use Rattle.tables.specs.Table.{Row, held}
-use Rattle.tables.specs.Waiting.{Waiting}
+use Rattle.waiting.specs.Waiting.{Waiting}
 use Rattle.walk.specs.Round.{Part, trim}
 use Rattle.wire.specs.Item.{prefixedBytes}
 use Rattle.walk.specs.Talk.{Host, chunksFor, messageFor}

@@ -49,7 +49,7 @@ use Rattle.session.proofs.GoodLaws.{planned-good}
 use Rattle.session.proofs.PlanLaws.{need-missing, have-one, have-none, speaks-first, speaks-apart, plan-is}
 use Rattle.state.specs.Session.{State}
 use Rattle.tables.specs.Table.{Row, held}
-use Rattle.tables.specs.Waiting.{Waiting}
+use Rattle.waiting.specs.Waiting.{Waiting}
 use Rattle.walk.specs.Round.{Covers}
 use Rattle.walk.specs.Talk.{Host, messageFor}
 use Rattle.walk.specs.Walk.{heardIn}

@@ -13,7 +13,7 @@ use Rattle.rules.proofs.Cases.{split, true-false, and-true}
 use Rattle.rules.proofs.KeepLaws.{member-long, keep-member, not-every}
 use Rattle.rules.proofs.OrderLaws.{member-here, member-none}
 use Rattle.tables.specs.Table.{Row, GoodTable, rows, held, deps}
-use Rattle.tables.specs.Waiting.{Waiting, waiting, asks}
+use Rattle.waiting.specs.Waiting.{Waiting, waiting, asks}
 use Rattle.graph.specs.Graph.{heads}
 use Rattle.graph.proofs.BelowLaws.{row-induction}
 use Rattle.graph.proofs.HeadLaws.{head-held}

@@ -11,7 +11,7 @@ use Rattle.rules.specs.Order.{member}
 use Rattle.rules.proofs.Cases.{split, true-false}
 use Rattle.rules.proofs.ReachLaws.{below-suc}
 use Rattle.tables.specs.Table.{Row}
-use Rattle.tables.specs.Waiting.{Waiting}
+use Rattle.waiting.specs.Waiting.{Waiting}
 use Rattle.walk.specs.Talk.{Host, pairAt, Reached, Granted, Inside, Tables, Ended, Corollary}
 use Rattle.walk.specs.Walk.{Demand3, Walk, holdsAll, lacking}
 use Rattle.walk.proofs.Theorem1.{theorem-1}

@@ -26,8 +26,8 @@ use Rattle.rules.proofs.OrderLaws.{member-none}
 use Rattle.selection.specs.ToSend.{toSend, toSendLess}
 use Rattle.session.specs.Plan.{haveOf, havesFor}
 use Rattle.tables.specs.Table.{Row, rows, hashOf, depsOf, GoodTable, indexIn, rowNumber, held, deps, rowsFrom, rowsWhere}
-use Rattle.tables.specs.Waiting.{Waiting, waiting, asks, asksOf}
 use Rattle.tables.proofs.ExtendLaws.{good-append}
+use Rattle.waiting.specs.Waiting.{Waiting, waiting, asks, asksOf}
 use Rattle.walk.specs.Round.{Part, trim, Moves, done, step, Loads}
 use Rattle.walk.specs.Walk.{At, starting, Walk01, heardIn, needAt, offerTo, holdsAll, lacking}
 

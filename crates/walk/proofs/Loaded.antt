@@ -10,8 +10,8 @@ use lib.Dec.{eqb}
 use Rattle.rules.specs.Order.{member, every, Once}
 use Rattle.rules.proofs.Cases.{split, same-truth, either, or-left, or-right}
 use Rattle.tables.specs.Table.{Row, GoodTable, held, deps}
-use Rattle.tables.specs.Waiting.{Waiting, waiting, asks}
 use Rattle.tables.proofs.ExtendLaws.{good-append, deps-stay}
+use Rattle.waiting.specs.Waiting.{Waiting, waiting, asks}
 use Rattle.walk.specs.Round.{Part, Moves, Settles, done, step, Loads}
 use Rattle.walk.proofs.Loading.{Asked, move-held, move-fewer, move-other, move-asked}
 use Rattle.walk.proofs.Loading.{settles-more, settles-fewer, settles-stuck, settles-moved, settles-least}

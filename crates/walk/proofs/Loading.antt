@@ -14,8 +14,8 @@ use Rattle.rules.proofs.Cases.{split, both, true-false, same-truth, either, or-
 use Rattle.rules.proofs.KeepLaws.{member-long, keep-member, keep-parts, every-member, not-every, often-keep, once-ascends}
 use Rattle.rules.proofs.OrderLaws.{ascend-ascends, ascend-members, member-append}
 use Rattle.tables.specs.Table.{Row, hashOf, rowNumber, held, deps}
-use Rattle.tables.specs.Waiting.{Waiting, waiting, asks}
 use Rattle.tables.proofs.TableLaws.{row-of-held, hash-of-held}
+use Rattle.waiting.specs.Waiting.{Waiting, waiting, asks}
 use Rattle.graph.proofs.BelowLaws.{member-map, map-member}
 use Rattle.walk.specs.Round.{Joins, Moves, Settles, done, step, Loads}
 use Rattle.walk.proofs.Tables.{held-added, waitingFor, waiting-for, asks-for}

@@ -12,7 +12,7 @@ use Rattle.rules.specs.Order.{member, often, Once}
 use Rattle.rules.proofs.Cases.{split, both, true-false, either, or-left, and-true}
 use Rattle.rules.proofs.KeepLaws.{keep-member, often-none, often-some, once-ascends}
 use Rattle.tables.specs.Table.{Row, held}
-use Rattle.tables.specs.Waiting.{Waiting, waiting}
+use Rattle.waiting.specs.Waiting.{Waiting, waiting}
 use Rattle.graph.specs.Graph.{heads, below}
 use Rattle.graph.proofs.BelowLaws.{not-below-beyond}
 use Rattle.members.specs.Members.{lastSyncs, filters, theS}

@@ -25,7 +25,7 @@ use Rattle.session.proofs.GoodLaws.{received-good}
 use Rattle.session.proofs.ReceiveLaws.{join-members, join-ascends, advance-members, shared-taken, shared-joined, left-inside, receive-is}
 use Rattle.state.specs.Session.{State}
 use Rattle.tables.specs.Table.{Row, held}
-use Rattle.tables.specs.Waiting.{Waiting}
+use Rattle.waiting.specs.Waiting.{Waiting}
 use Rattle.walk.specs.Round.{Part, Covers}
 use Rattle.walk.proofs.Message.{heardHave, heardHaves, heard-contains}
 use Rattle.walk.proofs.Parts.{part-itself, below-heads, below-there}

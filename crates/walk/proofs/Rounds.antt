@@ -19,7 +19,7 @@ use Rattle.rules.proofs.Cases.{split, both, true-false, same-truth, either, and
 use Rattle.rules.proofs.KeepLaws.{member-long, keep-member, keep-keep, keep-same, keep-parts, keep-none, once-none, once-keep, once-append, once-same}
 use Rattle.rules.proofs.OrderLaws.{member-append, member-none}
 use Rattle.tables.specs.Table.{Row, GoodTable, rows, held}
-use Rattle.tables.specs.Waiting.{Waiting, waiting}
+use Rattle.waiting.specs.Waiting.{Waiting, waiting}
 use Rattle.walk.specs.Round.{Part, Gives, trim, Picks, Loads}
 use Rattle.walk.specs.Walk.{At, starting, offerTo, lacking}
 use Rattle.walk.proofs.Between.{cases, Between, unsent, left, none-left, some-missing}

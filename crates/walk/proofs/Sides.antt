@@ -16,7 +16,7 @@ use Rattle.rules.proofs.KeepLaws.{every-one}
 use Rattle.session.specs.Good.{SoundTable, GoodState}
 use Rattle.state.specs.Session.{State}
 use Rattle.tables.specs.Table.{Row, GoodTable, rows, held}
-use Rattle.tables.specs.Waiting.{Waiting}
+use Rattle.waiting.specs.Waiting.{Waiting}
 use Rattle.walk.specs.Round.{Part, Covers}
 use Rattle.walk.specs.Walk.{holdsAll}
 use Rattle.walk.proofs.Parts.{part-itself, heads-all}

@@ -27,7 +27,7 @@ use Rattle.session.proofs.GoodLaws.{heads-sound, body-few}
 use Rattle.session.proofs.PlanLaws.{have-one, have-none, have-or-none, said-flags}
 use Rattle.state.specs.Session.{State}
 use Rattle.tables.specs.Table.{Row}
-use Rattle.tables.specs.Waiting.{Waiting}
+use Rattle.waiting.specs.Waiting.{Waiting}
 use Rattle.wire.specs.Item.{prefixedBytes}
 use Rattle.walk.specs.Talk.{Host, chunksFor, messageFor}
 use Rattle.walk.proofs.Message.{heardHaves, all-sound, length-heard, chunks-few, no-chunks, heardSaid, crosses}

@@ -13,9 +13,9 @@ use Rattle.rules.specs.Order.{member}
 use Rattle.rules.proofs.OrderLaws.{member-here, member-there}
 use Rattle.graph.proofs.MarkLaws.{or-false}
 use Rattle.tables.specs.Table.{Row, rows, hashOf, depsOf, GoodTable, rowNumber, held, deps, indexIn}
-use Rattle.tables.specs.Waiting.{Waiting, waiting, asks, asksOf}
 use Rattle.tables.proofs.ExtendLaws.{rows-append, held-append, hash-stays, last-deps}
 use Rattle.tables.proofs.TableLaws.{length-rows, number-of-row, index-of-member, entry-at-index}
+use Rattle.waiting.specs.Waiting.{Waiting, waiting, asks, asksOf}
 
 -- functions that agree on a list's members give the same list
 map-same : (f g : ℕ → ℕ) (l : List ℕ) → ((k : ℕ) → member k l ≡ true → f k ≡ g k) → map f l ≡ map g l

@@ -22,7 +22,7 @@ use Rattle.session.specs.Receive.{Said, Received, sharedAfter, received, receiv
 use Rattle.session.proofs.GoodLaws.{fresh-good}
 use Rattle.state.specs.Session.{State}
 use Rattle.tables.specs.Table.{Row}
-use Rattle.tables.specs.Waiting.{Waiting}
+use Rattle.waiting.specs.Waiting.{Waiting}
 use Rattle.wire.specs.Item.{prefixedBytes}
 use Rattle.walk.specs.Round.{Part, Loads, trim}
 use Rattle.walk.specs.Talk.{

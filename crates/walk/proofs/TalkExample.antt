@@ -28,7 +28,7 @@ use Rattle.session.specs.Receive.{Said, sharedLoaded, sharedAfter, loads}
 use Rattle.session.proofs.ReceiveLaws.{join-members, advance-members, shared-taken, shared-joined}
 use Rattle.state.specs.Session.{State}
 use Rattle.tables.specs.Table.{Row, rows, depsOf, held, rowsFrom, rowsWhere}
-use Rattle.tables.specs.Waiting.{Waiting}
+use Rattle.waiting.specs.Waiting.{Waiting}
 use Rattle.wire.specs.Item.{prefixedBytes}
 use Rattle.walk.specs.Round.{Loads, trim}
 use Rattle.walk.specs.Talk.{Host, listChunks, pairAt, Reached, Granted, Tables, Ended}

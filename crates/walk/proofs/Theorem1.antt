@@ -16,7 +16,7 @@ use Rattle.rules.proofs.Cases.{same-truth, either, or-right}
 use Rattle.rules.proofs.KeepLaws.{every-member, every-one}
 use Rattle.rules.proofs.OrderLaws.{member-none}
 use Rattle.tables.specs.Table.{Row, GoodTable, rows, held}
-use Rattle.tables.specs.Waiting.{Waiting, waiting}
+use Rattle.waiting.specs.Waiting.{Waiting, waiting}
 use Rattle.walk.specs.Round.{Part, Gives, one, none, trim}
 use Rattle.walk.specs.Walk.{At, Walk, Round, heardIn, offerTo, holdsAll, lacking, Theorem1}
 use Rattle.walk.proofs.Loading.{loads-outcome}

@@ -17,8 +17,8 @@ use Rattle.rules.proofs.OrderLaws.{member-none}
 use Rattle.graph.proofs.BelowLaws.{deps-held}
 use Rattle.session.specs.Good.{SoundTable}
 use Rattle.tables.specs.Table.{Row, rows, held}
-use Rattle.tables.specs.Waiting.{Waiting, waiting}
 use Rattle.tables.proofs.TableLaws.{length-rows}
+use Rattle.waiting.specs.Waiting.{Waiting, waiting}
 use Rattle.walk.specs.Round.{Part, Settles, done, step, Loads}
 use Rattle.walk.proofs.Loading.{Asked, settles-asked}
 

@@ -13,7 +13,7 @@ use Rattle.rules.specs.Order.{member, every}
 use Rattle.rules.proofs.Cases.{split}
 use Rattle.session.specs.Plan.{haveOf, havesFor}
 use Rattle.tables.specs.Table.{Row, GoodTable, held}
-use Rattle.tables.specs.Waiting.{Waiting}
+use Rattle.waiting.specs.Waiting.{Waiting}
 use Rattle.walk.specs.Round.{Part, Covers, Gives, one, none, trim, Picks}
 use Rattle.walk.specs.Walk.{At, Round, Walk, Round01, Walk01, Walk01Walks, heardIn, needAt, offerTo, holdsAll, lacking}
 use Rattle.walk.proofs.Loading.{loads-outcome}

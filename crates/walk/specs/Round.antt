@@ -12,7 +12,7 @@ use Rattle.missing.specs.Missing.{missing}
 use Rattle.probe.specs.Contains.{contains}
 use Rattle.rules.specs.Order.{member, keep, every, often, ascends}
 use Rattle.tables.specs.Table.{Row, GoodTable, hashOf, held, deps}
-use Rattle.tables.specs.Waiting.{Waiting, waiting, asks}
+use Rattle.waiting.specs.Waiting.{Waiting, waiting, asks}
 
 -- B is a dependency-closed part of A: a good table, so that it holds what its rows depend on, whose rows are A's with A's dependencies. Row numbers may
 -- differ, so dependencies are the same as sets.

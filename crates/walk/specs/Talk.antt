@@ -21,7 +21,7 @@ use Rattle.session.specs.Receive.{Received, receiveBytes}
 use Rattle.state.specs.Session.{State, fresh}
 use Rattle.selection.specs.ToSend.{toSendLess}
 use Rattle.tables.specs.Table.{Row, GoodTable, rows, held}
-use Rattle.tables.specs.Waiting.{Waiting}
+use Rattle.waiting.specs.Waiting.{Waiting}
 use Rattle.walk.specs.Round.{Part, Loads, trim}
 use Rattle.walk.specs.Walk.{At, Walk01, heardIn, holdsAll, lacking}
 

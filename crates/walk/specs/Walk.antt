@@ -12,7 +12,7 @@ use Rattle.rules.specs.Order.{member, keep, every, often}
 use Rattle.selection.specs.ToSend.{toSendLess}
 use Rattle.session.specs.Plan.{havesFor}
 use Rattle.tables.specs.Table.{Row, GoodTable, rows, held}
-use Rattle.tables.specs.Waiting.{Waiting}
+use Rattle.waiting.specs.Waiting.{Waiting}
 use Rattle.walk.specs.Round.{Part, Gives, trim, Picks, Loads}
 
 -- Where a walk stands: B, W and T, and all hashes that the replies have named, reply after reply.

@@ -17,13 +17,14 @@ use Rattle.rules.specs.declared.refusal.Refusal.the-variants.{BadWaitingRow}
 use Rattle.rules.proofs.Cases.{split, both}
 use Rattle.rules.proofs.Hash.{length-hashes-at, hash-is-hash, hashes-are-hashes}
 use Rattle.rules.proofs.KeepLaws.{index-once}
-use Rattle.tables.specs.Bytes.{waitingSizeOf, asksCountOf, asksPlaceOf, waitingRowOf, waitingRowsOf, wholeWaitingOf, fillOf, unaskedOf, waitingGoodOf, waitingCheckedOf, waitingSize, asksCount, waitingsAt, waitingOf, bytesAt, zeros, waitingChecked}
+use Rattle.tables.specs.Bytes.{zeros}
 use Rattle.tables.specs.Table.{Row, rows, indexIn, held}
-use Rattle.tables.specs.Waiting.{Waiting, noWaiting, waiting, asksOf}
 use Rattle.tables.specs.declared.check.Checked.the-variants.{Good, Refused}
-use Rattle.tables.proofs.Today.{asksPlace, waitingGood}
 use Rattle.tables.proofs.CheckLaws.{fewer, accepted, good-is-accepted}
 use Rattle.tables.proofs.TableLaws.{length-rows, index-tells, index-of-entry, member-is, index-of-member, entry-at-index}
+use Rattle.waiting.specs.Bytes.{waitingSizeOf, asksCountOf, asksPlaceOf, waitingRowOf, waitingRowsOf, wholeWaitingOf, fillOf, unaskedOf, waitingGoodOf, waitingCheckedOf, waitingSize, asksCount, waitingsAt, waitingOf, bytesAt, waitingChecked}
+use Rattle.waiting.specs.Waiting.{Waiting, noWaiting, waiting, asksOf}
+use Rattle.waiting.proofs.Today.{asksPlace, waitingGood}
 
 -- ---- waiting rows by their numbers
 

@@ -1,11 +1,11 @@
--- `tables::waiting::waiting_good` meets its contract: one law of WaitingLaws for each test that decides. Assumes nothing.
+-- `waiting::check::waiting_good` meets its contract: one law of WaitingLaws for each test that decides. Assumes nothing.
 use mathlib.Core.Path.{sym, _∙_}
 use borrow.Author.Tests.{not-true, not-false}
 use Rattle.tables.proofs.TableLaws.{length-rows-at}
-use Rattle.tables.proofs.WaitingLaws.{waiting-many, waiting-fill, waiting-unasked, waiting-twice, waiting-held}
+use Rattle.waiting.proofs.WaitingLaws.{waiting-many, waiting-fill, waiting-unasked, waiting-twice, waiting-held}
 use borrow.Author.Needs.{needs}
-use Rattle.tables.proofs.waiting.waiting_good.Statement.{statement}
-use Rattle.tables.proofs.waiting.waiting_good.Tie as tie
+use Rattle.waiting.proofs.check.waiting_good.Statement.{statement}
+use Rattle.waiting.proofs.check.waiting_good.Tie as tie
 
 mul-start : tie.Need-mul-start
 mul-start c = search needs
@@ -57,7 +57,7 @@ returns-3 c =
     sym
     (waiting-unasked _ _ _ _ (a .asks-count .ensures) (z .before .if1 .left)
     (sym (z .zero-bytes .ensures) ∙ not-false _ (y .before .if2 .left))
-    (a .before .before .before .pre .1)
+    (a .before .before .before .before .before .pre .1)
     (sym (y .zero-bytes2 .ensures) ∙ not-true _ (c .if3 .taken)))
 
 find-waiting-requires : tie.Need-find-waiting-requires
@@ -72,14 +72,14 @@ returns-4 c =
     sym
     (waiting-twice _ _ _ _ (a .asks-count .ensures) (z .before .if1 .left)
     (sym (z .zero-bytes .ensures) ∙ not-false _ (y .before .if2 .left))
-    (a .before .before .before .pre .1)
+    (a .before .before .before .before .before .pre .1)
     (sym (y .zero-bytes2 .ensures) ∙ not-false _ (w .before .if3 .left))
     _
     (w .find-waiting .ensures)
     (c .if4 .taken))
 
-find-row-requires : tie.Need-find-row-requires
-find-row-requires c κs = search needs
+look-up-requires : tie.Need-look-up-requires
+look-up-requires c κs = search needs
 
 returns-5 : tie.Need-returns-5
 returns-5 c =
@@ -90,7 +90,7 @@ returns-5 c =
     sym
     (waiting-held _ _ _ _ (a .asks-count .ensures) (z .before .if1 .left)
     (sym (z .zero-bytes .ensures) ∙ not-false _ (y .before .if2 .left))
-    (a .before .before .before .pre .1)
+    (a .before .before .before .before .before .pre .1)
     (sym (y .zero-bytes2 .ensures) ∙ not-false _ (w .before .if3 .left))
     _
     (w .find-waiting .ensures)
@@ -98,7 +98,7 @@ returns-5 c =
     _
     _
     (length-rows-at _ 0 _)
-    (c .find-row .ensures))
+    (c .look-up .ensures))
 
 pub waiting-good-spec : {M : Type 1} → statement M
 waiting-good-spec =
@@ -120,5 +120,5 @@ waiting-good-spec =
     returns-3
     find-waiting-requires
     returns-4
-    find-row-requires
+    look-up-requires
     returns-5)

@@ -1,13 +1,14 @@
--- `tables::waiting::zero_bytes` meets its contract: the bytes from the k-th on are 0 as all of them are, until one isn't or none is left.
+-- `waiting::check::zero_bytes` meets its contract: the bytes from the k-th on are 0 as all of them are, until one isn't or none is left.
 -- Assumes nothing.
 use Prim.Native.Nat.{_-_, _≤_}
 use borrow.Author.Needs.{needs}
 use mathlib.Core.Path.{_≡_, sym, _∙_}
 use native.Mathlib.Omega.{arith}
-use Rattle.tables.specs.Bytes.{bytesAt, zeros}
-use Rattle.tables.proofs.WaitingLaws.{blanking, blank-starts, blank-fails, blank-on, blank-ends}
-use Rattle.tables.proofs.waiting.zero_bytes.Statement.{statement}
-use Rattle.tables.proofs.waiting.zero_bytes.Tie as tie
+use Rattle.tables.specs.Bytes.{zeros}
+use Rattle.waiting.specs.Bytes.{bytesAt}
+use Rattle.waiting.proofs.WaitingLaws.{blanking, blank-starts, blank-fails, blank-on, blank-ends}
+use Rattle.waiting.proofs.check.zero_bytes.Statement.{statement}
+use Rattle.waiting.proofs.check.zero_bytes.Tie as tie
 
 abbrev Inv-loop : tie.InvT-loop
 Inv-loop bytes at count k₀ k = record { upto : k ≤ count; rest : blanking bytes at count k ≡ zeros (bytesAt bytes at count) }

@@ -1,20 +1,24 @@
 // Whether a waiting table is good beside a change table.
-use crate::check::Checked;
-use crate::check::check_table;
-use crate::find::find_row;
+use crate::find::ORDER_SIZE;
 use crate::find::find_waiting;
 use crate::row::ASKS_PLACE;
 use crate::row::WAITING_SIZE;
+use index::check::check_indexed;
+use index::look::look_up;
+use indexing::extend::extend;
 use rules::refusal::Refusal;
 use rules::sizes::DEPENDENCIES;
 use rules::sizes::HASH_SIZE;
 use rules::sizes::WAITING_ROWS;
+use tables::check::Checked;
 ghost use mathlib.Core.Path.{_≡_};
 ghost use Prim.Native.Nat.{_+_, _*_, _≤_};
 ghost use lib.ListN.{length};
+ghost use Rattle.index.specs.Index.{Indexed};
 ghost use Rattle.rules.specs.Sizes.{sizes};
-ghost use Rattle.tables.specs.Calls.{tablesChecked};
-ghost use Rattle.tables.specs.Bytes.{rowSize, rowsAt, waitingSize, asksCount, bytesAt, zeros, waitingGoodOf, firstBad, waitingChecked};
+ghost use Rattle.tables.specs.Bytes.{rowsAt, zeros, firstBad};
+ghost use Rattle.waiting.specs.Bytes.{waitingSize, asksCount, bytesAt, waitingGoodOf, waitingChecked, Sorted};
+ghost use Rattle.waiting.specs.Calls.{tablesChecked};
 
 // How many hashes waiting row i says that it asks for.
 pub fn asks_count(waiting: &[u8], i: usize) -> usize
@@ -41,8 +45,15 @@ fn zero_bytes(bytes: &[u8], at: usize, count: usize) -> bool
 
 // Whether waiting row i is good: its count, zeros in what isn't in use, and a hash that no earlier waiting row and none of the first n rows of
 // the change table has.
-fn waiting_good(table: &[u8], n: usize, waiting: &[u8], i: usize) -> bool
-    requires { ⌜ (n * rowSize ≤ length (now table)) × ((i + 1) * waitingSize ≤ length (now waiting)) ⌝ }
+fn waiting_good(
+    table: &[u8],
+    index: &[u8],
+    n: usize,
+    waiting: &[u8],
+    order: &[u8],
+    i: usize,
+) -> bool
+    requires { ⌜ Indexed (now table) (now index) n × ((i + 1) * waitingSize ≤ length (now waiting)) × Sorted (now waiting) (now order) i ⌝ }
     ensures { λ r. ⌜ r ≡ waitingGoodOf (sizes .dependencies) (rowsAt (now (table .entry)) 0 n) (now (waiting .entry)) i ⌝ }
 {
     let start = i * WAITING_SIZE;
@@ -60,37 +71,39 @@ fn waiting_good(table: &[u8], n: usize, waiting: &[u8], i: usize) -> bool
     ) {
         return false;
     }
-    if find_waiting(waiting, i, waiting, start) != i {
+    if find_waiting(waiting, order, i, waiting, start) != i {
         return false;
     }
-    find_row(table, n, waiting, start) == n
+    look_up(table, index, n, waiting, start) == n
 }
 
-// The first of the first m waiting rows that isn't good, or m.
-fn first_bad_waiting(table: &[u8], n: usize, waiting: &[u8], m: usize) -> usize
-    requires { ⌜ (n * rowSize ≤ length (now table)) × (m * waitingSize ≤ length (now waiting)) ⌝ }
+// The first of the first m waiting rows that isn't good, or m. The good ones are kept in order of their hashes, so that a repeated one shows.
+fn first_bad_waiting(table: &[u8], index: &[u8], n: usize, waiting: &[u8], m: usize) -> usize
+    requires { ⌜ Indexed (now table) (now index) n × (m * waitingSize ≤ length (now waiting)) × (m ≤ sizes .waitingRows) ⌝ }
     ensures { λ r. ⌜ r ≡ firstBad (waitingGoodOf (sizes .dependencies) (rowsAt (now (table .entry)) 0 n) (now (waiting .entry))) 0 m ⌝ }
 {
+    let mut order = [0u8; ORDER_SIZE];
     let mut i = 0;
     while i < m {
-        if !waiting_good(table, n, waiting, i) {
+        if !waiting_good(table, index, n, waiting, &order, i) {
             return i;
         }
+        extend(waiting, WAITING_SIZE, &mut order, i);
         i += 1;
     }
     m
 }
 
 // The number of rows of a waiting table, if it is good beside the first n rows of a change table. A partial row at its end is a bad one.
-pub fn check_waiting(table: &[u8], n: usize, waiting: &[u8]) -> Checked
-    requires { ⌜ n * rowSize ≤ length (now table) ⌝ }
+pub fn check_waiting(table: &[u8], index: &[u8], n: usize, waiting: &[u8]) -> Checked
+    requires { ⌜ Indexed (now table) (now index) n ⌝ }
     ensures { λ r. ⌜ r ≡ waitingChecked (rowsAt (now (table .entry)) 0 n) (now (waiting .entry)) ⌝ }
 {
     if WAITING_ROWS * WAITING_SIZE < waiting.len() {
         return Checked::Refused(Refusal::PastSize(0));
     }
     let m = waiting.len() / WAITING_SIZE;
-    let bad = first_bad_waiting(table, n, waiting, m);
+    let bad = first_bad_waiting(table, index, n, waiting, m);
     if bad < m {
         return Checked::Refused(Refusal::BadWaitingRow(bad));
     }
@@ -100,12 +113,12 @@ pub fn check_waiting(table: &[u8], n: usize, waiting: &[u8]) -> Checked
     Checked::Good(m)
 }
 
-// Checks a change table, and a waiting table beside it.
-pub fn check_tables(table: &[u8], waiting: &[u8]) -> Checked
-    ensures { λ r. ⌜ r ≡ tablesChecked (now (table .entry)) (now (waiting .entry)) ⌝ }
+// Checks a change table beside its index, and a waiting table beside both.
+pub fn check_tables(table: &[u8], index: &[u8], waiting: &[u8]) -> Checked
+    ensures { λ r. ⌜ r ≡ tablesChecked (now (table .entry)) (now (index .entry)) (now (waiting .entry)) ⌝ }
 {
-    match check_table(table) {
+    match check_indexed(table, index) {
         Checked::Refused(r) => Checked::Refused(r),
-        Checked::Good(n) => check_waiting(table, n, waiting),
+        Checked::Good(n) => check_waiting(table, index, n, waiting),
     }
 }

@@ -1,11 +1,11 @@
--- `tables::waiting::asks_count` meets its contract: the count is the byte behind the hash. Assumes nothing.
+-- `waiting::check::asks_count` meets its contract: the count is the byte behind the hash. Assumes nothing.
 use Prim.Native.Nat.{_+_, _*_}
 use native.Mathlib.Omega.{arith}
 use borrow.Author.Needs.{needs}
 use Rattle.rules.specs.Sizes.{sizes}
-use Rattle.tables.specs.Bytes.{waitingSize, asksCountOf}
-use Rattle.tables.proofs.waiting.asks_count.Statement.{statement}
-use Rattle.tables.proofs.waiting.asks_count.Tie as tie
+use Rattle.waiting.specs.Bytes.{waitingSize, asksCountOf}
+use Rattle.waiting.proofs.check.asks_count.Statement.{statement}
+use Rattle.waiting.proofs.check.asks_count.Tie as tie
 
 mul-result : tie.Need-mul-result
 mul-result c = search needs

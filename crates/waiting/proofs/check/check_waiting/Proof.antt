@@ -1,9 +1,9 @@
--- `tables::waiting::check_waiting` meets its contract: one law of CheckLaws for each answer. Assumes nothing.
+-- `waiting::check::check_waiting` meets its contract: one law of CheckLaws for each answer. Assumes nothing.
 use mathlib.Core.Path.{sym}
 use borrow.Author.Needs.{needs}
-use Rattle.tables.proofs.CheckLaws.{waiting-past, waiting-bad, waiting-partial, waiting-fine}
-use Rattle.tables.proofs.waiting.check_waiting.Statement.{statement}
-use Rattle.tables.proofs.waiting.check_waiting.Tie as tie
+use Rattle.waiting.proofs.CheckLaws.{waiting-past, waiting-bad, waiting-partial, waiting-fine}
+use Rattle.waiting.proofs.check.check_waiting.Statement.{statement}
+use Rattle.waiting.proofs.check.check_waiting.Tie as tie
 
 mul-if1 : tie.Need-mul-if1
 mul-if1 c = search needs

@@ -1,0 +1,6 @@
+-- Laws that the crates above cite.
+pub mod CheckLaws
+pub mod FindLaws
+pub mod Promises
+pub mod Today
+pub mod WaitingLaws

@@ -1,0 +1,12 @@
+-- A change table, its index and a waiting table checked one after the other, refusals in 01's order: 4 and 6 for the change table, 12 for its
+-- index, then 4 and 9 for the waiting table.
+use Prim.Native.Nat.{ℕ}
+use mathlib.Core.List.{List}
+use Rattle.index.specs.Index.{indexChecked}
+use Rattle.tables.specs.Bytes.{tableOf}
+use Rattle.tables.specs.Calls.{passedOn}
+use Rattle.tables.specs.declared.check.Checked.{Checked}
+use Rattle.waiting.specs.Bytes.{waitingChecked}
+
+unfoldable pub tablesChecked : List ℕ → List ℕ → List ℕ → Checked
+tablesChecked s x w = passedOn (indexChecked s x) (waitingChecked (tableOf s) w)
