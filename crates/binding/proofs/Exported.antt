@@ -23,10 +23,12 @@ exported-bind =
       bt-build-filter = λ κs a x y u v p q. (refl, skip (skip (skip (joined (once (p .content) (q .content)) (joined (once (p .answer) (q .answer)) refl)))));
       bt-filters-contain = λ κs a x y u v p q. (refl, skip (skip (skip (joined (once p q) refl))));
       bt-check-table = λ κs a x y u v p q. (refl, skip (joined (once p q) refl));
-      bt-check-tables = λ κs a x y u v p q. (refl, skip (skip (joined (once p q) refl)));
-      bt-heads = λ κs a x y u v p q. (refl, skip (skip (joined (once (p .content) (q .content)) (joined (once (p .answer) (q .answer)) refl))));
-      bt-beyond = λ κs a x y u v p q. (refl, skip (skip (joined (once (p .content) (q .content)) (joined (once (p .answer) (q .answer)) refl))));
-      bt-missing = λ κs a x y u v p q. (refl, skip (skip (skip (joined (once (p .content) (q .content)) (joined (once (p .answer) (q .answer)) refl)))));
+      bt-check-tables = λ κs a x y u v p q. (refl, skip (skip (skip (joined (once p q) refl))));
+      bt-build-index = λ κs a x y u v p q. (refl, skip (joined (once (p .content) (q .content)) (joined (once (p .answer) (q .answer)) refl)));
+      bt-extend-index = λ κs a x y u v p q. (refl, skip (skip (joined (once (p .content) (q .content)) (joined (once (p .answer) (q .answer)) refl))));
+      bt-heads = λ κs a x y u v p q. (refl, skip (skip (skip (joined (once (p .content) (q .content)) (joined (once (p .answer) (q .answer)) refl)))));
+      bt-beyond = λ κs a x y u v p q. (refl, skip (skip (skip (joined (once (p .content) (q .content)) (joined (once (p .answer) (q .answer)) refl)))));
+      bt-missing = λ κs a x y u v p q. (refl, skip (skip (skip (skip (joined (once (p .content) (q .content)) (joined (once (p .answer) (q .answer)) refl))))));
       bt-fresh = λ κs a x y u v p q. (refl, joined (once p q) refl);
       bt-fresh-read-only = λ κs a x y u v p q. (refl, joined (once p q) refl);
       bt-set-read-only = λ κs a x y u v p q. (refl, joined (once p q) refl);
@@ -40,12 +42,12 @@ exported-bind =
                 (joined (ap (λ (b : Buffers). b .lastSent) same)
                 (skip (skip (skip (skip
                 (joined (ap (λ (b : Buffers). b .sent) same)
-                (skip (skip
+                (skip (skip (skip
                 (joined (ap (λ (b : Buffers). b .heads) same)
                 (joined (ap (λ (b : Buffers). b .need) same)
                 (joined (ap (λ (b : Buffers). b .have) same)
                 (joined (ap (λ (b : Buffers). b .list) same)
-                (joined (once (p .answer) (q .answer)) refl)))))))))))))),
+                (joined (once (p .answer) (q .answer)) refl))))))))))))))),
           );
       bt-receive = λ κs a x y u v p q.
           let same = once (p .lists) (q .lists) in (
@@ -58,10 +60,10 @@ exported-bind =
                 (joined (ap (λ (l : Lent). l .haves) same)
                 (joined (ap (λ (l : Lent). l .bytes) same)
                 (joined (ap (λ (l : Lent). l .sent) same)
-                (skip (skip (skip (skip
-                (joined (once (p .answer) (q .answer)) refl)))))))))))),
+                (skip (skip (skip (skip (skip
+                (joined (once (p .answer) (q .answer)) refl))))))))))))),
           );
-      bt-hashes-to-send = λ κs a x y u v p q. (refl, skip (skip (skip (skip (joined (once (p .content) (q .content)) (joined (once (p .answer) (q .answer)) refl))))));
+      bt-hashes-to-send = λ κs a x y u v p q. (refl, skip (skip (skip (skip (skip (joined (once (p .content) (q .content)) (joined (once (p .answer) (q .answer)) refl)))))));
       bt-read-message = λ κs a x y u v p q. (refl, skip (joined (once (p .haves) (q .haves)) (joined (once (p .chunks) (q .chunks)) (joined (once (p .answer) (q .answer)) refl))));
       bt-write-message = λ κs a x y u v p q. (refl, skip (skip (skip (skip (skip (skip (skip (skip (joined (once (p .content) (q .content)) (joined (once (p .answer) (q .answer)) refl))))))))));
       number-words = λ κs a x y u v p q. (once p q, refl);

@@ -23,26 +23,26 @@ sessions-bind =
       generate-sync-message = λ κs a x y u v p q.
           let same = once (p .buffers) (q .buffers) in (
             once (p .answer) (q .answer),
-            skip (skip (skip (skip
+            skip (skip (skip (skip (skip
                 (joined (ap (λ (b : Buffers). b .lastSent) same)
                 (skip (skip (skip (skip
                 (joined (ap (λ (b : Buffers). b .sent) same)
                 (joined (ap (λ (b : Buffers). b .heads) same)
                 (joined (ap (λ (b : Buffers). b .need) same)
                 (joined (ap (λ (b : Buffers). b .have) same)
-                (joined (ap (λ (b : Buffers). b .list) same) refl))))))))))))),
+                (joined (ap (λ (b : Buffers). b .list) same) refl)))))))))))))),
           );
       receive-sync-message = λ κs a x y u v p q.
           let same = once (p .lists) (q .lists) in (
             once (p .answer) (q .answer),
-            skip (skip (skip (skip (skip
+            skip (skip (skip (skip (skip (skip
                 (joined (ap (λ (l : Lent). l .shared) same)
                 (joined (ap (λ (l : Lent). l .lastSent) same)
                 (joined (ap (λ (l : Lent). l .theirHeads) same)
                 (joined (ap (λ (l : Lent). l .theirNeed) same)
                 (joined (ap (λ (l : Lent). l .haves) same)
                 (joined (ap (λ (l : Lent). l .bytes) same)
-                (joined (ap (λ (l : Lent). l .sent) same) refl))))))))))),
+                (joined (ap (λ (l : Lent). l .sent) same) refl)))))))))))),
           );
       heard-count = λ κs a x y u v p q. (once p q, refl);
       is-silent = λ κs a x y u v p q. (once p q, refl);

@@ -1,7 +1,12 @@
 -- Calls over tables, and the hashes to send. 01, How tightly the statements bind.
 use Rattle.binding.specs.Binds.{Binds}
 use Rattle.tables.proofs.check.check_table as of-check-table
-use Rattle.tables.proofs.waiting.check_tables as of-check-tables
+use Rattle.index.proofs.check.check_indexed as of-check-indexed
+use Rattle.index.proofs.check.check_sound as of-check-sound
+use Rattle.index.proofs.check.check_unfit as of-check-unfit
+use Rattle.indexing.proofs.build.build_index as of-build-index
+use Rattle.indexing.proofs.build.extend_index as of-extend-index
+use Rattle.waiting.proofs.check.check_tables as of-check-tables
 use Rattle.graph.proofs.beyond.beyond as of-beyond
 use Rattle.graph.proofs.heads.heads as of-heads
 use Rattle.missing.proofs.missing.missing as of-missing
@@ -11,6 +16,14 @@ use Rattle.summaries.proofs.summary.summary_in as of-summary-in
 pub record TablesBind : Type 0 where
   -- the crate tables
   pub check-table : Binds of-check-table.ended of-check-table.Reads.Post
+  -- the crate index
+  pub check-indexed : Binds of-check-indexed.ended of-check-indexed.Reads.Post
+  pub check-sound : Binds of-check-sound.ended of-check-sound.Reads.Post
+  pub check-unfit : Binds of-check-unfit.ended of-check-unfit.Reads.Post
+  -- the crate indexing
+  pub build-index : Binds of-build-index.ended of-build-index.Reads.Post
+  pub extend-index : Binds of-extend-index.ended of-extend-index.Reads.Post
+  -- the crate waiting
   pub check-tables : Binds of-check-tables.ended of-check-tables.Reads.Post
   -- the crate graph
   pub beyond : Binds of-beyond.ended of-beyond.Reads.Post

@@ -1,5 +1,5 @@
--- What the call answers, and what it leaves in the buffers that it is lent. 01, Refusal numbers: 10; 4 and 6; 4 and 9; what planning itself refuses; 7
--- for the first buffer that is too short, the message's in wire order and then the session's.
+-- What the call answers, and what it leaves in the buffers that it is lent. 01, Refusal numbers: 10; 4 and 6; 12; 4 and 9; what planning itself refuses;
+-- 7 for the first buffer that is too short, the message's in wire order and then the session's.
 use Prim.Native.Nat.{ℕ, _+_, _*_}
 use mathlib.Core.Bool.{true, false, cond, not}
 use mathlib.Core.List.{List, [], _∷_}
@@ -19,10 +19,11 @@ use Rattle.session.specs.Plan.{Plan, Planned, listOf, plan}
 use Rattle.session.specs.Rooms.{orShort}
 use Rattle.state.specs.Value.{Lent, valueOf}
 use Rattle.state.specs.declared.session.Session.{Session}
-use Rattle.tables.specs.Bytes.{tableOf, waitingOf}
-use Rattle.tables.specs.Calls.{tablesChecked}
+use Rattle.tables.specs.Bytes.{tableOf}
 use Rattle.tables.specs.declared.check.Checked.{Checked}
 use Rattle.tables.specs.declared.check.Checked.the-variants.{Good, Refused as BadTable}
+use Rattle.waiting.specs.Bytes.{waitingOf}
+use Rattle.waiting.specs.Calls.{tablesChecked}
 use Rattle.decide.specs.declared.answer.Planned.{Planned as Answer}
 use Rattle.decide.specs.declared.answer.Planned.the-variants.{Refused, Silent, Reset, Says}
 use Rattle.decide.specs.declared.answer.Room.{Room}
@@ -30,19 +31,19 @@ use Rattle.decide.specs.declared.answer.Room.the-variants.{Enough, Short
 use Rattle.decide.specs.declared.answer.Rooms.{Rooms}
 use Rattle.decide.specs.declared.answer.Stated.{Stated}
 
--- ---- what is planned, for a session as counts with its lent lists, and tables as bytes
+-- ---- what is planned, for a session as counts with its lent lists, and tables and index as bytes
 
--- 4 and 6 for the change table, 4 and 9 for the waiting table.
+-- 4 and 6 for the change table, 12 for its index, 4 and 9 for the waiting table.
 unfoldable pub afterTables : Checked → Planned → Planned
 afterTables (Good m) p = p
 afterTables (BadTable r) p = Planned.refused r
 
 -- 10 comes first.
-unfoldable pub planWith : ℕ → ℕ → Session → Lent → List ℕ → List ℕ → Planned
-planWith bits probes s l table waiting =
+unfoldable pub planWith : ℕ → ℕ → Session → Lent → List ℕ → List ℕ → List ℕ → Planned
+planWith bits probes s l table index waiting =
     cond (not (sessionGood s l))
     (Planned.refused BadNumbers)
-    (afterTables (tablesChecked table waiting) (plan bits probes (tableOf table) (waitingOf waiting) (valueOf s l)))
+    (afterTables (tablesChecked table index waiting) (plan bits probes (tableOf table) (waitingOf waiting) (valueOf s l)))
 
 -- ---- the answer: counts of what is said
 

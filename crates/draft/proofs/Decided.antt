@@ -27,7 +27,7 @@ use Rattle.session.specs.Plan.{Planned, heard, needOf, haveOf, havesFor, sentAf
 use Rattle.state.specs.Value.{Lent, valueOf}
 use Rattle.state.specs.declared.session.Session.{Session}
 use Rattle.tables.specs.Table.{Row}
-use Rattle.tables.specs.Waiting.{Waiting}
+use Rattle.waiting.specs.Waiting.{Waiting}
 use Rattle.planning.specs.Made.{FieldMade, SentMade}
 use Rattle.decide.specs.Call.{syncsOf, filterNumbers, statedOf, answerOf, messageRoom, sessionRoom, afterRoom, roomed}
 use Rattle.decide.specs.Draft.{Parts, headsCount, countIf, filterIf, drafted, resetStated, ifRoom, saysWith, decided}

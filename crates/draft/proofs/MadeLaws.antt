@@ -26,7 +26,7 @@ use Rattle.session.specs.Plan.{headsFor, planOf, planned, resetOf, planSent, pl
 use Rattle.state.specs.Value.{Lent, valueOf}
 use Rattle.state.specs.declared.session.Session.{Session}
 use Rattle.tables.specs.Table.{Row, rows}
-use Rattle.tables.specs.Waiting.{Waiting}
+use Rattle.waiting.specs.Waiting.{Waiting}
 use Rattle.bloom.specs.Have.{Have}
 use mathlib.Core.Option.{none}
 use Rattle.planning.specs.Made.{Setting}

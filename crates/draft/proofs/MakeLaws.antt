@@ -29,8 +29,8 @@ use Rattle.state.specs.Value.{Lent, heardHashes, heardHaves, valueOf}
 use Rattle.state.specs.declared.session.Session.{Session}
 use Rattle.tables.specs.Bytes.{rowsAt}
 use Rattle.tables.specs.Table.{Row}
-use Rattle.tables.specs.Waiting.{Waiting}
 use Rattle.tables.proofs.TableLaws.{length-rows-at}
+use Rattle.waiting.specs.Waiting.{Waiting}
 use Rattle.draft.specs.Make.{Checked, GivenMade, AskReady, AskedMade, CarryReady, carriedBody, CarriedMade, QuietReady, quiet, DraftMade}
 use Rattle.draft.specs.declared.make.Asked.{Asked}
 use Rattle.draft.specs.declared.make.Carried.{Carried}
@@ -56,8 +56,8 @@ asked-made bits probes t w reads theirs lastSync list field a room e f g m = rec
 
 -- ---- what is carried
 
-module _ {table : List ℕ} {n : ℕ} {s : Session} {theirHeads theirNeed haves bytes sent : List ℕ} {room next : ℕ}
-    (c : CarryReady table n s theirHeads theirNeed haves bytes sent room next) where
+module _ {table index : List ℕ} {n : ℕ} {s : Session} {theirHeads theirNeed haves bytes sent : List ℕ} {room next : ℕ}
+    (c : CarryReady table index n s theirHeads theirNeed haves bytes sent room next) where
   abbrev t : List Row
   t = rowsAt table 0 n
 
@@ -80,7 +80,7 @@ module _ {table : List ℕ} {n : ℕ} {s : Session} {theirHeads theirNeed haves 
   -- the hashes fit
   pub body-there : (list : List ℕ) (r : Counted) → BodyMade body list r → r .hashes ≤ sizes .hashesToSend
   body-there list r b =
-      let rows : length t ≤ sizes .rows = rw (length-rows-at table 0 n) (c .rows .few) in
+      let rows : length t ≤ sizes .rows = rw (length-rows-at table 0 n) (c .rows .rows .few) in
       omega (arith, b .hashes .many, list-few t v rows (heard-within theirNeed (s .«their_need») (c .need)))
 
   -- and join those that were sent
@@ -108,12 +108,12 @@ none-empty n (h ∷ hs) e = ne-eqb n 0 (λ z. omega arith)
 
 -- ---- all of it
 
-module _ {table : List ℕ} {n : ℕ} {waiting : List ℕ} {m : ℕ} {s : Session} {l : Lent} (k : Checked table n waiting m s l) where
+module _ {table index : List ℕ} {n : ℕ} {waiting : List ℕ} {m : ℕ} {s : Session} {l : Lent} (k : Checked table index n waiting m s l) where
   pub have-good : havesGood (l .bytes) (l .haves) (s .«their_have») ≡ true
   have-good = session-tests s l (k .session) .theirHave
 
   pub ask-ready : {needs size : ℕ} → needs ≡ sizes .hash * (sizes .hashes + 1) → size ≡ sizes .field
-      → AskReady table n waiting m s (l .shared) (l .theirHeads) needs size
+      → AskReady table index n waiting m s (l .shared) (l .theirHeads) needs size
   ask-ready e f =
       record {
         rows = k .rows;
@@ -125,7 +125,7 @@ module _ {table : List ℕ} {n : ℕ} {waiting : List ℕ} {m : ℕ} {s : Sessio
       }
 
   pub carry-ready : {room next : ℕ} → room ≡ sizes .hash * sizes .hashesToSend → next ≡ sizes .hash * (sizes .sentHashes + 1)
-      → CarryReady table n s (l .theirHeads) (l .theirNeed) (l .haves) (l .bytes) (l .sent) room next
+      → CarryReady table index n s (l .theirHeads) (l .theirNeed) (l .haves) (l .bytes) (l .sent) room next
   carry-ready e f =
       let t = session-tests s l (k .session) in
       let p = session-parts s l (k .session) in
@@ -143,7 +143,7 @@ module _ {table : List ℕ} {n : ℕ} {waiting : List ℕ} {m : ℕ} {s : Sessio
 
   -- the heads fit
   pub heads-there : (list : List ℕ) (count : ℕ) → Gathered (heads (rowsAt table 0 n)) list count → count ≤ sizes .rows
-  heads-there list count g = omega (arith, g .many, heads-few (rowsAt table 0 n), length-rows-at table 0 n, k .rows .few)
+  heads-there list count g = omega (arith, g .many, heads-few (rowsAt table 0 n), length-rows-at table 0 n, k .rows .rows .few)
 
   pub quiet-ready : (list : List ℕ) (count : ℕ) → Gathered (heads (rowsAt table 0 n)) list count → length list ≡ sizes .hash * sizes .rows
       → QuietReady s (l .lastSent) (l .theirHeads) list count

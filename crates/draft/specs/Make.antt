@@ -11,6 +11,7 @@ use Rattle.decide.specs.Draft.{Parts, decided, putsOf, allPut}
 use Rattle.decide.specs.declared.answer.Planned.{Planned as Answer}
 use Rattle.decide.specs.declared.decide.Draft.{Draft}
 use Rattle.graph.specs.Graph.{heads, beyond}
+use Rattle.index.specs.Index.{Indexed}
 use Rattle.lent.specs.Good.{heardGood, havesGood, lentOf, sessionGood}
 use Rattle.lists.specs.Lists.{same}
 use Rattle.missing.specs.Ask.{Found}
@@ -23,16 +24,17 @@ use Rattle.session.specs.Plan.{Body, heard, heardAs, needOf, unknownSync, bodyO
 use Rattle.state.specs.Session.{State}
 use Rattle.state.specs.Value.{Lent, heardHashes, valueOf}
 use Rattle.state.specs.declared.session.Session.{Session}
-use Rattle.tables.specs.Bytes.{GoodRows, rowsAt, waitingChecked}
+use Rattle.tables.specs.Bytes.{rowsAt}
 use Rattle.tables.specs.Table.{Row}
-use Rattle.tables.specs.Waiting.{Waiting}
 use Rattle.tables.specs.declared.check.Checked.the-variants.{Good}
+use Rattle.waiting.specs.Bytes.{waitingChecked}
+use Rattle.waiting.specs.Waiting.{Waiting}
 use Rattle.draft.specs.declared.make.Asked.{Asked}
 use Rattle.draft.specs.declared.make.Carried.{Carried}
 
--- What was checked: tables of so many rows and waiting rows, beside a session that is good.
-pub record Checked (table : List ℕ) (n : ℕ) (waiting : List ℕ) (m : ℕ) (s : Session) (l : Lent) : Type 0 where
-  pub rows : GoodRows table n
+-- What was checked: tables of so many rows and waiting rows, an index that fits, beside a session that is good.
+pub record Checked (table index : List ℕ) (n : ℕ) (waiting : List ℕ) (m : ℕ) (s : Session) (l : Lent) : Type 0 where
+  pub rows : Indexed table index n
   pub waitingRows : waitingChecked (rowsAt table 0 n) waiting ≡ Good m
   pub session : sessionGood s l ≡ true
 
@@ -51,8 +53,8 @@ pub record GivenMade (bits probes : ℕ) (given : Bool) (hs field : List ℕ) (e
   pub made : given ≡ true → FieldMade bits probes hs field entries
   pub none : given ≡ false → entries ≡ 0
 
-pub record AskReady (table : List ℕ) (n : ℕ) (waiting : List ℕ) (m : ℕ) (s : Session) (shared theirHeads : List ℕ) (needs size : ℕ) : Type 0 where
-  pub rows : GoodRows table n
+pub record AskReady (table index : List ℕ) (n : ℕ) (waiting : List ℕ) (m : ℕ) (s : Session) (shared theirHeads : List ℕ) (needs size : ℕ) : Type 0 where
+  pub rows : Indexed table index n
   pub waitingRows : waitingChecked (rowsAt table 0 n) waiting ≡ Good m
   pub heads : heardGood theirHeads (s .«their_heads») ≡ true
   pub syncs : sizes .hash * s .«shared_heads» ≤ length shared
@@ -67,8 +69,8 @@ pub record AskedMade (bits probes : ℕ) (t : List Row) (w : List Waiting) (read
 
 -- ---- what is carried
 
-pub record CarryReady (table : List ℕ) (n : ℕ) (s : Session) (theirHeads theirNeed haves bytes sent : List ℕ) (room next : ℕ) : Type 0 where
-  pub rows : GoodRows table n
+pub record CarryReady (table index : List ℕ) (n : ℕ) (s : Session) (theirHeads theirNeed haves bytes sent : List ℕ) (room next : ℕ) : Type 0 where
+  pub rows : Indexed table index n
   pub heads : heardGood theirHeads (s .«their_heads») ≡ true
   pub need : heardGood theirNeed (s .«their_need») ≡ true
   pub have : havesGood bytes haves (s .«their_have») ≡ true

@@ -17,12 +17,14 @@ ghost use Prim.Native.Nat.{_*_, _≤_};
 ghost use lib.ListN.{length};
 ghost use Rattle.decide.specs.Draft.{partsOf};
 ghost use Rattle.graph.specs.Graph.{beyond};
+ghost use Rattle.index.specs.Index.{Indexed};
 ghost use Rattle.lent.specs.Good.{lentOf};
 ghost use Rattle.planning.specs.Made.{Setting};
 ghost use Rattle.rules.specs.Hash.{hashesAt};
 ghost use Rattle.rules.specs.Sizes.{sizes};
 ghost use Rattle.state.specs.Value.{heardHashes, valueOf};
-ghost use Rattle.tables.specs.Bytes.{rowsAt, waitingOf, GoodRows};
+ghost use Rattle.tables.specs.Bytes.{rowsAt};
+ghost use Rattle.waiting.specs.Bytes.{waitingOf};
 ghost use Rattle.draft.specs.Make.{
   Checked,
   ReadyRooms,
@@ -56,18 +58,20 @@ fn make_have(
     bits: u64,
     probes: u64,
     table: &[u8],
+    index: &[u8],
     n: usize,
     shared: &[u8],
     count: usize,
     field: &mut [u8],
 ) -> usize
-    requires { ⌜ GoodRows (now table) n × (sizes .hash * count ≤ length (now shared)) × Setting bits probes × (sizes .field ≤ length (now field)) ⌝ }
+    requires { ⌜ Indexed (now table) (now index) n × (sizes .hash * count ≤ length (now shared)) × Setting bits probes
+        × (sizes .field ≤ length (now field)) ⌝ }
     ensures { λ r. ⌜ GivenMade bits probes gives (beyond (rowsAt (now (table .entry)) 0 n) (hashesAt (now (shared .entry)) 0 count)) (now (field .exit)) r ⌝ }
 {
     if !gives {
         return 0;
     }
-    make_field(bits, probes, table, n, shared, count, field)
+    make_field(bits, probes, table, index, n, shared, count, field)
 }
 
 // What is asked for, and the have that is given.
@@ -76,6 +80,7 @@ fn make_asked(
     probes: u64,
     session: Session,
     table: &[u8],
+    index: &[u8],
     n: usize,
     waiting: &[u8],
     m: usize,
@@ -84,8 +89,8 @@ fn make_asked(
     ready_need: &mut [u8],
     field: &mut [u8],
 ) -> Asked
-    requires { ⌜ AskReady (now table) n (now waiting) m session (now shared) (now «their_heads») (length (now «ready_need»)) (length (now field))
-        × Setting bits probes ⌝ }
+    requires { ⌜ AskReady (now table) (now index) n (now waiting) m session (now shared) (now «their_heads») (length (now «ready_need»))
+        (length (now field)) × Setting bits probes ⌝ }
     ensures { λ r. ⌜ AskedMade bits probes (rowsAt (now (table .entry)) 0 n) (waitingOf (now (waiting .entry))) (session .«read_only»)
         (heardHashes (now («their_heads» .entry)) (session .«their_heads»)) (hashesAt (now (shared .entry)) 0 (session .«shared_heads»))
         (now («ready_need» .exit)) (now (field .exit)) r ⌝ }
@@ -93,6 +98,7 @@ fn make_asked(
     let heard = session.their_heads;
     let need = make_need(
         table,
+        index,
         n,
         waiting,
         m,
@@ -107,6 +113,7 @@ fn make_asked(
         bits,
         probes,
         table,
+        index,
         n,
         shared,
         session.shared_heads,
@@ -123,6 +130,7 @@ fn make_asked(
 fn make_carried(
     session: Session,
     table: &[u8],
+    index: &[u8],
     n: usize,
     their_heads: &[u8],
     their_need: &[u8],
@@ -132,7 +140,7 @@ fn make_carried(
     ready_list: &mut [u8],
     ready_sent: &mut [u8],
 ) -> Carried
-    requires { ⌜ CarryReady (now table) n session (now «their_heads») (now «their_need») (now haves) (now bytes) (now sent)
+    requires { ⌜ CarryReady (now table) (now index) n session (now «their_heads») (now «their_need») (now haves) (now bytes) (now sent)
         (length (now «ready_list»)) (length (now «ready_sent»)) ⌝ }
     ensures { λ r. ⌜ CarriedMade
         (carriedBody (rowsAt (now (table .entry)) 0 n) session (now («their_heads» .entry)) (now («their_need» .entry)) (now (haves .entry))
@@ -145,6 +153,7 @@ fn make_carried(
     let lost = heard_as(their_heads, 0, their_heads, heard);
     let body = make_body(
         table,
+        index,
         n,
         session.peer_read_only,
         session.supports_v2,
@@ -204,6 +213,7 @@ pub fn make_plan(
     probes: u64,
     session: Session,
     table: &[u8],
+    index: &[u8],
     n: usize,
     waiting: &[u8],
     m: usize,
@@ -220,7 +230,7 @@ pub fn make_plan(
     ready_list: &mut [u8],
     ready_sent: &mut [u8],
 ) -> Draft
-    requires { ⌜ Checked (now table) n (now waiting) m session
+    requires { ⌜ Checked (now table) (now index) n (now waiting) m session
         (lentOf (now shared) (now «last_sent») (now «their_heads») (now «their_need») (now haves) (now bytes) (now sent))
         × Setting bits probes
         × ReadyRooms (length (now «ready_heads»)) (length (now «ready_need»)) (length (now field)) (length (now «ready_list»)) (length (now «ready_sent»)) ⌝ }
@@ -231,12 +241,13 @@ pub fn make_plan(
         (now («ready_sent» .exit))) r ⌝ }
 {
     let have = session.their_have;
-    let heads = collect_heads(table, n, ready_heads);
+    let heads = collect_heads(table, index, n, n, ready_heads);
     let asked = make_asked(
         bits,
         probes,
         session,
         table,
+        index,
         n,
         waiting,
         m,
@@ -245,10 +256,11 @@ pub fn make_plan(
         ready_need,
         field,
     );
-    let unknown = unknown_sync(table, n, bytes, haves, have);
+    let unknown = unknown_sync(table, index, n, bytes, haves, have);
     let carried = make_carried(
         session,
         table,
+        index,
         n,
         their_heads,
         their_need,

@@ -7,36 +7,36 @@ use borrow.Author.Tests.{lt-ltb, le-ltb}
 use Rattle.decode.specs.Read.{messageAt, decodedOf}
 use Rattle.decode.specs.declared.parse.Decoded.the-variants.{Message as Placed, Refused as NotRead}
 use Rattle.decode.specs.declared.parse.Places.{Places}
+use Rattle.index.specs.Index.{indexChecked}
 use Rattle.lent.specs.Good.{sessionGood}
 use Rattle.rules.specs.declared.refusal.Refusal.{Refusal}
 use Rattle.rules.specs.declared.refusal.Refusal.the-variants.{BadNumbers, BadRowsBefore}
 use Rattle.state.specs.Value.{Lent}
 use Rattle.state.specs.declared.session.Session.{Session}
-use Rattle.tables.specs.Bytes.{tableChecked}
 use Rattle.tables.specs.declared.check.Checked.the-variants as tables
 use Rattle.drafting.specs.Checks.{checked, afterRows, besideRows}
 use Rattle.drafting.specs.declared.check.Checks.the-variants as checks
 
-module _ (s : Session) (l : Lent) (table : List ℕ) (before : ℕ) (message : List ℕ) where
-  pub bad-session : sessionGood s l ≡ false → checks.Refused BadNumbers ≡ checked s l table before message
+module _ (s : Session) (l : Lent) (table index : List ℕ) (before : ℕ) (message : List ℕ) where
+  pub bad-session : sessionGood s l ≡ false → checks.Refused BadNumbers ≡ checked s l table index before message
   unfolding checked
   bad-session e = rw e
 
   module _ (good : sessionGood s l ≡ true) where
-    pub bad-table : (r : Refusal) → tableChecked table ≡ tables.Refused r → checks.Refused r ≡ checked s l table before message
+    pub bad-table : (r : Refusal) → indexChecked table index ≡ tables.Refused r → checks.Refused r ≡ checked s l table index before message
     unfolding checked afterRows
     bad-table r e = rw (good, e)
 
-    module _ (n : ℕ) (rows : tableChecked table ≡ tables.Good n) where
-      pub bad-before : n < before → checks.Refused BadRowsBefore ≡ checked s l table before message
+    module _ (n : ℕ) (rows : indexChecked table index ≡ tables.Good n) where
+      pub bad-before : n < before → checks.Refused BadRowsBefore ≡ checked s l table index before message
       unfolding checked afterRows
       bad-before h = rw (good, rows, lt-ltb _ _ h)
 
       module _ (inside : before ≤ n) where
-        pub bad-message : (r : Refusal) → decodedOf (messageAt message) ≡ NotRead r → checks.Refused r ≡ checked s l table before message
+        pub bad-message : (r : Refusal) → decodedOf (messageAt message) ≡ NotRead r → checks.Refused r ≡ checked s l table index before message
         unfolding checked afterRows besideRows
         bad-message r e = rw (good, rows, le-ltb _ _ inside, e)
 
-        pub all-good : (p : Places) → decodedOf (messageAt message) ≡ Placed p → checks.Good n p ≡ checked s l table before message
+        pub all-good : (p : Places) → decodedOf (messageAt message) ≡ Placed p → checks.Good n p ≡ checked s l table index before message
         unfolding checked afterRows besideRows
         all-good p e = rw (good, rows, le-ltb _ _ inside, e)

@@ -8,17 +8,17 @@ use Rattle.decode.specs.Read.{messageAt, decodedOf}
 use Rattle.decode.specs.declared.parse.Decoded.{Decoded}
 use Rattle.decode.specs.declared.parse.Decoded.the-variants.{Message as Placed, Refused as NotRead}
 use Rattle.decode.specs.declared.parse.Places.{Places}
+use Rattle.index.specs.Index.{indexChecked}
 use Rattle.lent.specs.Good.{sessionGood}
 use Rattle.rules.specs.declared.refusal.Refusal.the-variants.{BadNumbers, BadRowsBefore}
 use Rattle.state.specs.Value.{Lent}
 use Rattle.state.specs.declared.session.Session.{Session}
-use Rattle.tables.specs.Bytes.{tableChecked}
 use Rattle.tables.specs.declared.check.Checked.{Checked}
 use Rattle.tables.specs.declared.check.Checked.the-variants as tables
 use Rattle.drafting.specs.declared.check.Checks.{Checks}
 use Rattle.drafting.specs.declared.check.Checks.the-variants as checks
 
--- The rows of the table and the places of the message, or the first refusal: 10, then 4 and 6, then 11, then the message's own.
+-- The rows of the table and the places of the message, or the first refusal: 10, then 4 and 6, then 12, then 11, then the message's own.
 unfoldable pub besideRows : ℕ → Decoded → Checks
 besideRows n (Placed p) = checks.Good n p
 besideRows n (NotRead r) = checks.Refused r
@@ -28,13 +28,13 @@ afterRows (tables.Good n) before message =
     cond (ltb n before) (checks.Refused BadRowsBefore) (besideRows n (decodedOf (messageAt message)))
 afterRows (tables.Refused r) before message = checks.Refused r
 
-unfoldable pub checked : Session → Lent → List ℕ → ℕ → List ℕ → Checks
-checked s l table before message =
-    cond (not (sessionGood s l)) (checks.Refused BadNumbers) (afterRows (tableChecked table) before message)
+unfoldable pub checked : Session → Lent → List ℕ → List ℕ → ℕ → List ℕ → Checks
+checked s l table index before message =
+    cond (not (sessionGood s l)) (checks.Refused BadNumbers) (afterRows (indexChecked table index) before message)
 
 -- All tests passed.
-pub record Accepted (s : Session) (l : Lent) (table : List ℕ) (n before : ℕ) (message : List ℕ) (p : Places) : Type 0 where
+pub record Accepted (s : Session) (l : Lent) (table index : List ℕ) (n before : ℕ) (message : List ℕ) (p : Places) : Type 0 where
   pub good : sessionGood s l ≡ true
-  pub rows : tableChecked table ≡ tables.Good n
+  pub rows : indexChecked table index ≡ tables.Good n
   pub inside : before ≤ n
   pub read : decodedOf (messageAt message) ≡ Placed p

@@ -11,6 +11,7 @@ use Rattle.decode.specs.Read.{messageAt, decodedOf}
 use Rattle.decode.specs.declared.parse.Decoded.the-variants.{Message as Placed}
 use Rattle.decode.specs.declared.parse.Places.{Places}
 use Rattle.graph.specs.Graph.{heads, below}
+use Rattle.index.specs.Index.{Indexed}
 use Rattle.items.specs.Items.{haveItem, manyAt, wordsOf}
 use Rattle.lists.specs.Lists.{same}
 use Rattle.rules.specs.Hash.{Bytes, hashesAt}
@@ -20,7 +21,7 @@ use Rattle.rules.specs.Sizes.{sizes}
 use Rattle.session.specs.Laid.{laidBytes}
 use Rattle.session.specs.Receive.{Said, advance, join}
 use Rattle.state.specs.declared.session.Session.{Session}
-use Rattle.tables.specs.Bytes.{rowsAt, GoodRows}
+use Rattle.tables.specs.Bytes.{rowsAt}
 use Rattle.tables.specs.Table.{held}
 use Rattle.receiving.specs.Made.{SharedMade}
 use Rattle.taking.specs.declared.decide.Draft.{Draft}
@@ -65,9 +66,9 @@ pub record Stands (ready : Parts) : Type 0 where
   pub shared : Bytes (ready .shared)
   pub sent : Bytes (ready .sent)
 
--- A message that was read, beside a table that was checked, and the lists of a session that is good.
-pub record Makes (s : Session) (table : List ℕ) (n before : ℕ) (message : List ℕ) (p : Places) (oldShared oldSent : List ℕ) : Type 0 where
-  pub rows : GoodRows table n
+-- A message that was read, beside a table and its index that were checked, and the lists of a session that is good.
+pub record Makes (s : Session) (table index : List ℕ) (n before : ℕ) (message : List ℕ) (p : Places) (oldShared oldSent : List ℕ) : Type 0 where
+  pub rows : Indexed table index n
   pub upTo : before ≤ n
   pub placed : decodedOf (messageAt message) ≡ Placed p
   pub shared : sizes .hash * s .«shared_heads» ≤ length oldShared

@@ -2,22 +2,22 @@
 use decode::parse::Decoded;
 use decode::parse::Places;
 use decode::parse::parse;
+use index::check::check_indexed;
 use lent::good::session_good;
 use rules::refusal::Refusal;
 use state::session::Session;
 use tables::check::Checked;
-use tables::check::check_table;
 ghost use mathlib.Core.Path.{_≡_};
 ghost use Rattle.lent.specs.Good.{lentOf};
 ghost use Rattle.drafting.specs.Checks.{checked};
 
-// A table of so many rows beside a session that is good, and where a message's parts stand; or the first refusal.
+// A table of so many rows and its index beside a session that is good, and where a message's parts stand; or the first refusal.
 pub enum Checks {
     Good { rows: usize, places: Places },
     Refused(Refusal),
 }
 
-// 10, then 4 and 6, then 11, then the message from its first byte.
+// 10, then 4 and 6, then 12, then 11, then the message from its first byte.
 pub fn check_receive(
     session: Session,
     shared: &[u8],
@@ -28,11 +28,12 @@ pub fn check_receive(
     bytes: &[u8],
     sent: &[u8],
     table: &[u8],
+    index: &[u8],
     before: usize,
     message: &[u8],
 ) -> Checks
     ensures { λ r. ⌜ r ≡ checked session (lentOf (now (shared .entry)) (now («last_sent» .entry)) (now («their_heads» .entry)) (now («their_need» .entry))
-        (now (haves .entry)) (now (bytes .entry)) (now (sent .entry))) (now (table .entry)) before (now (message .entry)) ⌝ }
+        (now (haves .entry)) (now (bytes .entry)) (now (sent .entry))) (now (table .entry)) (now (index .entry)) before (now (message .entry)) ⌝ }
 {
     if !session_good(
         session,
@@ -46,7 +47,7 @@ pub fn check_receive(
     ) {
         return Checks::Refused(Refusal::BadNumbers);
     }
-    match check_table(table) {
+    match check_indexed(table, index) {
         Checked::Refused(r) => Checks::Refused(r),
         Checked::Good(n) => {
             if n < before {

@@ -16,9 +16,10 @@ ghost use lib.ListN.{length};
 ghost use Rattle.decode.specs.Read.{messageAt, decodedOf};
 ghost use Rattle.decode.specs.declared.parse.Decoded.the-variants.{Message as Placed};
 ghost use Rattle.graph.specs.Graph.{heads};
+ghost use Rattle.index.specs.Index.{Indexed};
 ghost use Rattle.rules.specs.Hash.{hashesAt};
 ghost use Rattle.rules.specs.Sizes.{sizes};
-ghost use Rattle.tables.specs.Bytes.{rowsAt, GoodRows};
+ghost use Rattle.tables.specs.Bytes.{rowsAt};
 ghost use Rattle.taking.specs.Draft.{partsOf};
 ghost use Rattle.drafting.specs.Made.{wordsRoom, toldHeads, lastSentCount, keptHashes, Long, Stands, Makes, WordsMade, DraftMade};
 
@@ -41,18 +42,20 @@ pub fn load_failed(loads: bool, loaded: bool) -> bool
 fn told_heads(
     chunks: usize,
     table: &[u8],
+    index: &[u8],
+    n: usize,
     before: usize,
     message: &[u8],
     place: usize,
     count: usize,
 ) -> usize
-    requires { ⌜ GoodRows (now table) before × (place + sizes .hash * count ≤ length (now message)) ⌝ }
+    requires { ⌜ Indexed (now table) (now index) n × (before ≤ n) × (place + sizes .hash * count ≤ length (now message)) ⌝ }
     ensures { λ r. ⌜ r ≡ toldHeads chunks count (hashesAt (now (message .entry)) place count) (heads (rowsAt (now (table .entry)) 0 before)) ⌝ }
 {
     if 0 < chunks {
         return 0;
     }
-    if heads_before(table, before, message, place, count) {
+    if heads_before(table, index, n, before, message, place, count) {
         return count;
     }
     0
@@ -96,6 +99,7 @@ pub fn make_received(
     flagged: Session,
     loads: bool,
     table: &[u8],
+    index: &[u8],
     n: usize,
     before: usize,
     message: &[u8],
@@ -106,7 +110,7 @@ pub fn make_received(
     ready_sent: &mut [u8],
     words: &mut [u64],
 ) -> Draft
-    requires { ⌜ Makes flagged (now table) n before (now message) places (now shared) (now sent)
+    requires { ⌜ Makes flagged (now table) (now index) n before (now message) places (now shared) (now sent)
         × Long (partsOf (now «ready_shared») (now «ready_sent») (now words)) ⌝ }
     ensures { λ d. ⌜ DraftMade loads flagged (now (table .entry)) n before (now (message .entry)) places (now (shared .entry)) (now (sent .entry))
         (partsOf (now («ready_shared» .exit)) (now («ready_sent» .exit)) (now (words .exit))) d
@@ -120,6 +124,7 @@ pub fn make_received(
     let count = make_shared(
         loads,
         table,
+        index,
         n,
         before,
         shared,
@@ -132,6 +137,7 @@ pub fn make_received(
     let keeps = kept_hashes(heads.count, flagged.sent_hashes);
     let left = make_left(
         table,
+        index,
         n,
         message,
         heads.start,
@@ -143,6 +149,8 @@ pub fn make_received(
     let told = told_heads(
         chunks.count,
         table,
+        index,
+        n,
         before,
         message,
         heads.start,

@@ -11,7 +11,9 @@ use Rattle.rules.specs.declared.passed.Passed.the-variants as passed
 use Rattle.rules.specs.declared.refusal.Refusal.{Refusal}
 use Rattle.rules.specs.declared.refusal.Refusal.the-variants.{BadRowsBefore}
 use Rattle.rules.proofs.PassedLaws.{after-refused, after-hashes}
-use Rattle.tables.specs.Bytes.{rowsAt, tableChecked}
+use Rattle.index.specs.Index.{indexChecked}
+use Rattle.index.proofs.CheckLaws.{checked-table}
+use Rattle.tables.specs.Bytes.{rowsAt}
 use Rattle.tables.specs.Calls.{afterCheck}
 use Rattle.tables.specs.declared.check.Checked.the-variants.{Good, Refused}
 use Rattle.tables.proofs.TableLaws.{table-good, take-rows-at}
@@ -20,33 +22,33 @@ use Rattle.graph.specs.Graph.{heads, beyond}
 
 -- ---- the rows beyond a list
 
-module _ (s l : List ℕ) where
-  pub beyond-refused : (r : Refusal) → tableChecked s ≡ Refused r → beyondOutput s l ≡ Output.refuse r
+module _ (s x l : List ℕ) where
+  pub beyond-refused : (r : Refusal) → indexChecked s x ≡ Refused r → beyondOutput s x l ≡ Output.refuse r
   unfolding beyondOutput afterCheck
   beyond-refused r e = rw e
 
-  module _ (n : ℕ) (good : tableChecked s ≡ Good n) where
-    pub beyond-no-list : (r : Refusal) → passedHashes l ≡ passed.Refused r → beyondOutput s l ≡ Output.refuse r
+  module _ (n : ℕ) (good : indexChecked s x ≡ Good n) where
+    pub beyond-no-list : (r : Refusal) → passedHashes l ≡ passed.Refused r → beyondOutput s x l ≡ Output.refuse r
     unfolding beyondOutput afterCheck
     beyond-no-list r e = rw good (after-refused _ _ _ r e)
 
     pub beyond-written : (count : ℕ) → passedHashes l ≡ Hashes count
-        → beyondOutput s l ≡ Output.bytes (hashesBytes (beyond (rowsAt s 0 n) (hashesAt l 0 count)))
+        → beyondOutput s x l ≡ Output.bytes (hashesBytes (beyond (rowsAt s 0 n) (hashesAt l 0 count)))
     unfolding beyondOutput afterCheck
-    beyond-written count e = rw (good, table-good s n good .is) (after-hashes _ _ _ count e)
+    beyond-written count e = rw (good, table-good s n (checked-table s x n good) .is) (after-hashes _ _ _ count e)
 
 -- ---- heads
 
-module _ (s : List ℕ) (before : ℕ) where
-  pub heads-refused : (r : Refusal) → tableChecked s ≡ Refused r → headsOutput s before ≡ Output.refuse r
+module _ (s x : List ℕ) (before : ℕ) where
+  pub heads-refused : (r : Refusal) → indexChecked s x ≡ Refused r → headsOutput s x before ≡ Output.refuse r
   unfolding headsOutput afterCheck
   heads-refused r e = rw e
 
-  module _ (n : ℕ) (good : tableChecked s ≡ Good n) where
-    pub heads-many : n < before → headsOutput s before ≡ Output.refuse BadRowsBefore
+  module _ (n : ℕ) (good : indexChecked s x ≡ Good n) where
+    pub heads-many : n < before → headsOutput s x before ≡ Output.refuse BadRowsBefore
     unfolding headsOutput afterCheck
     heads-many h = rw (good, lt-ltb _ _ h)
 
-    pub heads-written : before ≤ n → headsOutput s before ≡ Output.bytes (hashesBytes (heads (rowsAt s 0 before)))
+    pub heads-written : before ≤ n → headsOutput s x before ≡ Output.bytes (hashesBytes (heads (rowsAt s 0 before)))
     unfolding headsOutput afterCheck
-    heads-written h = rw (good, le-ltb _ _ h, table-good s n good .is, take-rows-at s 0 before n h)
+    heads-written h = rw (good, le-ltb _ _ h, table-good s n (checked-table s x n good) .is, take-rows-at s 0 before n h)

@@ -1,53 +1,167 @@
--- The numbers of a list that are marked, put into an ascending list from the last to the first: at each place the list holds those behind it.
-use Prim.Native.Nat.{ℕ, _+_, _-_, _*_, _/_, _≤_, _<_}
-use mathlib.Core.Bool.{Bool, true, false}
-use mathlib.Core.List.{List, _∷_}
-use mathlib.Core.Path.{_≡_}
+-- The marked ones of the first rows, ascending: an index has the rows in this order, so those that are marked are put one behind the other. Each law
+-- is one turn of the loop, with its tests as hypotheses; what has been put and what is left make the whole.
+use Prim.Native.Nat.{ℕ, zero, suc, _+_, _-_, _*_, _≤_, _<_}
+use mathlib.Core.Bool.{Bool, true, false, _&&_}
+use mathlib.Core.List.{List, [], _∷_, map}
+use mathlib.Core.Path.{_≡_, refl, sym, ap, _∙_}
 use native.Mathlib.Omega.{arith}
-use borrow.Author.Tests.{lt-ltb}
-use lib.ListN.{length, getD}
+use borrow.Author.Tests.{lt-ltb, le-ltb}
+use lib.Dec.{ltb}
+use lib.ListN.{length, getD, take}
+use lib.Seq.{sets, slice}
+use Rattle.index.specs.Index.{fits}
+use Rattle.index.proofs.ByteLaws.{u16s-next, u16s-none}
+use Rattle.index.proofs.AscendLaws.{ascend-by-index}
+use Rattle.rules.specs.Hash.{Bytes, AreHashes, hashAt, hashesBytes}
+use Rattle.rules.specs.Order.{keep, ascend, member}
 use Rattle.rules.specs.Output.{Gathered}
-use Rattle.rules.specs.Hash.{hashesAt}
-use Rattle.rules.specs.Order.{ascend, insertUpTo, Inserted}
 use Rattle.rules.specs.Sizes.{sizes}
-use Rattle.rules.proofs.OrderLaws.{ascend-most}
+use Rattle.rules.proofs.KeepLaws.{hashes-inside}
+use Rattle.rules.proofs.OrderLaws.{ascend-most, ascend-members}
+use Rattle.rules.proofs.Outputs.{written-gathered}
+use Rattle.tables.specs.Bytes.{u16At, u16sAt, rowSize, rowsAt}
+use Rattle.tables.specs.Table.{Row, rows, hashOf, rowsFrom, rowsWhere}
+use Rattle.tables.proofs.GoodLaws.{rows-hashes}
+use Rattle.tables.proofs.TableLaws.{length-rows-at, take-rows-at, hash-of-row}
 use Rattle.graph.specs.Marks.{picked}
-use Rattle.graph.proofs.PickLaws.{pickLeft, left-all, left-taken, left-passed, left-none, left-most}
+use Rattle.graph.proofs.PickLaws.{rows-marked, rows-most, rows-member}
+use Rattle.graph.proofs.PutLaws.{put-one, put-same, put-none}
 
-module _ (l : List ℕ) (m : List Bool) (n : ℕ) (many : length l ≡ n) where
-  behind-most : (i : ℕ) → length (ascend (pickLeft l m i)) ≤ n - i
-  behind-most i = omega (arith, ascend-most (pickLeft l m i), left-most l m i)
+-- ---- some of the first rows
 
-  pub collect-starts : (list : List ℕ) → Gathered (ascend (pickLeft l m n)) list 0
-  unfolding hashesAt ascend
-  collect-starts list = record { many = rw (left-none l m n (omega arith)); list = rw (left-none l m n (omega arith)) }
+from-none : (t : List Row) (p : ℕ → Bool) (i k : ℕ) → k ≤ i → rowsFrom i t (λ j. ltb j k && p j) ≡ []
+unfolding rowsFrom
+from-none [] p i k h = refl
+from-none (r ∷ t) p i k h = rw (le-ltb i k h) (from-none t p (suc i) k (omega arith))
 
-  module _ (list : List ℕ) (count i : ℕ) (so : Gathered (ascend (pickLeft l m i)) list count) where
-    pub collect-most : i ≤ n → count + i ≤ n
-    collect-most h = omega (arith, so .many, behind-most i)
+from-first : (t : List Row) (p : ℕ → Bool) (i k : ℕ) → rowsFrom i t (λ j. ltb j (i + k) && p j) ≡ rowsFrom i (take k t) p
+unfolding rowsFrom
+from-first [] p i zero = refl
+from-first [] p i (suc k) = refl
+from-first (r ∷ t) p i zero = from-none (r ∷ t) p i (i + 0) (omega arith)
+from-first (r ∷ t) p i (suc k) =
+    let e : i + suc k ≡ suc i + k = omega arith in
+    rw (lt-ltb i (i + suc k) (omega arith), e, from-first t p (suc i) k)
 
-    pub collect-passed : 0 < i → i ≤ n → getD m (i - 1) false ≡ false → Gathered (ascend (pickLeft l m (i - 1))) list count
-    collect-passed h f e =
-        let next : i - 1 + 1 ≡ i = omega arith in
-        let same : pickLeft l m (i - 1) ≡ pickLeft l m i = rw next at (left-passed l m (i - 1) (omega arith) e) in
-        rw same so
+first-rows : (t : List Row) (p : ℕ → Bool) (k : ℕ) → rowsWhere t (λ j. ltb j k && p j) ≡ rowsWhere (take k t) p
+unfolding rowsWhere
+first-rows t p k =
+    let e : 0 + k ≡ k = omega arith in
+    rw e at (from-first t p 0 k)
 
-    pub collect-taken : (after : List ℕ) (r hash : ℕ) → 0 < i → i ≤ n → getD m (i - 1) false ≡ true → sizes .hash * n ≤ length list
-        → getD l (i - 1) 0 ≡ hash
-        → Inserted list after count hash r
-        → Gathered (ascend (pickLeft l m (i - 1))) after r
-    unfolding ascend insertUpTo
-    collect-taken after r hash h f e room is put =
-        let next : i - 1 + 1 ≡ i = omega arith in
-        let same : pickLeft l m (i - 1) ≡ hash ∷ pickLeft l m i = rw (next, is) at (left-taken l m (i - 1) (omega arith) e) in
-        let less : length (ascend (pickLeft l m i)) < length list / sizes .hash = omega (arith, behind-most i) in
-        record {
-          many = rw same (rw (so .list, lt-ltb _ _ less) at (put .long));
-          list = rw same (rw (so .list, lt-ltb _ _ less) at (put .list));
-        }
+module _ (s x : List ℕ) (n before : ℕ) (m : List Bool) where
+  -- a row that is collected
+  pub collects : ℕ → Bool
+  collects r = ltb r before && getD m r false
 
-    pub collect-ends : i ≤ 0 → Gathered (ascend (picked l m)) list count
-    collect-ends h =
-        let e : i ≡ 0 = omega arith in
-        let all : pickLeft l m i ≡ picked l m = rw e (left-all l m) in
-        rw all at so
+  -- the hashes of those from entry k on
+  pub collectFrom : ℕ → List ℕ
+  collectFrom k = map (hashOf (rowsAt s 0 n)) (keep collects (u16sAt x (2 * k) (n - k)))
+
+  some : List ℕ
+  some = picked (rows (rowsAt s 0 before)) m
+
+  some-rows : some ≡ rowsWhere (rowsAt s 0 before) (λ i. getD m i false)
+  unfolding some
+  some-rows = rows-marked (rowsAt s 0 before) m (λ i. getD m i false) (record { each = λ i h. refl })
+
+  pub collect-is : fits (rowsAt s 0 n) (u16sAt x 0 n) ≡ true → before ≤ n → collectFrom 0 ≡ ascend (picked (rows (rowsAt s 0 before)) m)
+  unfolding collectFrom collects some
+  collect-is ok h =
+      let d : n - 0 ≡ n = omega arith in
+      let those : rowsWhere (rowsAt s 0 n) (λ j. ltb j before && getD m j false) ≡ picked (rows (rowsAt s 0 before)) m =
+      first-rows (rowsAt s 0 n) (λ j. getD m j false) before
+      ∙ ap (λ (t : List Row). rowsWhere t (λ j. getD m j false)) (take-rows-at s 0 before n h)
+      ∙ sym some-rows
+      in
+      rw d (sym (ascend-by-index (rowsAt s 0 n) (u16sAt x 0 n) ok (λ j. ltb j before && getD m j false)) ∙ ap ascend those)
+
+  few : length (ascend some) ≤ before
+  unfolding some
+  few =
+      let most = rows-most (rowsAt s 0 before) (λ i. getD m i false) in
+      omega (arith, ascend-most (picked (rows (rowsAt s 0 before)) m), ap length some-rows, most, length-rows-at s 0 before)
+
+  are-hashes : Bytes s → AreHashes (ascend some)
+  unfolding some
+  are-hashes b =
+      hashes-inside (ascend (picked (rows (rowsAt s 0 before)) m)) (rows (rowsAt s 0 before)) (rows-hashes s 0 before b)
+      (λ h e.
+      let in-some : member h (picked (rows (rowsAt s 0 before)) m) ≡ true = sym (ascend-members h (picked (rows (rowsAt s 0 before)) m)) ∙ e in
+      rows-member (rowsAt s 0 before) (λ i. getD m i false) h (rw some-rows at in-some))
+
+  module _ (k r : ℕ) (inside : k < n) (read : r ≡ u16At x (2 * k)) where
+    pub collect-taken : r < n → collects r ≡ true → collectFrom k ≡ hashAt s (r * rowSize) ∷ collectFrom (k + 1)
+    unfolding collectFrom keep
+    collect-taken low e = rw (u16s-next x n k r inside read, e, hash-of-row s n r low)
+
+    pub collect-passed : collects r ≡ false → collectFrom k ≡ collectFrom (k + 1)
+    unfolding collectFrom keep
+    collect-passed e = rw (u16s-next x n k r inside read, e)
+
+  collect-none : (k : ℕ) → n ≤ k → collectFrom k ≡ []
+  unfolding collectFrom keep
+  collect-none k h = rw (u16s-none x n k h)
+
+  -- a row past the first ones, an unmarked one and a marked one
+  pub past-first : (r : ℕ) → before ≤ r → collects r ≡ false
+  unfolding collects
+  past-first r h = rw (le-ltb r before h)
+
+  pub by-mark : (r : ℕ) (b : Bool) → r < before → getD m r false ≡ b → collects r ≡ b
+  unfolding collects
+  by-mark r b h e = rw (lt-ltb r before h) e
+
+  -- `count` hashes have been put of those before entry k
+  pub record Collecting (list₀ list : List ℕ) (count k : ℕ) : Type 0 where
+    pub upto : k ≤ n
+    pub long : length list ≡ length list₀
+    pub many : count + length (collectFrom k) ≡ length (collectFrom 0)
+    pub rest : sets list (sizes .hash * count) (hashesBytes (collectFrom k)) ≡ sets list₀ 0 (hashesBytes (collectFrom 0))
+
+  pub collecting-starts : (list₀ : List ℕ) → Collecting list₀ list₀ 0 0
+  collecting-starts list₀ = record { upto = omega arith; long = refl; many = omega arith; rest = refl }
+
+  module _ (list₀ list : List ℕ) (count k r : ℕ) (so : Collecting list₀ list count k) (inside : k < n) (read : r ≡ u16At x (2 * k)) where
+    pub collecting-passed : collects r ≡ false → Collecting list₀ list count (k + 1)
+    collecting-passed e =
+        let same : collectFrom k ≡ collectFrom (k + 1) = collect-passed k r inside read e in
+        record { upto = omega arith; long = so .long; many = rw same at (so .many); rest = put-same _ _ same _ _ _ (so .rest) }
+
+    module _ (low : r < n) (e : collects r ≡ true) where
+      -- there is room for one more
+      pub collecting-room : fits (rowsAt s 0 n) (u16sAt x 0 n) ≡ true → before ≤ n → count < before
+      unfolding some
+      collecting-room ok h =
+          let more : length (collectFrom k) ≡ suc (length (collectFrom (k + 1))) = ap length (collect-taken k r inside read low e) in
+          omega (arith, so .many, ap length (collect-is ok h), few)
+
+      pub collecting-taken : (next : List ℕ) → Bytes s → n * rowSize ≤ length s → length next ≡ length list
+          → next ≡ sets list (sizes .hash * count) (slice (r * rowSize) (r * rowSize + sizes .hash) s)
+          → Collecting list₀ next (count + 1) (k + 1)
+      collecting-taken next all whole long put =
+          let one : collectFrom k ≡ hashAt s (r * rowSize) ∷ collectFrom (k + 1) = collect-taken k r inside read low e in
+          let at : sizes .hash * (count + 1) ≡ sizes .hash * count + sizes .hash = omega arith in
+          let more : length (collectFrom k) ≡ suc (length (collectFrom (k + 1))) = ap length one in
+          record {
+            upto = omega arith;
+            long = long ∙ so .long;
+            many = omega (arith, so .many);
+            rest = rw at (put-one _ _ _ one _ _ _ _ _ _ all (omega arith) refl put (so .rest));
+          }
+
+  pub collecting-ends : (list₀ list : List ℕ) (count k : ℕ) → Collecting list₀ list count k → n ≤ k
+      → fits (rowsAt s 0 n) (u16sAt x 0 n) ≡ true
+      → before ≤ n
+      → Bytes s
+      → sizes .hash * before ≤ length list₀
+      → Gathered (ascend (picked (rows (rowsAt s 0 before)) m)) list count
+  unfolding some
+  collecting-ends list₀ list count k so l ok h all room =
+      let hs : List ℕ = ascend (picked (rows (rowsAt s 0 before)) m) in
+      let whole : collectFrom 0 ≡ ascend (picked (rows (rowsAt s 0 before)) m) = collect-is ok h in
+      let none : collectFrom k ≡ [] = collect-none k l in
+      let put : list ≡ sets list₀ 0 (hashesBytes hs) = rw whole at (put-none _ none _ _ _ (so .rest)) in
+      let all-put : count ≡ length (collectFrom 0) = omega (arith, so .many, ap length none) in
+      let long : count ≡ length hs = rw whole at all-put in
+      rw (put, long) (written-gathered hs list₀ (are-hashes all) (omega (arith, few)))

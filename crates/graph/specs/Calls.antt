@@ -1,4 +1,4 @@
--- What the public calls write, refusals in 01's order: 4 and 6 for the change table, 11, 4 (then 1) for a passed list; 7 comes last
+-- What the public calls write, refusals in 01's order: 4 and 6 for the change table, 12 for its index, 11, 4 (then 1) for a passed list; 7 comes last
 -- (`Written`).
 use Prim.Native.Nat.{ℕ}
 use mathlib.Core.Bool.{cond}
@@ -9,20 +9,21 @@ use Rattle.rules.specs.Hash.{hashesAt, hashesBytes}
 use Rattle.rules.specs.Output.{Output}
 use Rattle.rules.specs.Passed.{passedHashes, afterPassed}
 use Rattle.rules.specs.declared.refusal.Refusal.the-variants.{BadRowsBefore}
-use Rattle.tables.specs.Bytes.{tableOf, tableChecked}
+use Rattle.index.specs.Index.{indexChecked}
+use Rattle.tables.specs.Bytes.{tableOf}
 use Rattle.tables.specs.Calls.{afterCheck}
 use Rattle.graph.specs.Graph.{heads, beyond}
 
 -- The heads of the first rows of a table: 11 where there aren't so many.
-unfoldable pub headsOutput : List ℕ → ℕ → Output
-headsOutput s before =
-    afterCheck (tableChecked s)
+unfoldable pub headsOutput : List ℕ → List ℕ → ℕ → Output
+headsOutput s x before =
+    afterCheck (indexChecked s x)
     (λ n. cond (ltb n before) (Output.refuse BadRowsBefore) (Output.bytes (hashesBytes (heads (take before (tableOf s))))))
 
 -- The rows beyond a list.
-unfoldable pub beyondOutput : List ℕ → List ℕ → Output
-beyondOutput s l =
-    afterCheck (tableChecked s)
+unfoldable pub beyondOutput : List ℕ → List ℕ → List ℕ → Output
+beyondOutput s x l =
+    afterCheck (indexChecked s x)
     (λ n.
     afterPassed (passedHashes l)
     Output.refuse

@@ -4,6 +4,7 @@ use crate::marked::put_marked;
 use crate::marks::flip;
 use crate::marks::mark_below;
 use crate::marks::mark_list;
+use index::check::check_indexed;
 use rules::output::Write;
 use rules::passed::Passed;
 use rules::passed::passed_hashes;
@@ -11,13 +12,13 @@ use rules::refusal::Refusal;
 use rules::sizes::HASH_SIZE;
 use rules::sizes::ROWS;
 use tables::check::Checked;
-use tables::check::check_table;
 ghost use Prim.Native.Nat.{_+_, _*_, _≤_};
 ghost use lib.ListN.{length};
+ghost use Rattle.index.specs.Index.{Indexed};
 ghost use Rattle.rules.specs.Hash.{hashesAt, hashesBytes};
 ghost use Rattle.rules.specs.Output.{Written, Output};
 ghost use Rattle.rules.specs.Sizes.{sizes};
-ghost use Rattle.tables.specs.Bytes.{rowsAt, GoodRows};
+ghost use Rattle.tables.specs.Bytes.{rowsAt};
 ghost use Rattle.graph.specs.Calls.{beyondOutput};
 ghost use Rattle.graph.specs.Graph.{belowRow, beyond};
 ghost use Rattle.graph.specs.Marks.{Marks, Blank};
@@ -25,27 +26,35 @@ ghost use Rattle.graph.specs.Marks.{Marks, Blank};
 // Marks the rows of a list and all below them.
 pub fn mark_at_or_below(
     table: &[u8],
+    index: &[u8],
     n: usize,
     l: &[u8],
     place: usize,
     count: usize,
     marks: &mut [bool],
 )
-    requires { ⌜ GoodRows (now table) n × (place + sizes .hash * count ≤ length (now l)) × (n ≤ length (now marks)) × Blank n (now marks) ⌝ }
+    requires { ⌜ Indexed (now table) (now index) n × (place + sizes .hash * count ≤ length (now l)) × (n ≤ length (now marks)) × Blank n (now marks) ⌝ }
     ensures { λ _. ⌜ Marks n (now (marks .exit)) (belowRow (rowsAt (now (table .entry)) 0 n) (hashesAt (now (l .entry)) place count)) ⌝ }
 {
-    mark_list(table, n, l, place, count, marks);
+    mark_list(table, index, n, l, place, count, marks);
     mark_below(table, n, marks);
 }
 
 // The rows beyond the first hashes of a list, of a table that has been checked.
-pub fn put_beyond(table: &[u8], n: usize, l: &[u8], count: usize, out: &mut [u8]) -> Write
-    requires { ⌜ GoodRows (now table) n × (sizes .hash * count ≤ length (now l)) ⌝ }
+pub fn put_beyond(
+    table: &[u8],
+    index: &[u8],
+    n: usize,
+    l: &[u8],
+    count: usize,
+    out: &mut [u8],
+) -> Write
+    requires { ⌜ Indexed (now table) (now index) n × (sizes .hash * count ≤ length (now l)) ⌝ }
     ensures { λ r. ⌜ Written (Output.bytes (hashesBytes (beyond (rowsAt (now (table .entry)) 0 n) (hashesAt (now (l .entry)) 0 count))))
         (now (out .entry)) (now (out .exit)) r ⌝ }
 {
     let mut marks = [false; ROWS];
-    mark_at_or_below(table, n, l, 0, count, &mut marks);
+    mark_at_or_below(table, index, n, l, 0, count, &mut marks);
     flip(n, &mut marks);
     let size = HASH_SIZE * count_marked(n, &marks);
     if out.len() < size {
@@ -56,14 +65,14 @@ pub fn put_beyond(table: &[u8], n: usize, l: &[u8], count: usize, out: &mut [u8]
 }
 
 // The rows beyond a list that is lent as the bytes of its hashes.
-pub fn beyond(table: &[u8], l: &[u8], out: &mut [u8]) -> Write
-    ensures { λ r. ⌜ Written (beyondOutput (now (table .entry)) (now (l .entry))) (now (out .entry)) (now (out .exit)) r ⌝ }
+pub fn beyond(table: &[u8], index: &[u8], l: &[u8], out: &mut [u8]) -> Write
+    ensures { λ r. ⌜ Written (beyondOutput (now (table .entry)) (now (index .entry)) (now (l .entry))) (now (out .entry)) (now (out .exit)) r ⌝ }
 {
-    match check_table(table) {
+    match check_indexed(table, index) {
         Checked::Refused(r) => Write::Refused(r),
         Checked::Good(n) => match passed_hashes(l) {
             Passed::Refused(refusal) => Write::Refused(refusal),
-            Passed::Hashes(count) => put_beyond(table, n, l, count, out),
+            Passed::Hashes(count) => put_beyond(table, index, n, l, count, out),
         },
     }
 }

@@ -2,57 +2,58 @@
 use crate::marked::collect_marked;
 use crate::marks::flip;
 use crate::marks::mark_needed;
+use index::check::check_indexed;
 use rules::output::Write;
 use rules::put::put_list;
 use rules::refusal::Refusal;
 use rules::sizes::HASH_SIZE;
 use rules::sizes::ROWS;
 use tables::check::Checked;
-use tables::check::check_table;
 ghost use Prim.Native.Nat.{_*_, _≤_};
 ghost use lib.ListN.{length};
+ghost use Rattle.index.specs.Index.{Indexed};
 ghost use Rattle.rules.specs.Hash.{hashesBytes};
 ghost use Rattle.rules.specs.Output.{Written, Output, Gathered};
 ghost use Rattle.rules.specs.Sizes.{sizes};
-ghost use Rattle.tables.specs.Bytes.{rowsAt, GoodRows};
+ghost use Rattle.tables.specs.Bytes.{rowsAt};
 ghost use Rattle.graph.specs.Calls.{headsOutput};
 ghost use Rattle.graph.specs.Graph.{heads};
 
 // Room for the hash of every row.
 pub const LIST_SIZE: usize = HASH_SIZE * ROWS;
 
-// The heads of the first n rows of a table that has been checked, put at the start of a list that has room for them all.
-pub fn collect_heads(table: &[u8], n: usize, list: &mut [u8]) -> usize
-    requires { ⌜ GoodRows (now table) n × (sizes .hash * n ≤ length (now list)) ⌝ }
-    ensures { λ r. ⌜ Gathered (heads (rowsAt (now (table .entry)) 0 n)) (now (list .exit)) r ⌝ }
+// The heads of the first rows of a table that has been checked, put at the start of a list that has room for them all.
+pub fn collect_heads(table: &[u8], index: &[u8], n: usize, before: usize, list: &mut [u8]) -> usize
+    requires { ⌜ Indexed (now table) (now index) n × (before ≤ n) × (sizes .hash * before ≤ length (now list)) ⌝ }
+    ensures { λ r. ⌜ Gathered (heads (rowsAt (now (table .entry)) 0 before)) (now (list .exit)) r ⌝ }
 {
     let mut marks = [false; ROWS];
-    mark_needed(table, n, &mut marks);
-    flip(n, &mut marks);
-    collect_marked(table, n, &marks, list)
+    mark_needed(table, before, &mut marks);
+    flip(before, &mut marks);
+    collect_marked(table, index, n, before, &marks, list)
 }
 
-// The heads of the first n rows of a table that has been checked.
-pub fn put_heads(table: &[u8], n: usize, out: &mut [u8]) -> Write
-    requires { ⌜ GoodRows (now table) n ⌝ }
-    ensures { λ r. ⌜ Written (Output.bytes (hashesBytes (heads (rowsAt (now (table .entry)) 0 n)))) (now (out .entry)) (now (out .exit)) r ⌝ }
+// The same, written.
+pub fn put_heads(table: &[u8], index: &[u8], n: usize, before: usize, out: &mut [u8]) -> Write
+    requires { ⌜ Indexed (now table) (now index) n × (before ≤ n) ⌝ }
+    ensures { λ r. ⌜ Written (Output.bytes (hashesBytes (heads (rowsAt (now (table .entry)) 0 before)))) (now (out .entry)) (now (out .exit)) r ⌝ }
 {
     let mut list = [0; LIST_SIZE];
-    let count = collect_heads(table, n, &mut list);
+    let count = collect_heads(table, index, n, before, &mut list);
     put_list(&list, count, out)
 }
 
 // The heads of the first rows of a table.
-pub fn heads(table: &[u8], before: usize, out: &mut [u8]) -> Write
-    ensures { λ r. ⌜ Written (headsOutput (now (table .entry)) before) (now (out .entry)) (now (out .exit)) r ⌝ }
+pub fn heads(table: &[u8], index: &[u8], before: usize, out: &mut [u8]) -> Write
+    ensures { λ r. ⌜ Written (headsOutput (now (table .entry)) (now (index .entry)) before) (now (out .entry)) (now (out .exit)) r ⌝ }
 {
-    match check_table(table) {
+    match check_indexed(table, index) {
         Checked::Refused(r) => Write::Refused(r),
         Checked::Good(n) => {
             if n < before {
                 return Write::Refused(Refusal::BadRowsBefore);
             }
-            put_heads(table, before, out)
+            put_heads(table, index, n, before, out)
         }
     }
 }

@@ -1,12 +1,13 @@
 // The rows that are marked: how many they are, their hashes in table order, and their hashes ascending.
-use rules::hashes::insert_hash;
 use rules::hashes::put_hash;
 use rules::sizes::HASH_SIZE;
 use tables::row::ROW_SIZE;
+use tables::row::u16_at;
 ghost use mathlib.Core.Path.{_≡_};
 ghost use Prim.Native.Nat.{_+_, _*_, _≤_};
 ghost use lib.ListN.{length};
 ghost use lib.Seq.{sets};
+ghost use Rattle.index.specs.Index.{Indexed};
 ghost use Rattle.rules.specs.Hash.{hashesBytes};
 ghost use Rattle.rules.specs.Order.{ascend};
 ghost use Rattle.rules.specs.Output.{Gathered};
@@ -51,20 +52,31 @@ pub fn put_marked(table: &[u8], n: usize, marks: &[bool], out: &mut [u8], place:
     }
 }
 
-// Puts the hashes of the first n rows that are marked into a list, ascending, and returns how many they are. From the last row to the first, as
-// `ascend` has them.
-pub fn collect_marked(table: &[u8], n: usize, marks: &[bool], list: &mut [u8]) -> usize
-    requires { ⌜ GoodRows (now table) n × (n ≤ length (now marks)) × (sizes .hash * n ≤ length (now list)) ⌝ }
-    ensures { λ r. ⌜ Gathered (ascend (picked (rows (rowsAt (now (table .entry)) 0 n)) (now (marks .entry)))) (now (list .exit)) r ⌝ }
+// Puts the hashes of the first rows that are marked into a list, ascending, and returns how many they are: the index has them in this order.
+pub fn collect_marked(
+    table: &[u8],
+    index: &[u8],
+    n: usize,
+    before: usize,
+    marks: &[bool],
+    list: &mut [u8],
+) -> usize
+    requires { ⌜ Indexed (now table) (now index) n × (before ≤ n) × (before ≤ length (now marks)) × (sizes .hash * before ≤ length (now list)) ⌝ }
+    ensures { λ r. ⌜ Gathered (ascend (picked (rows (rowsAt (now (table .entry)) 0 before)) (now (marks .entry)))) (now (list .exit)) r ⌝ }
 {
     let mut count = 0;
-    let mut i = n;
-    while 0 < i {
-        i -= 1;
-        if !marks[i] {
+    let mut k = 0;
+    while k < n {
+        let row = u16_at(index, 2 * k);
+        k += 1;
+        if before <= row {
             continue;
         }
-        count = insert_hash(list, count, table, i * ROW_SIZE);
+        if !marks[row] {
+            continue;
+        }
+        put_hash(list, HASH_SIZE * count, table, row * ROW_SIZE);
+        count += 1;
     }
     count
 }

@@ -1,14 +1,15 @@
 // A mark for each row of a change table: rows of a list, rows that others depend on, and all that lies below the marked ones.
 //
 // An array of marks is made where its meaning is, and lent on from there: no call copies one.
+use index::look::look_up;
 use rules::sizes::HASH_SIZE;
-use tables::find::find_row;
 use tables::row::dep;
 use tables::row::dep_count;
 ghost use mathlib.Core.Bool.{false, not, _&&_, _||_};
 ghost use mathlib.Core.Path.{_≡_};
 ghost use Prim.Native.Nat.{_+_, _*_, _≤_};
 ghost use lib.ListN.{length, getD};
+ghost use Rattle.index.specs.Index.{Indexed};
 ghost use Rattle.rules.specs.Hash.{hashAt, hashesAt};
 ghost use Rattle.rules.specs.Order.{member};
 ghost use Rattle.rules.specs.Reach.{reach};
@@ -69,11 +70,11 @@ pub fn mark_needed(table: &[u8], n: usize, marks: &mut [bool])
 }
 
 // Marks the row of the hash at a place, if there is one.
-fn mark_hash(table: &[u8], n: usize, l: &[u8], at: usize, marks: &mut [bool])
-    requires { ⌜ GoodRows (now table) n × (at + sizes .hash ≤ length (now l)) × (n ≤ length (now marks)) ⌝ }
+fn mark_hash(table: &[u8], index: &[u8], n: usize, l: &[u8], at: usize, marks: &mut [bool])
+    requires { ⌜ Indexed (now table) (now index) n × (at + sizes .hash ≤ length (now l)) × (n ≤ length (now marks)) ⌝ }
     ensures { λ _. ⌜ now (marks .exit) ≡ markHash (rows (rowsAt (now (table .entry)) 0 n)) (now (marks .entry)) (hashAt (now (l .entry)) at) ⌝ }
 {
-    let row = find_row(table, n, l, at);
+    let row = look_up(table, index, n, l, at);
     if n <= row {
         return;
     }
@@ -81,14 +82,22 @@ fn mark_hash(table: &[u8], n: usize, l: &[u8], at: usize, marks: &mut [bool])
 }
 
 // Marks the rows of the hashes of a list; unknown ones are ignored.
-pub fn mark_list(table: &[u8], n: usize, l: &[u8], place: usize, count: usize, marks: &mut [bool])
-    requires { ⌜ GoodRows (now table) n × (place + sizes .hash * count ≤ length (now l)) × (n ≤ length (now marks)) ⌝ }
+pub fn mark_list(
+    table: &[u8],
+    index: &[u8],
+    n: usize,
+    l: &[u8],
+    place: usize,
+    count: usize,
+    marks: &mut [bool],
+)
+    requires { ⌜ Indexed (now table) (now index) n × (place + sizes .hash * count ≤ length (now l)) × (n ≤ length (now marks)) ⌝ }
     ensures { λ _. ⌜ Marks n (now (marks .exit))
         (λ i. getD (now (marks .entry)) i false || member (hashOf (rowsAt (now (table .entry)) 0 n) i) (hashesAt (now (l .entry)) place count)) ⌝ }
 {
     let mut k = 0;
     while k < count {
-        mark_hash(table, n, l, place + HASH_SIZE * k, marks);
+        mark_hash(table, index, n, l, place + HASH_SIZE * k, marks);
         k += 1;
     }
 }

@@ -1,14 +1,15 @@
 // Lists compared, and looked up in one another or in a table.
+use index::look::look_up;
 use rules::hashes::same_hash;
 use rules::sizes::HASH_SIZE;
-use tables::find::find_row;
 ghost use mathlib.Core.Path.{_≡_};
 ghost use Prim.Native.Nat.{_+_, _*_, _≤_};
 ghost use lib.ListN.{length};
+ghost use Rattle.index.specs.Index.{Indexed};
 ghost use Rattle.rules.specs.Hash.{hashAt, hashesAt};
 ghost use Rattle.rules.specs.Order.{member, every};
 ghost use Rattle.rules.specs.Sizes.{sizes};
-ghost use Rattle.tables.specs.Bytes.{rowsAt, GoodRows};
+ghost use Rattle.tables.specs.Bytes.{rowsAt};
 ghost use Rattle.tables.specs.Table.{held};
 ghost use Rattle.lists.specs.Lists.{same};
 
@@ -61,14 +62,14 @@ pub fn all_in(s: &[u8], i: usize, m: usize, list: &[u8], place: usize, count: us
 }
 
 // Whether a table holds every hash of a list.
-pub fn all_held(table: &[u8], n: usize, s: &[u8], place: usize, count: usize) -> bool
-    requires { ⌜ GoodRows (now table) n × (place + sizes .hash * count ≤ length (now s)) ⌝ }
+pub fn all_held(table: &[u8], index: &[u8], n: usize, s: &[u8], place: usize, count: usize) -> bool
+    requires { ⌜ Indexed (now table) (now index) n × (place + sizes .hash * count ≤ length (now s)) ⌝ }
     ensures { λ r. ⌜ r ≡ every (held (rowsAt (now (table .entry)) 0 n)) (hashesAt (now (s .entry)) place count) ⌝ }
 {
     let mut k = 0;
     while k < count {
         let at = place + HASH_SIZE * k;
-        if n <= find_row(table, n, s, at) {
+        if n <= look_up(table, index, n, s, at) {
             return false;
         }
         k += 1;

@@ -1,16 +1,17 @@
 // Hashes joined to the ascending list that the first hashes of a buffer are. From the last one to the first, as `ascend` has them; where the buffer
 // is full, the list stays as it is.
 use crate::compare::is_in;
+use index::look::look_up;
 use rules::hashes::insert_hash;
 use rules::sizes::HASH_SIZE;
-use tables::find::find_row;
 ghost use mathlib.Core.Bool.{not};
 ghost use Prim.Native.Nat.{_+_, _*_, _≤_};
 ghost use lib.ListN.{length};
+ghost use Rattle.index.specs.Index.{Indexed};
 ghost use Rattle.rules.specs.Hash.{hashesAt};
 ghost use Rattle.rules.specs.Order.{member, keep};
 ghost use Rattle.rules.specs.Sizes.{sizes};
-ghost use Rattle.tables.specs.Bytes.{rowsAt, GoodRows};
+ghost use Rattle.tables.specs.Bytes.{rowsAt};
 ghost use Rattle.tables.specs.Table.{held};
 ghost use Rattle.lists.specs.Lists.{Joined};
 
@@ -31,6 +32,7 @@ pub fn join_list(list: &mut [u8], count: usize, s: &[u8], place: usize, m: usize
 // Joins those hashes of a list that a table holds.
 pub fn join_held(
     table: &[u8],
+    index: &[u8],
     n: usize,
     list: &mut [u8],
     count: usize,
@@ -38,7 +40,7 @@ pub fn join_held(
     place: usize,
     m: usize,
 ) -> usize
-    requires { ⌜ GoodRows (now table) n × (sizes .hash * count ≤ length (now list)) × (place + sizes .hash * m ≤ length (now s)) ⌝ }
+    requires { ⌜ Indexed (now table) (now index) n × (sizes .hash * count ≤ length (now list)) × (place + sizes .hash * m ≤ length (now s)) ⌝ }
     ensures { λ r. ⌜ Joined (now (list .entry)) (now (list .exit)) count (keep (held (rowsAt (now (table .entry)) 0 n)) (hashesAt (now (s .entry)) place m)) r ⌝ }
 {
     let mut next = count;
@@ -46,7 +48,7 @@ pub fn join_held(
     while 0 < k {
         k -= 1;
         let at = place + HASH_SIZE * k;
-        if n <= find_row(table, n, s, at) {
+        if n <= look_up(table, index, n, s, at) {
             continue;
         }
         next = insert_hash(list, next, s, at);

@@ -14,6 +14,7 @@ ghost use mathlib.Core.Path.{_≡_};
 ghost use Prim.Native.Nat.{_+_, _≤_};
 ghost use lib.ListN.{length, getD};
 ghost use Rattle.bloom.specs.Have.{havesOf, GoodFilters};
+ghost use Rattle.index.specs.Index.{Indexed};
 ghost use Rattle.rules.specs.Order.{member};
 ghost use Rattle.tables.specs.Bytes.{usedAt, rowsAt, GoodRows};
 ghost use Rattle.tables.specs.Table.{hashOf};
@@ -22,8 +23,8 @@ ghost use Rattle.graph.specs.Marks.{Marks, Blank};
 ghost use Rattle.members.specs.Members.{lastSyncs, inTheS, someOf, isMember, SyncsInside};
 
 // Marks the rows of all haves' last-sync hashes.
-fn mark_syncs(table: &[u8], n: usize, bytes: &[u8], haves: &[u64], marks: &mut [bool])
-    requires { ⌜ GoodRows (now table) n × SyncsInside (now bytes) (now haves) × (n ≤ length (now marks)) × Blank n (now marks) ⌝ }
+fn mark_syncs(table: &[u8], index: &[u8], n: usize, bytes: &[u8], haves: &[u64], marks: &mut [bool])
+    requires { ⌜ Indexed (now table) (now index) n × SyncsInside (now bytes) (now haves) × (n ≤ length (now marks)) × Blank n (now marks) ⌝ }
     ensures { λ _. ⌜ Marks n (now (marks .exit))
         (λ i. member (hashOf (rowsAt (now (table .entry)) 0 n) i) (lastSyncs (havesOf (now (bytes .entry)) (now (haves .entry))))) ⌝ }
 {
@@ -32,18 +33,25 @@ fn mark_syncs(table: &[u8], n: usize, bytes: &[u8], haves: &[u64], marks: &mut [
     while k < total {
         let place = sync_place(haves, k);
         let count = sync_count(haves, k);
-        mark_list(table, n, bytes, place, count, marks);
+        mark_list(table, index, n, bytes, place, count, marks);
         k += 1;
     }
 }
 
 // Marks the rows below all haves' last-sync hashes: those that aren't candidates.
-fn mark_synced(table: &[u8], n: usize, bytes: &[u8], haves: &[u64], marks: &mut [bool])
-    requires { ⌜ GoodRows (now table) n × SyncsInside (now bytes) (now haves) × (n ≤ length (now marks)) × Blank n (now marks) ⌝ }
+fn mark_synced(
+    table: &[u8],
+    index: &[u8],
+    n: usize,
+    bytes: &[u8],
+    haves: &[u64],
+    marks: &mut [bool],
+)
+    requires { ⌜ Indexed (now table) (now index) n × SyncsInside (now bytes) (now haves) × (n ≤ length (now marks)) × Blank n (now marks) ⌝ }
     ensures { λ _. ⌜ Marks n (now (marks .exit))
         (belowRow (rowsAt (now (table .entry)) 0 n) (lastSyncs (havesOf (now (bytes .entry)) (now (haves .entry))))) ⌝ }
 {
-    mark_syncs(table, n, bytes, haves, marks);
+    mark_syncs(table, index, n, bytes, haves, marks);
     mark_below(table, n, marks);
 }
 
@@ -86,12 +94,19 @@ fn is_member(
 }
 
 // Marks the members of S. From the first row to the last, so that the marks of a row's dependencies are final when its turn comes.
-pub fn mark_s(table: &[u8], n: usize, bytes: &[u8], haves: &[u64], members: &mut [bool])
-    requires { ⌜ GoodRows (now table) n × GoodFilters (now bytes) (now haves) × SyncsInside (now bytes) (now haves) × (n ≤ length (now members)) ⌝ }
+pub fn mark_s(
+    table: &[u8],
+    index: &[u8],
+    n: usize,
+    bytes: &[u8],
+    haves: &[u64],
+    members: &mut [bool],
+)
+    requires { ⌜ Indexed (now table) (now index) n × GoodFilters (now bytes) (now haves) × SyncsInside (now bytes) (now haves) × (n ≤ length (now members)) ⌝ }
     ensures { λ _. ⌜ Marks n (now (members .exit)) (inTheS (rowsAt (now (table .entry)) 0 n) (havesOf (now (bytes .entry)) (now (haves .entry)))) ⌝ }
 {
     let mut synced = [false; ROWS];
-    mark_synced(table, n, bytes, haves, &mut synced);
+    mark_synced(table, index, n, bytes, haves, &mut synced);
     let mut i = 0;
     while i < n {
         let here = is_member(table, i, bytes, haves, synced[i], members);

@@ -5,16 +5,18 @@ use mathlib.Core.List.{List}
 use mathlib.Core.Path.{_≡_, refl, sym, ap, _∙_}
 use native.Mathlib.Omega.{arith}
 use lib.ListN.{length, getD, set, length-set, replicate, length-replicate}
+use Rattle.index.specs.Index.{Indexed}
 use Rattle.rules.specs.Hash.{hashAt, hashesAt}
 use Rattle.rules.specs.Order.{member, Inserted}
 use Rattle.rules.specs.Sizes.{sizes}
 use Rattle.rules.proofs.Hash.{length-hashes-at}
-use Rattle.tables.specs.Bytes.{rowSize, rowsAt, asksCount, waitingsAt, waitingOf}
+use Rattle.tables.specs.Bytes.{rowsAt}
 use Rattle.tables.specs.Table.{rows, held, indexIn}
-use Rattle.tables.specs.Waiting.{waiting, asks}
-use Rattle.tables.proofs.Today.{asksPlace}
 use Rattle.tables.proofs.TableLaws.{length-rows, length-rows-at, index-at-most, member-of-index, unknown-of-index}
-use Rattle.tables.proofs.WaitingLaws.{length-waiting, length-waitings-at, asks-of-waiting, WaitingDecoded, decoded-asks-count}
+use Rattle.waiting.specs.Bytes.{Sorted, asksCount, waitingsAt, waitingOf}
+use Rattle.waiting.specs.Waiting.{waiting, asks}
+use Rattle.waiting.proofs.Today.{asksPlace}
+use Rattle.waiting.proofs.WaitingLaws.{length-waiting, length-waitings-at, asks-of-waiting, WaitingDecoded, decoded-asks-count}
 use Rattle.missing.specs.Ask.{Request, change, list, held-hash, marked, waits, unknown-hash, none, more, Askable, Asked, Found}
 use Rattle.missing.specs.Missing.{missing}
 use Rattle.missing.proofs.AskLaws.{unmarked, unmarked-set, fewer-unmarked, within-most}
@@ -77,21 +79,21 @@ pub one-less : (marks : List Bool) (k t : ℕ) → k < length marks → getD mar
     → suc (2 * unmarked (set marks k true)) < t
 one-less marks k t b e q = omega (arith, unmarked-set marks k b e)
 
-module _ {table : List ℕ} {n : ℕ} {waitings : List ℕ} {m : ℕ} {marks : List Bool} {found : List ℕ} {count : ℕ}
-    (a : Askable table n waitings m marks found count) where
-  pub mark-set : (k : ℕ) → Askable table n waitings m (set marks k true) found count
-  mark-set k = record { rows = a .rows; waitingRows = a .waitingRows; few = a .few; marked = rw length-set (a .marked); room = a .room }
+module _ {table index : List ℕ} {n : ℕ} {waitings order : List ℕ} {m : ℕ} {marks : List Bool} {found : List ℕ} {count : ℕ}
+    (a : Askable table index n waitings order m marks found count) where
+  pub mark-set : (k : ℕ) → Askable table index n waitings order m (set marks k true) found count
+  mark-set k = record { rows = a .rows; sorted = a .sorted; few = a .few; marked = rw length-set (a .marked); room = a .room }
 
   -- its list stands in the table
   pub asks-inside : (k entries : ℕ) → k < m → entries ≡ asksCount waitings k
       → asksPlace k + sizes .hash * entries ≤ length waitings
-  asks-inside k entries b c = omega (arith, a .few k b, a .waitingRows)
+  asks-inside k entries b c = omega (arith, a .few k b, a .sorted .inside)
 
   -- with other marks and found hashes
   pub still-askable : {marks′ : List Bool} {found′ : List ℕ} {count′ : ℕ} → length marks′ ≡ length marks → length found′ ≡ length found
       → sizes .hash * count′ ≤ length found
-      → Askable table n waitings m marks′ found′ count′
-  still-askable p q r = record { rows = a .rows; waitingRows = a .waitingRows; few = a .few; marked = rw p (a .marked); room = rw q r }
+      → Askable table index n waitings order m marks′ found′ count′
+  still-askable p q r = record { rows = a .rows; sorted = a .sorted; few = a .few; marked = rw p (a .marked); room = rw q r }
 
 -- ---- each change of a list in turn
 
@@ -132,11 +134,12 @@ blank (suc n) zero = refl
 blank (suc n) (suc k) = blank n k
 
 module _ (table : List ℕ) (n : ℕ) (waitings : List ℕ) (m : ℕ) (d : WaitingDecoded (rowsAt table 0 n) waitings m) where
-  pub askable-first : (found : List ℕ) → n * rowSize ≤ length table → Askable table n waitings m (replicate (sizes .waitingRows) false) found 0
-  askable-first found b =
+  pub askable-first : (index order found : List ℕ) → Indexed table index n → Sorted waitings order m
+      → Askable table index n waitings order m (replicate (sizes .waitingRows) false) found 0
+  askable-first index order found b o =
       record {
         rows = b;
-        waitingRows = omega (arith, d .whole);
+        sorted = o;
         few = λ i h. decoded-asks-count (rowsAt table 0 n) waitings m d i h;
         marked = rw (length-replicate (sizes .waitingRows) false) (d .few);
         room = omega arith;

@@ -14,7 +14,7 @@ use Rattle.rules.proofs.Cases.{split, either, or-right}
 use Rattle.rules.proofs.OrderLaws.{insert-member, up-to-fits, up-to-ascends, member-here, member-there}
 use Rattle.rules.specs.Order.{member, ascends, insertOnce, insertUpTo}
 use Rattle.tables.specs.Table.{Row, held, indexIn}
-use Rattle.tables.specs.Waiting.{Waiting, waiting, asks, asksOf}
+use Rattle.waiting.specs.Waiting.{Waiting, waiting, asks, asksOf}
 use Rattle.missing.specs.Missing.{unknown, Missing, itself, through}
 use Rattle.missing.specs.Ask.{Request, change, list, Asks, held-hash, marked, waits, unknown-hash, none, more}
 

@@ -17,13 +17,16 @@ use Rattle.rules.specs.declared.refusal.Refusal.{Refusal}
 use Rattle.rules.specs.declared.refusal.Refusal.the-variants.{PastSize}
 use Rattle.rules.proofs.Outputs.{refused}
 use Rattle.rules.proofs.PassedLaws.{after-refused, after-hashes}
-use Rattle.tables.specs.Bytes.{rowsAt, waitingOf, tableChecked, waitingChecked}
+use Rattle.index.specs.Index.{indexChecked}
+use Rattle.index.proofs.CheckLaws.{checked-table}
+use Rattle.tables.specs.Bytes.{rowsAt}
 use Rattle.tables.specs.Calls.{afterCheck}
 use Rattle.tables.specs.Table.{Row}
-use Rattle.tables.specs.Waiting.{Waiting}
 use Rattle.tables.specs.declared.check.Checked.the-variants.{Good}
 use Rattle.tables.specs.declared.check.Checked.the-variants as checked
 use Rattle.tables.proofs.TableLaws.{table-good}
+use Rattle.waiting.specs.Bytes.{waitingOf, waitingChecked}
+use Rattle.waiting.specs.Waiting.{Waiting}
 use Rattle.missing.specs.Ask.{Found}
 use Rattle.missing.specs.Calls.{missingOf, missingFrom, missingBeside, missingOutput}
 use Rattle.missing.specs.Missing.{missing}
@@ -80,12 +83,12 @@ module _ (t : List Row) (w l out : List ℕ) where
   unfolding missingBeside afterCheck
   beside-good m e v = rw e v
 
-module _ (s w l out : List ℕ) where
-  pub call-refused : (r : Refusal) → tableChecked s ≡ checked.Refused r → Written (missingOutput s w l) out out (Refused r)
+module _ (s x w l out : List ℕ) where
+  pub call-refused : (r : Refusal) → indexChecked s x ≡ checked.Refused r → Written (missingOutput s x w l) out out (Refused r)
   unfolding missingOutput afterCheck
   call-refused r e = rw e (refused r out)
 
-  pub call-good : (n : ℕ) {out′ : List ℕ} {r : Write} → tableChecked s ≡ Good n → Written (missingBeside (rowsAt s 0 n) w l) out out′ r
-      → Written (missingOutput s w l) out out′ r
+  pub call-good : (n : ℕ) {out′ : List ℕ} {r : Write} → indexChecked s x ≡ Good n → Written (missingBeside (rowsAt s 0 n) w l) out out′ r
+      → Written (missingOutput s x w l) out out′ r
   unfolding missingOutput afterCheck
-  call-good n e v = rw (e, table-good s n e .is) v
+  call-good n e v = rw (e, table-good s n (checked-table s x n e) .is) v

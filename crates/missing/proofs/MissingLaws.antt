@@ -16,9 +16,9 @@ use Rattle.rules.proofs.Cases.{split, both, true-false, same-truth, either, or-
 use Rattle.rules.proofs.OrderLaws.{ascend-ascends, ascend-members, member-append, member-here, member-none, ascending-unique, ascending-shorter}
 use Rattle.rules.proofs.ReachLaws.{reach-base, reach-closed, reach-least}
 use Rattle.tables.specs.Table.{Row, held, indexIn}
-use Rattle.tables.specs.Waiting.{Waiting, noWaiting, waiting, asks, asksOf}
 use Rattle.tables.proofs.TableLaws.{index-of-member, entry-at-index, member-at, index-of-entry}
-use Rattle.tables.proofs.WaitingLaws.{length-waiting}
+use Rattle.waiting.specs.Waiting.{Waiting, noWaiting, waiting, asks, asksOf}
+use Rattle.waiting.proofs.WaitingLaws.{length-waiting}
 use Rattle.missing.specs.Missing.{unknown, Missing, itself, through, askedRow, asksFrom, missing}
 use Rattle.missing.specs.Ask.{list, Asks}
 use Rattle.missing.proofs.AskLaws.{asked, more-missing, missing-found, asked-settled, newly-settled, found-missing, still-ascending}

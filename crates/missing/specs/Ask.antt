@@ -5,13 +5,15 @@ use mathlib.Core.Bool.{Bool, true, false}
 use mathlib.Core.List.{List, [], _∷_}
 use mathlib.Core.Path.{_≡_}
 use lib.ListN.{length, getD, set}
+use Rattle.index.specs.Index.{Indexed}
 use Rattle.rules.specs.Hash.{hashesAt}
 use Rattle.rules.specs.Order.{member, insertUpTo}
 use Rattle.rules.specs.Output.{Gathered}
 use Rattle.rules.specs.Sizes.{sizes}
-use Rattle.tables.specs.Bytes.{rowSize, waitingSize, rowsAt, waitingsAt, asksCount}
+use Rattle.tables.specs.Bytes.{rowsAt}
 use Rattle.tables.specs.Table.{Row, held, indexIn}
-use Rattle.tables.specs.Waiting.{Waiting, waiting, asks}
+use Rattle.waiting.specs.Bytes.{waitingsAt, asksCount, Sorted}
+use Rattle.waiting.specs.Waiting.{Waiting, waiting, asks}
 
 -- One change is asked, or a list of them.
 pub data Request : Type 0 where
@@ -37,11 +39,11 @@ pub data Asks (t : List Row) (w : List Waiting) (most : ℕ) : Request → List 
       → Asks t w most (list hs) m′ l′ m″ l″
       → Asks t w most (list (h ∷ hs)) m l m″ l″
 
--- What the functions need: the rows are there, no waiting row asks for more than a change may, each has a mark, and the found hashes stand in
--- their buffer.
-pub record Askable (table : List ℕ) (n : ℕ) (waitings : List ℕ) (m : ℕ) (marks : List Bool) (found : List ℕ) (count : ℕ) : Type 0 where
-  pub rows : n * rowSize ≤ length table
-  pub waitingRows : m * waitingSize ≤ length waitings
+-- What the functions need: the rows are good and their index fits them, the waiting rows' numbers stand in order of their hashes, none asks for more
+-- than a change may, each has a mark, and the found hashes stand in their buffer.
+pub record Askable (table index : List ℕ) (n : ℕ) (waitings order : List ℕ) (m : ℕ) (marks : List Bool) (found : List ℕ) (count : ℕ) : Type 0 where
+  pub rows : Indexed table index n
+  pub sorted : Sorted waitings order m
   pub few : (i : ℕ) → i < m → asksCount waitings i ≤ sizes .dependencies
   pub marked : m ≤ length marks
   pub room : sizes .hash * count ≤ length found

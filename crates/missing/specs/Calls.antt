@@ -1,19 +1,21 @@
--- What the public call writes, refusals in 01's order: 4 and 6 for the change table, 4 and 9 for the waiting table, 4 (then 1) for a passed
--- list, 4 for the resulting list; 7 comes last (`Written`).
+-- What the public call writes, refusals in 01's order: 4 and 6 for the change table, 12 for its index, 4 and 9 for the waiting table, 4 (then 1)
+-- for a passed list, 4 for the resulting list; 7 comes last (`Written`).
 use Prim.Native.Nat.{ℕ}
 use mathlib.Core.Bool.{cond}
 use mathlib.Core.List.{List}
 use lib.Dec.{ltb}
 use lib.ListN.{length}
+use Rattle.index.specs.Index.{indexChecked}
 use Rattle.rules.specs.Hash.{hashesAt, hashesBytes}
 use Rattle.rules.specs.Output.{Output}
 use Rattle.rules.specs.Passed.{passedHashes, afterPassed}
 use Rattle.rules.specs.Sizes.{sizes}
 use Rattle.rules.specs.declared.refusal.Refusal.the-variants.{PastSize}
-use Rattle.tables.specs.Bytes.{tableOf, waitingOf, tableChecked, waitingChecked}
+use Rattle.tables.specs.Bytes.{tableOf}
 use Rattle.tables.specs.Calls.{afterCheck}
 use Rattle.tables.specs.Table.{Row}
-use Rattle.tables.specs.Waiting.{Waiting}
+use Rattle.waiting.specs.Bytes.{waitingOf, waitingChecked}
+use Rattle.waiting.specs.Waiting.{Waiting}
 use Rattle.missing.specs.Missing.{missing}
 
 -- What is missing from some hashes: 4 where that is more than a list may have.
@@ -30,5 +32,5 @@ missingFrom t w l = afterPassed (passedHashes l) Output.refuse (λ count. missin
 unfoldable pub missingBeside : List Row → List ℕ → List ℕ → Output
 missingBeside t w l = afterCheck (waitingChecked t w) (λ m. missingFrom t (waitingOf w) l)
 
-unfoldable pub missingOutput : List ℕ → List ℕ → List ℕ → Output
-missingOutput s w l = afterCheck (tableChecked s) (λ n. missingBeside (tableOf s) w l)
+unfoldable pub missingOutput : List ℕ → List ℕ → List ℕ → List ℕ → Output
+missingOutput s x w l = afterCheck (indexChecked s x) (λ n. missingBeside (tableOf s) w l)

@@ -8,7 +8,7 @@ use lib.ListN.{length, getD}
 use Rattle.rules.specs.Order.{member, ascend, keep}
 use Rattle.rules.specs.Reach.{reach}
 use Rattle.tables.specs.Table.{Row, held}
-use Rattle.tables.specs.Waiting.{Waiting, waiting, asksOf, asks}
+use Rattle.waiting.specs.Waiting.{Waiting, waiting, asksOf, asks}
 
 -- A hash that is neither held nor waiting.
 unfoldable pub unknown : List Row → List Waiting → ℕ → Bool

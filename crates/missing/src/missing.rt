@@ -1,4 +1,6 @@
 // What is missing from a list of hashes. One change is asked, or a list of them in turn, and a change that waits asks its own list.
+use index::check::check_indexed;
+use index::look::look_up;
 use rules::hashes::insert_hash;
 use rules::output::Write;
 use rules::passed::Passed;
@@ -9,21 +11,23 @@ use rules::sizes::HASH_SIZE;
 use rules::sizes::HASHES;
 use rules::sizes::WAITING_ROWS;
 use tables::check::Checked;
-use tables::check::check_table;
-use tables::find::find_row;
-use tables::find::find_waiting;
-use tables::row::ASKS_PLACE;
-use tables::row::WAITING_SIZE;
-use tables::waiting::asks_count;
-use tables::waiting::check_waiting;
+use waiting::check::asks_count;
+use waiting::check::check_waiting;
+use waiting::find::ORDER_SIZE;
+use waiting::find::find_waiting;
+use waiting::find::order_waiting;
+use waiting::row::ASKS_PLACE;
+use waiting::row::WAITING_SIZE;
 ghost use mathlib.Core.Path.{_≡_};
 ghost use Prim.Native.Nat.{_+_, _*_, _/_, _≤_};
 ghost use lib.ListN.{length};
+ghost use Rattle.index.specs.Index.{Indexed};
 ghost use Rattle.rules.specs.Hash.{hashAt, hashesAt, hashesBytes};
 ghost use Rattle.rules.specs.Output.{Output, Written};
 ghost use Rattle.rules.specs.Sizes.{sizes};
-ghost use Rattle.tables.specs.Bytes.{rowSize, rowsAt, waitingOf, waitingChecked};
+ghost use Rattle.tables.specs.Bytes.{rowsAt};
 ghost use Rattle.tables.specs.declared.check.Checked.the-variants.{Good};
+ghost use Rattle.waiting.specs.Bytes.{waitingOf, waitingChecked};
 ghost use Rattle.missing.specs.Ask.{Request, Askable, Asked, Found};
 ghost use Rattle.missing.specs.Calls.{missingFrom, missingBeside, missingOutput};
 ghost use Rattle.missing.specs.Missing.{missing};
@@ -35,8 +39,10 @@ const LIST_SIZE: usize = HASH_SIZE * (HASHES + 1);
 // many hashes are found then. The marks make the calls end: each list is asked with one row less unmarked.
 fn ask_change(
     table: &[u8],
+    index: &[u8],
     n: usize,
     waiting: &[u8],
+    order: &[u8],
     m: usize,
     marks: &mut [bool],
     list: &mut [u8],
@@ -44,14 +50,14 @@ fn ask_change(
     bytes: &[u8],
     at: usize,
 ) -> usize
-    requires { ⌜ Askable (now table) n (now waiting) m (now marks) (now list) count × (at + sizes .hash ≤ length (now bytes)) ⌝ }
+    requires { ⌜ Askable (now table) (now index) n (now waiting) (now order) m (now marks) (now list) count × (at + sizes .hash ≤ length (now bytes)) ⌝ }
     ensures { λ r. ⌜ Asked (now (table .entry)) n (now (waiting .entry)) m (Request.change (hashAt (now (bytes .entry)) at))
         (now (marks .entry)) (now (list .entry)) count (now (marks .exit)) (now (list .exit)) r ⌝ }
 {
-    if find_row(table, n, bytes, at) < n {
+    if look_up(table, index, n, bytes, at) < n {
         return count;
     }
-    let row = find_waiting(waiting, m, bytes, at);
+    let row = find_waiting(waiting, order, m, bytes, at);
     if m <= row {
         return insert_hash(list, count, bytes, at);
     }
@@ -63,8 +69,10 @@ fn ask_change(
     let entries = asks_count(waiting, row);
     ask_list(
         table,
+        index,
         n,
         waiting,
+        order,
         m,
         marks,
         list,
@@ -78,8 +86,10 @@ fn ask_change(
 // Asks each change of a list in turn.
 fn ask_list(
     table: &[u8],
+    index: &[u8],
     n: usize,
     waiting: &[u8],
+    order: &[u8],
     m: usize,
     marks: &mut [bool],
     list: &mut [u8],
@@ -88,7 +98,7 @@ fn ask_list(
     place: usize,
     entries: usize,
 ) -> usize
-    requires { ⌜ Askable (now table) n (now waiting) m (now marks) (now list) count × (place + sizes .hash * entries ≤ length (now bytes)) ⌝ }
+    requires { ⌜ Askable (now table) (now index) n (now waiting) (now order) m (now marks) (now list) count × (place + sizes .hash * entries ≤ length (now bytes)) ⌝ }
     ensures { λ r. ⌜ Asked (now (table .entry)) n (now (waiting .entry)) m (Request.list (hashesAt (now (bytes .entry)) place entries))
         (now (marks .entry)) (now (list .entry)) count (now (marks .exit)) (now (list .exit)) r ⌝ }
 {
@@ -97,8 +107,10 @@ fn ask_list(
     while i < entries {
         found = ask_change(
             table,
+            index,
             n,
             waiting,
+            order,
             m,
             marks,
             list,
@@ -115,6 +127,7 @@ fn ask_list(
 // list.
 pub fn find_missing(
     table: &[u8],
+    index: &[u8],
     n: usize,
     waiting: &[u8],
     m: usize,
@@ -123,16 +136,20 @@ pub fn find_missing(
     entries: usize,
     list: &mut [u8],
 ) -> usize
-    requires { ⌜ (n * rowSize ≤ length (now table))
+    requires { ⌜ Indexed (now table) (now index) n
         × ((waitingChecked (rowsAt (now table) 0 n) (now waiting) ≡ Good m) × (place + sizes .hash * entries ≤ length (now bytes))) ⌝ }
     ensures { λ r. ⌜ Found (missing (rowsAt (now (table .entry)) 0 n) (waitingOf (now (waiting .entry))) (hashesAt (now (bytes .entry)) place entries))
         (length (now (list .entry)) / sizes .hash) (now (list .exit)) r ⌝ }
 {
+    let mut order = [0u8; ORDER_SIZE];
+    order_waiting(waiting, m, &mut order);
     let mut marks = [false; WAITING_ROWS];
     ask_list(
         table,
+        index,
         n,
         waiting,
+        &order,
         m,
         &mut marks,
         list,
@@ -144,8 +161,16 @@ pub fn find_missing(
 }
 
 // What is missing from a list, for tables that are good: the list's own refusals, then 4 for too many hashes, then 7.
-fn missing_from(table: &[u8], n: usize, waiting: &[u8], m: usize, l: &[u8], out: &mut [u8]) -> Write
-    requires { ⌜ (n * rowSize ≤ length (now table)) × (waitingChecked (rowsAt (now table) 0 n) (now waiting) ≡ Good m) ⌝ }
+fn missing_from(
+    table: &[u8],
+    index: &[u8],
+    n: usize,
+    waiting: &[u8],
+    m: usize,
+    l: &[u8],
+    out: &mut [u8],
+) -> Write
+    requires { ⌜ Indexed (now table) (now index) n × (waitingChecked (rowsAt (now table) 0 n) (now waiting) ≡ Good m) ⌝ }
     ensures { λ r. ⌜ Written (missingFrom (rowsAt (now (table .entry)) 0 n) (waitingOf (now (waiting .entry))) (now (l .entry)))
         (now (out .entry)) (now (out .exit)) r ⌝ }
 {
@@ -153,7 +178,7 @@ fn missing_from(table: &[u8], n: usize, waiting: &[u8], m: usize, l: &[u8], out:
         Passed::Refused(refusal) => Write::Refused(refusal),
         Passed::Hashes(entries) => {
             let mut list = [0u8; LIST_SIZE];
-            let count = find_missing(table, n, waiting, m, l, 0, entries, &mut list);
+            let count = find_missing(table, index, n, waiting, m, l, 0, entries, &mut list);
             if HASHES < count {
                 return Write::Refused(Refusal::PastSize(0));
             }
@@ -163,23 +188,31 @@ fn missing_from(table: &[u8], n: usize, waiting: &[u8], m: usize, l: &[u8], out:
 }
 
 // The same after the waiting table's check.
-fn missing_beside(table: &[u8], n: usize, waiting: &[u8], l: &[u8], out: &mut [u8]) -> Write
-    requires { ⌜ n * rowSize ≤ length (now table) ⌝ }
+fn missing_beside(
+    table: &[u8],
+    index: &[u8],
+    n: usize,
+    waiting: &[u8],
+    l: &[u8],
+    out: &mut [u8],
+) -> Write
+    requires { ⌜ Indexed (now table) (now index) n ⌝ }
     ensures { λ r. ⌜ Written (missingBeside (rowsAt (now (table .entry)) 0 n) (now (waiting .entry)) (now (l .entry)))
         (now (out .entry)) (now (out .exit)) r ⌝ }
 {
-    match check_waiting(table, n, waiting) {
+    match check_waiting(table, index, n, waiting) {
         Checked::Refused(refusal) => Write::Refused(refusal),
-        Checked::Good(m) => missing_from(table, n, waiting, m, l, out),
+        Checked::Good(m) => missing_from(table, index, n, waiting, m, l, out),
     }
 }
 
 // What is missing from a list of hashes, each once, ascending.
-pub fn missing(table: &[u8], waiting: &[u8], l: &[u8], out: &mut [u8]) -> Write
-    ensures { λ r. ⌜ Written (missingOutput (now (table .entry)) (now (waiting .entry)) (now (l .entry))) (now (out .entry)) (now (out .exit)) r ⌝ }
+pub fn missing(table: &[u8], index: &[u8], waiting: &[u8], l: &[u8], out: &mut [u8]) -> Write
+    ensures { λ r. ⌜ Written (missingOutput (now (table .entry)) (now (index .entry)) (now (waiting .entry)) (now (l .entry)))
+        (now (out .entry)) (now (out .exit)) r ⌝ }
 {
-    match check_table(table) {
+    match check_indexed(table, index) {
         Checked::Refused(refusal) => Write::Refused(refusal),
-        Checked::Good(n) => missing_beside(table, n, waiting, l, out),
+        Checked::Good(n) => missing_beside(table, index, n, waiting, l, out),
     }
 }

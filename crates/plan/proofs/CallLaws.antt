@@ -18,8 +18,8 @@ use Rattle.session.specs.Plan.{plan}
 use Rattle.state.specs.Value.{Lent, valueOf}
 use Rattle.state.specs.declared.session.Session.{Session}
 use Rattle.tables.specs.Bytes.{rowsAt}
-use Rattle.tables.specs.Waiting.{Waiting}
 use Rattle.tables.proofs.TableLaws.{length-rows-at}
+use Rattle.waiting.specs.Waiting.{Waiting}
 use Rattle.draft.specs.Make.{Checked, ReadyRooms, DraftMade, Long, Finished}
 use Rattle.draft.proofs.MadeLaws.{small-made, plan-called}
 
@@ -34,12 +34,12 @@ rooms-kept h n f l s r =
       sentRoom = s ∙ r .sentRoom;
     }
 
-module _ {table : List ℕ} {n : ℕ} {waiting : List ℕ} {m : ℕ} {s : Session} {l : Lent} (k : Checked table n waiting m s l) where
+module _ {table index : List ℕ} {n : ℕ} {waiting : List ℕ} {m : ℕ} {s : Session} {l : Lent} (k : Checked table index n waiting m s l) where
   pub small-checked : {bits probes : ℕ} {w : List Waiting} {ready : Parts} {d : Draft} → Setting bits probes
       → DraftMade bits probes (rowsAt table 0 n) w (valueOf s l) ready d
       → SmallDraft s d bits
   small-checked setting made =
-      let rows : length (rowsAt table 0 n) ≤ sizes .rows = rw (length-rows-at table 0 n) (k .rows .few) in
+      let rows : length (rowsAt table 0 n) ≤ sizes .rows = rw (length-rows-at table 0 n) (k .rows .rows .few) in
       small-made _ _ _ _ s l _ _ made rows (k .session) setting
 
   pub long-ready : (ready : Parts) → ready .shared ≡ l .shared

@@ -1,13 +1,14 @@
 -- The tests before planning: what the code finds is what they say, and what they say is what is planned. Assumes nothing.
-use Prim.Native.Nat.{ℕ, _*_, _≤_}
+use Prim.Native.Nat.{ℕ}
 use mathlib.Core.Bool.{Bool, true, false, cond, not}
 use mathlib.Core.List.{List}
 use mathlib.Core.Path.{_≡_, refl, sym, _∙_}
 use native.Mathlib.Omega.{arith}
-use lib.ListN.{length}
 use Rattle.decide.specs.Call.{Buffers, afterTables, planWith, answerOf, roomed, putInto, PlanCalled}
 use Rattle.decide.specs.declared.answer.Planned.the-variants as answer
 use Rattle.draft.specs.Make.{Checked}
+use Rattle.index.specs.Index.{Indexed, indexChecked}
+use Rattle.index.proofs.CheckLaws.{checked-table, checked-indexed}
 use Rattle.lent.specs.Good.{sessionGood}
 use Rattle.rules.specs.Hash.{hashesBytes}
 use Rattle.rules.specs.declared.refusal.Refusal.{Refusal}
@@ -16,44 +17,45 @@ use Rattle.session.specs.Laid.{laidBytes}
 use Rattle.session.specs.Plan.{Planned, plan}
 use Rattle.state.specs.Value.{Lent, valueOf}
 use Rattle.state.specs.declared.session.Session.{Session}
-use Rattle.tables.specs.Bytes.{rowSize, rowsAt, tableOf, waitingOf, tableChecked, waitingChecked}
-use Rattle.tables.specs.Calls.{passedOn, tablesChecked}
+use Rattle.tables.specs.Bytes.{rowsAt, tableOf}
+use Rattle.tables.specs.Calls.{passedOn}
 use Rattle.tables.specs.Table.{Row}
 use Rattle.tables.specs.declared.check.Checked.{Checked as TableChecked}
 use Rattle.tables.specs.declared.check.Checked.the-variants as tables
-use Rattle.tables.proofs.GoodLaws.{accepted-rows}
 use Rattle.tables.proofs.TableLaws.{table-good}
+use Rattle.waiting.specs.Bytes.{waitingOf, waitingChecked}
+use Rattle.waiting.specs.Calls.{tablesChecked}
 use Rattle.plan.specs.Checks.{besideChecked, afterTable, checkedPlan}
 use Rattle.plan.specs.declared.check.Checks.{Checks}
 use Rattle.plan.specs.declared.check.Checks.the-variants.{Good, Refused}
 
 -- ---- what the code finds
 
-module _ (s : Session) (l : Lent) (table waiting : List ℕ) {found : Bool} (is : found ≡ sessionGood s l) where
-  pub bad-session : found ≡ false → Refused BadNumbers ≡ checkedPlan s l table waiting
+module _ (s : Session) (l : Lent) (table index waiting : List ℕ) {found : Bool} (is : found ≡ sessionGood s l) where
+  pub bad-session : found ≡ false → Refused BadNumbers ≡ checkedPlan s l table index waiting
   unfolding checkedPlan
   bad-session e = rw (sym is ∙ e)
 
-  module _ (good : found ≡ true) {rows : TableChecked} (those : rows ≡ tableChecked table) where
-    pub bad-table : (r : Refusal) → rows ≡ tables.Refused r → Refused r ≡ checkedPlan s l table waiting
+  module _ (good : found ≡ true) {rows : TableChecked} (those : rows ≡ indexChecked table index) where
+    pub bad-table : (r : Refusal) → rows ≡ tables.Refused r → Refused r ≡ checkedPlan s l table index waiting
     unfolding checkedPlan afterTable
     bad-table r e = rw (sym is ∙ good, sym those ∙ e)
 
     module _ (n : ℕ) (there : rows ≡ tables.Good n) {beside : TableChecked} (others : beside ≡ waitingChecked (rowsAt table 0 n) waiting) where
       same : tableOf table ≡ rowsAt table 0 n
-      same = table-good table n (sym those ∙ there) .is
+      same = table-good table n (checked-table table index n (sym those ∙ there)) .is
 
-      pub bad-waiting : (r : Refusal) → beside ≡ tables.Refused r → Refused r ≡ checkedPlan s l table waiting
+      pub bad-waiting : (r : Refusal) → beside ≡ tables.Refused r → Refused r ≡ checkedPlan s l table index waiting
       unfolding checkedPlan afterTable besideChecked
       bad-waiting r e = rw (sym is ∙ good, sym those ∙ there, same, sym others ∙ e)
 
-      pub both-good : (m : ℕ) → beside ≡ tables.Good m → Good n m ≡ checkedPlan s l table waiting
+      pub both-good : (m : ℕ) → beside ≡ tables.Good m → Good n m ≡ checkedPlan s l table index waiting
       unfolding checkedPlan afterTable besideChecked
       both-good m e = rw (sym is ∙ good, sym those ∙ there, same, sym others ∙ e)
 
--- the first rows stand there
-pub rows-there : (table : List ℕ) (n : ℕ) {rows : TableChecked} → rows ≡ tableChecked table → rows ≡ tables.Good n → n * rowSize ≤ length table
-rows-there table n those there = omega (arith, table-good table n (sym those ∙ there) .whole)
+-- the rows are good and the index fits them
+pub rows-indexed : (table index : List ℕ) (n : ℕ) {rows : TableChecked} → rows ≡ indexChecked table index → rows ≡ tables.Good n → Indexed table index n
+rows-indexed table index n those there = checked-indexed table index n (sym those ∙ there)
 
 -- ---- what is planned then
 
@@ -91,50 +93,52 @@ after-good (tables.Good k) t w n m e =
     (rw same, b .1)
 after-good (tables.Refused r) t w n m e = absurd (no-good r n m e)
 
-abbrev checks : Bool → List ℕ → List ℕ → Checks
-checks good table waiting = cond (not good) (Refused BadNumbers) (afterTable (tableChecked table) (tableOf table) waiting)
+abbrev checks : Bool → List ℕ → List ℕ → List ℕ → Checks
+checks good table index waiting =
+    cond (not good) (Refused BadNumbers) (afterTable (indexChecked table index) (tableOf table) waiting)
 
-good-checks : (good : Bool) (table waiting : List ℕ) (n m : ℕ) → checks good table waiting ≡ Good n m
-    → (good ≡ true) × ((tableChecked table ≡ tables.Good n) × (waitingChecked (tableOf table) waiting ≡ tables.Good m))
-good-checks true table waiting n m e = (refl, after-good (tableChecked table) (tableOf table) waiting n m e)
-good-checks false table waiting n m e = absurd (no-good BadNumbers n m e)
+good-checks : (good : Bool) (table index waiting : List ℕ) (n m : ℕ) → checks good table index waiting ≡ Good n m
+    → (good ≡ true) × ((indexChecked table index ≡ tables.Good n) × (waitingChecked (tableOf table) waiting ≡ tables.Good m))
+good-checks true table index waiting n m e = (refl, after-good (indexChecked table index) (tableOf table) waiting n m e)
+good-checks false table index waiting n m e = absurd (no-good BadNumbers n m e)
 
-module _ (s : Session) (l : Lent) (table waiting : List ℕ) (n m : ℕ) {found : Checks} (is : found ≡ checkedPlan s l table waiting) (good : found ≡ Good n m) where
-  parts : (sessionGood s l ≡ true) × ((tableChecked table ≡ tables.Good n) × (waitingChecked (tableOf table) waiting ≡ tables.Good m))
+module _ (s : Session) (l : Lent) (table index waiting : List ℕ) (n m : ℕ) {found : Checks} (is : found ≡ checkedPlan s l table index waiting)
+    (good : found ≡ Good n m) where
+  parts : (sessionGood s l ≡ true) × ((indexChecked table index ≡ tables.Good n) × (waitingChecked (tableOf table) waiting ≡ tables.Good m))
   unfolding checkedPlan
-  parts = good-checks (sessionGood s l) table waiting n m (sym is ∙ good)
+  parts = good-checks (sessionGood s l) table index waiting n m (sym is ∙ good)
 
   same-rows : tableOf table ≡ rowsAt table 0 n
-  same-rows = table-good table n (parts .1 .0) .is
+  same-rows = table-good table n (checked-table table index n (parts .1 .0)) .is
 
-  pub checked : Checked table n waiting m s l
+  pub checked : Checked table index n waiting m s l
   checked =
       record {
-        rows = accepted-rows table n (parts .1 .0);
+        rows = checked-indexed table index n (parts .1 .0);
         waitingRows = rw same-rows at (parts .1 .1);
         session = parts .0;
       }
 
   -- Tables and a session that are good are planned with.
   pub good-plans : (bits probes : ℕ)
-      → planWith bits probes s l table waiting ≡ plan bits probes (rowsAt table 0 n) (waitingOf waiting) (valueOf s l)
+      → planWith bits probes s l table index waiting ≡ plan bits probes (rowsAt table 0 n) (waitingOf waiting) (valueOf s l)
   unfolding planWith tablesChecked passedOn afterTables
   good-plans bits probes = rw (parts .0, parts .1 .0, parts .1 .1, same-rows)
 
-module _ (bits probes : ℕ) (s : Session) (l : Lent) (table waiting : List ℕ) where
+module _ (bits probes : ℕ) (s : Session) (l : Lent) (table index waiting : List ℕ) where
   abbrev plans : Bool → Planned
   plans good =
       cond (not good)
       (Planned.refused BadNumbers)
-      (afterTables (tablesChecked table waiting) (plan bits probes (tableOf table) (waitingOf waiting) (valueOf s l)))
+      (afterTables (tablesChecked table index waiting) (plan bits probes (tableOf table) (waitingOf waiting) (valueOf s l)))
 
-  refused-plans : (good : Bool) (r : Refusal) → checks good table waiting ≡ Refused r → plans good ≡ Planned.refused r
+  refused-plans : (good : Bool) (r : Refusal) → checks good table index waiting ≡ Refused r → plans good ≡ Planned.refused r
   unfolding tablesChecked
-  refused-plans true r e = after-refused (tableChecked table) (tableOf table) waiting r _ e
+  refused-plans true r e = after-refused (indexChecked table index) (tableOf table) waiting r _ e
   refused-plans false r e = let same : BadNumbers ≡ r = cc in rw same
 
   -- A refusal passes on, and leaves the buffers.
-  pub refused-called : (b : Buffers) (r : Refusal) {found : Checks} → found ≡ checkedPlan s l table waiting → found ≡ Refused r
-      → PlanCalled s (planWith bits probes s l table waiting) b b (answer.Refused r)
+  pub refused-called : (b : Buffers) (r : Refusal) {found : Checks} → found ≡ checkedPlan s l table index waiting → found ≡ Refused r
+      → PlanCalled s (planWith bits probes s l table index waiting) b b (answer.Refused r)
   unfolding checkedPlan planWith answerOf roomed putInto hashesBytes laidBytes
   refused-called b r is e = rw (refused-plans (sessionGood s l) r (sym is ∙ e)) (record { answer = refl; buffers = refl })

@@ -1,10 +1,10 @@
 // The tests that come before planning.
+use index::check::check_indexed;
 use lent::good::session_good;
 use rules::refusal::Refusal;
 use state::session::Session;
 use tables::check::Checked;
-use tables::check::check_table;
-use tables::waiting::check_waiting;
+use waiting::check::check_waiting;
 ghost use mathlib.Core.Path.{_≡_};
 ghost use Rattle.lent.specs.Good.{lentOf};
 ghost use Rattle.plan.specs.Checks.{checkedPlan};
@@ -15,7 +15,7 @@ pub enum Checks {
     Refused(Refusal),
 }
 
-// 10, then 4 and 6, then 4 and 9.
+// 10, then 4 and 6, then 12, then 4 and 9.
 pub fn check_plan(
     session: Session,
     shared: &[u8],
@@ -26,12 +26,13 @@ pub fn check_plan(
     bytes: &[u8],
     sent: &[u8],
     table: &[u8],
+    index: &[u8],
     waiting: &[u8],
 ) -> Checks
     ensures { λ r. ⌜ r ≡ checkedPlan session
         (lentOf (now (shared .entry)) (now («last_sent» .entry)) (now («their_heads» .entry)) (now («their_need» .entry)) (now (haves .entry))
         (now (bytes .entry)) (now (sent .entry)))
-        (now (table .entry)) (now (waiting .entry)) ⌝ }
+        (now (table .entry)) (now (index .entry)) (now (waiting .entry)) ⌝ }
 {
     if !session_good(
         session,
@@ -45,9 +46,9 @@ pub fn check_plan(
     ) {
         return Checks::Refused(Refusal::BadNumbers);
     }
-    match check_table(table) {
+    match check_indexed(table, index) {
         Checked::Refused(r) => Checks::Refused(r),
-        Checked::Good(n) => match check_waiting(table, n, waiting) {
+        Checked::Good(n) => match check_waiting(table, index, n, waiting) {
             Checked::Refused(r) => Checks::Refused(r),
             Checked::Good(m) => Checks::Good {
                 rows: n,

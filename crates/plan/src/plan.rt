@@ -19,7 +19,8 @@ ghost use Rattle.lent.specs.Good.{lentOf};
 ghost use Rattle.planning.specs.Made.{Setting};
 ghost use Rattle.session.specs.Plan.{plan as planFor};
 ghost use Rattle.state.specs.Value.{valueOf};
-ghost use Rattle.tables.specs.Bytes.{rowsAt, waitingOf};
+ghost use Rattle.tables.specs.Bytes.{rowsAt};
+ghost use Rattle.waiting.specs.Bytes.{waitingOf};
 ghost use Rattle.draft.specs.Make.{Checked};
 
 // Room for one hash more than a list may have, so that too many show.
@@ -35,6 +36,7 @@ fn plan_checked(
     probes: u64,
     session: Session,
     table: &[u8],
+    index: &[u8],
     n: usize,
     waiting: &[u8],
     m: usize,
@@ -50,7 +52,7 @@ fn plan_checked(
     have: &mut [u8],
     list: &mut [u8],
 ) -> Planned
-    requires { ⌜ Checked (now table) n (now waiting) m session
+    requires { ⌜ Checked (now table) (now index) n (now waiting) m session
         (lentOf (now shared) (now «last_sent») (now «their_heads») (now «their_need») (now haves) (now bytes) (now sent))
         × Setting bits probes ⌝ }
     ensures { λ r. ⌜ PlanCalled session (planFor bits probes (rowsAt (now (table .entry)) 0 n) (waitingOf (now (waiting .entry)))
@@ -70,6 +72,7 @@ fn plan_checked(
         probes,
         session,
         table,
+        index,
         n,
         waiting,
         m,
@@ -112,6 +115,7 @@ pub fn plan(
     probes: u64,
     session: Session,
     table: &[u8],
+    index: &[u8],
     waiting: &[u8],
     shared: &[u8],
     last_sent: &mut [u8],
@@ -129,7 +133,7 @@ pub fn plan(
     ensures { λ r. ⌜ PlanCalled session (planWith bits probes session
         (lentOf (now (shared .entry)) (now («last_sent» .entry)) (now («their_heads» .entry)) (now («their_need» .entry)) (now (haves .entry))
         (now (bytes .entry)) (now (sent .entry)))
-        (now (table .entry)) (now (waiting .entry)))
+        (now (table .entry)) (now (index .entry)) (now (waiting .entry)))
         (buffersOf (now (heads .entry)) (now (need .entry)) (now (have .entry)) (now (list .entry)) (now («last_sent» .entry)) (now (sent .entry)))
         (buffersOf (now (heads .exit)) (now (need .exit)) (now (have .exit)) (now (list .exit)) (now («last_sent» .exit)) (now (sent .exit))) r ⌝ }
 {
@@ -143,6 +147,7 @@ pub fn plan(
         bytes,
         sent,
         table,
+        index,
         waiting,
     ) {
         Checks::Refused(r) => Planned::Refused(r),
@@ -151,6 +156,7 @@ pub fn plan(
             probes,
             session,
             table,
+            index,
             rows,
             waiting,
             waiting_rows,
@@ -173,6 +179,7 @@ pub fn plan(
 pub fn generate_sync_message(
     session: Session,
     table: &[u8],
+    index: &[u8],
     waiting: &[u8],
     shared: &[u8],
     last_sent: &mut [u8],
@@ -189,7 +196,7 @@ pub fn generate_sync_message(
     ensures { λ r. ⌜ PlanCalled session (planWith defaultBits defaultProbes session
         (lentOf (now (shared .entry)) (now («last_sent» .entry)) (now («their_heads» .entry)) (now («their_need» .entry)) (now (haves .entry))
         (now (bytes .entry)) (now (sent .entry)))
-        (now (table .entry)) (now (waiting .entry)))
+        (now (table .entry)) (now (index .entry)) (now (waiting .entry)))
         (buffersOf (now (heads .entry)) (now (need .entry)) (now (have .entry)) (now (list .entry)) (now («last_sent» .entry)) (now (sent .entry)))
         (buffersOf (now (heads .exit)) (now (need .exit)) (now (have .exit)) (now (list .exit)) (now («last_sent» .exit)) (now (sent .exit))) r ⌝ }
 {
@@ -198,6 +205,7 @@ pub fn generate_sync_message(
         NUM_PROBES,
         session,
         table,
+        index,
         waiting,
         shared,
         last_sent,

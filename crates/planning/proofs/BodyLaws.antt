@@ -11,6 +11,7 @@ use Rattle.bloom.specs.Have.{Have, haveWords, havesOf}
 use Rattle.graph.specs.Marks.{Marks, Blank, pickFrom, picked}
 use Rattle.graph.proofs.GraphMarks.{many-rows, marked-rows}
 use Rattle.graph.proofs.PickLaws.{rows-picked}
+use Rattle.index.specs.Index.{Indexed}
 use Rattle.lent.specs.Good.{heardGood, havesGood}
 use Rattle.lent.proofs.GoodLaws.{heard-count}
 use Rattle.lent.proofs.GoodSessions.{HavesParts, list-parts, haves-parts}
@@ -146,9 +147,9 @@ module _ (s haves : List ℕ) (have : Heard) (count : ℕ) (h : have ≡ Count c
   pub heard-records : haveWords * count ≤ length haves
   heard-records = heard-haves .there
 
-  module _ (table : List ℕ) (n : ℕ) (good : GoodRows table n) (theirs : List ℕ) (need : Heard) (k : ℕ) (l : need ≡ Count k)
+  module _ (table index : List ℕ) (n : ℕ) (good : Indexed table index n) (theirs : List ℕ) (need : Heard) (k : ℕ) (l : need ≡ Count k)
       (asked : heardGood theirs need ≡ true) where
-    pub heard-choosable : Choosable table n s (keptHaves haves count) theirs 0 k
+    pub heard-choosable : Choosable table index n s (keptHaves haves count) theirs 0 k
     heard-choosable =
         let q = list-parts theirs k (sym (heard-count theirs need k l) ∙ asked) in
         record {
@@ -160,4 +161,4 @@ module _ (s haves : List ℕ) (have : Heard) (count : ℕ) (h : have ≡ Count c
         }
 
     pub heard-room : (room : ℕ) → sizes .hash * sizes .hashesToSend ≤ room → sizes .hash * (k + n) ≤ room
-    heard-room room r = omega (arith, heard-choosable .few, good .few)
+    heard-room room r = omega (arith, heard-choosable .few, good .rows .few)

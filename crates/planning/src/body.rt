@@ -13,6 +13,7 @@ ghost use mathlib.Core.Path.{_≡_};
 ghost use Prim.Native.Nat.{_+_, _*_, _≤_};
 ghost use lib.ListN.{length};
 ghost use Rattle.bloom.specs.Have.{havesOf};
+ghost use Rattle.index.specs.Index.{Indexed};
 ghost use Rattle.lent.specs.Good.{heardGood, havesGood};
 ghost use Rattle.rules.specs.Hash.{hashesAt};
 ghost use Rattle.rules.specs.Output.{Gathered};
@@ -50,6 +51,7 @@ fn make_document(table: &[u8], n: usize, list: &mut [u8]) -> Body
 // Puts the hashes to send, less those that were sent, into the list, and returns how many they are.
 fn make_list(
     table: &[u8],
+    index: &[u8],
     n: usize,
     bytes: &[u8],
     haves: &[u64],
@@ -59,7 +61,7 @@ fn make_list(
     before: usize,
     list: &mut [u8],
 ) -> usize
-    requires { ⌜ Choosable (now table) n (now bytes) (now haves) (now need) 0 count × (sizes .hash * before ≤ length (now sent))
+    requires { ⌜ Choosable (now table) (now index) n (now bytes) (now haves) (now need) 0 count × (sizes .hash * before ≤ length (now sent))
         × (sizes .hash * (count + n) ≤ length (now list)) ⌝ }
     ensures { λ r. ⌜ Gathered (toSendLess (rowsAt (now (table .entry)) 0 n) (havesOf (now (bytes .entry)) (now (haves .entry)))
         (hashesAt (now (need .entry)) 0 count) (hashesAt (now (sent .entry)) 0 before)) (now (list .exit)) r ⌝ }
@@ -68,6 +70,7 @@ fn make_list(
     let mut needs = [false; HASHES];
     let total = choose(
         table,
+        index,
         n,
         bytes,
         haves,
@@ -96,6 +99,7 @@ fn goes_whole(v2: bool, reason: bool) -> bool
 // The body for haves and a need that were heard. `lost`: the peer is heard to have no heads.
 fn body_for(
     table: &[u8],
+    index: &[u8],
     n: usize,
     v2: bool,
     lost: bool,
@@ -107,7 +111,7 @@ fn body_for(
     before: usize,
     list: &mut [u8],
 ) -> Body
-    requires { ⌜ Choosable (now table) n (now bytes) (now haves) (now need) 0 count × (sizes .hash * before ≤ length (now sent))
+    requires { ⌜ Choosable (now table) (now index) n (now bytes) (now haves) (now need) 0 count × (sizes .hash * before ≤ length (now sent))
         × (sizes .hash * (count + n) ≤ length (now list)) ⌝ }
     ensures { λ r. ⌜ BodyMade (bodyFor (rowsAt (now (table .entry)) 0 n) v2 lost (havesOf (now (bytes .entry)) (now (haves .entry)))
         (hashesAt (now (need .entry)) 0 count) (hashesAt (now (sent .entry)) 0 before)) (now (list .exit)) r ⌝ }
@@ -115,7 +119,18 @@ fn body_for(
     if goes_whole(v2, lost) {
         return make_document(table, n, list);
     }
-    let hashes = make_list(table, n, bytes, haves, need, count, sent, before, list);
+    let hashes = make_list(
+        table,
+        index,
+        n,
+        bytes,
+        haves,
+        need,
+        count,
+        sent,
+        before,
+        list,
+    );
     if goes_whole(v2, n / DOCUMENT_PART < hashes) {
         return make_document(table, n, list);
     }
@@ -128,6 +143,7 @@ fn body_for(
 // The body for a peer that takes changes or doesn't, and what was heard of it.
 pub fn make_body(
     table: &[u8],
+    index: &[u8],
     n: usize,
     peer_read_only: bool,
     v2: bool,
@@ -141,7 +157,7 @@ pub fn make_body(
     before: usize,
     list: &mut [u8],
 ) -> Body
-    requires { ⌜ GoodRows (now table) n × (havesGood (now bytes) (now haves) have ≡ true) × (heardGood (now «their_need») need ≡ true)
+    requires { ⌜ Indexed (now table) (now index) n × (havesGood (now bytes) (now haves) have ≡ true) × (heardGood (now «their_need») need ≡ true)
         × (sizes .hash * before ≤ length (now sent)) × (sizes .hash * sizes .hashesToSend ≤ length (now list)) ⌝ }
     ensures { λ r. ⌜ BodyMade (cond «peer_read_only» (listOf []) (bodyHeard (rowsAt (now (table .entry)) 0 n) v2 lost
         (heardHaves (now (bytes .entry)) (now (haves .entry)) have) (heardHashes (now («their_need» .entry)) need)
@@ -163,6 +179,7 @@ pub fn make_body(
     let kept = &haves[..HAVE_WORDS * count];
     body_for(
         table,
+        index,
         n,
         v2,
         lost,

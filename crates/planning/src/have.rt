@@ -17,13 +17,14 @@ ghost use mathlib.Core.Bool.{true};
 ghost use mathlib.Core.Path.{_≡_};
 ghost use Prim.Native.Nat.{_*_, _≤_};
 ghost use lib.ListN.{length};
+ghost use Rattle.index.specs.Index.{Indexed};
 ghost use Rattle.lent.specs.Good.{heardGood, havesGood};
 ghost use Rattle.rules.specs.Hash.{hashesAt};
 ghost use Rattle.rules.specs.Order.{member, every};
 ghost use Rattle.rules.specs.Sizes.{sizes};
 ghost use Rattle.session.specs.Plan.{heard, unknownSync};
 ghost use Rattle.state.specs.Value.{heardHashes, heardHaves};
-ghost use Rattle.tables.specs.Bytes.{rowsAt, GoodRows};
+ghost use Rattle.tables.specs.Bytes.{rowsAt};
 ghost use Rattle.graph.specs.Graph.{beyond};
 ghost use Rattle.planning.specs.Made.{Setting, FieldMade};
 
@@ -41,16 +42,18 @@ pub fn make_field(
     bits: u64,
     probes: u64,
     table: &[u8],
+    index: &[u8],
     n: usize,
     shared: &[u8],
     count: usize,
     field: &mut [u8],
 ) -> usize
-    requires { ⌜ GoodRows (now table) n × (sizes .hash * count ≤ length (now shared)) × Setting bits probes × (sizes .field ≤ length (now field)) ⌝ }
+    requires { ⌜ Indexed (now table) (now index) n × (sizes .hash * count ≤ length (now shared)) × Setting bits probes
+        × (sizes .field ≤ length (now field)) ⌝ }
     ensures { λ r. ⌜ FieldMade bits probes (beyond (rowsAt (now (table .entry)) 0 n) (hashesAt (now (shared .entry)) 0 count)) (now (field .exit)) r ⌝ }
 {
     let mut marks = [false; ROWS];
-    mark_at_or_below(table, n, shared, 0, count, &mut marks);
+    mark_at_or_below(table, index, n, shared, 0, count, &mut marks);
     flip(n, &mut marks);
     let mut list = [0u8; LIST_SIZE];
     put_marked(table, n, &marks, &mut list, 0);
@@ -61,12 +64,26 @@ pub fn make_field(
 }
 
 // Whether the first have that was heard, if there is one, names a last-sync hash that isn't held.
-pub fn unknown_sync(table: &[u8], n: usize, bytes: &[u8], haves: &[u64], have: Heard) -> bool
-    requires { ⌜ GoodRows (now table) n × (havesGood (now bytes) (now haves) have ≡ true) ⌝ }
+pub fn unknown_sync(
+    table: &[u8],
+    index: &[u8],
+    n: usize,
+    bytes: &[u8],
+    haves: &[u64],
+    have: Heard,
+) -> bool
+    requires { ⌜ Indexed (now table) (now index) n × (havesGood (now bytes) (now haves) have ≡ true) ⌝ }
     ensures { λ r. ⌜ r ≡ unknownSync (rowsAt (now (table .entry)) 0 n) (heardHaves (now (bytes .entry)) (now (haves .entry)) have) ⌝ }
 {
     if heard_count(have) == 0 {
         return false;
     }
-    !all_held(table, n, bytes, sync_place(haves, 0), sync_count(haves, 0))
+    !all_held(
+        table,
+        index,
+        n,
+        bytes,
+        sync_place(haves, 0),
+        sync_count(haves, 0),
+    )
 }

@@ -6,13 +6,15 @@ ghost use mathlib.Core.Bool.{cond, true};
 ghost use mathlib.Core.Path.{_≡_};
 ghost use Prim.Native.Nat.{_/_};
 ghost use lib.ListN.{length};
+ghost use Rattle.index.specs.Index.{Indexed};
 ghost use Rattle.lent.specs.Good.{heardGood};
 ghost use Rattle.missing.specs.Ask.{Found};
 ghost use Rattle.rules.specs.Sizes.{sizes};
 ghost use Rattle.session.specs.Plan.{heard, needOf};
 ghost use Rattle.state.specs.Value.{heardCount, heardHashes};
-ghost use Rattle.tables.specs.Bytes.{rowsAt, waitingOf, waitingChecked, GoodRows};
+ghost use Rattle.tables.specs.Bytes.{rowsAt};
 ghost use Rattle.tables.specs.declared.check.Checked.the-variants.{Good};
+ghost use Rattle.waiting.specs.Bytes.{waitingOf, waitingChecked};
 
 // How many of the heads that were heard are asked for: none by a read-only unit.
 fn asked(read_only: bool, heads: Heard) -> usize
@@ -27,6 +29,7 @@ fn asked(read_only: bool, heads: Heard) -> usize
 // What is missing from the heads that were heard: puts it into the list and returns how much it is, or fills the list.
 pub fn make_need(
     table: &[u8],
+    index: &[u8],
     n: usize,
     waiting: &[u8],
     m: usize,
@@ -35,13 +38,14 @@ pub fn make_need(
     heads: Heard,
     list: &mut [u8],
 ) -> usize
-    requires { ⌜ GoodRows (now table) n × (waitingChecked (rowsAt (now table) 0 n) (now waiting) ≡ Good m)
+    requires { ⌜ Indexed (now table) (now index) n × (waitingChecked (rowsAt (now table) 0 n) (now waiting) ≡ Good m)
         × (heardGood (now «their_heads») heads ≡ true) ⌝ }
     ensures { λ r. ⌜ Found (needOf (rowsAt (now (table .entry)) 0 n) (waitingOf (now (waiting .entry))) «read_only»
         (heard (heardHashes (now («their_heads» .entry)) heads))) (length (now (list .entry)) / sizes .hash) (now (list .exit)) r ⌝ }
 {
     find_missing(
         table,
+        index,
         n,
         waiting,
         m,

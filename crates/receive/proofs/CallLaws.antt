@@ -12,6 +12,8 @@ use Rattle.decode.specs.declared.parse.Decoded.{Decoded}
 use Rattle.decode.specs.declared.parse.Decoded.the-variants.{Message as Placed, Refused as NotRead}
 use Rattle.decode.specs.declared.parse.Places.{Places}
 use Rattle.decode.proofs.ReadLaws.{not-placed}
+use Rattle.index.specs.Index.{indexChecked}
+use Rattle.index.proofs.CheckLaws.{checked-table, checked-indexed}
 use Rattle.lent.specs.Good.{sessionGood}
 use Rattle.lent.proofs.GoodSessions.{session-parts}
 use Rattle.message.specs.Flags.{syncReset, hasFlag}
@@ -22,10 +24,9 @@ use Rattle.rules.proofs.Cases.{split}
 use Rattle.session.specs.Receive.{Received, told, receive, receiveRead, receiveBytes}
 use Rattle.state.specs.Value.{Lent, valueOf}
 use Rattle.state.specs.declared.session.Session.{Session}
-use Rattle.tables.specs.Bytes.{rowsAt, tableOf, tableChecked}
+use Rattle.tables.specs.Bytes.{rowsAt, tableOf}
 use Rattle.tables.specs.declared.check.Checked.{Checked}
 use Rattle.tables.specs.declared.check.Checked.the-variants as tables
-use Rattle.tables.proofs.GoodLaws.{accepted-rows}
 use Rattle.tables.proofs.TableLaws.{table-good}
 use Rattle.receiving.specs.Made.{flaggedCounts}
 use Rattle.receive.specs.Call.{afterTable, receiveWith, roomed, refusalAnswer, answerOf, keptIn, roomsIn, ReceiveCalled}
@@ -50,10 +51,10 @@ refused-not-good e = absurd (let z : _≡_ {A = ℕ} 0 1 = cc in omega arith)
 good-not-refused : {A : Type 0} {r : Refusal} {n : ℕ} {p : Places} → checks.Good n p ≡ checks.Refused r → A
 good-not-refused e = absurd (let z : _≡_ {A = ℕ} 0 1 = cc in omega arith)
 
-module _ (s : Session) (l : Lent) (table : List ℕ) (before : ℕ) (message : List ℕ) where
+module _ (s : Session) (l : Lent) (table index : List ℕ) (before : ℕ) (message : List ℕ) where
   module _ (loaded : Bool) where
     abbrev result : Received
-    result = receiveWith loaded before s l table message
+    result = receiveWith loaded before s l table index message
 
     as-refused : (r : Refusal) → Other r → result ≡ Received.refused r (valueOf s l) → ReceiveCalled s result l l (Refused r)
     unfolding roomed answerOf refusalAnswer keptIn
@@ -61,11 +62,11 @@ module _ (s : Session) (l : Lent) (table : List ℕ) (before : ℕ) (message : L
 
     module _ (good : sessionGood s l ≡ true) (r : Refusal) where
       -- 11, and the message's own
-      beside : (n : ℕ) → tableChecked table ≡ tables.Good n → (x : Decoded) → decodedOf (messageAt message) ≡ x
+      beside : (n : ℕ) → indexChecked table index ≡ tables.Good n → (x : Decoded) → decodedOf (messageAt message) ≡ x
           → cond (ltb n before) (checks.Refused BadRowsBefore) (besideRows n x) ≡ checks.Refused r → ReceiveCalled s result l l (Refused r)
       unfolding receiveWith afterTable besideRows receiveBytes receiveRead
       beside n rows x is e =
-          let long : length (tableOf table) ≡ n = table-good table n rows .long in
+          let long : length (tableOf table) ≡ n = table-good table n (checked-table table index n rows) .long in
           split (ltb n before)
           (λ t.
           let f : checks.Refused BadRowsBefore ≡ checks.Refused r = rw t at e in
@@ -79,23 +80,23 @@ module _ (s : Session) (l : Lent) (table : List ℕ) (before : ℕ) (message : L
           go (NotRead f) is t e =
               let same : f ≡ r = cc in
               let q : messageAt message ≡ Reading.refused f = not-placed (messageAt message) f is in
-              let long : length (tableOf table) ≡ n = table-good table n rows .long in
+              let long : length (tableOf table) ≡ n = table-good table n (checked-table table index n rows) .long in
               rw (← same) (as-refused f (message-other message f q) (rw (good, rows, long, t, q)))
 
-      -- 4 and 6 before these
-      after : (x : Checked) → tableChecked table ≡ x → afterRows x before message ≡ checks.Refused r → ReceiveCalled s result l l (Refused r)
+      -- 4, 6 and 12 before these
+      after : (x : Checked) → indexChecked table index ≡ x → afterRows x before message ≡ checks.Refused r → ReceiveCalled s result l l (Refused r)
       unfolding afterRows receiveWith afterTable
       after (tables.Good n) is e = beside n is (decodedOf (messageAt message)) refl e
       after (tables.Refused f) is e =
           let same : f ≡ r = cc in
-          rw (← same) (as-refused f (table-other table f is) (rw (good, is)))
+          rw (← same) (as-refused f (table-other table index f is) (rw (good, is)))
 
     -- a test that fails is the answer, and everything lent stays
-    pub refused-called : (r : Refusal) → checked s l table before message ≡ checks.Refused r → ReceiveCalled s result l l (Refused r)
+    pub refused-called : (r : Refusal) → checked s l table index before message ≡ checks.Refused r → ReceiveCalled s result l l (Refused r)
     unfolding checked receiveWith
     refused-called r e =
         split (sessionGood s l)
-        (λ t. after t r (tableChecked table) refl (rw t at e))
+        (λ t. after t r (indexChecked table index) refl (rw t at e))
         (λ t.
         let f : checks.Refused BadNumbers ≡ checks.Refused r = rw t at e in
         let same : BadNumbers ≡ r = cc in
@@ -107,8 +108,8 @@ module _ (s : Session) (l : Lent) (table : List ℕ) (before : ℕ) (message : L
     beside-good k (Placed f) e = (cc, cc)
     beside-good k (NotRead r) e = refused-not-good e
 
-    after-good : sessionGood s l ≡ true → (x : Checked) → tableChecked table ≡ x → afterRows x before message ≡ checks.Good n p
-        → Accepted s l table n before message p
+    after-good : sessionGood s l ≡ true → (x : Checked) → indexChecked table index ≡ x → afterRows x before message ≡ checks.Good n p
+        → Accepted s l table index n before message p
     unfolding afterRows
     after-good good (tables.Good k) is e =
         split (ltb k before)
@@ -119,24 +120,24 @@ module _ (s : Session) (l : Lent) (table : List ℕ) (before : ℕ) (message : L
     after-good good (tables.Refused r) is e = refused-not-good e
 
     -- all of them passed
-    pub accepted : checked s l table before message ≡ checks.Good n p → Accepted s l table n before message p
+    pub accepted : checked s l table index before message ≡ checks.Good n p → Accepted s l table index n before message p
     unfolding checked
     accepted e =
         split (sessionGood s l)
-        (λ t. after-good t (tableChecked table) refl (rw t at e))
+        (λ t. after-good t (indexChecked table index) refl (rw t at e))
         (λ t. refused-not-good (let f : checks.Refused BadNumbers ≡ checks.Good n p = rw t at e in f))
 
 -- ---- all tests passed
 
-module _ (s : Session) (l : Lent) (table : List ℕ) (n before : ℕ) (message : List ℕ) (p : Places) (ok : Accepted s l table n before message p) where
+module _ (s : Session) (l : Lent) (table index : List ℕ) (n before : ℕ) (message : List ℕ) (p : Places) (ok : Accepted s l table index n before message p) where
   -- what computing asks
-  pub can-make : (flagged : Session) → flagged ≡ flaggedCounts (p .flags) s → Makes flagged table n before message p (l .shared) (l .sent)
+  pub can-make : (flagged : Session) → flagged ≡ flaggedCounts (p .flags) s → Makes flagged table index n before message p (l .shared) (l .sent)
   can-make flagged e =
       let g = session-parts s l (ok .good) in
       let least = forgets-most (told (λ f. hasFlag f syncReset) (p .flags) false) (s .«sent_hashes») in
       rw e
       (record {
-        rows = accepted-rows table n (ok .rows);
+        rows = checked-indexed table index n (ok .rows);
         upTo = ok .inside;
         placed = ok .read;
         shared = g .shared .there;
@@ -166,10 +167,10 @@ module _ (s : Session) (l : Lent) (table : List ℕ) (n before : ℕ) (message :
         together : Outcomes s l table n before message p d (roomsIn l) a values
         together = rw is-decided (outcome s l (ok .good) table n before (ok .inside) message p (ok .read) ready d whole loaded (roomsIn l))
 
-        result-is : receiveWith loaded before s l table message ≡ receive loaded before (rowsAt table 0 n) (valueOf s l) (saidAt message p)
+        result-is : receiveWith loaded before s l table index message ≡ receive loaded before (rowsAt table 0 n) (valueOf s l) (saidAt message p)
         unfolding receiveWith afterTable
         result-is =
-            let t = table-good table n (ok .rows) in
+            let t = table-good table n (checked-table table index n (ok .rows)) in
             let inside : before ≤ length (tableOf table) = omega (arith, t .long, ok .inside) in
             rw (ok .good, ok .rows, read-receives message p (ok .read) loaded before (tableOf table) (valueOf s l) inside, t .is)
 
@@ -181,7 +182,7 @@ module _ (s : Session) (l : Lent) (table : List ℕ) (n before : ℕ) (message :
           -- and the promise
           pub received-called : (puts : Draft) (after : Lent) → Bytes (l .lastSent) → puts ≡ putsOf a d
               → after ≡ allPut puts message (p .heads .start) (p .need .start) ready l
-              → ReceiveCalled s (receiveWith loaded before s l table message) l after a
+              → ReceiveCalled s (receiveWith loaded before s l table index message) l after a
           received-called puts after last is put =
               let kept =
               puts-kept s l (ok .good) table n before (ok .inside) message p (ok .read) ready d whole (stands .long) all a values together last

@@ -1,7 +1,7 @@
--- Neither a table nor a message is refused with 8, which is the host's alone: a failed load is told from every other refusal by its number. Each reader
+-- Neither a table, an index nor a message is refused with 8, which is the host's alone: a failed load is told from every other refusal by its number. Each reader
 -- is gone through once, a refusal being passed on as it is. Assumes nothing.
 use Prim.Native.Nat.{ℕ, zero, suc, _*_, _/_, _%_}
-use mathlib.Core.Bool.{false}
+use mathlib.Core.Bool.{false, cond}
 use mathlib.Core.List.{List}
 use mathlib.Core.Path.{_≡_, refl}
 use lib.Dec.{ltb, leb, eqb}
@@ -16,6 +16,7 @@ use Rattle.decode.specs.declared.opening.Opening.{Opening}
 use Rattle.decode.specs.declared.opening.Opening.the-variants.{Heads, Refused as NotOpened}
 use Rattle.decode.specs.declared.parse.Flagged.{Flagged}
 use Rattle.decode.specs.declared.parse.Flagged.the-variants.{Section as Sectioned, Refused as NoSection}
+use Rattle.index.specs.Index.{indexFits, indexChecked}
 use Rattle.items.specs.Items.{Item, afterItem, haveAt, haveWordsOf, haveItem, chunkItem, manyAt, ItemList, afterList, listFrom, listAt, havesAt, chunksAt}
 use Rattle.items.specs.declared.haves.HaveRead.{HaveRead}
 use Rattle.items.specs.declared.haves.HaveRead.the-variants.{Have, Refused as NoHave}
@@ -29,9 +30,10 @@ use Rattle.numbers.specs.declared.leb128.Number.the-variants.{Value, Refused}
 use Rattle.rules.specs.Refusal.{numberOf}
 use Rattle.rules.specs.Sizes.{sizes}
 use Rattle.rules.specs.declared.refusal.Refusal.{Refusal}
-use Rattle.rules.specs.declared.refusal.Refusal.the-variants.{LoadFailed}
+use Rattle.rules.specs.declared.refusal.Refusal.the-variants.{BadIndex, LoadFailed}
 use Rattle.rules.proofs.Cases.{split}
-use Rattle.tables.specs.Bytes.{rowSize, rowGoodOf, firstBad, checkedWith, tableCheckedOf, tableChecked}
+use Rattle.tables.specs.Bytes.{rowSize, rowGoodOf, firstBad, checkedWith, tableOf, tableCheckedOf, tableChecked}
+use Rattle.tables.specs.Calls.{passedOn}
 use Rattle.tables.specs.declared.check.Checked.{Checked}
 use Rattle.tables.specs.declared.check.Checked.the-variants.{Good, Refused as BadTable}
 use Rattle.wire.specs.Item.{leftAt, afterNumber, afterPart, afterListed, countAt, prefixedAt, hashListAt}
@@ -282,10 +284,21 @@ checked-other s =
     (λ f. rw (e, f) refl)
     (λ f. split (ltb 0 (length s % rowSize)) (λ g. rw (e, f, g) refl) (λ g. rw (e, f, g) tt)))
 
+passed-other : (a b : Checked) → OfChecked a → OfChecked b → OfChecked (passedOn a b)
+unfolding passedOn
+passed-other (Good n) b o q = q
+passed-other (BadTable r) b o q = o
+
+indexed-other : (s x : List ℕ) → OfChecked (indexChecked s x)
+unfolding indexChecked
+indexed-other s x =
+    passed-other (tableChecked s) (cond (indexFits (tableOf s) x) (tableChecked s) (BadTable BadIndex)) (checked-other s)
+    (split (indexFits (tableOf s) x) (λ e. rw e (checked-other s)) (λ e. rw e refl))
+
 -- ---- what is cited
 
 pub message-other : (s : List ℕ) (r : Refusal) → messageAt s ≡ Reading.refused r → Other r
 message-other s r e = rw e at (reading-other s)
 
-pub table-other : (s : List ℕ) (r : Refusal) → tableChecked s ≡ BadTable r → Other r
-table-other s r e = rw e at (checked-other s)
+pub table-other : (s x : List ℕ) (r : Refusal) → indexChecked s x ≡ BadTable r → Other r
+table-other s x r e = rw e at (indexed-other s x)

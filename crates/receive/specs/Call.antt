@@ -1,5 +1,5 @@
--- What the call answers, and what it leaves in the session's lists. 01, Refusal numbers: 10; 4 and 6; 11; the message from its first byte; 8; 4 for the
--- joined heads; 7 for the first list that is too short.
+-- What the call answers, and what it leaves in the session's lists. 01, Refusal numbers: 10; 4 and 6; 12; 11; the message from its first byte; 8; 4 for
+-- the joined heads; 7 for the first list that is too short.
 use Prim.Native.Nat.{ℕ, _*_}
 use mathlib.Core.Bool.{Bool, cond, not}
 use mathlib.Core.List.{List}
@@ -9,6 +9,7 @@ use lib.Dec.{eqb}
 use lib.ListN.{length}
 use lib.Seq.{sets}
 use Rattle.bloom.specs.Have.{haveWords}
+use Rattle.index.specs.Index.{indexChecked}
 use Rattle.lent.specs.Good.{sessionGood}
 use Rattle.rules.specs.Hash.{hashesBytes}
 use Rattle.rules.specs.Refusal.{numberOf}
@@ -22,26 +23,26 @@ use Rattle.session.specs.Rooms.{orShort}
 use Rattle.state.specs.Session.{State}
 use Rattle.state.specs.Value.{Lent, valueOf, countsOf}
 use Rattle.state.specs.declared.session.Session.{Session}
-use Rattle.tables.specs.Bytes.{tableOf, tableChecked}
+use Rattle.tables.specs.Bytes.{tableOf}
 use Rattle.tables.specs.declared.check.Checked.{Checked}
 use Rattle.tables.specs.declared.check.Checked.the-variants.{Good, Refused as BadTable}
 use Rattle.taking.specs.declared.answer.Received.{Received as Answer}
 use Rattle.taking.specs.declared.answer.Received.the-variants.{Took, Failed, Refused}
 use Rattle.taking.specs.declared.answer.Rooms.{Rooms}
 
--- ---- what is received, for a session as counts with its lent lists, and a table as bytes
+-- ---- what is received, for a session as counts with its lent lists, and a table and its index as bytes
 
--- 4 and 6 for the table; the rest wants its rows.
+-- 4 and 6 for the table, 12 for its index; the rest wants its rows.
 unfoldable pub afterTable : Checked → State → Received → Received
 afterTable (Good n) s k = k
 afterTable (BadTable r) s k = Received.refused r s
 
 -- 10 comes first.
-unfoldable pub receiveWith : Bool → ℕ → Session → Lent → List ℕ → List ℕ → Received
-receiveWith loaded before s l table message =
+unfoldable pub receiveWith : Bool → ℕ → Session → Lent → List ℕ → List ℕ → List ℕ → Received
+receiveWith loaded before s l table index message =
     cond (not (sessionGood s l))
     (Received.refused BadNumbers (valueOf s l))
-    (afterTable (tableChecked table) (valueOf s l) (receiveBytes loaded before (tableOf table) (valueOf s l) message))
+    (afterTable (indexChecked table index) (valueOf s l) (receiveBytes loaded before (tableOf table) (valueOf s l) message))
 
 -- ---- room: 7 comes last
 

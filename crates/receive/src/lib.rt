@@ -2,5 +2,5 @@
 //
 //   check, read ─→ make: shared heads, sent hashes ─→ decide: taken, or refused ─→ put: what was decided, no test left
 //
-// The host has loaded the message's changes before: the table is the one after loading, its first rows are those of before.
+// The host has loaded the message's changes before: the table is the one after loading, its first rows are those of before; the index is its own.
 pub mod receive;

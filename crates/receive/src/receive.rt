@@ -28,10 +28,11 @@ const SENT_SIZE: usize = HASH_SIZE * SENT_HASHES;
 // Room for the records of any haves.
 const RECORDS: usize = HAVE_WORDS * HAVES;
 
-// The message taken by a session and beside a table that have been checked.
+// The message taken by a session and beside a table and its index that have been checked.
 fn receive_checked(
     session: Session,
     table: &[u8],
+    index: &[u8],
     n: usize,
     before: usize,
     message: &[u8],
@@ -46,10 +47,10 @@ fn receive_checked(
     sent: &mut [u8],
 ) -> Received
     requires { ⌜ Accepted session (lentOf (now shared) (now «last_sent») (now «their_heads») (now «their_need») (now haves) (now bytes) (now sent))
-        (now table) n before (now message) places ⌝ }
+        (now table) (now index) n before (now message) places ⌝ }
     ensures { λ r. ⌜ ReceiveCalled session (receiveWith loaded before session
         (lentOf (now (shared .entry)) (now («last_sent» .entry)) (now («their_heads» .entry)) (now («their_need» .entry))
-        (now (haves .entry)) (now (bytes .entry)) (now (sent .entry))) (now (table .entry)) (now (message .entry)))
+        (now (haves .entry)) (now (bytes .entry)) (now (sent .entry))) (now (table .entry)) (now (index .entry)) (now (message .entry)))
         (lentOf (now (shared .entry)) (now («last_sent» .entry)) (now («their_heads» .entry)) (now («their_need» .entry))
         (now (haves .entry)) (now (bytes .entry)) (now (sent .entry)))
         (lentOf (now (shared .exit)) (now («last_sent» .exit)) (now («their_heads» .exit)) (now («their_need» .exit))
@@ -68,6 +69,7 @@ fn receive_checked(
         flagged,
         loads,
         table,
+        index,
         n,
         before,
         message,
@@ -112,6 +114,7 @@ fn receive_checked(
 pub fn receive_sync_message(
     session: Session,
     table: &[u8],
+    index: &[u8],
     before: usize,
     message: &[u8],
     loaded: bool,
@@ -125,7 +128,7 @@ pub fn receive_sync_message(
 ) -> Received
     ensures { λ r. ⌜ ReceiveCalled session (receiveWith loaded before session
         (lentOf (now (shared .entry)) (now («last_sent» .entry)) (now («their_heads» .entry)) (now («their_need» .entry))
-        (now (haves .entry)) (now (bytes .entry)) (now (sent .entry))) (now (table .entry)) (now (message .entry)))
+        (now (haves .entry)) (now (bytes .entry)) (now (sent .entry))) (now (table .entry)) (now (index .entry)) (now (message .entry)))
         (lentOf (now (shared .entry)) (now («last_sent» .entry)) (now («their_heads» .entry)) (now («their_need» .entry))
         (now (haves .entry)) (now (bytes .entry)) (now (sent .entry)))
         (lentOf (now (shared .exit)) (now («last_sent» .exit)) (now («their_heads» .exit)) (now («their_need» .exit))
@@ -141,6 +144,7 @@ pub fn receive_sync_message(
         bytes,
         sent,
         table,
+        index,
         before,
         message,
     ) {
@@ -148,6 +152,7 @@ pub fn receive_sync_message(
         Checks::Good { rows, places } => receive_checked(
             session,
             table,
+            index,
             rows,
             before,
             message,

@@ -15,13 +15,14 @@ ghost use mathlib.Core.Path.{_≡_};
 ghost use Prim.Native.Nat.{_+_, _*_, _≤_};
 ghost use lib.ListN.{length, take};
 ghost use Rattle.graph.specs.Graph.{heads};
+ghost use Rattle.index.specs.Index.{Indexed};
 ghost use Rattle.lists.specs.Lists.{same};
 ghost use Rattle.rules.specs.Hash.{hashesAt};
 ghost use Rattle.rules.specs.Order.{every};
 ghost use Rattle.rules.specs.Output.{Gathered};
 ghost use Rattle.rules.specs.Sizes.{sizes};
 ghost use Rattle.session.specs.Receive.{advance, join};
-ghost use Rattle.tables.specs.Bytes.{rowsAt, GoodRows};
+ghost use Rattle.tables.specs.Bytes.{rowsAt};
 ghost use Rattle.tables.specs.Table.{held};
 ghost use Rattle.receiving.specs.Made.{SharedMade};
 
@@ -31,21 +32,22 @@ const ADVANCED_SIZE: usize = HASH_SIZE * (ROWS + 1);
 // The heads of a table's first rows and of all of it, advanced from those shared: puts them into the list and returns how many they are.
 fn advance_heads(
     table: &[u8],
+    index: &[u8],
     n: usize,
     before: usize,
     shared: &[u8],
     count: usize,
     list: &mut [u8],
 ) -> usize
-    requires { ⌜ GoodRows (now table) n × (before ≤ n) × (sizes .hash * count ≤ length (now shared))
+    requires { ⌜ Indexed (now table) (now index) n × (before ≤ n) × (sizes .hash * count ≤ length (now shared))
         × (sizes .hash * (sizes .rows + 1) ≤ length (now list)) ⌝ }
     ensures { λ r. ⌜ Gathered (advance (heads (take before (rowsAt (now (table .entry)) 0 n))) (heads (rowsAt (now (table .entry)) 0 n))
         (hashesAt (now (shared .entry)) 0 count)) (now (list .exit)) r ⌝ }
 {
     let mut old = [0u8; LIST_SIZE];
-    let olds = collect_heads(table, before, &mut old);
+    let olds = collect_heads(table, index, n, before, &mut old);
     let mut new = [0u8; LIST_SIZE];
-    let news = collect_heads(table, n, &mut new);
+    let news = collect_heads(table, index, n, n, &mut new);
     let common = join_common(list, 0, shared, 0, count, &new, 0, news);
     join_new(list, common, &new, 0, news, &old, 0, olds)
 }
@@ -53,6 +55,7 @@ fn advance_heads(
 // Shared heads joined with the heads of a message that are held, in a list that has nothing in it: how many they are, or fills the list.
 fn join_shared(
     table: &[u8],
+    index: &[u8],
     n: usize,
     shared: &[u8],
     count: usize,
@@ -61,12 +64,12 @@ fn join_shared(
     many: usize,
     list: &mut [u8],
 ) -> usize
-    requires { ⌜ GoodRows (now table) n × (sizes .hash * count ≤ length (now shared)) × (place + sizes .hash * many ≤ length (now s)) ⌝ }
+    requires { ⌜ Indexed (now table) (now index) n × (sizes .hash * count ≤ length (now shared)) × (place + sizes .hash * many ≤ length (now s)) ⌝ }
     ensures { λ r. ⌜ SharedMade (join (rowsAt (now (table .entry)) 0 n) (hashesAt (now (s .entry)) place many) (hashesAt (now (shared .entry)) 0 count))
         (length (now (list .entry))) (now (list .exit)) r ⌝ }
 {
     let old = join_list(list, 0, shared, 0, count);
-    join_held(table, n, list, old, s, place, many)
+    join_held(table, index, n, list, old, s, place, many)
 }
 
 // The shared heads after a message whose heads stand at a place of its bytes: these where all of them are held, else both joined, after the
@@ -74,6 +77,7 @@ fn join_shared(
 pub fn make_shared(
     loads: bool,
     table: &[u8],
+    index: &[u8],
     n: usize,
     before: usize,
     shared: &[u8],
@@ -83,7 +87,7 @@ pub fn make_shared(
     many: usize,
     list: &mut [u8],
 ) -> usize
-    requires { ⌜ GoodRows (now table) n × (before ≤ n) × (sizes .hash * count ≤ length (now shared)) × (place + sizes .hash * many ≤ length (now s))
+    requires { ⌜ Indexed (now table) (now index) n × (before ≤ n) × (sizes .hash * count ≤ length (now shared)) × (place + sizes .hash * many ≤ length (now s))
         × (many ≤ sizes .hashes) × (sizes .hash * (sizes .hashes + 1) ≤ length (now list)) ⌝ }
     ensures { λ r. ⌜ SharedMade (cond (every (held (rowsAt (now (table .entry)) 0 n)) (hashesAt (now (s .entry)) place many))
         (hashesAt (now (s .entry)) place many)
@@ -91,24 +95,32 @@ pub fn make_shared(
         (cond loads (advance (heads (take before (rowsAt (now (table .entry)) 0 n))) (heads (rowsAt (now (table .entry)) 0 n))
         (hashesAt (now (shared .entry)) 0 count)) (hashesAt (now (shared .entry)) 0 count)))) (length (now (list .entry))) (now (list .exit)) r ⌝ }
 {
-    if all_held(table, n, s, place, many) {
+    if all_held(table, index, n, s, place, many) {
         copy_into(list, 0, &s[place..place + HASH_SIZE * many]);
         return many;
     }
     if !loads {
-        return join_shared(table, n, shared, count, s, place, many, list);
+        return join_shared(table, index, n, shared, count, s, place, many, list);
     }
     let mut advanced = [0u8; ADVANCED_SIZE];
-    let moved = advance_heads(table, n, before, shared, count, &mut advanced);
-    join_shared(table, n, &advanced, moved, s, place, many, list)
+    let moved = advance_heads(table, index, n, before, shared, count, &mut advanced);
+    join_shared(table, index, n, &advanced, moved, s, place, many, list)
 }
 
 // Whether a message's heads are those of a table's first rows.
-pub fn heads_before(table: &[u8], before: usize, s: &[u8], place: usize, many: usize) -> bool
-    requires { ⌜ GoodRows (now table) before × (place + sizes .hash * many ≤ length (now s)) ⌝ }
+pub fn heads_before(
+    table: &[u8],
+    index: &[u8],
+    n: usize,
+    before: usize,
+    s: &[u8],
+    place: usize,
+    many: usize,
+) -> bool
+    requires { ⌜ Indexed (now table) (now index) n × (before ≤ n) × (place + sizes .hash * many ≤ length (now s)) ⌝ }
     ensures { λ r. ⌜ r ≡ same (hashesAt (now (s .entry)) place many) (heads (rowsAt (now (table .entry)) 0 before)) ⌝ }
 {
     let mut old = [0u8; LIST_SIZE];
-    let olds = collect_heads(table, before, &mut old);
+    let olds = collect_heads(table, index, n, before, &mut old);
     same_list(s, place, many, &old, 0, olds)
 }

@@ -188,14 +188,14 @@ unfolding hashesAt
 chosen-all {t} {need = need} haves s so = rw (less-none t haves need) at so
 
 -- no more than may be sent at once
-pub chosen-most : (table : List ℕ) (n : ℕ) (s haves need : List ℕ) (place′ count : ℕ) (sent : List ℕ) (marks needs : List Bool) (total : ℕ)
-    → Choosable table n s haves need place′ count
+pub chosen-most : (table index : List ℕ) (n : ℕ) (s haves need : List ℕ) (place′ count : ℕ) (sent : List ℕ) (marks needs : List Bool) (total : ℕ)
+    → Choosable table index n s haves need place′ count
     → Chosen (toSendLess (rowsAt table 0 n) (havesOf s haves) (hashesAt need place′ count) sent) (rowsAt table 0 n) marks (hashesAt need place′ count) needs total
     → total ≤ sizes .hashesToSend
-chosen-most table n s haves need place′ count sent marks needs total c so =
+chosen-most table index n s haves need place′ count sent marks needs total c so =
     let t : List Row = rowsAt table 0 n in
     let hs : List ℕ = hashesAt need place′ count in
-    let rows′ : length t ≤ sizes .rows = rw (length-rows-at table 0 n) (c .rows .few) in
+    let rows′ : length t ≤ sizes .rows = rw (length-rows-at table 0 n) (c .rows .rows .few) in
     let needs′ : length hs ≤ sizes .hashes = rw (length-hashes-at need place′ count) (c .few) in
     omega (arith, so .many, less-most t (havesOf s haves) hs sent, sent-most t (havesOf s haves) hs rows′ needs′)
 

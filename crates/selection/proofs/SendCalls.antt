@@ -5,6 +5,8 @@ use mathlib.Core.List.{List}
 use mathlib.Core.Path.{_≡_}
 use Rattle.bloom.specs.Have.{havesOf, passedGood, passedFew}
 use Rattle.bloom.proofs.HaveLaws.{PassedHaves}
+use Rattle.index.specs.Index.{indexChecked}
+use Rattle.index.proofs.CheckLaws.{checked-table}
 use Rattle.rules.specs.Hash.{hashesAt, hashesBytes}
 use Rattle.rules.specs.Output.{Output}
 use Rattle.rules.specs.Passed.{passedHashes}
@@ -13,7 +15,7 @@ use Rattle.rules.specs.declared.passed.Passed.the-variants as passed
 use Rattle.rules.specs.declared.refusal.Refusal.{Refusal}
 use Rattle.rules.specs.declared.refusal.Refusal.the-variants.{PastSize, BadNumbers}
 use Rattle.rules.proofs.PassedLaws.{after-refused, after-hashes}
-use Rattle.tables.specs.Bytes.{rowsAt, tableChecked}
+use Rattle.tables.specs.Bytes.{rowsAt}
 use Rattle.tables.specs.Calls.{afterCheck}
 use Rattle.tables.specs.Table.{Row}
 use Rattle.tables.specs.declared.check.Checked.the-variants.{Good, Refused}
@@ -44,18 +46,18 @@ module _ (t : List Row) (s haves need : List ℕ) where
     unfolding sendFew
     send-written e = rw (few-haves, e)
 
--- ---- the haves, then the table
+-- ---- the haves, then the table and its index
 
-module _ (table s haves need : List ℕ) where
-  pub send-bad : passedGood s haves ≡ false → toSendOutput table s haves need ≡ Output.refuse BadNumbers
+module _ (table index s haves need : List ℕ) where
+  pub send-bad : passedGood s haves ≡ false → toSendOutput table index s haves need ≡ Output.refuse BadNumbers
   unfolding toSendOutput
   send-bad e = rw e
 
   module _ (good : passedGood s haves ≡ true) where
-    pub send-table : (r : Refusal) → tableChecked table ≡ Refused r → toSendOutput table s haves need ≡ Output.refuse r
+    pub send-table : (r : Refusal) → indexChecked table index ≡ Refused r → toSendOutput table index s haves need ≡ Output.refuse r
     unfolding toSendOutput sendRows afterCheck
     send-table r e = rw (good, e)
 
-    pub send-good : (n : ℕ) → tableChecked table ≡ Good n → toSendOutput table s haves need ≡ sendNeeds (rowsAt table 0 n) s haves need
+    pub send-good : (n : ℕ) → indexChecked table index ≡ Good n → toSendOutput table index s haves need ≡ sendNeeds (rowsAt table 0 n) s haves need
     unfolding toSendOutput sendRows afterCheck
-    send-good n e = rw (good, e, table-good table n e .is)
+    send-good n e = rw (good, e, table-good table n (checked-table table index n e) .is)

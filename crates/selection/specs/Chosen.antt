@@ -5,8 +5,8 @@ use mathlib.Core.List.{List, [], _∷_, _++_}
 use mathlib.Core.Path.{_≡_}
 use lib.ListN.{length, getD}
 use Rattle.bloom.specs.Have.{Have, GoodFilters}
+use Rattle.index.specs.Index.{Indexed}
 use Rattle.rules.specs.Sizes.{sizes}
-use Rattle.tables.specs.Bytes.{GoodRows}
 use Rattle.tables.specs.Table.{Row, rows, held, rowNumber}
 use Rattle.graph.specs.Marks.{picked}
 use Rattle.members.specs.Members.{inTheS, SyncsInside}
@@ -30,8 +30,8 @@ pub record Chosen (l : List ℕ) (t : List Row) (marks : List Bool) (need : List
   pub many : count ≡ length l
 
 -- What is chosen from: rows, haves and lists that have been checked.
-pub record Choosable (table : List ℕ) (n : ℕ) (s haves need : List ℕ) (place count : ℕ) : Type 0 where
-  pub rows : GoodRows table n
+pub record Choosable (table index : List ℕ) (n : ℕ) (s haves need : List ℕ) (place count : ℕ) : Type 0 where
+  pub rows : Indexed table index n
   pub filters : GoodFilters s haves
   pub syncs : SyncsInside s haves
   pub needs : place + sizes .hash * count ≤ length need

@@ -4,12 +4,13 @@ use Prim.Native.Nat.{ℕ}
 use mathlib.Core.Bool.{cond, not, _&&_}
 use mathlib.Core.List.{List, [], _∷_, _++_}
 use Rattle.bloom.specs.Have.{Have, havesOf, passedGood, passedFew}
+use Rattle.index.specs.Index.{indexChecked}
 use Rattle.rules.specs.Hash.{hashesAt, hashesBytes}
 use Rattle.rules.specs.Order.{member, keep}
 use Rattle.rules.specs.Output.{Output}
 use Rattle.rules.specs.Passed.{passedHashes, afterPassed}
 use Rattle.rules.specs.declared.refusal.Refusal.the-variants.{PastSize, BadNumbers}
-use Rattle.tables.specs.Bytes.{tableOf, tableChecked}
+use Rattle.tables.specs.Bytes.{tableOf}
 use Rattle.tables.specs.Calls.{afterCheck}
 use Rattle.tables.specs.Table.{Row, held}
 use Rattle.members.specs.Members.{theS}
@@ -24,7 +25,7 @@ unfoldable pub toSendLess : List Row → List Have → List ℕ → List ℕ →
 toSendLess t haves need sent = keep (λ h. not (member h sent)) (toSend t haves need)
 
 -- What the call writes, for haves as records over the bytes s and a need list that is passed as bytes, a definition a stage. 01, Refusal
--- numbers: 10 for the haves, 4 and 6 for the table, 4 and 1 for the need list, 4 for the haves, the list.
+-- numbers: 10 for the haves, 4 and 6 for the table, 12 for its index, 4 and 1 for the need list, 4 for the haves, the list.
 
 -- 4 for too many haves, or too many last-sync hashes of one.
 unfoldable pub sendFew : List Row → List ℕ → List ℕ → List ℕ → Output
@@ -35,10 +36,10 @@ sendFew t s haves need =
 unfoldable pub sendNeeds : List Row → List ℕ → List ℕ → List ℕ → Output
 sendNeeds t s haves need = afterPassed (passedHashes need) Output.refuse (λ k. sendFew t s haves (hashesAt need 0 k))
 
--- 4 and 6 for the table.
-unfoldable pub sendRows : List ℕ → List ℕ → List ℕ → List ℕ → Output
-sendRows table s haves need = afterCheck (tableChecked table) (λ n. sendNeeds (tableOf table) s haves need)
+-- 4 and 6 for the table, 12 for its index.
+unfoldable pub sendRows : List ℕ → List ℕ → List ℕ → List ℕ → List ℕ → Output
+sendRows table index s haves need = afterCheck (indexChecked table index) (λ n. sendNeeds (tableOf table) s haves need)
 
 -- 10 for the haves.
-unfoldable pub toSendOutput : List ℕ → List ℕ → List ℕ → List ℕ → Output
-toSendOutput table s haves need = cond (not (passedGood s haves)) (Output.refuse BadNumbers) (sendRows table s haves need)
+unfoldable pub toSendOutput : List ℕ → List ℕ → List ℕ → List ℕ → List ℕ → Output
+toSendOutput table index s haves need = cond (not (passedGood s haves)) (Output.refuse BadNumbers) (sendRows table index s haves need)

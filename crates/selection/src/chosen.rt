@@ -4,16 +4,17 @@ use graph::marked::count_marked;
 use graph::marked::put_marked;
 use graph::marks::mark_list;
 use graph::marks::unmark;
+use index::look::look_up;
 use members::members::mark_s;
 use rules::hashes::put_hash;
 use rules::sizes::HASH_SIZE;
 use rules::sizes::ROWS;
-use tables::find::find_row;
 ghost use mathlib.Core.Path.{_≡_};
 ghost use Prim.Native.Nat.{_+_, _*_, _≤_};
 ghost use lib.ListN.{length};
 ghost use lib.Seq.{sets};
 ghost use Rattle.bloom.specs.Have.{havesOf, GoodFilters};
+ghost use Rattle.index.specs.Index.{Indexed};
 ghost use Rattle.rules.specs.Hash.{hashAt, hashesAt, hashesBytes};
 ghost use Rattle.rules.specs.Sizes.{sizes};
 ghost use Rattle.tables.specs.Bytes.{rowsAt, GoodRows};
@@ -23,30 +24,38 @@ ghost use Rattle.selection.specs.Chosen.{answeredRow, heldUnmarked, chos
 ghost use Rattle.selection.specs.ToSend.{toSendLess};
 
 // Marks the rows that are sent without being needed: S, or none where there is no have.
-fn mark_answer(table: &[u8], n: usize, bytes: &[u8], haves: &[u64], marks: &mut [bool])
-    requires { ⌜ GoodRows (now table) n × GoodFilters (now bytes) (now haves) × SyncsInside (now bytes) (now haves)
+fn mark_answer(
+    table: &[u8],
+    index: &[u8],
+    n: usize,
+    bytes: &[u8],
+    haves: &[u64],
+    marks: &mut [bool],
+)
+    requires { ⌜ Indexed (now table) (now index) n × GoodFilters (now bytes) (now haves) × SyncsInside (now bytes) (now haves)
         × (n ≤ length (now marks)) × Blank n (now marks) ⌝ }
     ensures { λ _. ⌜ Marks n (now (marks .exit)) (answeredRow (rowsAt (now (table .entry)) 0 n) (havesOf (now (bytes .entry)) (now (haves .entry)))) ⌝ }
 {
     if haves.len() < HAVE_WORDS {
         return;
     }
-    mark_s(table, n, bytes, haves, marks);
+    mark_s(table, index, n, bytes, haves, marks);
 }
 
 // Whether the hash at a place has a row, and one that neither marks name.
 fn held_unmarked(
     table: &[u8],
+    index: &[u8],
     n: usize,
     need: &[u8],
     at: usize,
     members: &[bool],
     past: &[bool],
 ) -> bool
-    requires { ⌜ GoodRows (now table) n × (at + sizes .hash ≤ length (now need)) × (n ≤ length (now members)) × (n ≤ length (now past)) ⌝ }
+    requires { ⌜ Indexed (now table) (now index) n × (at + sizes .hash ≤ length (now need)) × (n ≤ length (now members)) × (n ≤ length (now past)) ⌝ }
     ensures { λ r. ⌜ r ≡ heldUnmarked (rowsAt (now (table .entry)) 0 n) (now (members .entry)) (now (past .entry)) (hashAt (now (need .entry)) at) ⌝ }
 {
-    let row = find_row(table, n, need, at);
+    let row = look_up(table, index, n, need, at);
     if n <= row {
         return false;
     }
@@ -59,6 +68,7 @@ fn held_unmarked(
 // Marks the hashes of a list that have such rows, repeats too.
 fn mark_needs(
     table: &[u8],
+    index: &[u8],
     n: usize,
     need: &[u8],
     place: usize,
@@ -67,7 +77,7 @@ fn mark_needs(
     past: &[bool],
     needs: &mut [bool],
 )
-    requires { ⌜ GoodRows (now table) n × (place + sizes .hash * count ≤ length (now need))
+    requires { ⌜ Indexed (now table) (now index) n × (place + sizes .hash * count ≤ length (now need))
         × (n ≤ length (now members)) × (n ≤ length (now past)) × (count ≤ length (now needs)) ⌝ }
     ensures { λ _. ⌜ Marks count (now (needs .exit))
         (λ k. heldUnmarked (rowsAt (now (table .entry)) 0 n) (now (members .entry)) (now (past .entry))
@@ -75,7 +85,7 @@ fn mark_needs(
 {
     let mut k = 0;
     while k < count {
-        let here = held_unmarked(table, n, need, place + HASH_SIZE * k, members, past);
+        let here = held_unmarked(table, index, n, need, place + HASH_SIZE * k, members, past);
         needs[k] = here;
         k += 1;
     }
@@ -85,6 +95,7 @@ fn mark_needs(
 // follows them. The rows of the sent hashes are looked up once, so that a need costs one look-up.
 pub fn choose(
     table: &[u8],
+    index: &[u8],
     n: usize,
     bytes: &[u8],
     haves: &[u64],
@@ -96,16 +107,16 @@ pub fn choose(
     marks: &mut [bool],
     needs: &mut [bool],
 ) -> usize
-    requires { ⌜ Choosable (now table) n (now bytes) (now haves) (now need) place count × (sizes .hash * before ≤ length (now sent))
+    requires { ⌜ Choosable (now table) (now index) n (now bytes) (now haves) (now need) place count × (sizes .hash * before ≤ length (now sent))
         × (n ≤ length (now marks)) × Blank n (now marks) × (count ≤ length (now needs)) ⌝ }
     ensures { λ r. ⌜ Chosen (toSendLess (rowsAt (now (table .entry)) 0 n) (havesOf (now (bytes .entry)) (now (haves .entry)))
         (hashesAt (now (need .entry)) place count) (hashesAt (now (sent .entry)) 0 before))
         (rowsAt (now (table .entry)) 0 n) (now (marks .exit)) (hashesAt (now (need .entry)) place count) (now (needs .exit)) r ⌝ }
 {
     let mut past = [false; ROWS];
-    mark_list(table, n, sent, 0, before, &mut past);
-    mark_answer(table, n, bytes, haves, marks);
-    mark_needs(table, n, need, place, count, marks, &past, needs);
+    mark_list(table, index, n, sent, 0, before, &mut past);
+    mark_answer(table, index, n, bytes, haves, marks);
+    mark_needs(table, index, n, need, place, count, marks, &past, needs);
     unmark(n, marks, &past);
     count_marked(count, needs) + count_marked(n, marks)
 }

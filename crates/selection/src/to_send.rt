@@ -3,6 +3,7 @@ use crate::chosen::choose;
 use crate::chosen::put_chosen;
 use bloom::have::passed_few;
 use bloom::have::passed_good;
+use index::check::check_indexed;
 use rules::output::Write;
 use rules::passed::Passed;
 use rules::passed::passed_hashes;
@@ -11,19 +12,20 @@ use rules::sizes::HASH_SIZE;
 use rules::sizes::HASHES;
 use rules::sizes::ROWS;
 use tables::check::Checked;
-use tables::check::check_table;
 ghost use mathlib.Core.Bool.{true};
 ghost use mathlib.Core.Path.{_≡_};
 ghost use Rattle.bloom.specs.Have.{havesOf, passedGood};
+ghost use Rattle.index.specs.Index.{Indexed};
 ghost use Rattle.rules.specs.Hash.{hashesAt, hashesBytes};
 ghost use Rattle.rules.specs.Output.{Written, Output};
-ghost use Rattle.tables.specs.Bytes.{rowsAt, GoodRows};
+ghost use Rattle.tables.specs.Bytes.{rowsAt};
 ghost use Rattle.selection.specs.Chosen.{Choosable};
 ghost use Rattle.selection.specs.ToSend.{toSend, sendNeeds, toSendOutput};
 
 // The hashes to send for a table, haves and a need list that have been checked. No hash was sent before: the first none of any buffer.
 pub fn put_to_send(
     table: &[u8],
+    index: &[u8],
     n: usize,
     bytes: &[u8],
     haves: &[u64],
@@ -32,7 +34,7 @@ pub fn put_to_send(
     count: usize,
     out: &mut [u8],
 ) -> Write
-    requires { ⌜ Choosable (now table) n (now bytes) (now haves) (now need) place count ⌝ }
+    requires { ⌜ Choosable (now table) (now index) n (now bytes) (now haves) (now need) place count ⌝ }
     ensures { λ r. ⌜ Written (Output.bytes (hashesBytes (toSend (rowsAt (now (table .entry)) 0 n) (havesOf (now (bytes .entry)) (now (haves .entry)))
         (hashesAt (now (need .entry)) place count)))) (now (out .entry)) (now (out .exit)) r ⌝ }
 {
@@ -40,6 +42,7 @@ pub fn put_to_send(
     let mut needs = [false; HASHES];
     let total = choose(
         table,
+        index,
         n,
         bytes,
         haves,
@@ -62,13 +65,14 @@ pub fn put_to_send(
 // The same where the need list and the sizes of the haves haven't been checked yet.
 fn send_needs(
     table: &[u8],
+    index: &[u8],
     n: usize,
     bytes: &[u8],
     haves: &[u64],
     need: &[u8],
     out: &mut [u8],
 ) -> Write
-    requires { ⌜ GoodRows (now table) n × (passedGood (now bytes) (now haves) ≡ true) ⌝ }
+    requires { ⌜ Indexed (now table) (now index) n × (passedGood (now bytes) (now haves) ≡ true) ⌝ }
     ensures { λ r. ⌜ Written (sendNeeds (rowsAt (now (table .entry)) 0 n) (now (bytes .entry)) (now (haves .entry)) (now (need .entry)))
         (now (out .entry)) (now (out .exit)) r ⌝ }
 {
@@ -78,7 +82,7 @@ fn send_needs(
             if !passed_few(haves) {
                 return Write::Refused(Refusal::PastSize(0));
             }
-            put_to_send(table, n, bytes, haves, need, 0, count, out)
+            put_to_send(table, index, n, bytes, haves, need, 0, count, out)
         }
     }
 }
@@ -86,19 +90,20 @@ fn send_needs(
 // The hashes to send for haves that are records over the bytes, and a need list that is lent as the bytes of its hashes.
 pub fn get_hashes_to_send(
     table: &[u8],
+    index: &[u8],
     bytes: &[u8],
     haves: &[u64],
     need: &[u8],
     out: &mut [u8],
 ) -> Write
-    ensures { λ r. ⌜ Written (toSendOutput (now (table .entry)) (now (bytes .entry)) (now (haves .entry)) (now (need .entry)))
+    ensures { λ r. ⌜ Written (toSendOutput (now (table .entry)) (now (index .entry)) (now (bytes .entry)) (now (haves .entry)) (now (need .entry)))
         (now (out .entry)) (now (out .exit)) r ⌝ }
 {
     if !passed_good(bytes, haves) {
         return Write::Refused(Refusal::BadNumbers);
     }
-    match check_table(table) {
+    match check_indexed(table, index) {
         Checked::Refused(r) => Write::Refused(r),
-        Checked::Good(n) => send_needs(table, n, bytes, haves, need, out),
+        Checked::Good(n) => send_needs(table, index, n, bytes, haves, need, out),
     }
 }

@@ -7,14 +7,22 @@ ghost use Rattle.answers.specs.Answer.{Answered};
 #[no_mangle]
 pub extern "C" fn bt_hashes_to_send(
     table: &[u8],
+    index: &[u8],
     bytes: &[u8],
     haves: &[u64],
     need: &[u8],
     out: &mut [u8],
     answer: &mut [u64; 4],
 )
-    ensures { λ _. ⌜ Answered (toSendOutput (now (table .entry)) (now (bytes .entry)) (now (haves .entry)) (now (need .entry)))
+    ensures { λ _. ⌜ Answered (toSendOutput (now (table .entry)) (now (index .entry)) (now (bytes .entry)) (now (haves .entry)) (now (need .entry)))
         (now (out .entry)) (now (out .exit)) (now (answer .exit)) ⌝ }
 {
-    *answer = write_words(selection::to_send::get_hashes_to_send(table, bytes, haves, need, out));
+    *answer = write_words(selection::to_send::get_hashes_to_send(
+        table,
+        index,
+        bytes,
+        haves,
+        need,
+        out,
+    ));
 }

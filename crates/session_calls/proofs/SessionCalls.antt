@@ -27,12 +27,12 @@ stated-made what p v e = rw (e, flag-byte (p .document))
 
 -- ---- planning
 
-module _ {session₀ session₁ : List ℕ} {l : Lent} {table waiting : List ℕ} {before after : Buffers} {words : List ℕ} where
+module _ {session₀ session₁ : List ℕ} {l : Lent} {table index waiting : List ℕ} {before after : Buffers} {words : List ℕ} where
   pub plan-answered : (s : Session) (r : Planned) → s ≡ sessionOf session₀
-      → PlanCalled s (planWith defaultBits defaultProbes s l table waiting) before after r
+      → PlanCalled s (planWith defaultBits defaultProbes s l table index waiting) before after r
       → session₁ ≡ plannedSession r session₀
       → words ≡ plannedWords r
-      → PlanAnswered session₀ session₁ l table waiting before after words
+      → PlanAnswered session₀ session₁ l table index waiting before after words
   plan-answered s r same called e f =
       let known = rw same at called in
       record {
@@ -41,21 +41,21 @@ module _ {session₀ session₁ : List ℕ} {l : Lent} {table waiting : List ℕ
         buffers = known .buffers;
       }
 
-pub plan-answered-once : {session table waiting t₁ t₂ w₁ w₂ : List ℕ} {l : Lent} {before b₁ b₂ : Buffers}
-    → PlanAnswered session t₁ l table waiting before b₁ w₁
-    → PlanAnswered session t₂ l table waiting before b₂ w₂
+pub plan-answered-once : {session table index waiting t₁ t₂ w₁ w₂ : List ℕ} {l : Lent} {before b₁ b₂ : Buffers}
+    → PlanAnswered session t₁ l table index waiting before b₁ w₁
+    → PlanAnswered session t₂ l table index waiting before b₂ w₂
     → (w₁ ≡ w₂) × (t₁ ≡ t₂) × (b₁ ≡ b₂)
 plan-answered-once x y =
     (x .answer ∙ sym (y .answer), x .session ∙ sym (y .session), x .buffers ∙ sym (y .buffers))
 
 -- ---- receiving
 
-module _ {session₀ session₁ : List ℕ} {before after : Lent} {table : List ℕ} {rows : ℕ} {message : List ℕ} {loaded : Bool} {words : List ℕ} where
+module _ {session₀ session₁ : List ℕ} {before after : Lent} {table index : List ℕ} {rows : ℕ} {message : List ℕ} {loaded : Bool} {words : List ℕ} where
   pub receive-answered : (s : Session) (r : Received) → s ≡ sessionOf session₀
-      → ReceiveCalled s (receiveWith loaded rows s before table message) before after r
+      → ReceiveCalled s (receiveWith loaded rows s before table index message) before after r
       → session₁ ≡ receivedSession r session₀
       → words ≡ receivedWords r
-      → ReceiveAnswered session₀ session₁ before after table rows message loaded words
+      → ReceiveAnswered session₀ session₁ before after table index rows message loaded words
   receive-answered s r same called e f =
       let known = rw same at called in
       record {
@@ -64,9 +64,9 @@ module _ {session₀ session₁ : List ℕ} {before after : Lent} {table : List 
         lists = known .lists;
       }
 
-pub receive-answered-once : {session table message t₁ t₂ w₁ w₂ : List ℕ} {rows : ℕ} {loaded : Bool} {before l₁ l₂ : Lent}
-    → ReceiveAnswered session t₁ before l₁ table rows message loaded w₁
-    → ReceiveAnswered session t₂ before l₂ table rows message loaded w₂
+pub receive-answered-once : {session table index message t₁ t₂ w₁ w₂ : List ℕ} {rows : ℕ} {loaded : Bool} {before l₁ l₂ : Lent}
+    → ReceiveAnswered session t₁ before l₁ table index rows message loaded w₁
+    → ReceiveAnswered session t₂ before l₂ table index rows message loaded w₂
     → (w₁ ≡ w₂) × (t₁ ≡ t₂) × (l₁ ≡ l₂)
 receive-answered-once x y =
     (x .answer ∙ sym (y .answer), x .session ∙ sym (y .session), x .lists ∙ sym (y .lists))

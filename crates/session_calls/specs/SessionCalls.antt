@@ -69,20 +69,20 @@ receivedSession (Failed s) before = sessionWords s
 receivedSession (NotTaken r) before = before
 
 -- What is planned for a session's words, with the filter of 01, once there is room.
-abbrev pub planFor : List ℕ → Lent → List ℕ → List ℕ → Buffers → Rattle.session.specs.Plan.Planned
-planFor words l table waiting before = roomed (roomsIn before) (planWith defaultBits defaultProbes (sessionOf words) l table waiting)
+abbrev pub planFor : List ℕ → Lent → List ℕ → List ℕ → List ℕ → Buffers → Rattle.session.specs.Plan.Planned
+planFor words l table index waiting before = roomed (roomsIn before) (planWith defaultBits defaultProbes (sessionOf words) l table index waiting)
 
-pub record PlanAnswered (session₀ session₁ : List ℕ) (l : Lent) (table waiting : List ℕ) (before after : Buffers) (words : List ℕ) : Type 0 where
-  pub answer : words ≡ plannedWords (answerOf (sessionOf session₀) (planFor session₀ l table waiting before))
-  pub session : session₁ ≡ plannedSession (answerOf (sessionOf session₀) (planFor session₀ l table waiting before)) session₀
-  pub buffers : after ≡ putInto (planFor session₀ l table waiting before) before
+pub record PlanAnswered (session₀ session₁ : List ℕ) (l : Lent) (table index waiting : List ℕ) (before after : Buffers) (words : List ℕ) : Type 0 where
+  pub answer : words ≡ plannedWords (answerOf (sessionOf session₀) (planFor session₀ l table index waiting before))
+  pub session : session₁ ≡ plannedSession (answerOf (sessionOf session₀) (planFor session₀ l table index waiting before)) session₀
+  pub buffers : after ≡ putInto (planFor session₀ l table index waiting before) before
 
-abbrev pub receiveFor : List ℕ → Lent → List ℕ → ℕ → List ℕ → Bool → Rattle.session.specs.Receive.Received
-receiveFor words l table before message loaded =
-    roomedFor (roomsOf l) (sessionValue (sessionOf words) l) (receiveWith loaded before (sessionOf words) l table message)
+abbrev pub receiveFor : List ℕ → Lent → List ℕ → List ℕ → ℕ → List ℕ → Bool → Rattle.session.specs.Receive.Received
+receiveFor words l table index before message loaded =
+    roomedFor (roomsOf l) (sessionValue (sessionOf words) l) (receiveWith loaded before (sessionOf words) l table index message)
 
-pub record ReceiveAnswered (session₀ session₁ : List ℕ) (before after : Lent) (table : List ℕ) (rowsBefore : ℕ) (message : List ℕ) (loaded : Bool)
+pub record ReceiveAnswered (session₀ session₁ : List ℕ) (before after : Lent) (table index : List ℕ) (rowsBefore : ℕ) (message : List ℕ) (loaded : Bool)
     (words : List ℕ) : Type 0 where
-  pub answer : words ≡ receivedWords (answerFor (receiveFor session₀ before table rowsBefore message loaded))
-  pub session : session₁ ≡ receivedSession (answerFor (receiveFor session₀ before table rowsBefore message loaded)) session₀
-  pub lists : after ≡ keptIn (receiveFor session₀ before table rowsBefore message loaded) before
+  pub answer : words ≡ receivedWords (answerFor (receiveFor session₀ before table index rowsBefore message loaded))
+  pub session : session₁ ≡ receivedSession (answerFor (receiveFor session₀ before table index rowsBefore message loaded)) session₀
+  pub lists : after ≡ keptIn (receiveFor session₀ before table index rowsBefore message loaded) before

@@ -22,6 +22,7 @@ pub extern "C" fn bt_plan(
     bytes: &[u8],
     sent: &mut [u8],
     table: &[u8],
+    index: &[u8],
     waiting: &[u8],
     heads: &mut [u8],
     need: &mut [u8],
@@ -32,7 +33,7 @@ pub extern "C" fn bt_plan(
     ensures { λ _. ⌜ PlanAnswered (now (session .entry)) (now (session .exit))
         (lentOf (now (shared .entry)) (now («last_sent» .entry)) (now («their_heads» .entry)) (now («their_need» .entry)) (now (haves .entry))
         (now (bytes .entry)) (now (sent .entry)))
-        (now (table .entry)) (now (waiting .entry))
+        (now (table .entry)) (now (index .entry)) (now (waiting .entry))
         (buffersOf (now (heads .entry)) (now (need .entry)) (now (have .entry)) (now (list .entry)) (now («last_sent» .entry)) (now (sent .entry)))
         (buffersOf (now (heads .exit)) (now (need .exit)) (now (have .exit)) (now (list .exit)) (now («last_sent» .exit)) (now (sent .exit)))
         (now (answer .exit)) ⌝ }
@@ -40,6 +41,7 @@ pub extern "C" fn bt_plan(
     let planned = plan::plan::generate_sync_message(
         session_of(*session),
         table,
+        index,
         waiting,
         shared,
         last_sent,
@@ -69,6 +71,7 @@ pub extern "C" fn bt_receive(
     bytes: &mut [u8],
     sent: &mut [u8],
     table: &[u8],
+    index: &[u8],
     before: usize,
     message: &[u8],
     loaded: u64,
@@ -79,11 +82,12 @@ pub extern "C" fn bt_receive(
         (now (bytes .entry)) (now (sent .entry)))
         (lentOf (now (shared .exit)) (now («last_sent» .exit)) (now («their_heads» .exit)) (now («their_need» .exit)) (now (haves .exit))
         (now (bytes .exit)) (now (sent .exit)))
-        (now (table .entry)) before (now (message .entry)) (flagOf loaded) (now (answer .exit)) ⌝ }
+        (now (table .entry)) (now (index .entry)) before (now (message .entry)) (flagOf loaded) (now (answer .exit)) ⌝ }
 {
     let received = receive::receive::receive_sync_message(
         session_of(*session),
         table,
+        index,
         before,
         message,
         loaded != 0,

@@ -11,6 +11,7 @@ use lib.Seq.{length-take-le, take-all}
 use borrow.Author.Tests.{ltb-true, ltb-false}
 use Rattle.bloom.specs.Have.{haveWords, haveGood, havesGoodFrom, passedGood, passedFew}
 use Rattle.bloom.proofs.HaveLaws.{too-many}
+use Rattle.index.specs.Index.{indexChecked}
 use Rattle.rules.proofs.Cases.{split}
 use Rattle.rules.specs.Hash.{hashesAt}
 use Rattle.rules.specs.Output.{Output, Written}
@@ -20,7 +21,7 @@ use Rattle.rules.specs.declared.output.Write.{Write}
 use Rattle.rules.specs.declared.passed.Passed.{Passed}
 use Rattle.rules.specs.declared.passed.Passed.the-variants.{Hashes, Refused}
 use Rattle.selection.specs.ToSend.{sendFew, sendNeeds, sendRows, toSendOutput}
-use Rattle.tables.specs.Bytes.{tableOf, tableChecked}
+use Rattle.tables.specs.Bytes.{tableOf}
 use Rattle.tables.specs.Calls.{afterCheck}
 use Rattle.tables.specs.Table.{Row}
 use Rattle.tables.specs.declared.check.Checked.{Checked}
@@ -76,22 +77,22 @@ module _ (s v w need : List ℕ) (many : passedFew v ≡ false) (many′ : passe
       go (Hashes k) = same-few t (hashesAt need 0 k)
       go (Refused r) = refl
 
-  same-rows : (table : List ℕ) → sendRows table s v need ≡ sendRows table s w need
+  same-rows : (table index : List ℕ) → sendRows table index s v need ≡ sendRows table index s w need
   unfolding sendRows afterCheck
-  same-rows table = go (tableChecked table)
+  same-rows table index = go (indexChecked table index)
     where
       go : (x : Checked) → afterCheck x (λ n. sendNeeds (tableOf table) s v need) ≡ afterCheck x (λ n. sendNeeds (tableOf table) s w need)
       go (Good n) = same-needs (tableOf table)
       go (Bad r) = refl
 
-  same-output : (table : List ℕ) → passedGood s v ≡ passedGood s w → toSendOutput table s v need ≡ toSendOutput table s w need
+  same-output : (table index : List ℕ) → passedGood s v ≡ passedGood s w → toSendOutput table index s v need ≡ toSendOutput table index s w need
   unfolding toSendOutput
-  same-output table e = rw (e, same-rows table)
+  same-output table index e = rw (e, same-rows table index)
 
 -- ---- a list that is too long, and one that isn't
 
-module _ (table s need : List ℕ) (hs : List HaveSummary) where
-  long-output : laidHaves < length hs → toSendOutput table s (summaryWords (take laidHaves hs)) need ≡ toSendOutput table s (summaryWords hs) need
+module _ (table index s need : List ℕ) (hs : List HaveSummary) where
+  long-output : laidHaves < length hs → toSendOutput table index s (summaryWords (take laidHaves hs)) need ≡ toSendOutput table index s (summaryWords hs) need
   long-output long =
       let a = summaryWords (take laidHaves hs) in
       let b = summaryWords (drop laidHaves hs) in
@@ -100,25 +101,25 @@ module _ (table s need : List ℕ) (hs : List HaveSummary) where
       let la : length a ≡ haveWords * laidHaves = words-long (take laidHaves hs) ∙ ap (λ (n : ℕ). haveWords * n) first in
       let all : length (a ++ b) ≡ haveWords * length hs = ap length whole ∙ words-long hs in
       let good = part-good s a b laidHaves (length (drop laidHaves hs)) la (words-long (drop laidHaves hs)) (omega arith) in
-      same-output s a (a ++ b) need (too-many a (omega arith)) (too-many (a ++ b) (omega arith)) table (sym good)
-      ∙ ap (λ (w : List ℕ). toSendOutput table s w need) whole
+      same-output s a (a ++ b) need (too-many a (omega arith)) (too-many (a ++ b) (omega arith)) table index (sym good)
+      ∙ ap (λ (w : List ℕ). toSendOutput table index s w need) whole
 
-  pub laid-output : toSendOutput table s (usedWords (laidMany laidSteps hs nothingLaid)) need ≡ toSendOutput table s (summaryWords hs) need
+  pub laid-output : toSendOutput table index s (usedWords (laidMany laidSteps hs nothingLaid)) need ≡ toSendOutput table index s (summaryWords hs) need
   laid-output =
       split (ltb laidHaves (length hs))
       (λ t.
       let long : laidHaves < length hs = ltb-true _ _ t in
       let e : min (length hs) laidHaves ≡ laidHaves = omega arith in
-      ap (λ (w : List ℕ). toSendOutput table s w need) (all-laid hs ∙ ap (λ (n : ℕ). summaryWords (take n hs)) e) ∙ long-output long)
+      ap (λ (w : List ℕ). toSendOutput table index s w need) (all-laid hs ∙ ap (λ (n : ℕ). summaryWords (take n hs)) e) ∙ long-output long)
       (λ t.
       let few : length hs ≤ laidHaves = ltb-false _ _ t in
       let e : min (length hs) laidHaves ≡ length hs = omega arith in
-      ap (λ (w : List ℕ). toSendOutput table s w need)
+      ap (λ (w : List ℕ). toSendOutput table index s w need)
       (all-laid hs ∙ ap (λ (n : ℕ). summaryWords (take n hs)) e ∙ ap summaryWords (take-all (length hs) hs (omega arith))))
 
-pub laid-written : (table s need : List ℕ) (hs : List HaveSummary) (l : Laid) (before after : List ℕ) (r : Write)
+pub laid-written : (table index s need : List ℕ) (hs : List HaveSummary) (l : Laid) (before after : List ℕ) (r : Write)
     → l ≡ laidMany laidSteps hs nothingLaid
-    → Written (toSendOutput table s (usedWords l) need) before after r
-    → Written (toSendOutput table s (summaryWords hs) need) before after r
-laid-written table s need hs l before after r e w =
-    subst (λ (o : Output). Written o before after r) (ap (λ (k : Laid). toSendOutput table s (usedWords k) need) e ∙ laid-output table s need hs) w
+    → Written (toSendOutput table index s (usedWords l) need) before after r
+    → Written (toSendOutput table index s (summaryWords hs) need) before after r
+laid-written table index s need hs l before after r e w =
+    subst (λ (o : Output). Written o before after r) (ap (λ (k : Laid). toSendOutput table index s (usedWords k) need) e ∙ laid-output table index s need hs) w

@@ -26,30 +26,32 @@ fn at_most(count: usize) -> usize
 // The selection on words, for haves that were laid.
 fn laid_to_send<'a>(
     table: &'a [u8],
+    index: &'a [u8],
     bytes: &'a [u8],
     laid: Laid,
     need: &'a [u8],
     out: &'a mut [u8],
 ) -> Write
-    ensures { λ r. ⌜ Written (toSendOutput (now (table .entry)) (now (bytes .entry)) (usedWords laid) (now (need .entry)))
+    ensures { λ r. ⌜ Written (toSendOutput (now (table .entry)) (now (index .entry)) (now (bytes .entry)) (usedWords laid) (now (need .entry)))
         (now (out .entry)) (now (out .exit)) r ⌝ }
 {
     let count = at_most(laid.count);
     let words = laid.words;
-    get_hashes_to_send(table, bytes, &words[..HAVE_WORDS * count], need, out)
+    get_hashes_to_send(table, index, bytes, &words[..HAVE_WORDS * count], need, out)
 }
 
 // The hashes to send for haves that are records over the bytes, and a need list that is lent as the bytes of its hashes.
 pub fn summaries_to_send<'a>(
     table: &'a [u8],
+    index: &'a [u8],
     bytes: &'a [u8],
     haves: &'a [HaveSummary],
     need: &'a [u8],
     out: &'a mut [u8],
 ) -> Write
-    ensures { λ r. ⌜ Written (toSendOutput (now (table .entry)) (now (bytes .entry)) (summaryWords (now (haves .entry))) (now (need .entry)))
+    ensures { λ r. ⌜ Written (toSendOutput (now (table .entry)) (now (index .entry)) (now (bytes .entry)) (summaryWords (now (haves .entry))) (now (need .entry)))
         (now (out .entry)) (now (out .exit)) r ⌝ }
 {
     let laid = lay(haves);
-    laid_to_send(table, bytes, laid, need, out)
+    laid_to_send(table, index, bytes, laid, need, out)
 }

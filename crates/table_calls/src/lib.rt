@@ -1,3 +1,3 @@
-// Exported calls of the crates `tables`, `graph` and `missing`.
+// Exported calls of the crates `tables`, `indexing`, `waiting`, `graph` and `missing`.
 pub mod answer;
 pub mod calls;

@@ -6,6 +6,7 @@ use mathlib.Core.Path.{_≡_, refl, sym, subst, fun-ext}
 use native.Mathlib.Omega.{arith}
 use lib.ListN.{length, replicate}
 use Rattle.bloom.specs.Filter.{defaultBits, defaultProbes}
+use Rattle.index.specs.Index.{fitsBy, fits, indexFits, indexChecked}
 use Rattle.rules.specs.Hash.{Bytes, bigEndian, bigEndianBytes, hashAt, hashesAt, hashBytes}
 use Rattle.rules.specs.Order.{member, every, ascends}
 use Rattle.rules.specs.Sizes.{sizes}
@@ -26,7 +27,11 @@ use Rattle.tables.specs.Bytes.{
   checkedWith,
   tableCheckedOf,
   tableOf,
-  tableChecked,
+}
+use Rattle.tables.specs.Calls.{passedOn}
+use Rattle.tables.specs.Table.{Row, rows, hashOf, held}
+use Rattle.tables.specs.declared.check.Checked.the-variants.{Good}
+use Rattle.waiting.specs.Bytes.{
   asksCountOf,
   waitingRowOf,
   waitingRowsOf,
@@ -39,9 +44,7 @@ use Rattle.tables.specs.Bytes.{
   waitingOf,
   waitingChecked,
 }
-use Rattle.tables.specs.Table.{Row, rows, held}
-use Rattle.tables.specs.Waiting.{Waiting, waiting}
-use Rattle.tables.specs.declared.check.Checked.the-variants.{Good}
+use Rattle.waiting.specs.Waiting.{Waiting, waiting}
 use Rattle.walk.specs.Round.{Part}
 use Rattle.walk.specs.Talk.{Reached, Granted}
 use Rattle.walk.proofs.Example.{a, b, c, one, three, cWaits, part-one}
@@ -79,17 +82,21 @@ all-rows = a-row ++ (b-row ++ c-row)
 abbrev c-waits : List ℕ
 c-waits = hashBytes c ++ ((1 ∷ replicate fill 0) ++ (hashBytes b ++ replicate unused 0))
 
+-- By their hashes b comes first and a last.
+abbrev all-index : List ℕ
+all-index = 1 ∷ 0 ∷ 2 ∷ 0 ∷ 0 ∷ 0 ∷ []
+
 computed :
     (tableOf a-row ≡ one)
-    × (tableChecked a-row ≡ Good 1)
+    × (indexChecked a-row (0 ∷ 0 ∷ []) ≡ Good 1)
     × (tableOf all-rows ≡ three)
-    × (tableChecked all-rows ≡ Good 3)
+    × (indexChecked all-rows all-index ≡ Good 3)
     × (waitingOf c-waits ≡ cWaits)
     × (waitingChecked one c-waits ≡ Good 1)
 unfolding
     bigEndian bigEndianBytes hashAt hashesAt hashBytes member every ascends u16At u16sAt countOf usedOf unusedOf rowOf rowsOf wholeRowsOf zeros numbersGood
     rowGoodOf firstBad checkedWith tableCheckedOf asksCountOf waitingRowOf waitingRowsOf wholeWaitingOf bytesAt fillOf unaskedOf waitingGoodOf
-    waitingCheckedOf rows held waiting
+    waitingCheckedOf rows held waiting hashOf fitsBy fits indexFits indexChecked passedOn
 computed = (refl, refl, refl, refl, refl, refl)
 
 -- nothing waits in no bytes
@@ -127,10 +134,10 @@ waits-bytes =
     (bytes-append (hashBytes b) (replicate unused 0) (hash-bytes b) (zeros-bytes unused)))
 
 tabled-one : Tabled a-row
-tabled-one = record { rows = 1; good = computed .1; bytes = a-bytes }
+tabled-one = record { rows = 1; index = 0 ∷ 0 ∷ []; good = computed .1; bytes = a-bytes }
 
 tabled-three : Tabled all-rows
-tabled-three = record { rows = 3; good = computed .3; bytes = all-bytes }
+tabled-three = record { rows = 3; index = all-index; good = computed .3; bytes = all-bytes }
 
 beside-none : (t : List Row) → Beside t []
 beside-none t = record { rows = 0; good = none-waits t .1; bytes = bytes-none }

@@ -38,9 +38,10 @@ use Rattle.size.specs.Size.{total}
 use Rattle.size.specs.Write.{partsOf, chunksFrom, messageOutput}
 use Rattle.state.specs.Session.{State}
 use Rattle.state.specs.Value.{Lent}
-use Rattle.tables.specs.Bytes.{tableOf, waitingOf}
+use Rattle.tables.specs.Bytes.{tableOf}
 use Rattle.tables.specs.Table.{Row}
-use Rattle.tables.specs.Waiting.{Waiting}
+use Rattle.waiting.specs.Bytes.{waitingOf}
+use Rattle.waiting.specs.Waiting.{Waiting}
 use Rattle.walk.specs.Talk.{Host, chunksFor, bytesFor, left, pairAt}
 use Rattle.talk.specs.Calls.{speaks, recordsIn, planIn, PlanMade, Speaks, Hears, Both, Round, TalkOfCalls, AreSessions, Lends, CallsGo}
 use Rattle.talk.specs.Memory.{Memory, OfBytes, Holds, Fresh, Out, RoomyOut, Tabled, Beside, HostBytes}
@@ -111,12 +112,12 @@ module _ (table waiting : List ℕ) (tabled : Tabled table) (beside : Beside (ta
     given = buffersOf (o .heads) (o .need) (o .have) (o .list) (m .lists .lastSent) (m .lists .sent)
 
     abbrev leaves : Buffers
-    leaves = putInto (planFor (m .words) (m .lists) table waiting given) given
+    leaves = putInto (planFor (m .words) (m .lists) table (tabled .index) waiting given) given
 
     abbrev then : Memory
     then =
         record {
-          words = plannedSession (answerOf (sessionOf (m .words)) (planFor (m .words) (m .lists) table waiting given)) (m .words);
+          words = plannedSession (answerOf (sessionOf (m .words)) (planFor (m .words) (m .lists) table (tabled .index) waiting given)) (m .words);
           lists =
               lentOf (m .lists .shared) (leaves .lastSent) (m .lists .theirHeads) (m .lists .theirNeed) (m .lists .haves) (m .lists .bytes) (leaves .sent);
         }
@@ -125,7 +126,7 @@ module _ (table waiting : List ℕ) (tabled : Tabled table) (beside : Beside (ta
     parts = record { heads = leaves .heads; need = leaves .need; have = leaves .have; list = leaves .list }
 
     abbrev answer : List ℕ
-    answer = plannedWords (answerOf (sessionOf (m .words)) (planFor (m .words) (m .lists) table waiting given))
+    answer = plannedWords (answerOf (sessionOf (m .words)) (planFor (m .words) (m .lists) table (tabled .index) waiting given))
 
     still-bytes : OfBytes (then .lists)
     unfolding putInto
@@ -139,7 +140,7 @@ module _ (table waiting : List ℕ) (tabled : Tabled table) (beside : Beside (ta
           sent = bytes-sets (hashesBytes _) (m .lists .sent) 0 (h .bytes .sent) (hashes-bytes _);
         }
 
-    plans : PlanMade table waiting m then o parts answer
+    plans : PlanMade table (tabled .index) waiting m then o parts answer
     plans = record { call = record { answer = refl; session = refl; buffers = refl }; others = refl; bytes = still-bytes }
 
     abbrev lent : List (List ℕ)
@@ -156,7 +157,7 @@ module _ (table waiting : List ℕ) (tabled : Tabled table) (beside : Beside (ta
     abbrev message : List ℕ
     message = cond (speaks answer) (cond (eqb (getD written 0 0) 0) (take (getD written 1 0) (contentOf output buffer)) []) []
 
-    speech : Speaks host table waiting m then message
+    speech : Speaks host table (tabled .index) waiting m then message
     speech =
         record {
           out = o;
@@ -233,7 +234,7 @@ kept-bytes (Received.took s) l b f =
 
 module _ (table : List ℕ) (tabled : Tabled table) (before : ℕ) (message : List ℕ) (said : Bytes message) (x : State) (m : Memory) (h : Holds x m) where
   abbrev gives : Received
-  gives = receiveFor (m .words) (m .lists) table before message true
+  gives = receiveFor (m .words) (m .lists) table (tabled .index) before message true
 
   abbrev later : Memory
   later = record { words = receivedSession (answerFor gives) (m .words); lists = keptIn gives (m .lists) }
@@ -243,7 +244,7 @@ module _ (table : List ℕ) (tabled : Tabled table) (before : ℕ) (message : Li
       kept-bytes gives (m .lists) (h .bytes)
       (λ s e. heard-fields before (tableOf table) x message said s (sym (receive-for table tabled before message said x m h) ∙ e))
 
-  hearing : Hears table before message m later
+  hearing : Hears table (tabled .index) before message m later
   hearing =
       record {
         answer = receivedWords (answerFor gives);
@@ -266,7 +267,7 @@ module _ (a : List ℕ) (b w u : ℕ → List ℕ) (hosts : ℕ → Host) (lends
         message (b k) (w k) (lends .tableB k) (lends .waitsB k) y (s .atB) heldB
         (hosts k) (lends .changes k) (lends .out) (lends .wide) (lends .buffer) (lends .room)
 
-    asks : Speaks (hosts k) (b k) (w k) (s .atB) midB question
+    asks : Speaks (hosts k) (b k) (lends .tableB k .index) (w k) (s .atB) midB question
     asks =
         speech (b k) (w k) (lends .tableB k) (lends .waitsB k) y (s .atB) heldB
         (hosts k) (lends .changes k) (lends .out) (lends .wide) (lends .buffer) (lends .room)
@@ -279,7 +280,7 @@ module _ (a : List ℕ) (b w u : ℕ → List ℕ) (hosts : ℕ → Host) (lends
     abbrev midA : Memory
     midA = later a (lends .tableA) (length (tableOf a)) question question-bytes x (s .atA) heldA
 
-    hears : Hears a (length (tableOf a)) question (s .atA) midA
+    hears : Hears a (lends .tableA .index) (length (tableOf a)) question (s .atA) midA
     hears = hearing a (lends .tableA) (length (tableOf a)) question question-bytes x (s .atA) heldA
 
     abbrev heardA : State
@@ -298,7 +299,7 @@ module _ (a : List ℕ) (b w u : ℕ → List ℕ) (hosts : ℕ → Host) (lends
         message a (u k) (lends .tableA) (lends .waitsA k) heardA midA heldMid
         (hosts k) (lends .changes k) (lends .out) (lends .wide) (lends .buffer) (lends .room)
 
-    answers : Speaks (hosts k) a (u k) midA endA reply
+    answers : Speaks (hosts k) a (lends .tableA .index) (u k) midA endA reply
     answers =
         speech a (u k) (lends .tableA) (lends .waitsA k) heardA midA heldMid
         (hosts k) (lends .changes k) (lends .out) (lends .wide) (lends .buffer) (lends .room)

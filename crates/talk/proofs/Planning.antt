@@ -14,6 +14,7 @@ use Rattle.bloom.specs.Filter.{defaultBits, defaultProbes}
 use Rattle.bloom.proofs.Rules.{rules-none}
 use Rattle.decide.specs.Call.{Buffers, buffersOf, afterTables, planWith, plannedCounts, answerOf, roomed, roomsIn, said, lastSentPut, sentPut, putInto}
 use Rattle.graph.specs.Graph.{heads}
+use Rattle.index.proofs.CheckLaws.{checked-table}
 use Rattle.kept.specs.Kept.{plannedIn}
 use Rattle.kept.proofs.Calls.{plan-stays-good}
 use Rattle.kept.proofs.Sessions.{good-state}
@@ -37,12 +38,14 @@ use Rattle.session_words.proofs.WordLaws.{words-back}
 use Rattle.state.specs.Session.{State}
 use Rattle.state.specs.Value.{Lent, valueOf, countsOf}
 use Rattle.state.specs.declared.session.Session.{Session}
-use Rattle.tables.specs.Bytes.{tableOf, waitingOf}
-use Rattle.tables.specs.Calls.{passedOn, tablesChecked}
+use Rattle.tables.specs.Bytes.{tableOf}
 use Rattle.tables.specs.Table.{Row, rows}
-use Rattle.tables.specs.Waiting.{Waiting}
 use Rattle.tables.proofs.GoodLaws.{rows-hashes}
 use Rattle.tables.proofs.TableLaws.{table-good}
+use Rattle.waiting.specs.Bytes.{waitingOf}
+use Rattle.tables.specs.Calls.{passedOn}
+use Rattle.waiting.specs.Calls.{tablesChecked}
+use Rattle.waiting.specs.Waiting.{Waiting}
 use Rattle.talk.specs.Calls.{PlanMade}
 use Rattle.talk.specs.Memory.{Memory, Roomy, OfBytes, Holds, Out, RoomyOut, Tabled, Beside}
 use Rattle.talk.proofs.Rooms.{Fine, planned-room, reset-roomed, says-roomed}
@@ -51,7 +54,7 @@ use Rattle.talk.proofs.Rooms.{Fine, planned-room, reset-roomed, says-ro
 
 pub table-sound : (s : List ℕ) → Tabled s → SoundTable (tableOf s)
 table-sound s t =
-    let d = table-good s (t .rows) (t .good) in
+    let d = table-good s (t .rows) (checked-table s (t .index) (t .rows) (t .good)) in
     record { good = d .good; are = rw (d .is) (rows-hashes s 0 (t .rows) (t .bytes)); few = rw (d .long) (d .few) }
 
 pub of-bytes : (l : Lent) → OfBytes l → LentBytes l
@@ -184,20 +187,20 @@ module _ (table waiting : List ℕ) (tabled : Tabled table) (beside : Beside (ta
 
       -- what is planned for the words is the step's plan
       plan-with : (c : Session) → c ≡ countsOf x → sessionGood (countsOf x) l ≡ true → valueOf (countsOf x) l ≡ x
-          → planWith defaultBits defaultProbes c l table waiting ≡ plan defaultBits defaultProbes t w x
+          → planWith defaultBits defaultProbes c l table (tabled .index) waiting ≡ plan defaultBits defaultProbes t w x
       unfolding planWith tablesChecked passedOn afterTables
       plan-with c counts goods value = rw (counts, goods, tabled .good, beside .good, value)
 
     -- ---- the call
 
-    module _ (m m′ : Memory) (o o′ : Out) (answer : List ℕ) (h : Holds x m) (wide : RoomyOut o) (made : PlanMade table waiting m m′ o o′ answer) where
+    module _ (m m′ : Memory) (o o′ : Out) (answer : List ℕ) (h : Holds x m) (wide : RoomyOut o) (made : PlanMade table (tabled .index) waiting m m′ o o′ answer) where
       abbrev p : Planned
       p = plan defaultBits defaultProbes t w x
 
       abbrev given : Buffers
       given = buffersOf (o .heads) (o .need) (o .have) (o .list) (m .lists .lastSent) (m .lists .sent)
 
-      plan-for : planFor (m .words) (m .lists) table waiting given ≡ p
+      plan-for : planFor (m .words) (m .lists) table (tabled .index) waiting given ≡ p
       plan-for =
           ap (roomed (roomsIn given)) (plan-with o (m .lists) wide (h .room) (sessionOf (m .words)) (h .counts) (h .stays .good) (h .stays .value))
           ∙ has-room o (m .lists) wide (h .room) p refl

@@ -72,16 +72,16 @@ module _ (table : List ℕ) (tabled : Tabled table) (before : ℕ) (message : Li
   has-room old (Received.took s) e = took-roomed s (m .lists) (taken-good s e) (h .room) old
   has-room old (Received.refused q s) e = refl
 
-  receive-with : (c : Session) → c ≡ countsOf x → receiveWith true before c (m .lists) table message ≡ r
+  receive-with : (c : Session) → c ≡ countsOf x → receiveWith true before c (m .lists) table (tabled .index) message ≡ r
   unfolding receiveWith afterTable
   receive-with c counts = rw (counts, h .stays .good, tabled .good, h .stays .value)
 
-  pub receive-for : receiveFor (m .words) (m .lists) table before message true ≡ r
+  pub receive-for : receiveFor (m .words) (m .lists) table (tabled .index) before message true ≡ r
   receive-for =
       ap (roomed (roomsIn (m .lists)) (valueOf (sessionOf (m .words)) (m .lists))) (receive-with (sessionOf (m .words)) (h .counts))
       ∙ has-room _ r refl
 
-  module _ (m′ : Memory) (made : Hears table before message m m′) where
+  module _ (m′ : Memory) (made : Hears table (tabled .index) before message m m′) where
     -- it answers what the step gives
     pub receive-answer : made .answer ≡ receivedWords (answerOf r)
     receive-answer = made .call .answer ∙ ap (λ (y : Received). receivedWords (answerOf y)) receive-for

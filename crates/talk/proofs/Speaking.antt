@@ -19,8 +19,9 @@ use Rattle.session.specs.Receive.{receiveBytes}
 use Rattle.session_calls.specs.SessionCalls.{statedWords, plannedWords}
 use Rattle.state.specs.Session.{State}
 use Rattle.state.specs.Value.{countsOf}
-use Rattle.tables.specs.Bytes.{tableOf, waitingOf}
+use Rattle.tables.specs.Bytes.{tableOf}
 use Rattle.tables.specs.Table.{Row}
+use Rattle.waiting.specs.Bytes.{waitingOf}
 use Rattle.walk.specs.Talk.{Host, messageFor, bytesFor, left}
 use Rattle.talk.specs.Calls.{Speaks, speaks, planIn}
 use Rattle.talk.specs.Memory.{Memory, Holds, Tabled, Beside}
@@ -38,7 +39,7 @@ nothing-crosses : (message : List ℕ) → message ≡ [] → Crosses [] message
 nothing-crosses message e = record { small = λ h. e; long = λ h. e }
 
 module _ (host : Host) (table waiting : List ℕ) (tabled : Tabled table) (beside : Beside (tableOf table) waiting) (x : State) (m m′ : Memory) (h : Holds x m)
-    (message : List ℕ) (speech : Speaks host table waiting m m′ message) where
+    (message : List ℕ) (speech : Speaks host table (tabled .index) waiting m m′ message) where
   abbrev p : Planned
   p = plan defaultBits defaultProbes (tableOf table) (waitingOf waiting) x
 

@@ -25,9 +25,10 @@ use Rattle.session_words.proofs.WordLaws.{words-back}
 use Rattle.state.specs.Counts.{freshCounts}
 use Rattle.state.specs.Session.{State, fresh}
 use Rattle.state.specs.Value.{heardHashes, heardHaves}
-use Rattle.tables.specs.Bytes.{tableOf, waitingOf}
+use Rattle.tables.specs.Bytes.{tableOf}
 use Rattle.tables.specs.Table.{Row}
-use Rattle.tables.specs.Waiting.{Waiting}
+use Rattle.waiting.specs.Bytes.{waitingOf}
+use Rattle.waiting.specs.Waiting.{Waiting}
 use Rattle.walk.specs.Round.{Part}
 use Rattle.walk.specs.Talk.{Host, Pair, messageFor, bytesFor, goes, left, asked, toA, answered, toB, pairAt, Reached, Granted, Tables, Ended}
 use Rattle.walk.specs.Walk.{lacking}
@@ -81,9 +82,9 @@ taken-small before t x z bytes e =
 
 -- what is said and taken: its calls answered 0
 module _ (host : Host) (table waiting : List ℕ) (tabled : Tabled table) (beside : Beside (tableOf table) waiting) (x : State) (m m′ : Memory) (h : Holds x m)
-    (message : List ℕ) (speech : Speaks host table waiting m m′ message) (q : Plan) (s : State)
+    (message : List ℕ) (speech : Speaks host table (tabled .index) waiting m m′ message) (q : Plan) (s : State)
     (says : plan defaultBits defaultProbes (tableOf table) (waitingOf waiting) x ≡ Planned.says q s)
-    (theirs : List ℕ) (accepted : Tabled theirs) (before : ℕ) (y z : State) (l l′ : Memory) (held : Holds y l) (hearing : Hears theirs before message l l′)
+    (theirs : List ℕ) (accepted : Tabled theirs) (before : ℕ) (y z : State) (l l′ : Memory) (held : Holds y l) (hearing : Hears theirs (accepted .index) before message l l′)
     (took : receiveBytes true before (tableOf theirs) y (messageBytes (messageFor host q)) ≡ Received.took z) where
   answered-so : SaidSo (speech .answer) (speech .written) (speech .out′) (q .body .hashes) × (getD (hearing .answer) 0 0 ≡ 0)
   unfolding answerOf

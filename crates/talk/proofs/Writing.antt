@@ -40,6 +40,7 @@ use Rattle.rules.specs.declared.refusal.Refusal.the-variants.{
   BadWaitingRow,
   BadNumbers,
   BadRowsBefore,
+  BadIndex,
 }
 use Rattle.rules.proofs.Hash.{length-hashes-bytes, hashes-there-and-back}
 use Rattle.rules.proofs.Outputs.{take-sets, written-gathered}
@@ -85,6 +86,7 @@ number-some LoadFailed = refl
 number-some (BadWaitingRow row) = refl
 number-some BadNumbers = refl
 number-some BadRowsBefore = refl
+number-some BadIndex = refl
 
 -- the words of the have are its record
 records-read : (what : ℕ) (q : Plan) (vs : List Have) → q .haves ≡ vs → length vs ≤ 1 → recordsIn (statedWords what (statedOf q)) ≡ laidWords vs

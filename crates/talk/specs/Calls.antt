@@ -20,9 +20,10 @@ use Rattle.session_calls.specs.SessionCalls.{PlanAnswered, ReceiveAnswered}
 use Rattle.session_words.specs.Words.{flagOf}
 use Rattle.size.specs.Size.{total}
 use Rattle.size.specs.Write.{partsOf, chunksFrom, messageOutput}
-use Rattle.tables.specs.Bytes.{tableOf, waitingOf}
+use Rattle.tables.specs.Bytes.{tableOf}
 use Rattle.tables.specs.Table.{Row}
-use Rattle.tables.specs.Waiting.{Waiting}
+use Rattle.waiting.specs.Bytes.{waitingOf}
+use Rattle.waiting.specs.Waiting.{Waiting}
 use Rattle.walk.specs.Round.{Part}
 use Rattle.walk.specs.Talk.{Host, chunksFor, goes, Pair, asked, answered, pairAt, Reached, Granted, Ended}
 use Rattle.walk.specs.Walk.{lacking}
@@ -53,8 +54,8 @@ planIn answer o =
 -- ---- the calls, each from memory to memory
 
 -- bt_plan: two of the session's lists and the four buffers are lent to be changed, the other lists stay.
-pub record PlanMade (table waiting : List ℕ) (m m′ : Memory) (o o′ : Out) (answer : List ℕ) : Type 0 where
-  pub call : PlanAnswered (m .words) (m′ .words) (m .lists) table waiting
+pub record PlanMade (table index waiting : List ℕ) (m m′ : Memory) (o o′ : Out) (answer : List ℕ) : Type 0 where
+  pub call : PlanAnswered (m .words) (m′ .words) (m .lists) table index waiting
       (buffersOf (o .heads) (o .need) (o .have) (o .list) (m .lists .lastSent) (m .lists .sent))
       (buffersOf (o′ .heads) (o′ .need) (o′ .have) (o′ .list) (m′ .lists .lastSent) (m′ .lists .sent))
       answer
@@ -76,20 +77,20 @@ pub record WriteMade (host : Host) (plan : List ℕ) (o : Out) (answer message :
   pub message-is : message ≡ cond (eqb (getD answer 0 0) 0) (take (getD answer 1 0) after) []
 
 -- A unit speaks: it plans, and where something is said the message is written.
-pub record Speaks (host : Host) (table waiting : List ℕ) (m m′ : Memory) (message : List ℕ) : Type 0 where
+pub record Speaks (host : Host) (table index waiting : List ℕ) (m m′ : Memory) (message : List ℕ) : Type 0 where
   pub out : Out
   pub out′ : Out
   pub room : RoomyOut out
   pub answer : List ℕ
-  pub plans : PlanMade table waiting m m′ out out′ answer
+  pub plans : PlanMade table index waiting m m′ out out′ answer
   pub silent : speaks answer ≡ false → message ≡ []
   pub written : List ℕ
   pub writes : speaks answer ≡ true → WriteMade host answer out′ written message
 
 -- bt_receive: a unit hears a message, whose changes have loaded; where nothing was said that is no bytes, which changes nothing.
-pub record Hears (table : List ℕ) (before : ℕ) (message : List ℕ) (m m′ : Memory) : Type 0 where
+pub record Hears (table index : List ℕ) (before : ℕ) (message : List ℕ) (m m′ : Memory) : Type 0 where
   pub answer : List ℕ
-  pub call : ReceiveAnswered (m .words) (m′ .words) (m .lists) (m′ .lists) table before message true answer
+  pub call : ReceiveAnswered (m .words) (m′ .words) (m .lists) (m′ .lists) table index before message true answer
   pub said : Bytes message
   pub bytes : OfBytes (m′ .lists)
 
@@ -132,10 +133,10 @@ module _ (a : List ℕ) (b w u : ℕ → List ℕ) (hosts : ℕ → Host) where
     pub midB : Memory
     pub question : List ℕ
     pub reply : List ℕ
-    pub asks : Speaks (hosts k) (b k) (w k) (s .atB) midB question
-    pub hears : Hears a (length A) question (s .atA) midA
-    pub answers : Speaks (hosts k) a (u k) midA (s′ .atA) reply
-    pub takes : Hears (b (suc k)) (length (B k)) reply midB (s′ .atB)
+    pub asks : Speaks (hosts k) (b k) (tableB .index) (w k) (s .atB) midB question
+    pub hears : Hears a (tableA .index) (length A) question (s .atA) midA
+    pub answers : Speaks (hosts k) a (tableA .index) (u k) midA (s′ .atA) reply
+    pub takes : Hears (b (suc k)) (loadedB .index) (length (B k)) reply midB (s′ .atB)
 
   -- So many rounds from two fresh sessions on, each from the memory that the one before it left.
   pub record TalkOfCalls (n : ℕ) : Type 0 where

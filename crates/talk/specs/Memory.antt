@@ -4,6 +4,7 @@ use mathlib.Core.List.{List}
 use mathlib.Core.Path.{_≡_}
 use lib.ListN.{length}
 use Rattle.bloom.specs.Have.{haveWords}
+use Rattle.index.specs.Index.{indexChecked}
 use Rattle.kept.specs.Kept.{Stays}
 use Rattle.rules.specs.Hash.{Bytes}
 use Rattle.rules.specs.Sizes.{sizes}
@@ -11,9 +12,9 @@ use Rattle.session_words.specs.Words.{sessionWords, sessionOf}
 use Rattle.state.specs.Counts.{freshCounts}
 use Rattle.state.specs.Session.{State}
 use Rattle.state.specs.Value.{Lent, countsOf}
-use Rattle.tables.specs.Bytes.{tableChecked, waitingChecked}
 use Rattle.tables.specs.Table.{Row}
 use Rattle.tables.specs.declared.check.Checked.the-variants.{Good}
+use Rattle.waiting.specs.Bytes.{waitingChecked}
 use Rattle.walk.specs.Talk.{Host}
 
 -- A session as a host keeps it: its sixteen words, and the seven lists that are lent beside them.
@@ -70,10 +71,11 @@ pub record RoomyOut (o : Out) : Type 0 where
   pub have : haveRoom ≤ length (o .have)
   pub list : sizes .hash * sizes .hashesToSend ≤ length (o .list)
 
--- 01, Change table and Waiting table: bytes that no call refuses.
+-- 01, Change table and Waiting table; 02, M-100: bytes that no call refuses, the change table's with an index that fits it, lent beside it.
 pub record Tabled (s : List ℕ) : Type 0 where
   pub rows : ℕ
-  pub good : tableChecked s ≡ Good rows
+  pub index : List ℕ
+  pub good : indexChecked s index ≡ Good rows
   pub bytes : Bytes s
 
 pub record Beside (t : List Row) (s : List ℕ) : Type 0 where

@@ -24,7 +24,7 @@ returns c =
     let given = c .before .before in
     let gives = given .before .before in
     let need = gives .before .before .before .before in
-    let start = need .before .before .before .before .before .before .before .before in
+    let start = need .before .before .before .before .before .before .before .before .before in
     asked-made _ _ _ _ _ _ _ _ _ _ _ (start .pre .0 .room) (need .make-need .ensures) (gives .gives-have .ensures) (given .make-have .ensures)
 
 pub make-asked-spec : {M : Type 1} → statement M

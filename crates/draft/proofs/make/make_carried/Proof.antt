@@ -14,7 +14,7 @@ make-body-requires c κs = search needs
 make-sent-requires : tie.Need-make-sent-requires
 make-sent-requires c κs =
     let body = c .before .before .before .before in
-    let start = body .before .before .before .before .before .before .before .before .before .before .before in
+    let start = body .before .before .before .before .before .before .before .before .before .before .before .before in
     let few = body-there (start .pre) _ _ (body-made (start .pre) _ _ _ (body .before .before .heard-as .ensures) (body .make-body .ensures)) in
     (start .pre .there, start .pre .ascending, omega (arith, few), omega (arith, start .pre .sentRoom, start .pre .few))
 
@@ -28,7 +28,7 @@ returns : tie.Need-returns
 returns c =
     let sent = c .before .before in
     let body = sent .before .before .before .before .before in
-    let start = body .before .before .before .before .before .before .before .before .before .before .before in
+    let start = body .before .before .before .before .before .before .before .before .before .before .before .before in
     carried-made (start .pre) _ _ _ (body-made (start .pre) _ _ _ (body .before .before .heard-as .ensures) (body .make-body .ensures))
     (sent .make-sent .ensures)
 

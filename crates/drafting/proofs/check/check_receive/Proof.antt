@@ -10,10 +10,10 @@ session-good-requires : tie.Need-session-good-requires
 session-good-requires c κs = search needs
 
 returns : tie.Need-returns
-returns c = bad-session _ _ _ _ _ (sym (c .before .session-good .ensures) ∙ not-true _ (c .if1 .taken))
+returns c = bad-session _ _ _ _ _ _ (sym (c .before .session-good .ensures) ∙ not-true _ (c .if1 .taken))
 
-check-table-requires : tie.Need-check-table-requires
-check-table-requires c κs = search needs
+check-indexed-requires : tie.Need-check-indexed-requires
+check-indexed-requires c κs = search needs
 
 enum-known-r : tie.Need-enum-known-r
 enum-known-r c = search needs
@@ -26,7 +26,7 @@ returns-2 c =
     let n = c .before .before in
     let t = n .before .before in
     let e = t .before in
-    bad-before _ _ _ _ _ (sym (e .before .session-good .ensures) ∙ not-false _ (e .if1 .left)) _ (sym (t .check-table .ensures) ∙ n .n .given .1)
+    bad-before _ _ _ _ _ _ (sym (e .before .session-good .ensures) ∙ not-false _ (e .if1 .left)) _ (sym (t .check-indexed .ensures) ∙ n .n .given .1)
     (c .if2 .taken)
 
 parse-requires : tie.Need-parse-requires
@@ -43,7 +43,7 @@ returns-3 c =
     let r = c .before in
     let t = r .before .before in
     let e = t .before in
-    bad-table _ _ _ _ _ (sym (e .before .session-good .ensures) ∙ not-false _ (e .if1 .left)) _ (sym (t .check-table .ensures) ∙ r .r .given .1)
+    bad-table _ _ _ _ _ _ (sym (e .before .session-good .ensures) ∙ not-false _ (e .if1 .left)) _ (sym (t .check-indexed .ensures) ∙ r .r .given .1)
 
 returns-4 : tie.Need-returns-4
 returns-4 c =
@@ -53,7 +53,7 @@ returns-4 c =
     let n = w .before .before in
     let t = n .before .before in
     let e = t .before in
-    bad-message _ _ _ _ _ (sym (e .before .session-good .ensures) ∙ not-false _ (e .if1 .left)) _ (sym (t .check-table .ensures) ∙ n .n .given .1)
+    bad-message _ _ _ _ _ _ (sym (e .before .session-good .ensures) ∙ not-false _ (e .if1 .left)) _ (sym (t .check-indexed .ensures) ∙ n .n .given .1)
     (w .if2 .left) _ (sym (p .parse .ensures) ∙ r .r2 .given .1)
 
 returns-5 : tie.Need-returns-5
@@ -64,7 +64,7 @@ returns-5 c =
     let n = w .before .before in
     let t = n .before .before in
     let e = t .before in
-    all-good _ _ _ _ _ (sym (e .before .session-good .ensures) ∙ not-false _ (e .if1 .left)) _ (sym (t .check-table .ensures) ∙ n .n .given .1)
+    all-good _ _ _ _ _ _ (sym (e .before .session-good .ensures) ∙ not-false _ (e .if1 .left)) _ (sym (t .check-indexed .ensures) ∙ n .n .given .1)
     (w .if2 .left) _ (sym (p .parse .ensures) ∙ r .places .given .1)
 
 pub check-receive-spec : {M : Type 1} → statement M
@@ -73,7 +73,7 @@ check-receive-spec =
     (tie.spec
     session-good-requires
     returns
-    check-table-requires
+    check-indexed-requires
     enum-known-r
     enum-known-n
     returns-2

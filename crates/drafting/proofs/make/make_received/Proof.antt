@@ -1,7 +1,6 @@
 -- `drafting::make::make_received` meets its contract: one part after the other. Assumes nothing.
 use mathlib.Core.Path.{refl}
 use native.Mathlib.Omega.{arith}
-use Rattle.tables.proofs.GoodLaws.{good-part}
 use Rattle.drafting.proofs.MakeLaws.{keeps-there, keeps-fit, keeps-gathered, shared-room}
 use Rattle.drafting.proofs.SaidLaws.{read-words}
 use borrow.Author.Needs.{needs}
@@ -14,7 +13,7 @@ make-words-requires c κs = search needs
 make-shared-requires : tie.Need-make-shared-requires
 make-shared-requires c κs =
     let m = c .before .before .before in
-    let s = m .before .before .before .before .before .before .before .before .before .before .before .before .before in
+    let s = m .before .before .before .before .before .before .before .before .before .before .before .before .before .before in
     let r = s .pre .0 in
     let w = read-words _ _ (r .placed) in
     (r .rows, r .upTo, r .shared, w .headsThere, w .fewHeads, omega (arith, s .pre .1 .shared))
@@ -27,7 +26,7 @@ make-left-requires c κs =
     let k = c .before in
     let h = k .before .before .before in
     let m = h .before .before .before .before in
-    let s = m .before .before .before .before .before .before .before .before .before .before .before .before .before in
+    let s = m .before .before .before .before .before .before .before .before .before .before .before .before .before .before in
     let r = s .pre .0 in
     let w = read-words _ _ (r .placed) in (
       r .rows,
@@ -41,8 +40,8 @@ told-heads-requires c κs =
     let k = c .before .before .before .before in
     let h = k .before .before .before in
     let m = h .before .before .before .before in
-    let r = m .before .before .before .before .before .before .before .before .before .before .before .before .before .pre .0 in
-    (good-part _ _ _ (r .rows) (r .upTo), read-words _ _ (r .placed) .headsThere)
+    let r = m .before .before .before .before .before .before .before .before .before .before .before .before .before .before .pre .0 in
+    (r .rows, r .upTo, read-words _ _ (r .placed) .headsThere)
 
 last-sent-after-requires : tie.Need-last-sent-after-requires
 last-sent-after-requires c κs = search needs
@@ -65,7 +64,7 @@ returns c =
     let k5 = k .before in
     let h = k5 .before .before in
     let m = h .before .before .before .before in
-    let s = m .before .before .before .before .before .before .before .before .before .before .before .before .before in
+    let s = m .before .before .before .before .before .before .before .before .before .before .before .before .before .before in
     let long = s .pre .1 in (
       record {
         shared = shared-room _ _ _ _ (long .shared) (h .make-shared .ensures);
@@ -80,8 +79,8 @@ returns c =
       record {
         long =
             record {
-              shared = omega (arith, h .make-shared .kept .1 .1 .1 .1 .1 .1 .1 .1 .1 .0, long .shared);
-              sent = omega (arith, f .make-left .kept .1 .1 .1 .1 .1 .1 .1 .0, long .sent);
+              shared = omega (arith, h .make-shared .kept .1 .1 .1 .1 .1 .1 .1 .1 .1 .1 .0, long .shared);
+              sent = omega (arith, f .make-left .kept .1 .1 .1 .1 .1 .1 .1 .1 .0, long .sent);
               words = omega (arith, m .make-words .kept .1 .1 .0, long .words);
             };
         shared = λ i. k5 .slice-known5 .given i .fits;

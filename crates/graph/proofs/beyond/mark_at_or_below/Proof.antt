@@ -17,7 +17,7 @@ returns : tie.Need-returns
 returns c =
     let b = c .before .before in
     let l = b .before .before .before .before in
-    below-blank _ _ _ _ _ _ (l .before .before .before .before .before .pre .3) (l .mark-list .ensures) (b .mark-below .ensures)
+    below-blank _ _ _ _ _ _ (l .before .before .before .before .before .before .pre .3) (l .mark-list .ensures) (b .mark-below .ensures)
 
 pub mark-at-or-below-spec : {M : Type 1} → statement M
 mark-at-or-below-spec = tie.close (tie.spec mark-list-requires mark-below-requires same-length returns)

@@ -17,8 +17,8 @@ slice-aggregate-mark-at-or-below c = search needs
 
 mark-at-or-below-requires : tie.Need-mark-at-or-below-requires
 mark-at-or-below-requires c κs =
-    let start = c .before .before .before .before in
-    (start .pre .0, omega (arith, start .pre .1), omega (arith, length-replicate (sizes .rows) false, start .pre .0 .few), blank _ _ (start .pre .0 .few))
+    let start = c .before .before .before .before .before in
+    (start .pre .0, omega (arith, start .pre .1), omega (arith, length-replicate (sizes .rows) false, start .pre .0 .rows .few), blank _ _ (start .pre .0 .rows .few))
 
 slice-aggregate-flip : tie.Need-slice-aggregate-flip
 slice-aggregate-flip c = search needs
@@ -34,8 +34,8 @@ count-marked-requires c κs = search needs
 
 mul-size : tie.Need-mul-size
 mul-size c =
-    let start = c .before .before .before .before .before .before .before .before .before .before .before in
-    omega (arith, count-most _ _ _ (c .count-marked .ensures), start .pre .0 .few)
+    let start = c .before .before .before .before .before .before .before .before .before .before .before .before in
+    omega (arith, count-most _ _ _ (c .count-marked .ensures), start .pre .0 .rows .few)
 
 returns : tie.Need-returns
 returns c =

@@ -2,9 +2,9 @@
 use mathlib.Core.Path.{_≡_, sym, _∙_}
 use native.Mathlib.Omega.{arith}
 use denote.Ref.{now}
-use Rattle.tables.proofs.GoodLaws.{accepted-part}
+use Rattle.index.specs.Index.{indexChecked}
+use Rattle.index.proofs.CheckLaws.{checked-indexed}
 use Rattle.rules.proofs.Outputs.{refused}
-use Rattle.tables.specs.Bytes.{tableChecked}
 use Rattle.tables.specs.declared.check.Checked.the-variants.{Good}
 use Rattle.graph.proofs.CallLaws.{heads-refused, heads-many, heads-written}
 use borrow.Author.Needs.{needs}
@@ -13,12 +13,12 @@ use Rattle.graph.proofs.heads.heads.Tie as tie
 
 -- what the good answer says of the table
 told : (c : tie.After-known-told2)
-    → let start = c .before .before .before .before .before .before in
-    tableChecked (now (start .args .table)) ≡ Good (c .before .n .given .0 .0)
-told c = sym (c .before .before .before .check-table .ensures) ∙ c .before .n .given .1
+    → let start = c .before .before .before .before .before .before .before in
+    indexChecked (now (start .args .table)) (now (start .args .index)) ≡ Good (c .before .n .given .0 .0)
+told c = sym (c .before .before .before .check-indexed .ensures) ∙ c .before .n .given .1
 
-check-table-requires : tie.Need-check-table-requires
-check-table-requires c κs = search needs
+check-indexed-requires : tie.Need-check-indexed-requires
+check-indexed-requires c κs = search needs
 
 enum-known-r : tie.Need-enum-known-r
 enum-known-r c = search needs
@@ -27,13 +27,13 @@ enum-known-n : tie.Need-enum-known-n
 enum-known-n c = search needs
 
 returns : tie.Need-returns
-returns c = rw (heads-many _ _ _ (told (c .before)) (c .if1 .taken)) (refused _ _)
+returns c = rw (heads-many _ _ _ _ (told (c .before)) (c .if1 .taken)) (refused _ _)
 
 put-heads-requires : tie.Need-put-heads-requires
-put-heads-requires c κs = accepted-part _ _ _ (told (c .before .before)) (omega (arith, c .before .if1 .left))
+put-heads-requires c κs = (checked-indexed _ _ _ (told (c .before .before)), omega (arith, c .before .if1 .left))
 
 returns-2 : tie.Need-returns-2
-returns-2 c = rw (heads-refused _ _ _ (sym (c .before .before .before .check-table .ensures) ∙ c .before .r .given .1)) (refused _ _)
+returns-2 c = rw (heads-refused _ _ _ _ (sym (c .before .before .before .check-indexed .ensures) ∙ c .before .r .given .1)) (refused _ _)
 
 same-length : tie.Need-same-length
 same-length c = search needs
@@ -42,13 +42,13 @@ returns-3 : tie.Need-returns-3
 returns-3 c =
     let p = c .before .before in
     let e = p .before .before in
-    rw (heads-written _ _ _ (told (e .before)) (e .if1 .left)) (p .put-heads .ensures)
+    rw (heads-written _ _ _ _ (told (e .before)) (e .if1 .left)) (p .put-heads .ensures)
 
 pub heads-spec : {M : Type 1} → statement M
 heads-spec =
     tie.close
     (tie.spec
-    check-table-requires
+    check-indexed-requires
     enum-known-r
     enum-known-n
     returns

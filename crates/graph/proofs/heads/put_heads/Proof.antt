@@ -39,8 +39,8 @@ slice-aggregate-collect-heads c = search needs
 
 collect-heads-requires : tie.Need-collect-heads-requires
 collect-heads-requires c κs =
-    let start = c .before .before .before in
-    (start .pre, room _ (start .pre .few))
+    let start = c .before .before .before .before in
+    (start .pre .0, start .pre .1, room _ (omega (arith, start .pre .0 .rows .few, start .pre .1)))
 
 slice-aggregate-put-list : tie.Need-slice-aggregate-put-list
 slice-aggregate-put-list c = search needs
@@ -48,7 +48,8 @@ slice-aggregate-put-list c = search needs
 put-list-requires : tie.Need-put-list-requires
 put-list-requires c κs =
     let h = c .before .before .before in
-    fits _ _ _ _ (h .before .before .before .before .pre .few) (few _ _) (h .collect-heads .ensures) (h .collect-heads .kept .1 .1 .0)
+    let pre = h .before .before .before .before .before .pre in
+    fits _ _ _ _ (omega (arith, pre .0 .rows .few, pre .1)) (few _ _) (h .collect-heads .ensures) (h .collect-heads .kept .1 .1 .1 .1 .0)
 
 same-length : tie.Need-same-length
 same-length c = search needs

@@ -1,96 +1,133 @@
--- `graph::marked::collect_marked` meets its contract: at each row the list holds the hashes of the marked rows behind it, ascending, and so has
--- room for one more (CollectLaws). Assumes nothing.
-use Prim.Native.Nat.{_≤_}
-use mathlib.Core.Path.{_≡_, refl, _∙_}
+-- `graph::marked::collect_marked` meets its contract: what has been put and what is left make the whole, and the index has the rows in ascending
+-- order of hash (CollectLaws). Assumes nothing.
+use Prim.Native.Nat.{_-_, _<_}
+use mathlib.Core.Path.{_≡_}
 use native.Mathlib.Omega.{arith}
 use borrow.Author.Tests.{not-true, not-false}
-use lib.ListN.{length}
-use Rattle.rules.specs.Order.{ascend}
-use Rattle.rules.specs.Output.{Gathered}
-use Rattle.tables.specs.Bytes.{rowsAt}
-use Rattle.tables.specs.Table.{rows}
-use Rattle.graph.proofs.GraphMarks.{many-rows}
-use Rattle.graph.proofs.CollectLaws.{collect-starts, collect-most, collect-passed, collect-taken, collect-ends}
-use Rattle.graph.proofs.MarkedRows.{hash-there}
-use Rattle.graph.proofs.PickLaws.{pickLeft}
+use Rattle.index.proofs.HalveLaws.{entry-below, look-ordered, fit-records}
+use Rattle.graph.proofs.CollectLaws.{Collecting, collecting-starts, collecting-passed, collecting-room, collecting-taken, collecting-ends, past-first, by-mark}
 use borrow.Author.Needs.{needs}
 use Rattle.graph.proofs.marked.collect_marked.Statement.{statement}
 use Rattle.graph.proofs.marked.collect_marked.Tie as tie
 
 abbrev Inv-loop : tie.InvT-loop
-Inv-loop table n marks list₀ count₀ i₀ list count i =
-    record {
-      upto : i ≤ n;
-      long : length list ≡ length list₀;
-      so : Gathered (ascend (pickLeft (rows (rowsAt table 0 n)) marks i)) list count;
-    }
+Inv-loop table index n before marks list₀ count₀ k₀ list count k = Collecting table index n before marks list₀ list count k
 
 abbrev μ-loop : tie.MeasureT-loop
-μ-loop table n marks list₀ count₀ i₀ list count i = i
+μ-loop table index n before marks list₀ count₀ k₀ list count k = n - k
 
 loop-holds : tie.Need-loop-holds Inv-loop μ-loop
-loop-holds c = record { upto = omega arith; long = refl; so = collect-starts _ _ _ (many-rows _ _) _ }
+loop-holds c = collecting-starts _ _ _ _ _ _
 
-sub-i : tie.Need-sub-i Inv-loop μ-loop
-sub-i c = search needs
+mul-u16-at : tie.Need-mul-u16-at Inv-loop μ-loop
+mul-u16-at c = search needs
 
-shared-slice-read-if1 : tie.Need-shared-slice-read-if1 Inv-loop μ-loop
-shared-slice-read-if1 c =
-    let b = c .before .before in
-    omega (arith, c .before .loop-test .taken, b .loop .inv .upto, b .before .before .before .before .pre .1)
+u16-at-requires : tie.Need-u16-at-requires Inv-loop μ-loop
+u16-at-requires c κs =
+    let start = c .before .before .before .before .before .before in
+    omega (arith, c .loop-test .taken, start .pre .0 .entries)
+
+add-k : tie.Need-add-k Inv-loop μ-loop
+add-k c = search needs
+
+-- an entry names a row
+low : (c : tie.After-u16-at Inv-loop μ-loop) → c .u16-at .result < c .before .before .before .before .before .before .before .args .n
+low c =
+    let start = c .before .before .before .before .before .before .before in
+    entry-below _ _ _ (look-ordered _ _ _ (fit-records _ _ _ (start .pre .0 .fit))) _ _ (c .before .loop-test .taken) (c .u16-at .ensures)
 
 loop-less : tie.Need-loop-less Inv-loop μ-loop
 loop-less c = search needs
 
 loop-again : tie.Need-loop-again Inv-loop μ-loop
 loop-again c =
-    let l = c .before .before in
-    let b = l .before in
-    record {
-      upto = omega (arith, b .loop .inv .upto);
-      long = b .loop .inv .long;
-      so = collect-passed _ _ _ (many-rows _ _) _ _ _ (b .loop .inv .so) (l .loop-test .taken) (b .loop .inv .upto) (not-true _ (c .if1 .taken));
-    }
+    let u = c .before in
+    let l = u .before in
+    collecting-passed _ _ _ _ _ _ _ _ _ _ (l .before .loop .inv) (l .loop-test .taken) (u .u16-at .ensures) (past-first _ _ _ _ _ _ (c .if1 .taken))
 
-mul-insert-hash : tie.Need-mul-insert-hash Inv-loop μ-loop
-mul-insert-hash c =
-    let b = c .before .before .before .before in
-    omega (arith, b .loop .inv .upto, b .before .before .before .before .pre .0 .inside)
-
-insert-hash-requires : tie.Need-insert-hash-requires Inv-loop μ-loop
-insert-hash-requires c κs =
-    let l = c .before .before .before in
-    let b = l .before in
-    let pre = b .before .before .before .before .pre in
-    let most = collect-most _ _ _ (many-rows _ _) _ _ _ (b .loop .inv .so) (b .loop .inv .upto) in
-    (omega (arith, most, pre .2, b .loop .inv .long), omega (arith, l .loop-test .taken, b .loop .inv .upto, pre .0 .inside))
+shared-slice-read-if2 : tie.Need-shared-slice-read-if2 Inv-loop μ-loop
+shared-slice-read-if2 c =
+    let e = c .before in
+    let start = e .before .before .before .before .before .before .before .before in
+    omega (arith, e .if1 .left, start .pre .2)
 
 loop-less-2 : tie.Need-loop-less-2 Inv-loop μ-loop
 loop-less-2 c = search needs
 
 loop-again-2 : tie.Need-loop-again-2 Inv-loop μ-loop
 loop-again-2 c =
+    let e = c .before .before in
+    let u = e .before in
+    let l = u .before in
+    collecting-passed _ _ _ _ _ _ _ _ _ _ (l .before .loop .inv) (l .loop-test .taken) (u .u16-at .ensures)
+    (by-mark _ _ _ _ _ _ _ (e .if1 .left) (not-true _ (c .if2 .taken)))
+
+-- there is room for one hash more
+room : (c : tie.Else2 Inv-loop μ-loop)
+    → let l = c .before .before .before .before in
+    l .before .loop .count < l .before .before .before .before .before .before .args .before
+room c =
+    let e = c .before .before in
+    let u = e .before in
+    let l = u .before in
+    let start = l .before .before .before .before .before .before in
+    collecting-room _ _ _ _ _ _ _ _ _ _ (l .before .loop .inv) (l .loop-test .taken) (u .u16-at .ensures) (low u)
+    (by-mark _ _ _ _ _ _ _ (e .if1 .left) (not-false _ (c .if2 .left)))
+    (start .pre .0 .fit)
+    (start .pre .1)
+
+mul-put-hash : tie.Need-mul-put-hash Inv-loop μ-loop
+mul-put-hash c =
+    let start = c .before .before .before .before .before .before .before .before .before .before .before in
+    omega (arith, room (c .before), start .pre .1, start .pre .0 .rows .few)
+
+mul-put-hash-2 : tie.Need-mul-put-hash-2 Inv-loop μ-loop
+mul-put-hash-2 c =
+    let start = c .before .before .before .before .before .before .before .before .before .before .before in
+    omega (arith, low (c .before .before .before .before), start .pre .0 .rows .few)
+
+put-hash-requires : tie.Need-put-hash-requires Inv-loop μ-loop
+put-hash-requires c κs =
+    let u = c .before .before .before .before in
+    let b = u .before .before in
+    let start = b .before .before .before .before .before in
+    (omega (arith, room (c .before), b .loop .inv .long, start .pre .3), omega (arith, low u, start .pre .0 .rows .inside))
+
+add-count : tie.Need-add-count Inv-loop μ-loop
+add-count c =
+    let e = c .before .before .before .before in
+    let start = e .before .before .before .before .before .before .before .before .before .before in
+    omega (arith, room e, start .pre .1, start .pre .0 .rows .few)
+
+loop-less-3 : tie.Need-loop-less-3 Inv-loop μ-loop
+loop-less-3 c = search needs
+
+loop-again-3 : tie.Need-loop-again-3 Inv-loop μ-loop
+loop-again-3 c =
     let put = c .before .before in
-    let e = put .before .before in
-    let l = e .before .before in
+    let m = put .before .before in
+    let e = m .before .before in
+    let u = e .before in
+    let l = u .before in
     let b = l .before in
-    let pre = b .before .before .before .before .pre in
-    let some = l .loop-test .taken in
-    record {
-      upto = omega (arith, b .loop .inv .upto);
-      long = put .insert-hash .kept .0 ∙ b .loop .inv .long;
-      so =
-          collect-taken _ _ _ (many-rows _ _) _ _ _ (b .loop .inv .so) _ _ _ some (b .loop .inv .upto) (not-false _ (e .if1 .left))
-          (omega (arith, pre .2, b .loop .inv .long))
-          (hash-there _ _ _ (omega (arith, some, b .loop .inv .upto)))
-          (put .insert-hash .ensures);
-    }
+    let known = b .before .before .before .before in
+    collecting-taken _ _ _ _ _ _ _ _ _ _ (b .loop .inv) (l .loop-test .taken) (u .u16-at .ensures) (low u)
+    (by-mark _ _ _ _ _ _ _ (e .if1 .left) (not-false _ (m .if2 .left)))
+    _
+    (λ i. known .shared-slice-known .given i .fits)
+    (known .before .pre .0 .rows .inside)
+    (put .put-hash .kept .0)
+    (put .put-hash .ensures)
 
 same-length : tie.Need-same-length Inv-loop μ-loop
-same-length c = search needs
+same-length c = c .before .loop .inv .long
 
 returns : tie.Need-returns Inv-loop μ-loop
-returns c = collect-ends _ _ _ (many-rows _ _) _ _ _ (c .before .loop .inv .so) (c .loop-test .left)
+returns c =
+    let b = c .before in
+    let known = b .before .before .before .before in
+    let pre = known .before .pre in
+    collecting-ends _ _ _ _ _ _ _ _ _ (b .loop .inv) (c .loop-test .left) (pre .0 .fit) (pre .1) (λ i. known .shared-slice-known .given i .fits) (pre .3)
 
 pub collect-marked-spec : {M : Type 1} → statement M
 collect-marked-spec =
@@ -99,13 +136,19 @@ collect-marked-spec =
     Inv-loop
     μ-loop
     loop-holds
-    sub-i
-    shared-slice-read-if1
+    mul-u16-at
+    u16-at-requires
+    add-k
     loop-less
     loop-again
-    mul-insert-hash
-    insert-hash-requires
+    shared-slice-read-if2
     loop-less-2
     loop-again-2
+    mul-put-hash
+    mul-put-hash-2
+    put-hash-requires
+    add-count
+    loop-less-3
+    loop-again-3
     same-length
     returns)

@@ -5,11 +5,11 @@ use borrow.Author.Needs.{needs}
 use Rattle.graph.proofs.marks.mark_hash.Statement.{statement}
 use Rattle.graph.proofs.marks.mark_hash.Tie as tie
 
-find-row-requires : tie.Need-find-row-requires
-find-row-requires c κs = search needs
+look-up-requires : tie.Need-look-up-requires
+look-up-requires c κs = search needs
 
 returns : tie.Need-returns
-returns c = hash-unknown _ _ _ _ _ (c .before .find-row .ensures) (c .if1 .taken)
+returns c = hash-unknown _ _ _ _ _ (c .before .look-up .ensures) (c .if1 .taken)
 
 slice-write-marks : tie.Need-slice-write-marks
 slice-write-marks c = search needs
@@ -18,8 +18,8 @@ same-length : tie.Need-same-length
 same-length c = search needs
 
 returns-2 : tie.Need-returns-2
-returns-2 c = hash-held _ _ _ _ _ (c .before .find-row .ensures) (c .if1 .left)
+returns-2 c = hash-held _ _ _ _ _ (c .before .look-up .ensures) (c .if1 .left)
 
 pub mark-hash-spec : {M : Type 1} → statement M
 mark-hash-spec =
-    tie.close (tie.spec find-row-requires returns slice-write-marks same-length returns-2)
+    tie.close (tie.spec look-up-requires returns slice-write-marks same-length returns-2)

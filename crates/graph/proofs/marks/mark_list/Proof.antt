@@ -14,7 +14,7 @@ use Rattle.graph.proofs.marks.mark_list.Statement.{statement}
 use Rattle.graph.proofs.marks.mark_list.Tie as tie
 
 abbrev Inv-loop : tie.InvT-loop
-Inv-loop table n l place count marks₀ k₀ marks k =
+Inv-loop table index n l place count marks₀ k₀ marks k =
     record {
       upto : k ≤ count;
       long : length marks ≡ length marks₀;
@@ -24,21 +24,21 @@ Inv-loop table n l place count marks₀ k₀ marks k =
     }
 
 abbrev μ-loop : tie.MeasureT-loop
-μ-loop table n l place count marks₀ k₀ marks k = count - k
+μ-loop table index n l place count marks₀ k₀ marks k = count - k
 
 loop-holds : tie.Need-loop-holds Inv-loop μ-loop
 loop-holds c = record { upto = omega arith; long = refl; rest = list-start _ _ _ _ _ _ }
 
 mul-mark-hash : tie.Need-mul-mark-hash Inv-loop μ-loop
-mul-mark-hash c = omega (arith, c .before .before .before .before .before .pre .1)
+mul-mark-hash c = omega (arith, c .before .before .before .before .before .before .pre .1)
 
 add-mark-hash : tie.Need-add-mark-hash Inv-loop μ-loop
-add-mark-hash c = omega (arith, c .before .before .before .before .before .pre .1)
+add-mark-hash c = omega (arith, c .before .before .before .before .before .before .pre .1)
 
 mark-hash-requires : tie.Need-mark-hash-requires Inv-loop μ-loop
 mark-hash-requires c κs =
     let b = c .before .before in
-    let start = b .before .before .before .before in
+    let start = b .before .before .before .before .before in
     (start .pre .0, omega (arith, c .before .loop-test .taken, start .pre .1), omega (arith, start .pre .2, b .loop .inv .long))
 
 add-k : tie.Need-add-k Inv-loop μ-loop
@@ -54,7 +54,7 @@ loop-again c =
     let b = t .before in
     record {
       upto = omega (arith, t .loop-test .taken);
-      long = m .mark-hash .kept .1 .1 .1 .1 .0 ∙ b .loop .inv .long;
+      long = m .mark-hash .kept .1 .1 .1 .1 .1 .0 ∙ b .loop .inv .long;
       rest = sym (list-on _ _ _ _ _ _ _ _ (t .loop-test .taken) (m .mark-hash .ensures)) ∙ b .loop .inv .rest;
     }
 
@@ -63,8 +63,8 @@ same-length c = search needs
 
 returns : tie.Need-returns Inv-loop μ-loop
 returns c =
-    let start = c .before .before .before .before .before in
-    list-marked _ _ _ _ _ (start .pre .0) _ _ (start .pre .2) (sym (list-done _ _ _ _ _ _ _ (c .loop-test .left)) ∙ c .before .loop .inv .rest)
+    let start = c .before .before .before .before .before .before in
+    list-marked _ _ _ _ _ (start .pre .0 .rows) _ _ (start .pre .2) (sym (list-done _ _ _ _ _ _ _ (c .loop-test .left)) ∙ c .before .loop .inv .rest)
 
 pub mark-list-spec : {M : Type 1} → statement M
 mark-list-spec =

@@ -13,14 +13,14 @@ use Rattle.lists.proofs.compare.all_held.Statement.{statement}
 use Rattle.lists.proofs.compare.all_held.Tie as tie
 
 abbrev Inv-loop : tie.InvT-loop
-Inv-loop table n s place count k₀ k =
+Inv-loop table index n s place count k₀ k =
     record {
       upto : k ≤ count;
       rest : every (held (rowsAt table 0 n)) (onward s place count k) ≡ every (held (rowsAt table 0 n)) (hashesAt s place count);
     }
 
 abbrev μ-loop : tie.MeasureT-loop
-μ-loop table n s place count k₀ k = count - k
+μ-loop table index n s place count k₀ k = count - k
 
 loop-holds : tie.Need-loop-holds Inv-loop μ-loop
 loop-holds c = record { upto = omega arith; rest = test-starts _ _ _ _ }
@@ -31,13 +31,13 @@ mul-at c = search needs
 add-at : tie.Need-add-at Inv-loop μ-loop
 add-at c = search needs
 
-find-row-requires : tie.Need-find-row-requires Inv-loop μ-loop
-find-row-requires c κs = search needs
+look-up-requires : tie.Need-look-up-requires Inv-loop μ-loop
+look-up-requires c κs = search needs
 
 returns : tie.Need-returns Inv-loop μ-loop
 returns c =
     let t = c .before in
-    sym (test-fails _ _ _ _ _ (t .before .loop-test .taken) (found-unknown _ _ _ _ (t .find-row .ensures) (c .if1 .taken)))
+    sym (test-fails _ _ _ _ _ (t .before .loop-test .taken) (found-unknown _ _ _ _ (t .look-up .ensures) (c .if1 .taken)))
     ∙ t .before .before .loop .inv .rest
 
 add-k : tie.Need-add-k Inv-loop μ-loop
@@ -52,7 +52,7 @@ loop-again c =
     record {
       upto = omega (arith, t .before .loop-test .taken);
       rest =
-          sym (test-on _ _ _ _ _ (t .before .loop-test .taken) (found-held _ _ _ _ (t .find-row .ensures) (c .if1 .left)))
+          sym (test-on _ _ _ _ _ (t .before .loop-test .taken) (found-held _ _ _ _ (t .look-up .ensures) (c .if1 .left)))
           ∙ t .before .before .loop .inv .rest;
     }
 
@@ -68,7 +68,7 @@ all-held-spec =
     loop-holds
     mul-at
     add-at
-    find-row-requires
+    look-up-requires
     returns
     add-k
     loop-less

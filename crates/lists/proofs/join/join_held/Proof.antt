@@ -14,7 +14,7 @@ use Rattle.lists.proofs.join.join_held.Statement.{statement}
 use Rattle.lists.proofs.join.join_held.Tie as tie
 
 abbrev Inv-loop : tie.InvT-loop
-Inv-loop table n list₀ count s place m next₀ k₀ list next k =
+Inv-loop table index n list₀ count s place m next₀ k₀ list next k =
     record {
       upto : k ≤ m;
       long : length list ≡ length list₀;
@@ -22,7 +22,7 @@ Inv-loop table n list₀ count s place m next₀ k₀ list next k =
     }
 
 abbrev μ-loop : tie.MeasureT-loop
-μ-loop table n list₀ count s place m next₀ k₀ list next k = k
+μ-loop table index n list₀ count s place m next₀ k₀ list next k = k
 
 loop-holds : tie.Need-loop-holds Inv-loop μ-loop
 loop-holds c = record { upto = omega arith; long = refl; so = pick-starts _ _ _ _ _ _ }
@@ -36,8 +36,8 @@ mul-at c = search needs
 add-at : tie.Need-add-at Inv-loop μ-loop
 add-at c = search needs
 
-find-row-requires : tie.Need-find-row-requires Inv-loop μ-loop
-find-row-requires c κs = search needs
+look-up-requires : tie.Need-look-up-requires Inv-loop μ-loop
+look-up-requires c κs = search needs
 
 loop-less : tie.Need-loop-less Inv-loop μ-loop
 loop-less c = search needs
@@ -52,14 +52,14 @@ loop-again c =
       long = b .loop .inv .long;
       so =
           pick-passed _ _ _ _ _ _ _ _ _ (b .loop .inv .so) (l .loop-test .taken) (b .loop .inv .upto)
-          (found-unknown _ _ _ _ (t .find-row .ensures) (omega (arith, c .if1 .taken)));
+          (found-unknown _ _ _ _ (t .look-up .ensures) (omega (arith, c .if1 .taken)));
     }
 
 insert-hash-requires : tie.Need-insert-hash-requires Inv-loop μ-loop
 insert-hash-requires c κs =
     let l = c .before .before .before in
     let b = l .before in
-    let pre = b .before .before .before .before .pre in
+    let pre = b .before .before .before .before .before .pre in
     (join-room (b .loop .inv .so) (b .loop .inv .long) (pre .1), omega (arith, l .loop-test .taken, b .loop .inv .upto, pre .2))
 
 loop-less-2 : tie.Need-loop-less-2 Inv-loop μ-loop
@@ -77,7 +77,7 @@ loop-again-2 c =
       long = put .insert-hash .kept .0 ∙ b .loop .inv .long;
       so =
           pick-taken _ _ _ _ _ _ _ _ _ (b .loop .inv .so) _ _ (l .loop-test .taken) (b .loop .inv .upto)
-          (found-held _ _ _ _ (t .find-row .ensures) (e .if1 .left))
+          (found-held _ _ _ _ (t .look-up .ensures) (e .if1 .left))
           (b .loop .inv .long)
           (put .insert-hash .ensures);
     }
@@ -98,7 +98,7 @@ join-held-spec =
     sub-k
     mul-at
     add-at
-    find-row-requires
+    look-up-requires
     loop-less
     loop-again
     insert-hash-requires

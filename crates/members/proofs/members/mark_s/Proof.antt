@@ -17,7 +17,7 @@ use Rattle.members.proofs.members.mark_s.Statement.{statement}
 use Rattle.members.proofs.members.mark_s.Tie as tie
 
 abbrev Inv-loop : tie.InvT-loop
-Inv-loop table n bytes haves members₀ synced i₀ members i =
+Inv-loop table index n bytes haves members₀ synced i₀ members i =
     record {
       upto : i ≤ n;
       long : length members ≡ length members₀;
@@ -25,30 +25,30 @@ Inv-loop table n bytes haves members₀ synced i₀ members i =
     }
 
 abbrev μ-loop : tie.MeasureT-loop
-μ-loop table n bytes haves members₀ synced i₀ members i = n - i
+μ-loop table index n bytes haves members₀ synced i₀ members i = n - i
 
 slice-aggregate-mark-synced : tie.Need-slice-aggregate-mark-synced Inv-loop μ-loop
 slice-aggregate-mark-synced c = search needs
 
 mark-synced-requires : tie.Need-mark-synced-requires Inv-loop μ-loop
 mark-synced-requires c κs =
-    let start = c .before .before .before .before .before in
-    (start .pre .0, start .pre .2, omega (arith, length-replicate (sizes .rows) false, start .pre .0 .few), blank _ _ (start .pre .0 .few))
+    let start = c .before .before .before .before .before .before in
+    (start .pre .0, start .pre .2, omega (arith, length-replicate (sizes .rows) false, start .pre .0 .rows .few), blank _ _ (start .pre .0 .rows .few))
 
 loop-holds : tie.Need-loop-holds Inv-loop μ-loop
 loop-holds c = record { upto = omega arith; long = refl; so = turn-start _ _ }
 
 array-read-is-member : tie.Need-array-read-is-member Inv-loop μ-loop
 array-read-is-member c =
-    let start = c .before .before .before .before .before .before .before .before .before in
-    omega (arith, c .loop-test .taken, start .pre .0 .few)
+    let start = c .before .before .before .before .before .before .before .before .before .before in
+    omega (arith, c .loop-test .taken, start .pre .0 .rows .few)
 
 is-member-requires : tie.Need-is-member-requires Inv-loop μ-loop
 is-member-requires c κs =
     let l = c .before in
     let b = l .before in
-    let start = b .before .before .before .before .before .before .before .before in (
-      good-part _ _ _ (start .pre .0) (omega (arith, l .loop-test .taken)),
+    let start = b .before .before .before .before .before .before .before .before .before in (
+      good-part _ _ _ (start .pre .0 .rows) (omega (arith, l .loop-test .taken)),
       omega (arith, l .loop-test .taken, start .pre .3, b .loop .inv .long),
       start .pre .1,
     )
@@ -57,7 +57,7 @@ slice-write-members : tie.Need-slice-write-members Inv-loop μ-loop
 slice-write-members c =
     let l = c .before .before in
     let b = l .before in
-    let start = b .before .before .before .before .before .before .before .before in
+    let start = b .before .before .before .before .before .before .before .before .before in
     omega (arith, l .loop-test .taken, start .pre .3, b .loop .inv .long)
 
 add-i : tie.Need-add-i Inv-loop μ-loop
@@ -71,13 +71,13 @@ loop-again c =
     let l = c .before .before in
     let b = l .before in
     let m = b .before .before in
-    let start = m .before .before .before .before .before .before in
+    let start = m .before .before .before .before .before .before .before in
     let more = l .loop-test .taken in
     record {
       upto = omega (arith, more);
       long = length-set (b .loop .members) _ _ ∙ b .loop .inv .long;
       so =
-          joins-on _ _ _ _ (start .pre .0) _ more _ _ _ _ (omega (arith, more, start .pre .3, b .loop .inv .long)) (m .mark-synced .ensures)
+          joins-on _ _ _ _ (start .pre .0 .rows) _ more _ _ _ _ (omega (arith, more, start .pre .3, b .loop .inv .long)) (m .mark-synced .ensures)
           (b .loop .inv .so)
           (c .is-member .ensures);
     }
@@ -87,8 +87,8 @@ same-length c = search needs
 
 returns : tie.Need-returns Inv-loop μ-loop
 returns c =
-    let start = c .before .before .before .before .before .before .before .before .before in
-    joins-done _ _ _ _ (start .pre .0) _ (c .loop-test .left) _ _ (c .before .loop .inv .so)
+    let start = c .before .before .before .before .before .before .before .before .before .before in
+    joins-done _ _ _ _ (start .pre .0 .rows) _ (c .loop-test .left) _ _ (c .before .loop .inv .so)
 
 pub mark-s-spec : {M : Type 1} → statement M
 mark-s-spec =

@@ -16,7 +16,7 @@ use Rattle.members.proofs.members.mark_syncs.Statement.{statement}
 use Rattle.members.proofs.members.mark_syncs.Tie as tie
 
 abbrev Inv-loop : tie.InvT-loop
-Inv-loop table n bytes haves marks₀ total k₀ marks k =
+Inv-loop table index n bytes haves marks₀ total k₀ marks k =
     record {
       long : length marks ≡ length marks₀;
       rest :
@@ -26,10 +26,10 @@ Inv-loop table n bytes haves marks₀ total k₀ marks k =
     }
 
 abbrev μ-loop : tie.MeasureT-loop
-μ-loop table n bytes haves marks₀ total k₀ marks k = total - k
+μ-loop table index n bytes haves marks₀ total k₀ marks k = total - k
 
 loop-holds : tie.Need-loop-holds Inv-loop μ-loop
-loop-holds c = record { long = refl; rest = λ k h. syncs-start _ _ _ refl _ _ (c .before .before .before .before .pre .3 .each k h) }
+loop-holds c = record { long = refl; rest = λ k h. syncs-start _ _ _ refl _ _ (c .before .before .before .before .before .pre .3 .each k h) }
 
 sync-place-requires : tie.Need-sync-place-requires Inv-loop μ-loop
 sync-place-requires c κs = search needs
@@ -41,7 +41,7 @@ mark-list-requires : tie.Need-mark-list-requires Inv-loop μ-loop
 mark-list-requires c κs =
     let l = c .before .before .before in
     let b = l .before in
-    let start = b .before .before .before .before .before in (
+    let start = b .before .before .before .before .before .before in (
       start .pre .0,
       rw (c .before .before .sync-place .ensures, c .before .sync-count .ensures) (start .pre .1 .each (b .loop .k) (l .loop-test .taken)),
       omega (arith, start .pre .2, b .loop .inv .long),
@@ -60,7 +60,7 @@ loop-again c =
     let l = n .before .before in
     let b = l .before in
     record {
-      long = m .mark-list .kept .1 .1 .1 .1 .1 .0 ∙ b .loop .inv .long;
+      long = m .mark-list .kept .1 .1 .1 .1 .1 .1 .0 ∙ b .loop .inv .long;
       rest =
           λ k h.
           syncs-on _ _ _ _ _ _ _ (getD (b .loop .marks) k false) _ (l .loop-test .taken)

@@ -13,9 +13,9 @@ use native.Mathlib.Nat.{add-zero, sub-zero}
 use lib.ListN.{length, length-set}
 use Rattle.rules.specs.Hash.{hashesAt}
 use Rattle.rules.specs.Sizes.{sizes}
-use Rattle.tables.proofs.find.find_row.Reads as find-row-reads
-use Rattle.tables.proofs.find.find_waiting.Reads as find-waiting-reads
-use Rattle.tables.proofs.waiting.asks_count.Reads as asks-count-reads
+use Rattle.index.proofs.look.look_up.Reads as look-up-reads
+use Rattle.waiting.proofs.find.find_waiting.Reads as find-waiting-reads
+use Rattle.waiting.proofs.check.asks_count.Reads as asks-count-reads
 use borrow.Fn.Kinds.{In}
 use borrow.Fn.PlainCycle.{Measures, is, falls, and}
 use Rattle.missing.specs.Ask.{Request, Asked}
@@ -31,31 +31,31 @@ use Rattle.missing.proofs.missing.+ask_change+ask_list.Lts-ask_list as 
 use Rattle.missing.proofs.missing.+ask_change+ask_list.{statement}
 use Rattle.missing.proofs.missing.+ask_change+ask_list.Tie.{close}
 
-abbrev μ-ask-change : Measures 5 ask-change-kinds.ps ℕ
-μ-ask-change κs a = 2 * unmarked (a .1 .1 .1 .1 .0 .now)
+abbrev μ-ask-change : Measures 7 ask-change-kinds.ps ℕ
+μ-ask-change κs a = 2 * unmarked (a .1 .1 .1 .1 .1 .1 .0 .now)
 
-abbrev μ-ask-list : Measures 5 ask-list-kinds.ps ℕ
-μ-ask-list κs a = suc (2 * unmarked (a .1 .1 .1 .1 .0 .now))
+abbrev μ-ask-list : Measures 7 ask-list-kinds.ps ℕ
+μ-ask-list κs a = suc (2 * unmarked (a .1 .1 .1 .1 .1 .1 .0 .now))
 
-abbrev ask-change-at : ℕ → In 5 ask-change-kinds.ps
+abbrev ask-change-at : ℕ → In 7 ask-change-kinds.ps
 ask-change-at t =
-    and 5 ask-change-kinds.ps (is 5 ask-change-kinds.ps μ-ask-change t) ask-change.Pre
+    and 7 ask-change-kinds.ps (is 7 ask-change-kinds.ps μ-ask-change t) ask-change.Pre
 
-abbrev ask-change-below : ℕ → In 5 ask-change-kinds.ps
+abbrev ask-change-below : ℕ → In 7 ask-change-kinds.ps
 ask-change-below t =
-    and 5 ask-change-kinds.ps (falls 5 ask-change-kinds.ps _<_ μ-ask-change t) ask-change.Pre
+    and 7 ask-change-kinds.ps (falls 7 ask-change-kinds.ps _<_ μ-ask-change t) ask-change.Pre
 
-abbrev ask-list-at : ℕ → In 5 ask-list-kinds.ps
-ask-list-at t = and 5 ask-list-kinds.ps (is 5 ask-list-kinds.ps μ-ask-list t) ask-list.Pre
+abbrev ask-list-at : ℕ → In 7 ask-list-kinds.ps
+ask-list-at t = and 7 ask-list-kinds.ps (is 7 ask-list-kinds.ps μ-ask-list t) ask-list.Pre
 
-abbrev ask-list-below : ℕ → In 5 ask-list-kinds.ps
+abbrev ask-list-below : ℕ → In 7 ask-list-kinds.ps
 ask-list-below t =
-    and 5 ask-list-kinds.ps (falls 5 ask-list-kinds.ps _<_ μ-ask-list t) ask-list.Pre
+    and 7 ask-list-kinds.ps (falls 7 ask-list-kinds.ps _<_ μ-ask-list t) ask-list.Pre
 
 abbrev change-calls : ℕ → ask-change-lts.Claims
 change-calls t = (
-  find-row-reads.Asked,
-  find-row-reads.Learnt,
+  look-up-reads.Asked,
+  look-up-reads.Learnt,
   find-waiting-reads.Asked,
   find-waiting-reads.Learnt,
   insert-hash-reads.Asked,
@@ -69,12 +69,12 @@ change-calls t = (
 abbrev list-calls : ℕ → ask-list-lts.Claims
 list-calls t = (ask-change-below t, ask-change.Post)
 
-ask-change-find-row-requires : (t : ℕ) → ask-change-lts.Need-find-row-requires (change-calls t) (ask-change-at t) ask-change.Post
-ask-change-find-row-requires t c κs = search needs
+ask-change-look-up-requires : (t : ℕ) → ask-change-lts.Need-look-up-requires (change-calls t) (ask-change-at t) ask-change.Post
+ask-change-look-up-requires t c κs = search needs
 
 ask-change-returns : (t : ℕ) → ask-change-lts.Need-returns (change-calls t) (ask-change-at t) ask-change.Post
 ask-change-returns t c =
-    gives-nothing (c .before .find-row .ensures) (c .if1 .taken)
+    gives-nothing (c .before .look-up .ensures) (c .if1 .taken)
 
 ask-change-find-waiting-requires : (t : ℕ) → ask-change-lts.Need-find-waiting-requires (change-calls t) (ask-change-at t) ask-change.Post
 ask-change-find-waiting-requires t c κs = search needs
@@ -89,7 +89,7 @@ ask-change-returns-2 : (t : ℕ) → ask-change-lts.Need-returns-2 (change-calls
 ask-change-returns-2 t c =
     let i = c .before .before in
     let w = i .before .before .before in
-    gives-itself (w .before .before .find-row .ensures) _ (w .before .if1 .left) (w .find-waiting .ensures) _ _
+    gives-itself (w .before .before .look-up .ensures) _ (w .before .if1 .left) (w .find-waiting .ensures) _ _
     (i .before .before .if2 .taken)
     (i .insert-hash .ensures)
 
@@ -100,7 +100,7 @@ ask-change-returns-3 : (t : ℕ) → ask-change-lts.Need-returns-3 (change-calls
 ask-change-returns-3 t c =
     let b = c .before .before in
     let w = b .before in
-    gives-nothing-new (w .before .before .find-row .ensures) _ (w .before .if1 .left) (w .find-waiting .ensures) (b .if2 .left) (c .if3 .taken)
+    gives-nothing-new (w .before .before .look-up .ensures) _ (w .before .if1 .left) (w .find-waiting .ensures) (b .if2 .left) (c .if3 .taken)
 
 ask-change-slice-write-marks : (t : ℕ) → ask-change-lts.Need-slice-write-marks (change-calls t) (ask-change-at t) ask-change.Post
 ask-change-slice-write-marks t c = search needs
@@ -119,14 +119,14 @@ ask-change-ask-list-requires t c κs =
     let f = c .before .before .before in
     let b = f .before .before in
     let w = b .before in
-    let a = w .before .before .before .before .before .before .before .before in (
+    let a = w .before .before .before .before .before .before .before .before .before .before in (
       one-less _ _ _ (omega (arith, a .pre .1 .0 .marked, b .if2 .left)) (f .if3 .left) (a .pre .0),
       (mark-set (a .pre .1 .0) _, asks-inside (a .pre .1 .0) _ _ (b .if2 .left) (c .before .before .asks-count .ensures)),
     )
 
 ask-change-same-length-2 : (t : ℕ) → ask-change-lts.Need-same-length-2 (change-calls t) (ask-change-at t) ask-change.Post
 ask-change-same-length-2 t c =
-    c .before .before .before .before .ask-list .kept .1 .1 .1 .1 .0 ∙ simp length-set
+    c .before .before .before .before .ask-list .kept .1 .1 .1 .1 .1 .1 .0 ∙ simp length-set
 
 ask-change-same-length-3 : (t : ℕ) → ask-change-lts.Need-same-length-3 (change-calls t) (ask-change-at t) ask-change.Post
 ask-change-same-length-3 t c = search needs
@@ -137,8 +137,8 @@ ask-change-returns-4 t c =
     let f = d .before .before .before .before in
     let b = f .before .before in
     let w = b .before in
-    let a = w .before .before .before .before .before .before .before .before in
-    asks-its-list (w .before .before .find-row .ensures) _ (w .before .if1 .left) (w .find-waiting .ensures) _ _ _
+    let a = w .before .before .before .before .before .before .before .before .before .before in
+    asks-its-list (w .before .before .look-up .ensures) _ (w .before .if1 .left) (w .find-waiting .ensures) _ _ _
     (b .if2 .left)
     (omega (arith, a .pre .1 .0 .marked, b .if2 .left))
     (f .if3 .left)
@@ -146,7 +146,7 @@ ask-change-returns-4 t c =
     (d .ask-list .ensures)
 
 abbrev ask-list-Inv-loop : ask-list-lts.InvT-loop
-ask-list-Inv-loop table n waiting m marks₀ list₀ count bytes place entries found₀ i₀ marks list found i =
+ask-list-Inv-loop table index n waiting order m marks₀ list₀ count bytes place entries found₀ i₀ marks list found i =
     record {
       upto : i ≤ entries;
       same-marks : length marks ≡ length marks₀;
@@ -159,12 +159,12 @@ ask-list-Inv-loop table n waiting m marks₀ list₀ count bytes place entries f
     }
 
 abbrev ask-list-μ-loop : ask-list-lts.MeasureT-loop
-ask-list-μ-loop table n waiting m marks₀ list₀ count bytes place entries found₀ i₀ marks list found i =
+ask-list-μ-loop table index n waiting order m marks₀ list₀ count bytes place entries found₀ i₀ marks list found i =
     entries - i
 
 ask-list-loop-holds : (t : ℕ) → ask-list-lts.Need-loop-holds (list-calls t) (ask-list-at t) ask-list.Post ask-list-Inv-loop ask-list-μ-loop
 ask-list-loop-holds t c =
-    let a = c .before .before .before .before .before in
+    let a = c .before .before .before .before .before .before .before in
     record {
       upto = omega arith;
       same-marks = refl;
@@ -183,7 +183,7 @@ ask-list-add-ask-change t c = search needs
 ask-list-ask-change-requires : (t : ℕ) → ask-list-lts.Need-ask-change-requires (list-calls t) (ask-list-at t) ask-list.Post ask-list-Inv-loop ask-list-μ-loop
 ask-list-ask-change-requires t c κs =
     let l = c .before .before .before in
-    let a = l .before .before .before .before .before .before in
+    let a = l .before .before .before .before .before .before .before .before in
     let v = l .loop .inv in (
       omega (arith, v .less, a .pre .0),
       (still-askable (a .pre .1 .0) (v .same-marks) (v .same-list) (v .room), omega (arith, a .pre .1 .1, c .before .before .loop-test .taken)),
@@ -202,11 +202,11 @@ ask-list-loop-again t c =
     let v = g .before .loop .inv in
     record {
       upto = omega (arith, g .loop-test .taken);
-      same-marks = d .ask-change .kept .1 .1 .1 .1 .0 ∙ v .same-marks;
-      same-list = d .ask-change .kept .1 .1 .1 .1 .1 .0 ∙ v .same-list;
+      same-marks = d .ask-change .kept .1 .1 .1 .1 .1 .1 .0 ∙ v .same-marks;
+      same-list = d .ask-change .kept .1 .1 .1 .1 .1 .1 .1 .0 ∙ v .same-list;
       room = omega (arith, still-room (d .ask-change .ensures) (omega (arith, v .room, v .same-list)), v .same-list);
       less = omega (arith, no-more-unmarked (d .ask-change .ensures), v .less);
-      rest = λ marks′ list′ found′ x. v .rest marks′ list′ found′ (list-on _ _ _ _ (g .loop-test .taken) (d .ask-change .kept .1 .1 .1 .1 .1 .0) (d .ask-change .ensures) x);
+      rest = λ marks′ list′ found′ x. v .rest marks′ list′ found′ (list-on _ _ _ _ (g .loop-test .taken) (d .ask-change .kept .1 .1 .1 .1 .1 .1 .1 .0) (d .ask-change .ensures) x);
     }
 
 ask-list-same-length : (t : ℕ) → ask-list-lts.Need-same-length (list-calls t) (ask-list-at t) ask-list.Post ask-list-Inv-loop ask-list-μ-loop
@@ -223,7 +223,7 @@ pub +ask-change+ask-list-spec : {M : Type 1} → statement M
 +ask-change+ask-list-spec = close μ-ask-change μ-ask-list (λ t. ask-change-lts.spec (change-calls t)
     (ask-change-at t)
     ask-change.Post
-    (ask-change-find-row-requires t)
+    (ask-change-look-up-requires t)
     (ask-change-returns t)
     (ask-change-find-waiting-requires t)
     (ask-change-insert-hash-requires t)

@@ -17,7 +17,7 @@ enum-known-m c = search needs
 missing-from-requires : tie.Need-missing-from-requires
 missing-from-requires c κs =
     let m = c .before .before in
-    let a = m .before .before .before .before .before .before .before in
+    let a = m .before .before .before .before .before .before .before .before in
     (a .pre, sym (m .before .before .check-waiting .ensures) ∙ m .m .given .1)
 
 returns : tie.Need-returns

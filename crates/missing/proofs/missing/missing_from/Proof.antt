@@ -12,7 +12,7 @@ use Rattle.missing.proofs.missing.missing_from.Tie as tie
 
 -- the list that was accepted
 listed : (c : tie.After-entries)
-    → passedHashes (c .before .before .before .before .before .before .before .args .l .now) ≡ Hashes (c .entries .given .0 .0)
+    → passedHashes (c .before .before .before .before .before .before .before .before .args .l .now) ≡ Hashes (c .entries .given .0 .0)
 listed c = sym (c .before .before .passed-hashes .ensures) ∙ c .entries .given .1
 
 passed-hashes-requires : tie.Need-passed-hashes-requires
@@ -30,7 +30,7 @@ slice-aggregate-find-missing c = search needs
 find-missing-requires : tie.Need-find-missing-requires
 find-missing-requires c κs =
     let e = c .before .before in
-    let start = e .before .before .before .before .before .before .before in
+    let start = e .before .before .before .before .before .before .before .before in
     (start .pre .0, (start .pre .1, omega (arith, passed-is _ _ (listed e) .whole)))
 
 returns : tie.Need-returns
@@ -44,7 +44,7 @@ slice-aggregate-put-list c = search needs
 put-list-requires : tie.Need-put-list-requires
 put-list-requires c κs =
     let g = c .before .before in
-    list-fits _ _ (g .before .before .find-missing .kept .1 .1 .1 .1 .1 .1 .1 .0) (g .if1 .left)
+    list-fits _ _ (g .before .before .find-missing .kept .1 .1 .1 .1 .1 .1 .1 .1 .0) (g .if1 .left)
 
 returns-2 : tie.Need-returns-2
 returns-2 c =

@@ -1,6 +1,6 @@
 -- `plan::check::check_plan` meets its contract: the first test that fails decides. Assumes nothing.
 use borrow.Author.Tests.{not-true, not-false}
-use Rattle.plan.proofs.CheckLaws.{bad-session, bad-table, bad-waiting, both-good, rows-there}
+use Rattle.plan.proofs.CheckLaws.{bad-session, bad-table, bad-waiting, both-good, rows-indexed}
 use borrow.Author.Needs.{needs}
 use Rattle.plan.proofs.check.check_plan.Statement.{statement}
 use Rattle.plan.proofs.check.check_plan.Tie as tie
@@ -9,10 +9,10 @@ session-good-requires : tie.Need-session-good-requires
 session-good-requires c κs = search needs
 
 returns : tie.Need-returns
-returns c = bad-session _ _ _ _ (c .before .session-good .ensures) (not-true _ (c .if1 .taken))
+returns c = bad-session _ _ _ _ _ (c .before .session-good .ensures) (not-true _ (c .if1 .taken))
 
-check-table-requires : tie.Need-check-table-requires
-check-table-requires c κs = search needs
+check-indexed-requires : tie.Need-check-indexed-requires
+check-indexed-requires c κs = search needs
 
 enum-known-r : tie.Need-enum-known-r
 enum-known-r c = search needs
@@ -23,7 +23,7 @@ enum-known-n c = search needs
 check-waiting-requires : tie.Need-check-waiting-requires
 check-waiting-requires c κs =
     let m = c .before in
-    rows-there _ _ (m .before .before .check-table .ensures) (m .n .given .1)
+    rows-indexed _ _ _ (m .before .before .check-indexed .ensures) (m .n .given .1)
 
 enum-known-r-2 : tie.Need-enum-known-r-2
 enum-known-r-2 c = search needs
@@ -35,7 +35,7 @@ returns-2 : tie.Need-returns-2
 returns-2 c =
     let t = c .before .before .before in
     let good = t .before in
-    bad-table _ _ _ _ (good .before .session-good .ensures) (not-false _ (good .if1 .left)) (t .check-table .ensures) _ (c .before .r .given .1)
+    bad-table _ _ _ _ _ (good .before .session-good .ensures) (not-false _ (good .if1 .left)) (t .check-indexed .ensures) _ (c .before .r .given .1)
 
 returns-3 : tie.Need-returns-3
 returns-3 c =
@@ -43,7 +43,7 @@ returns-3 c =
     let n = w .before .before in
     let t = n .before .before in
     let good = t .before in
-    bad-waiting _ _ _ _ (good .before .session-good .ensures) (not-false _ (good .if1 .left)) (t .check-table .ensures) _ (n .n .given .1)
+    bad-waiting _ _ _ _ _ (good .before .session-good .ensures) (not-false _ (good .if1 .left)) (t .check-indexed .ensures) _ (n .n .given .1)
     (w .check-waiting .ensures) _ (c .before .r2 .given .1)
 
 returns-4 : tie.Need-returns-4
@@ -52,7 +52,7 @@ returns-4 c =
     let n = w .before .before in
     let t = n .before .before in
     let good = t .before in
-    both-good _ _ _ _ (good .before .session-good .ensures) (not-false _ (good .if1 .left)) (t .check-table .ensures) _ (n .n .given .1)
+    both-good _ _ _ _ _ (good .before .session-good .ensures) (not-false _ (good .if1 .left)) (t .check-indexed .ensures) _ (n .n .given .1)
     (w .check-waiting .ensures) _ (c .before .m .given .1)
 
 pub check-plan-spec : {M : Type 1} → statement M
@@ -61,7 +61,7 @@ check-plan-spec =
     (tie.spec
     session-good-requires
     returns
-    check-table-requires
+    check-indexed-requires
     enum-known-r
     enum-known-n
     check-waiting-requires

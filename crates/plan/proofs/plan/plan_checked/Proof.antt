@@ -24,31 +24,31 @@ slice-aggregate-make-plan-5 c = refl
 make-plan-requires : tie.Need-make-plan-requires
 make-plan-requires c κs =
     let lent = c .before .before .before .before .before .before .before .before .before in
-    let pre = lent .before .before .before .before .before .before .before .before .before .before .before .pre in
+    let pre = lent .before .before .before .before .before .before .before .before .before .before .before .before .pre in
     (pre .0, pre .1, record { headsRoom = refl; needRoom = refl; fieldRoom = refl; listRoom = refl; sentRoom = refl })
 
 slice-aggregate-finish : tie.Need-slice-aggregate-finish
-slice-aggregate-finish c = sym (c .before .before .before .before .before .before .make-plan .kept .1 .1 .1 .1 .1 .1 .1 .1 .1 .1 .1 .1 .1 .1 .0)
+slice-aggregate-finish c = sym (c .before .before .before .before .before .before .make-plan .kept .1 .1 .1 .1 .1 .1 .1 .1 .1 .1 .1 .1 .1 .1 .1 .0)
 
 slice-aggregate-finish-2 : tie.Need-slice-aggregate-finish-2
-slice-aggregate-finish-2 c = sym (c .before .before .before .before .before .before .before .make-plan .kept .1 .1 .1 .1 .1 .1 .1 .1 .1 .1 .1 .1 .1 .1 .1 .0)
+slice-aggregate-finish-2 c = sym (c .before .before .before .before .before .before .before .make-plan .kept .1 .1 .1 .1 .1 .1 .1 .1 .1 .1 .1 .1 .1 .1 .1 .1 .0)
 
 slice-aggregate-finish-3 : tie.Need-slice-aggregate-finish-3
-slice-aggregate-finish-3 c = sym (c .before .before .before .before .before .before .before .before .make-plan .kept .1 .1 .1 .1 .1 .1 .1 .1 .1 .1 .1 .1 .1 .1 .1 .1 .0)
+slice-aggregate-finish-3 c = sym (c .before .before .before .before .before .before .before .before .make-plan .kept .1 .1 .1 .1 .1 .1 .1 .1 .1 .1 .1 .1 .1 .1 .1 .1 .1 .0)
 
 slice-aggregate-finish-4 : tie.Need-slice-aggregate-finish-4
-slice-aggregate-finish-4 c = sym (c .before .before .before .before .before .before .before .before .before .make-plan .kept .1 .1 .1 .1 .1 .1 .1 .1 .1 .1 .1 .1 .1 .1 .1 .1 .1 .0)
+slice-aggregate-finish-4 c = sym (c .before .before .before .before .before .before .before .before .before .make-plan .kept .1 .1 .1 .1 .1 .1 .1 .1 .1 .1 .1 .1 .1 .1 .1 .1 .1 .1 .0)
 
 slice-aggregate-finish-5 : tie.Need-slice-aggregate-finish-5
-slice-aggregate-finish-5 c = sym (c .before .before .before .before .before .before .before .before .before .before .make-plan .kept .1 .1 .1 .1 .1 .1 .1 .1 .1 .1 .1 .1 .1 .1 .1 .1 .1 .1 .0)
+slice-aggregate-finish-5 c = sym (c .before .before .before .before .before .before .before .before .before .before .make-plan .kept .1 .1 .1 .1 .1 .1 .1 .1 .1 .1 .1 .1 .1 .1 .1 .1 .1 .1 .1 .0)
 
 finish-requires : tie.Need-finish-requires
 finish-requires c κs =
     let made = c .before .before .before .before .before .before .before .before .before .before .before .before .before .before .before .before in
     let lent = made .before .before .before .before .before .before .before .before .before .before in
-    let pre = lent .before .before .before .before .before .before .before .before .before .before .before .pre in
+    let pre = lent .before .before .before .before .before .before .before .before .before .before .before .before .pre in
     let call = made .make-plan in
-    let kept = call .kept .1 .1 .1 .1 .1 .1 .1 .1 .1 .1 .1 .1 .1 .1 in
+    let kept = call .kept .1 .1 .1 .1 .1 .1 .1 .1 .1 .1 .1 .1 .1 .1 .1 in
     let rooms = make-plan-requires (made .before) (call .lifetimes) .2 in (
       small-checked (pre .0) (pre .1) (call .ensures),
       long-ready (pre .0) _ refl (rooms-kept (kept .0) (kept .1 .0) (kept .1 .1 .0) (kept .1 .1 .1 .0) (kept .1 .1 .1 .1 .0) rooms),
@@ -77,7 +77,7 @@ returns c =
     let finished = c .before .before .before .before .before .before .before .before .before .before .before .before in
     let made = finished .before .before .before .before .before .before .before .before .before .before .before .before .before .before .before .before .before in
     let lent = made .before .before .before .before .before .before .before .before .before .before in
-    let pre = lent .before .before .before .before .before .before .before .before .before .before .before .pre in
+    let pre = lent .before .before .before .before .before .before .before .before .before .before .before .before .pre in
     checked-called (pre .0) (made .make-plan .ensures) refl (finished .finish .ensures)
 
 pub plan-checked-spec : {M : Type 1} → statement M

@@ -33,23 +33,23 @@ returns-3 c =
 mul-kept : tie.Need-mul-kept
 mul-kept c =
     let h = c .before .before .before .before in
-    let start = h .before .before .before .before .before .before .before .before .before in
+    let start = h .before .before .before .before .before .before .before .before .before .before in
     omega (arith, heard-few _ _ _ _ (h .have .given .1) (start .pre .1))
 
 slice-aggregate-kept : tie.Need-slice-aggregate-kept
 slice-aggregate-kept c =
     let h = c .before .before .before .before .before in
-    let start = h .before .before .before .before .before .before .before .before .before in
+    let start = h .before .before .before .before .before .before .before .before .before .before in
     sym (length-take-le _ _ (heard-records _ _ _ _ (h .have .given .1) (start .pre .1)))
 
 body-for-requires : tie.Need-body-for-requires
 body-for-requires c κs =
     let n = c .before .before .before in
     let h = n .before .before .before in
-    let start = h .before .before .before .before .before .before .before .before .before in (
-      heard-choosable _ _ _ _ (h .have .given .1) (start .pre .1) _ _ (start .pre .0) _ _ _ (n .need .given .1) (start .pre .2),
+    let start = h .before .before .before .before .before .before .before .before .before .before in (
+      heard-choosable _ _ _ _ (h .have .given .1) (start .pre .1) _ _ _ (start .pre .0) _ _ _ (n .need .given .1) (start .pre .2),
       start .pre .3,
-      heard-room _ _ _ _ (h .have .given .1) (start .pre .1) _ _ (start .pre .0) _ _ _ (n .need .given .1) (start .pre .2) _ (start .pre .4),
+      heard-room _ _ _ _ (h .have .given .1) (start .pre .1) _ _ _ (start .pre .0) _ _ _ (n .need .given .1) (start .pre .2) _ (start .pre .4),
     )
 
 same-length : tie.Need-same-length

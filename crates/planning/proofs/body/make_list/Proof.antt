@@ -18,11 +18,11 @@ slice-aggregate-choose-2 c = search needs
 
 choose-requires : tie.Need-choose-requires
 choose-requires c κs =
-    let start = c .before .before .before .before .before .before .before .before in (
+    let start = c .before .before .before .before .before .before .before .before .before in (
       start .pre .0,
       start .pre .1,
-      omega (arith, length-replicate (sizes .rows) false, start .pre .0 .rows .few),
-      blank _ _ (start .pre .0 .rows .few),
+      omega (arith, length-replicate (sizes .rows) false, start .pre .0 .rows .rows .few),
+      blank _ _ (start .pre .0 .rows .rows .few),
       omega (arith, length-replicate (sizes .hashes) false, start .pre .0 .few),
     )
 
@@ -35,12 +35,12 @@ slice-aggregate-put-chosen-2 c = search needs
 put-chosen-requires : tie.Need-put-chosen-requires
 put-chosen-requires c κs =
     let d = c .before .before .before .before .before in
-    let start = d .before .before .before .before .before .before .before .before .before in (
-      start .pre .0 .rows,
-      omega (arith, length-replicate (sizes .rows) false, start .pre .0 .rows .few, d .choose .kept .1 .1 .1 .1 .1 .1 .1 .1 .1 .0),
+    let start = d .before .before .before .before .before .before .before .before .before .before in (
+      start .pre .0 .rows .rows,
+      omega (arith, length-replicate (sizes .rows) false, start .pre .0 .rows .rows .few, d .choose .kept .1 .1 .1 .1 .1 .1 .1 .1 .1 .1 .0),
       start .pre .0 .needs,
-      omega (arith, length-replicate (sizes .hashes) false, start .pre .0 .few, d .choose .kept .1 .1 .1 .1 .1 .1 .1 .1 .1 .1 .0),
-      chosen-room (d .choose .ensures) _ (chosen-fits _ _ _ _ _ _ _ _ _ (start .pre .0 .rows) (d .choose .ensures) _ (start .pre .2)),
+      omega (arith, length-replicate (sizes .hashes) false, start .pre .0 .few, d .choose .kept .1 .1 .1 .1 .1 .1 .1 .1 .1 .1 .1 .0),
+      chosen-room (d .choose .ensures) _ (chosen-fits _ _ _ _ _ _ _ _ _ (start .pre .0 .rows .rows) (d .choose .ensures) _ (start .pre .2)),
     )
 
 same-length : tie.Need-same-length
@@ -50,9 +50,9 @@ returns : tie.Need-returns
 returns c =
     let p = c .before .before in
     let d = p .before .before .before .before .before .before in
-    let k = d .before .before .before .before .before .before .before .before in
+    let k = d .before .before .before .before .before .before .before .before .before in
     let start = k .before in
-    chosen-gathered _ _ _ _ _ _ _ _ _ (start .pre .0 .rows) (d .choose .ensures) (λ i. k .shared-slice-known .given i .fits) _ _ (start .pre .2)
+    chosen-gathered _ _ _ _ _ _ _ _ _ (start .pre .0 .rows .rows) (d .choose .ensures) (λ i. k .shared-slice-known .given i .fits) _ _ (start .pre .2)
     (p .put-chosen .ensures)
 
 pub make-list-spec : {M : Type 1} → statement M

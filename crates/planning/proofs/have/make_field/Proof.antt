@@ -17,14 +17,14 @@ use Rattle.planning.proofs.have.make_field.Tie as tie
 -- how many rows there are, and how long their field
 few : (c : tie.After-count-marked) → c .count-marked .result ≤ sizes .rows
 few c =
-    let start = c .before .before .before .before .before .before .before .before .before .before .before .before .before .before .before in
-    marked-few _ _ _ (c .count-marked .ensures) (start .pre .0 .few)
+    let start = c .before .before .before .before .before .before .before .before .before .before .before .before .before .before .before .before in
+    marked-few _ _ _ (c .count-marked .ensures) (start .pre .0 .rows .few)
 
 inside : (c : tie.After-bits-capacity)
-    → let start = c .before .before .before .before .before .before .before .before .before .before .before .before .before .before .before .before in
+    → let start = c .before .before .before .before .before .before .before .before .before .before .before .before .before .before .before .before .before in
     c .bits-capacity .result ≤ length (start .args .field .now)
 inside c =
-    let start = c .before .before .before .before .before .before .before .before .before .before .before .before .before .before .before .before in
+    let start = c .before .before .before .before .before .before .before .before .before .before .before .before .before .before .before .before .before in
     field-inside _ _ _ (start .pre .2) (few (c .before)) _ (c .bits-capacity .ensures) _ (start .pre .3)
 
 slice-aggregate-mark-at-or-below : tie.Need-slice-aggregate-mark-at-or-below
@@ -32,8 +32,8 @@ slice-aggregate-mark-at-or-below c = search needs
 
 mark-at-or-below-requires : tie.Need-mark-at-or-below-requires
 mark-at-or-below-requires c κs =
-    let start = c .before .before .before .before in
-    (start .pre .0, omega (arith, start .pre .1), omega (arith, length-replicate (sizes .rows) false, start .pre .0 .few), blank _ _ (start .pre .0 .few))
+    let start = c .before .before .before .before .before in
+    (start .pre .0, omega (arith, start .pre .1), omega (arith, length-replicate (sizes .rows) false, start .pre .0 .rows .few), blank _ _ (start .pre .0 .rows .few))
 
 slice-aggregate-flip : tie.Need-slice-aggregate-flip
 slice-aggregate-flip c = search needs
@@ -49,8 +49,8 @@ slice-aggregate-put-marked-2 c = search needs
 
 put-marked-requires : tie.Need-put-marked-requires
 put-marked-requires c κs =
-    let start = c .before .before .before .before .before .before .before .before .before .before .before in
-    (start .pre .0, search needs, marked-room _ _ _ (rows-room _ (start .pre .0 .few)))
+    let start = c .before .before .before .before .before .before .before .before .before .before .before .before in
+    (start .pre .0 .rows, search needs, marked-room _ _ _ (rows-room _ (start .pre .0 .rows .few)))
 
 slice-aggregate-count-marked : tie.Need-slice-aggregate-count-marked
 slice-aggregate-count-marked c = search needs
@@ -60,7 +60,7 @@ count-marked-requires c κs = search needs
 
 bits-capacity-requires : tie.Need-bits-capacity-requires
 bits-capacity-requires c κs =
-    let start = c .before .before .before .before .before .before .before .before .before .before .before .before .before .before .before in
+    let start = c .before .before .before .before .before .before .before .before .before .before .before .before .before .before .before .before in
     setting-numbers _ _ _ (start .pre .2) (few c)
 
 slice-relend-prefix-fill : tie.Need-slice-relend-prefix-fill
@@ -77,7 +77,7 @@ fill-requires c κs =
     let b = c .before .before in
     let k = b .before in
     let p = k .before .before .before in
-    let start = p .before .before .before .before .before .before .before .before .before .before .before .before in
+    let start = p .before .before .before .before .before .before .before .before .before .before .before .before .before in
     let e = field-enough _ _ _ (start .pre .2) (few k) _ (b .bits-capacity .ensures) _ (inside b) in
     (e .0, e .1, same-room _ _ _ (rows-room _ (few k)) (p .put-marked .kept .1 .1 .1 .0))
 
@@ -92,11 +92,11 @@ returns c =
     let p = k .before .before .before in
     let t = p .before .before .before .before in
     let m = t .before .before .before in
-    let known = m .before .before .before .before in
+    let known = m .before .before .before .before .before in
     let start = known .before in
     field-made _ _ _ (start .pre .2) (few k) _ (b .bits-capacity .ensures) _ (inside b) _ _ _
     (beyond-gathered _ _ _ _ _ (m .mark-at-or-below .ensures) (t .flip .ensures) _ (k .count-marked .ensures) (λ i. known .shared-slice-known .given i .fits) _ _
-    (rows-room _ (start .pre .0 .few)) (p .put-marked .ensures))
+    (rows-room _ (start .pre .0 .rows .few)) (p .put-marked .ensures))
     (f .fill .ensures)
 
 pub make-field-spec : {M : Type 1} → statement M

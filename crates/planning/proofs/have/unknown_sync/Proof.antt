@@ -15,20 +15,20 @@ returns c = no-have _ _ _ _ (sym (c .before .heard-count .ensures) ∙ c .if1 .t
 sync-place-requires : tie.Need-sync-place-requires
 sync-place-requires c κs =
     let k = c .before in
-    first-record _ _ _ (k .before .before .before .before .pre .1) _ (k .heard-count .ensures) (c .if1 .left)
+    first-record _ _ _ (k .before .before .before .before .before .pre .1) _ (k .heard-count .ensures) (c .if1 .left)
 
 sync-count-requires : tie.Need-sync-count-requires
 sync-count-requires c κs =
     let e = c .before in
     let k = e .before in
-    first-record _ _ _ (k .before .before .before .before .pre .1) _ (k .heard-count .ensures) (e .if1 .left)
+    first-record _ _ _ (k .before .before .before .before .before .pre .1) _ (k .heard-count .ensures) (e .if1 .left)
 
 all-held-requires : tie.Need-all-held-requires
 all-held-requires c κs =
     let p = c .before in
     let e = p .before in
     let k = e .before in
-    let start = k .before .before .before .before in
+    let start = k .before .before .before .before .before in
     (start .pre .0, first-there _ _ _ _ (p .sync-place .ensures) (c .sync-count .ensures) _ (start .pre .1) _ (k .heard-count .ensures) (e .if1 .left))
 
 returns-2 : tie.Need-returns-2
@@ -38,7 +38,7 @@ returns-2 c =
     let e = p .before in
     let k = e .before in
     ap not (c .all-held .ensures)
-    ∙ first-decides _ _ _ _ (p .sync-place .ensures) (n .sync-count .ensures) _ _ (k .before .before .before .before .pre .1) _
+    ∙ first-decides _ _ _ _ (p .sync-place .ensures) (n .sync-count .ensures) _ _ (k .before .before .before .before .before .pre .1) _
     (k .heard-count .ensures) (e .if1 .left)
 
 pub unknown-sync-spec : {M : Type 1} → statement M

@@ -10,8 +10,8 @@ asked-requires c κs = search needs
 find-missing-requires : tie.Need-find-missing-requires
 find-missing-requires c κs =
     let a = c .before in
-    let start = a .before .before .before .before .before in
-    (start .pre .0 .inside, (start .pre .1, asked-there _ (start .args .read-only) _ _ (a .asked .ensures) (start .pre .2)))
+    let start = a .before .before .before .before .before .before in
+    (start .pre .0, (start .pre .1, asked-there _ (start .args .read-only) _ _ (a .asked .ensures) (start .pre .2)))
 
 same-length : tie.Need-same-length
 same-length c = search needs

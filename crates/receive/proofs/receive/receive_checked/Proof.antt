@@ -25,8 +25,8 @@ slice-aggregate-make-received-3 c = search needs
 make-received-requires : tie.Need-make-received-requires
 make-received-requires c κs =
     let f = c .before .before .before .before .before .before in
-    let s = f .before .before .before .before .before .before .before .before .before .before .before .before .before in (
-      can-make _ _ _ _ _ _ _ (s .pre) _ (f .take-flags .ensures),
+    let s = f .before .before .before .before .before .before .before .before .before .before .before .before .before .before in (
+      can-make _ _ _ _ _ _ _ _ (s .pre) _ (f .take-flags .ensures),
       record { shared = length-replicate {A = ℕ} sharedRoom 0; sent = length-replicate {A = ℕ} sentRoom 0; words = length-replicate {A = ℕ} wordsRoom 0 },
     )
 
@@ -38,8 +38,8 @@ decide-requires c κs =
     let m = c .before .before .before .before in
     let g = m .before .before .before .before .before .before in
     let f = g .before in
-    let s = f .before .before .before .before .before .before .before .before .before .before .before .before .before in
-    is-small _ _ _ _ _ _ _ (s .pre) _ _ _ _ (f .take-flags .ensures) (g .loads-changes .ensures) (m .make-received .ensures .0)
+    let s = f .before .before .before .before .before .before .before .before .before .before .before .before .before .before in
+    is-small _ _ _ _ _ _ _ _ (s .pre) _ _ _ _ (f .take-flags .ensures) (g .loads-changes .ensures) (m .make-received .ensures .0)
 
 puts-of-requires : tie.Need-puts-of-requires
 puts-of-requires c κs = search needs
@@ -62,10 +62,10 @@ put-requires c κs =
     let g = m .before .before .before .before .before .before in
     let f = g .before in
     let k = f .before .before .before .before .before .before .before .before .before .before .before in
-    let s = k .before .before in
-    has-room _ _ _ _ _ _ _ (s .pre) _ _ _ _ (f .take-flags .ensures) (g .loads-changes .ensures) (m .make-received .ensures .0)
+    let s = k .before .before .before in
+    has-room _ _ _ _ _ _ _ _ (s .pre) _ _ _ _ (f .take-flags .ensures) (g .loads-changes .ensures) (m .make-received .ensures .0)
     (s .args .loaded) _ _ (e .load-failed .ensures) (d .decide .ensures) (m .make-received .ensures .1)
-    (λ i. k .shared-slice-known2 .given i .fits) (u .puts-of .result) (u .puts-of .ensures)
+    (λ i. k .shared-slice-known3 .given i .fits) (u .puts-of .result) (u .puts-of .ensures)
 
 same-length : tie.Need-same-length
 same-length c = search needs
@@ -99,9 +99,9 @@ returns c =
     let f = g .before in
     let k2 = f .before .before .before .before .before .before .before .before .before in
     let k = k2 .before .before in
-    let s = k .before .before in
-    received-called _ _ _ _ _ _ _ (s .pre) _ _ _ _ (f .take-flags .ensures) (g .loads-changes .ensures) (m .make-received .ensures .0) _ _ _
-    (e .load-failed .ensures) (d .decide .ensures) (m .make-received .ensures .1) (λ i. k .shared-slice-known2 .given i .fits) _ _
+    let s = k .before .before .before in
+    received-called _ _ _ _ _ _ _ _ (s .pre) _ _ _ _ (f .take-flags .ensures) (g .loads-changes .ensures) (m .make-received .ensures .0) _ _ _
+    (e .load-failed .ensures) (d .decide .ensures) (m .make-received .ensures .1) (λ i. k .shared-slice-known3 .given i .fits) _ _
     (λ i. k2 .slice-known2 .given i .fits) (u .puts-of .ensures) (p .put .ensures)
 
 pub receive-checked-spec : {M : Type 1} → statement M

@@ -18,7 +18,7 @@ receive-checked-requires : tie.Need-receive-checked-requires
 receive-checked-requires c κs =
     let r = c .before .before .before .before .before .before .before .before in
     let k = r .before .before in
-    accepted _ _ _ _ _ _ _ (sym (k .check-receive .ensures) ∙ r .rows .given .1)
+    accepted _ _ _ _ _ _ _ _ (sym (k .check-receive .ensures) ∙ r .rows .given .1)
 
 same-length : tie.Need-same-length
 same-length c = search needs
@@ -45,7 +45,7 @@ returns : tie.Need-returns
 returns c =
     let r = c .before in
     let k = r .before .before in
-    refused-called _ _ _ _ _ _ _ (sym (k .check-receive .ensures) ∙ r .refusal .given .1)
+    refused-called _ _ _ _ _ _ _ _ (sym (k .check-receive .ensures) ∙ r .refusal .given .1)
 
 same-length-8 : tie.Need-same-length-8
 same-length-8 c = search needs

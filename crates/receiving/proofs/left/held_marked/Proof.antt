@@ -4,18 +4,18 @@ use Rattle.receiving.proofs.LeftLaws.{unknown-unmarked, known-marked}
 use Rattle.receiving.proofs.left.held_marked.Statement.{statement}
 use Rattle.receiving.proofs.left.held_marked.Tie as tie
 
-find-row-requires : tie.Need-find-row-requires
-find-row-requires c κs = search needs
+look-up-requires : tie.Need-look-up-requires
+look-up-requires c κs = search needs
 
 returns : tie.Need-returns
-returns c = unknown-unmarked _ _ _ _ _ (c .before .find-row .ensures) (c .if1 .taken)
+returns c = unknown-unmarked _ _ _ _ _ (c .before .look-up .ensures) (c .if1 .taken)
 
 shared-slice-read-result : tie.Need-shared-slice-read-result
 shared-slice-read-result c = search needs
 
 returns-2 : tie.Need-returns-2
-returns-2 c = known-marked _ _ _ _ _ (c .before .before .find-row .ensures) (c .before .if1 .left)
+returns-2 c = known-marked _ _ _ _ _ (c .before .before .look-up .ensures) (c .before .if1 .left)
 
 pub held-marked-spec : {M : Type 1} → statement M
 held-marked-spec =
-    tie.close (tie.spec find-row-requires returns shared-slice-read-result returns-2)
+    tie.close (tie.spec look-up-requires returns shared-slice-read-result returns-2)

@@ -14,8 +14,8 @@ slice-aggregate-mark-at-or-below c = search needs
 
 mark-at-or-below-requires : tie.Need-mark-at-or-below-requires
 mark-at-or-below-requires c κs =
-    let start = c .before .before .before .before .before in
-    (start .pre .0, start .pre .1, omega (arith, length-replicate (sizes .rows) false, start .pre .0 .few), blank _ _ (start .pre .0 .few))
+    let start = c .before .before .before .before .before .before in
+    (start .pre .0, start .pre .1, omega (arith, length-replicate (sizes .rows) false, start .pre .0 .rows .few), blank _ _ (start .pre .0 .rows .few))
 
 slice-aggregate-put-unmarked : tie.Need-slice-aggregate-put-unmarked
 slice-aggregate-put-unmarked c = search needs

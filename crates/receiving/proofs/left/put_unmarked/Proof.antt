@@ -11,10 +11,10 @@ use Rattle.receiving.proofs.left.put_unmarked.Statement.{statement}
 use Rattle.receiving.proofs.left.put_unmarked.Tie as tie
 
 abbrev Inv-loop : tie.InvT-loop
-Inv-loop table n marks sent count list₀ left₀ k₀ list left k = Leaving (λ h. not (heldMarked (rowsAt table 0 n) marks h)) sent count list₀ list left k
+Inv-loop table index n marks sent count list₀ left₀ k₀ list left k = Leaving (λ h. not (heldMarked (rowsAt table 0 n) marks h)) sent count list₀ list left k
 
 abbrev μ-loop : tie.MeasureT-loop
-μ-loop table n marks sent count list₀ left₀ k₀ list left k = count - k
+μ-loop table index n marks sent count list₀ left₀ k₀ list left k = count - k
 
 loop-holds : tie.Need-loop-holds Inv-loop μ-loop
 loop-holds c = leaving-starts _ _ _ _
@@ -40,20 +40,20 @@ loop-again c =
 mul-put-hash : tie.Need-mul-put-hash Inv-loop μ-loop
 mul-put-hash c =
     let l = c .before .before .before in
-    let start = l .before .before .before .before .before .before in
+    let start = l .before .before .before .before .before .before .before in
     omega (arith, l .loop-test .taken, l .before .loop .inv .few, start .pre .3)
 
 put-hash-requires : tie.Need-put-hash-requires Inv-loop μ-loop
 put-hash-requires c κs =
     let l = c .before .before .before in
     let inv = l .before .loop .inv in
-    let start = l .before .before .before .before .before .before in
+    let start = l .before .before .before .before .before .before .before in
     (omega (arith, l .loop-test .taken, inv .few, inv .long, start .pre .3), omega (arith, l .loop-test .taken, start .pre .2))
 
 add-left : tie.Need-add-left Inv-loop μ-loop
 add-left c =
     let l = c .before .before .before .before .before .before in
-    let start = l .before .before .before .before .before .before in
+    let start = l .before .before .before .before .before .before .before in
     omega (arith, l .loop-test .taken, l .before .loop .inv .few, start .pre .3)
 
 loop-less-2 : tie.Need-loop-less-2 Inv-loop μ-loop
@@ -67,9 +67,9 @@ loop-again-2 c =
     let l = t .before in
     let b = l .before in
     let known = b .before .before in
-    let start = known .before .before .before in
+    let start = known .before .before .before .before in
     leaving-taken _ _ _ _ _ _ _ (b .loop .inv) _ (l .loop-test .taken) (ap not (sym (t .held-marked .ensures) ∙ e .if1 .left))
-    (λ i. known .shared-slice-known3 .given i .fits)
+    (λ i. known .shared-slice-known4 .given i .fits)
     (start .pre .2)
     (put .put-hash .kept .0)
     (put .put-hash .ensures)
@@ -81,7 +81,7 @@ returns : tie.Need-returns Inv-loop μ-loop
 returns c =
     let b = c .before in
     let known = b .before .before in
-    leaving-ends _ _ _ _ _ _ _ (b .loop .inv) (c .loop-test .left) (λ i. known .shared-slice-known3 .given i .fits) (known .before .before .before .pre .3)
+    leaving-ends _ _ _ _ _ _ _ (b .loop .inv) (c .loop-test .left) (λ i. known .shared-slice-known4 .given i .fits) (known .before .before .before .before .pre .3)
 
 pub put-unmarked-spec : {M : Type 1} → statement M
 put-unmarked-spec =

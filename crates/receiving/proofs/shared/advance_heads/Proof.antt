@@ -3,7 +3,6 @@
 use native.Mathlib.Omega.{arith}
 use borrow.Author.Needs.{needs}
 use Rattle.lists.proofs.JoinLaws.{join-room}
-use Rattle.tables.proofs.GoodLaws.{good-part}
 use Rattle.receiving.proofs.SharedLaws.{heads-room, heads-fit, advanced}
 use Rattle.receiving.proofs.shared.advance_heads.Statement.{statement}
 use Rattle.receiving.proofs.shared.advance_heads.Tie as tie
@@ -13,17 +12,16 @@ slice-aggregate-collect-heads c = search needs
 
 collect-heads-requires : tie.Need-collect-heads-requires
 collect-heads-requires c κs =
-    let start = c .before .before .before .before in
-    let part = good-part _ _ _ (start .pre .0) (start .pre .1) in
-    (part, heads-room _ (part .few))
+    let start = c .before .before .before .before .before in
+    (start .pre .0, start .pre .1, heads-room _ (omega (arith, start .pre .0 .rows .few, start .pre .1)))
 
 slice-aggregate-collect-heads-2 : tie.Need-slice-aggregate-collect-heads-2
 slice-aggregate-collect-heads-2 c = search needs
 
 collect-heads-requires-2 : tie.Need-collect-heads-requires-2
 collect-heads-requires-2 c κs =
-    let start = c .before .before .before .before .before .before .before in
-    (start .pre .0, heads-room _ (start .pre .0 .few))
+    let start = c .before .before .before .before .before .before .before .before in
+    (start .pre .0, omega arith, heads-room _ (start .pre .0 .rows .few))
 
 slice-aggregate-join-common : tie.Need-slice-aggregate-join-common
 slice-aggregate-join-common c = search needs
@@ -31,10 +29,10 @@ slice-aggregate-join-common c = search needs
 join-common-requires : tie.Need-join-common-requires
 join-common-requires c κs =
     let w = c .before .before .before in
-    let start = w .before .before .before .before .before .before .before .before in (
+    let start = w .before .before .before .before .before .before .before .before .before in (
       omega arith,
       omega (arith, start .pre .2),
-      omega (arith, heads-fit _ _ _ _ (start .pre .0 .few) (w .collect-heads2 .ensures) (w .collect-heads2 .kept .1 .1 .0)),
+      omega (arith, heads-fit _ _ _ _ (start .pre .0 .rows .few) (w .collect-heads2 .ensures) (w .collect-heads2 .kept .1 .1 .1 .1 .0)),
     )
 
 slice-aggregate-join-new : tie.Need-slice-aggregate-join-new
@@ -48,11 +46,10 @@ join-new-requires c κs =
     let j = c .before .before .before .before .before in
     let w = j .before .before .before .before in
     let o = w .before .before .before in
-    let start = o .before .before .before .before .before in
-    let part = good-part _ _ _ (start .pre .0) (start .pre .1) in (
+    let start = o .before .before .before .before .before .before in (
       join-room (j .join-common .ensures) (j .join-common .kept .0) (omega arith),
-      omega (arith, heads-fit _ _ _ _ (start .pre .0 .few) (w .collect-heads2 .ensures) (w .collect-heads2 .kept .1 .1 .0)),
-      omega (arith, heads-fit _ _ _ _ (part .few) (o .collect-heads .ensures) (o .collect-heads .kept .1 .1 .0)),
+      omega (arith, heads-fit _ _ _ _ (start .pre .0 .rows .few) (w .collect-heads2 .ensures) (w .collect-heads2 .kept .1 .1 .1 .1 .0)),
+      omega (arith, heads-fit _ _ _ _ (omega (arith, start .pre .0 .rows .few, start .pre .1)) (o .collect-heads .ensures) (o .collect-heads .kept .1 .1 .1 .1 .0)),
     )
 
 same-length : tie.Need-same-length
@@ -64,8 +61,8 @@ returns c =
     let j = k .before .before .before .before .before .before in
     let w = j .before .before .before .before in
     let o = w .before .before .before in
-    let start = o .before .before .before .before .before in
-    advanced _ _ _ _ _ _ _ _ _ _ _ _ _ (start .pre .0) (start .pre .1) (start .pre .3)
+    let start = o .before .before .before .before .before .before in
+    advanced _ _ _ _ _ _ _ _ _ _ _ _ _ (start .pre .0 .rows) (start .pre .1) (start .pre .3)
     (o .collect-heads .ensures)
     (w .collect-heads2 .ensures)
     (j .join-common .ensures)

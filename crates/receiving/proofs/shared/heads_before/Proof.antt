@@ -10,8 +10,8 @@ slice-aggregate-collect-heads c = search needs
 
 collect-heads-requires : tie.Need-collect-heads-requires
 collect-heads-requires c κs =
-    let start = c .before .before .before in
-    (start .pre .0, heads-room _ (start .pre .0 .few))
+    let start = c .before .before .before .before in
+    (start .pre .0, start .pre .1, heads-room _ (omega (arith, start .pre .0 .rows .few, start .pre .1)))
 
 slice-aggregate-same-list : tie.Need-slice-aggregate-same-list
 slice-aggregate-same-list c = search needs
@@ -19,8 +19,8 @@ slice-aggregate-same-list c = search needs
 same-list-requires : tie.Need-same-list-requires
 same-list-requires c κs =
     let h = c .before .before in
-    let start = h .before .before .before .before in
-    (start .pre .1, omega (arith, heads-fit _ _ _ _ (start .pre .0 .few) (h .collect-heads .ensures) (h .collect-heads .kept .1 .1 .0)))
+    let start = h .before .before .before .before .before in
+    (start .pre .2, omega (arith, heads-fit _ _ _ _ (omega (arith, start .pre .0 .rows .few, start .pre .1)) (h .collect-heads .ensures) (h .collect-heads .kept .1 .1 .1 .1 .0)))
 
 returns : tie.Need-returns
 returns c = same-heads _ _ _ _ _ (c .before .before .before .collect-heads .ensures) (c .same-list .ensures)

@@ -12,7 +12,7 @@ join-list-requires c κs = search needs
 join-held-requires : tie.Need-join-held-requires
 join-held-requires c κs =
     let j = c .before .before .before in
-    let start = j .before .before .before .before .before .before in
+    let start = j .before .before .before .before .before .before .before in
     (start .pre .0, join-room (j .join-list .ensures) (j .join-list .kept .0) (omega arith), start .pre .2)
 
 same-length : tie.Need-same-length

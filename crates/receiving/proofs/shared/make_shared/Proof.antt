@@ -35,9 +35,9 @@ returns c =
     let t = p .before .before .before in
     let a = t .before in
     let known = a .before .before in
-    let start = known .before .before .before in
+    let start = known .before .before .before .before in
     where-held _ _ _ _ (start .args .loads) _ _ _ (sym (a .all-held .ensures) ∙ t .if1 .taken)
-    (copied-made _ _ _ _ _ (λ k. known .shared-slice-known3 .given k .fits) (start .pre .3) (start .pre .4) (start .pre .5) (p .copy-into .ensures))
+    (copied-made _ _ _ _ _ (λ k. known .shared-slice-known4 .given k .fits) (start .pre .3) (start .pre .4) (start .pre .5) (p .copy-into .ensures))
 
 join-shared-requires : tie.Need-join-shared-requires
 join-shared-requires c κs = search needs
@@ -50,7 +50,7 @@ returns-2 c =
     let j = c .before .before in
     let e = j .before .before in
     let a = e .before .before in
-    let start = a .before .before .before .before .before in
+    let start = a .before .before .before .before .before .before in
     where-still _ _ _ _ (start .args .loads) _ _ _ (sym (a .all-held .ensures) ∙ e .before .if1 .left) (e .if2 .taken) (j .join-shared .ensures)
 
 slice-aggregate-advance-heads : tie.Need-slice-aggregate-advance-heads
@@ -65,9 +65,9 @@ slice-aggregate-join-shared c = search needs
 join-shared-requires-2 : tie.Need-join-shared-requires-2
 join-shared-requires-2 c κs =
     let h = c .before .before .before in
-    let start = h .before .before .before .before .before .before .before .before .before in (
+    let start = h .before .before .before .before .before .before .before .before .before .before in (
       start .pre .0,
-      advanced-fits _ _ _ _ _ _ (start .pre .0 .few) (h .advance-heads .ensures) (h .advance-heads .kept .1 .1 .1 .1 .1 .0),
+      advanced-fits _ _ _ _ _ _ (start .pre .0 .rows .few) (h .advance-heads .ensures) (h .advance-heads .kept .1 .1 .1 .1 .1 .1 .0),
       start .pre .3,
     )
 
@@ -80,7 +80,7 @@ returns-3 c =
     let h = j .before .before .before .before in
     let e = h .before .before in
     let a = e .before .before in
-    let start = a .before .before .before .before .before in
+    let start = a .before .before .before .before .before .before in
     where-moved _ _ _ _ (start .args .loads) _ _ _ (sym (a .all-held .ensures) ∙ e .before .if1 .left) (e .if2 .left) _ _ (h .advance-heads .ensures)
     (j .join-shared2 .ensures)
 

@@ -33,26 +33,29 @@ unmark-requires c κs =
     let m = c .before .before .before .before in
     let a = m .before .before .before .before .before .before in
     let l = a .before .before .before in
-    let start = l .before .before .before .before .before .before .before .before .before in (
-      omega (arith, start .pre .2, a .mark-answer .kept .1 .1 .1 .1 .0),
-      omega (arith, start .pre .0 .rows .few, length-replicate (sizes .rows) false, l .mark-list .kept .1 .1 .1 .1 .1 .0),
+    let start = l .before .before .before .before .before .before .before .before .before .before in (
+      omega (arith, start .pre .2, a .mark-answer .kept .1 .1 .1 .1 .1 .0),
+      omega (arith, start .pre .0 .rows .rows .few, length-replicate (sizes .rows) false, l .mark-list .kept .1 .1 .1 .1 .1 .1 .0),
     )
 
 count-marked-requires : tie.Need-count-marked-requires
-count-marked-requires c κs = search needs
+count-marked-requires c κs =
+    let m = c .before .before .before .before .before .before .before .before in
+    let start = m .before .before .before .before .before .before .before .before .before .before .before .before .before .before .before .before .before .before .before in
+    omega (arith, start .pre .4, m .mark-needs .kept .1 .1 .1 .1 .1 .1 .1 .1 .0)
 
 count-marked-requires-2 : tie.Need-count-marked-requires-2
 count-marked-requires-2 c κs =
     let u = c .before .before .before .before .before in
     let a = u .before .before .before .before .before .before .before .before .before .before .before in
-    let start = a .before .before .before .before .before .before .before .before .before .before .before .before in
-    omega (arith, start .pre .2, a .mark-answer .kept .1 .1 .1 .1 .0, u .unmark .kept .1 .0)
+    let start = a .before .before .before .before .before .before .before .before .before .before .before .before .before in
+    omega (arith, start .pre .2, a .mark-answer .kept .1 .1 .1 .1 .1 .0, u .unmark .kept .1 .0)
 
 add-result : tie.Need-add-result
 add-result c =
     let n = c .before .before in
-    let start = n .before .before .before .before .before .before .before .before .before .before .before .before .before .before .before .before .before .before .before .before .before .before .before .before .before .before .before in
-    omega (arith, count-most _ _ _ (n .count-marked .ensures), count-most _ _ _ (c .count-marked2 .ensures), start .pre .0 .few, start .pre .0 .rows .few)
+    let start = n .before .before .before .before .before .before .before .before .before .before .before .before .before .before .before .before .before .before .before .before .before .before .before .before .before .before .before .before in
+    omega (arith, count-most _ _ _ (n .count-marked .ensures), count-most _ _ _ (c .count-marked2 .ensures), start .pre .0 .few, start .pre .0 .rows .rows .few)
 
 same-length : tie.Need-same-length
 same-length c = search needs
@@ -67,8 +70,8 @@ returns c =
     let m = u .before .before .before .before .before in
     let a = m .before .before .before .before .before .before in
     let l = a .before .before .before in
-    let start = l .before .before .before .before .before .before .before .before .before in
-    chosen-is _ _ (start .pre .0 .rows .good) _ _ _ _ _ _ _ _ _ _ (blank _ _ (start .pre .0 .rows .few)) (l .mark-list .ensures)
+    let start = l .before .before .before .before .before .before .before .before .before .before in
+    chosen-is _ _ (start .pre .0 .rows .rows .good) _ _ _ _ _ _ _ _ _ _ (blank _ _ (start .pre .0 .rows .rows .few)) (l .mark-list .ensures)
     (a .mark-answer .ensures)
     (m .mark-needs .ensures)
     (u .unmark .ensures)

@@ -5,11 +5,11 @@ use borrow.Author.Needs.{needs}
 use Rattle.selection.proofs.chosen.held_unmarked.Statement.{statement}
 use Rattle.selection.proofs.chosen.held_unmarked.Tie as tie
 
-find-row-requires : tie.Need-find-row-requires
-find-row-requires c κs = search needs
+look-up-requires : tie.Need-look-up-requires
+look-up-requires c κs = search needs
 
 returns : tie.Need-returns
-returns c = held-none _ _ _ _ _ _ (c .before .find-row .ensures) (c .if1 .taken)
+returns c = held-none _ _ _ _ _ _ (c .before .look-up .ensures) (c .if1 .taken)
 
 shared-slice-read-if2 : tie.Need-shared-slice-read-if2
 shared-slice-read-if2 c = search needs
@@ -17,7 +17,7 @@ shared-slice-read-if2 c = search needs
 returns-2 : tie.Need-returns-2
 returns-2 c =
     let e = c .before .before in
-    held-member _ _ _ _ _ _ (e .before .find-row .ensures) (e .if1 .left) (c .if2 .taken)
+    held-member _ _ _ _ _ _ (e .before .look-up .ensures) (e .if1 .left) (c .if2 .taken)
 
 shared-slice-read-result : tie.Need-shared-slice-read-result
 shared-slice-read-result c = search needs
@@ -26,13 +26,13 @@ returns-3 : tie.Need-returns-3
 returns-3 c =
     let m = c .before in
     let e = m .before .before in
-    held-past _ _ _ _ _ _ (e .before .find-row .ensures) (e .if1 .left) (m .if2 .left)
+    held-past _ _ _ _ _ _ (e .before .look-up .ensures) (e .if1 .left) (m .if2 .left)
 
 pub held-unmarked-spec : {M : Type 1} → statement M
 held-unmarked-spec =
     tie.close
     (tie.spec
-    find-row-requires
+    look-up-requires
     returns
     shared-slice-read-if2
     returns-2

@@ -5,7 +5,7 @@ use Rattle.selection.proofs.chosen.mark_answer.Statement.{statement}
 use Rattle.selection.proofs.chosen.mark_answer.Tie as tie
 
 returns : tie.Need-returns
-returns c = none-answered _ _ _ _ _ (c .if1 .taken) (c .before .before .before .before .before .pre .4)
+returns c = none-answered _ _ _ _ _ (c .if1 .taken) (c .before .before .before .before .before .before .pre .4)
 
 mark-s-requires : tie.Need-mark-s-requires
 mark-s-requires c κs = search needs

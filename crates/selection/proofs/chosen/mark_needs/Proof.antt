@@ -10,30 +10,30 @@ use Rattle.selection.proofs.chosen.mark_needs.Statement.{statement}
 use Rattle.selection.proofs.chosen.mark_needs.Tie as tie
 
 abbrev Inv-loop : tie.InvT-loop
-Inv-loop table n need place count members past needs₀ k₀ needs k =
+Inv-loop table index n need place count members past needs₀ k₀ needs k =
     record { upto : k ≤ count; long : length needs ≡ length needs₀; so : Turned (asking table n need place members past) k needs₀ needs }
 
 abbrev μ-loop : tie.MeasureT-loop
-μ-loop table n need place count members past needs₀ k₀ needs k = count - k
+μ-loop table index n need place count members past needs₀ k₀ needs k = count - k
 
 loop-holds : tie.Need-loop-holds Inv-loop μ-loop
 loop-holds c = record { upto = omega arith; long = refl; so = turn-start _ _ }
 
 mul-held-unmarked : tie.Need-mul-held-unmarked Inv-loop μ-loop
-mul-held-unmarked c = omega (arith, c .before .before .before .before .before .before .before .pre .1)
+mul-held-unmarked c = omega (arith, c .before .before .before .before .before .before .before .before .pre .1)
 
 add-held-unmarked : tie.Need-add-held-unmarked Inv-loop μ-loop
-add-held-unmarked c = omega (arith, c .before .before .before .before .before .before .before .pre .1)
+add-held-unmarked c = omega (arith, c .before .before .before .before .before .before .before .before .pre .1)
 
 held-unmarked-requires : tie.Need-held-unmarked-requires Inv-loop μ-loop
 held-unmarked-requires c κs =
-    let start = c .before .before .before .before .before .before .before in
+    let start = c .before .before .before .before .before .before .before .before in
     (start .pre .0, omega (arith, c .loop-test .taken, start .pre .1), start .pre .2, start .pre .3)
 
 slice-write-needs : tie.Need-slice-write-needs Inv-loop μ-loop
 slice-write-needs c =
     let b = c .before .before in
-    omega (arith, c .before .loop-test .taken, b .before .before .before .before .before .before .pre .4, b .loop .inv .long)
+    omega (arith, c .before .loop-test .taken, b .before .before .before .before .before .before .before .pre .4, b .loop .inv .long)
 
 add-k : tie.Need-add-k Inv-loop μ-loop
 add-k c = search needs
@@ -45,7 +45,7 @@ loop-again : tie.Need-loop-again Inv-loop μ-loop
 loop-again c =
     let l = c .before in
     let b = l .before in
-    let start = b .before .before .before .before .before .before in
+    let start = b .before .before .before .before .before .before .before in
     record {
       upto = omega (arith, l .loop-test .taken);
       long = length-set (b .loop .needs) _ _ ∙ b .loop .inv .long;

@@ -1,9 +1,9 @@
--- `selection::to_send::get_hashes_to_send` meets its contract: one law for each answer (SendCalls), and the rows of an accepted table are good.
--- Assumes nothing.
+-- `selection::to_send::get_hashes_to_send` meets its contract: one law for each answer (SendCalls), and an accepted table is good beside its
+-- index. Assumes nothing.
 use mathlib.Core.Path.{sym, _∙_}
 use borrow.Author.Tests.{not-true, not-false}
+use Rattle.index.proofs.CheckLaws.{checked-indexed}
 use Rattle.rules.proofs.Outputs.{refused}
-use Rattle.tables.proofs.GoodLaws.{accepted-rows}
 use Rattle.selection.proofs.SendCalls.{send-bad, send-table, send-good}
 use borrow.Author.Needs.{needs}
 use Rattle.selection.proofs.to_send.get_hashes_to_send.Statement.{statement}
@@ -13,10 +13,10 @@ passed-good-requires : tie.Need-passed-good-requires
 passed-good-requires c κs = search needs
 
 returns : tie.Need-returns
-returns c = rw (send-bad _ _ _ _ (sym (c .before .passed-good .ensures) ∙ not-true _ (c .if1 .taken))) (refused _ _)
+returns c = rw (send-bad _ _ _ _ _ (sym (c .before .passed-good .ensures) ∙ not-true _ (c .if1 .taken))) (refused _ _)
 
-check-table-requires : tie.Need-check-table-requires
-check-table-requires c κs = search needs
+check-indexed-requires : tie.Need-check-indexed-requires
+check-indexed-requires c κs = search needs
 
 enum-known-r : tie.Need-enum-known-r
 enum-known-r c = search needs
@@ -29,14 +29,14 @@ send-needs-requires c κs =
     let k = c .before .before in
     let t = k .before .before in
     let e = t .before in
-    (accepted-rows _ _ (sym (t .check-table .ensures) ∙ k .n .given .1), sym (e .before .passed-good .ensures) ∙ not-false _ (e .if1 .left))
+    (checked-indexed _ _ _ (sym (t .check-indexed .ensures) ∙ k .n .given .1), sym (e .before .passed-good .ensures) ∙ not-false _ (e .if1 .left))
 
 returns-2 : tie.Need-returns-2
 returns-2 c =
     let k = c .before in
     let t = k .before .before in
     let e = t .before in
-    rw (send-table _ _ _ _ (sym (e .before .passed-good .ensures) ∙ not-false _ (e .if1 .left)) _ (sym (t .check-table .ensures) ∙ k .r .given .1)) (refused _ _)
+    rw (send-table _ _ _ _ _ (sym (e .before .passed-good .ensures) ∙ not-false _ (e .if1 .left)) _ (sym (t .check-indexed .ensures) ∙ k .r .given .1)) (refused _ _)
 
 same-length : tie.Need-same-length
 same-length c = search needs
@@ -47,7 +47,7 @@ returns-3 c =
     let k = p .before .before .before in
     let t = k .before .before in
     let e = t .before in
-    rw (send-good _ _ _ _ (sym (e .before .passed-good .ensures) ∙ not-false _ (e .if1 .left)) _ (sym (t .check-table .ensures) ∙ k .n .given .1)) (p .send-needs .ensures)
+    rw (send-good _ _ _ _ _ (sym (e .before .passed-good .ensures) ∙ not-false _ (e .if1 .left)) _ (sym (t .check-indexed .ensures) ∙ k .n .given .1)) (p .send-needs .ensures)
 
 pub get-hashes-to-send-spec : {M : Type 1} → statement M
 get-hashes-to-send-spec =
@@ -55,7 +55,7 @@ get-hashes-to-send-spec =
     (tie.spec
     passed-good-requires
     returns
-    check-table-requires
+    check-indexed-requires
     enum-known-r
     enum-known-n
     send-needs-requires

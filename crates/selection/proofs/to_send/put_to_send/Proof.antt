@@ -18,19 +18,19 @@ slice-aggregate-choose-2 c = search needs
 
 choose-requires : tie.Need-choose-requires
 choose-requires c κs =
-    let start = c .before .before .before .before .before .before .before in (
+    let start = c .before .before .before .before .before .before .before .before in (
       start .pre,
       omega arith,
-      omega (arith, length-replicate (sizes .rows) false, start .pre .rows .few),
-      blank _ _ (start .pre .rows .few),
+      omega (arith, length-replicate (sizes .rows) false, start .pre .rows .rows .few),
+      blank _ _ (start .pre .rows .rows .few),
       omega (arith, length-replicate (sizes .hashes) false, start .pre .few),
     )
 
 mul-size : tie.Need-mul-size
 mul-size c =
     let d = c .before .before in
-    let start = d .before .before .before .before .before .before .before .before in
-    omega (arith, chosen-most _ _ _ _ _ _ _ _ _ _ _ (start .pre) (d .choose .ensures), start .pre .few)
+    let start = d .before .before .before .before .before .before .before .before .before in
+    omega (arith, chosen-most _ _ _ _ _ _ _ _ _ _ _ _ (start .pre) (d .choose .ensures), start .pre .few)
 
 returns : tie.Need-returns
 returns c = no-room _ _ _ (chosen-size (chosen-all _ _ (c .before .before .before .choose .ensures))) (c .if1 .taken)
@@ -45,11 +45,11 @@ put-chosen-requires : tie.Need-put-chosen-requires
 put-chosen-requires c κs =
     let e = c .before .before .before in
     let d = e .before .before .before in
-    let start = d .before .before .before .before .before .before .before .before in (
-      start .pre .rows,
-      omega (arith, length-replicate (sizes .rows) false, start .pre .rows .few, d .choose .kept .1 .1 .1 .1 .1 .1 .1 .1 .1 .0),
+    let start = d .before .before .before .before .before .before .before .before .before in (
+      start .pre .rows .rows,
+      omega (arith, length-replicate (sizes .rows) false, start .pre .rows .rows .few, d .choose .kept .1 .1 .1 .1 .1 .1 .1 .1 .1 .1 .0),
       start .pre .needs,
-      omega (arith, length-replicate (sizes .hashes) false, start .pre .few, d .choose .kept .1 .1 .1 .1 .1 .1 .1 .1 .1 .1 .0),
+      omega (arith, length-replicate (sizes .hashes) false, start .pre .few, d .choose .kept .1 .1 .1 .1 .1 .1 .1 .1 .1 .1 .1 .0),
       chosen-room (d .choose .ensures) _ (e .if1 .left),
     )
 

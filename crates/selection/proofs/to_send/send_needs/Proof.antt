@@ -9,7 +9,6 @@ use Rattle.rules.specs.Passed.{passedHashes}
 use Rattle.rules.specs.declared.passed.Passed.the-variants.{Hashes}
 use Rattle.rules.proofs.Outputs.{refused}
 use Rattle.rules.proofs.PassedLaws.{passed-is}
-use Rattle.tables.proofs.GoodLaws.{good-part}
 use Rattle.selection.proofs.SendCalls.{syncs-inside, send-need, send-many, send-written}
 use borrow.Author.Needs.{needs}
 use Rattle.selection.proofs.to_send.send_needs.Statement.{statement}
@@ -17,7 +16,7 @@ use Rattle.selection.proofs.to_send.send_needs.Tie as tie
 
 -- what the good answer says of the need list
 told : (c : tie.After-known-told2)
-    → let start = c .before .before .before .before .before .before .before .before .before in
+    → let start = c .before .before .before .before .before .before .before .before .before .before in
     passedHashes (now (start .args .need)) ≡ Hashes (c .before .count .given .0 .0)
 told c = sym (c .before .before .before .passed-hashes .ensures) ∙ c .before .count .given .1
 
@@ -42,11 +41,11 @@ put-to-send-requires : tie.Need-put-to-send-requires
 put-to-send-requires c κs =
     let e = c .before in
     let t = e .before .before in
-    let start = t .before .before .before .before .before .before .before .before .before in
+    let start = t .before .before .before .before .before .before .before .before .before .before in
     let haves = passed-haves _ _ (start .pre .1) (sym (e .before .passed-few .ensures) ∙ not-false _ (e .if1 .left)) in
     let whole = passed-is _ _ (told t) in
     record {
-      rows = good-part _ _ _ (start .pre .0) (omega arith);
+      rows = start .pre .0;
       filters = good-filters _ _ haves;
       syncs = syncs-inside _ _ haves;
       needs = omega (arith, whole .whole);

@@ -19,9 +19,9 @@ mul-words c = search needs
 
 array-share-prefix-words : tie.Need-array-share-prefix-words
 array-share-prefix-words c =
-    let start = c .before .before .before .before .before .before in
+    let start = c .before .before .before .before .before .before .before in
     used-fits (start .args .laid .count) _ (start .args .laid .words) (c .before .at-most .ensures)
-    (length-unmapped ℕ (start .args .laid .words) _ (start .good .1 .1 .0 .1 .1 .0 .1 .0 .1))
+    (length-unmapped ℕ (start .args .laid .words) _ (start .good .1 .1 .1 .0 .1 .1 .0 .1 .0 .1))
 
 slice-aggregate-get-hashes-to-send : tie.Need-slice-aggregate-get-hashes-to-send
 slice-aggregate-get-hashes-to-send c =
@@ -37,10 +37,10 @@ returns : tie.Need-returns
 returns c =
     let call = c .before .before in
     let most = call .before .before .before .before in
-    let start = most .before .before .before .before .before in
+    let start = most .before .before .before .before .before .before in
     subst
-    (λ (w : List ℕ). Written (toSendOutput (now (start .args .table)) (now (start .args .bytes)) w (now (start .args .need))) (now (start .args .out))
-    (call .get-hashes-to-send .last .1 .1 .1 .1 .0) (call .get-hashes-to-send .result))
+    (λ (w : List ℕ). Written (toSendOutput (now (start .args .table)) (now (start .args .index)) (now (start .args .bytes)) w (now (start .args .need))) (now (start .args .out))
+    (call .get-hashes-to-send .last .1 .1 .1 .1 .1 .0) (call .get-hashes-to-send .result))
     (used-is (start .args .laid) _ (most .at-most .ensures)) (call .get-hashes-to-send .ensures)
 
 pub laid-to-send-spec : {M : Type 1} → statement M

@@ -76,8 +76,11 @@ stayed = (
   (
     stay-none-slice (0 ∷ []) tt (plain (λ _. u8)) yes,
     (
-      stay-none-slice (0 ∷ []) tt (plain (λ _. R)) yes,
-      (stay-none-slice (0 ∷ []) tt (plain (λ _. u8)) yes, (gave-slice (0 ∷ []) tt (plain (λ _. u8)), tt)),
+      stay-none-slice (0 ∷ []) tt (plain (λ _. u8)) yes,
+      (
+        stay-none-slice (0 ∷ []) tt (plain (λ _. R)) yes,
+        (stay-none-slice (0 ∷ []) tt (plain (λ _. u8)) yes, (gave-slice (0 ∷ []) tt (plain (λ _. u8)), tt)),
+      ),
     ),
   ),
 )
@@ -90,31 +93,34 @@ module _ {M : Type 1} (𝓤 : URA M) (H : Heap 𝓤) (A : Atoms 𝓤) (mem : Mem
   abbrev Send : Contract 𝓤
   Send = tripleOf 𝓤 H A send.signature (send.spec 𝓤 H A mem run)
 
-module _ {M : Type 1} (𝓤 : URA M) (H : Heap 𝓤) (A : Atoms 𝓤) (W : Given 𝓤 H A) (mem : Memory → SProp 𝓤) (run : Routine → Fun 𝓤) (κ : Lft) (q : Share) (table bytes need : RefT (List ℕ)) (haves : RefT (List HaveSummary)) (b o : ℕ) (γ : GName) (ys : List ℕ) where
+module _ {M : Type 1} (𝓤 : URA M) (H : Heap 𝓤) (A : Atoms 𝓤) (W : Given 𝓤 H A) (mem : Memory → SProp 𝓤) (run : Routine → Fun 𝓤) (κ : Lft) (q : Share) (table index bytes need : RefT (List ℕ)) (haves : RefT (List HaveSummary)) (b o : ℕ) (γ : GName) (ys : List ℕ) where
   abbrev out : RefT (List ℕ)
   out = record { ptr = (b, o); name = γ; now = ys }
 
-  abbrev x : RefT (List ℕ) × (RefT (List ℕ) × (RefT (List HaveSummary) × (RefT (List ℕ) × (RefT (List ℕ) × Unit {0}))))
-  x = (table, (bytes, (haves, (need, (out, tt)))))
+  abbrev x : RefT (List ℕ) × (RefT (List ℕ) × (RefT (List ℕ) × (RefT (List HaveSummary) × (RefT (List ℕ) × (RefT (List ℕ) × Unit {0})))))
+  x = (table, (index, (bytes, (haves, (need, (out, tt))))))
 
   -- the machine values of the slices
   abbrev v₁ : Val
   v₁ = sliceVal (table .ptr) (length (table .now))
 
   abbrev v₂ : Val
-  v₂ = sliceVal (bytes .ptr) (length (bytes .now))
+  v₂ = sliceVal (index .ptr) (length (index .now))
 
   abbrev v₃ : Val
-  v₃ = sliceVal (haves .ptr) (length (haves .now))
+  v₃ = sliceVal (bytes .ptr) (length (bytes .now))
 
   abbrev v₄ : Val
-  v₄ = sliceVal (need .ptr) (length (need .now))
+  v₄ = sliceVal (haves .ptr) (length (haves .now))
 
   abbrev v₅ : Val
-  v₅ = sliceVal (b, o) (length ys)
+  v₅ = sliceVal (need .ptr) (length (need .now))
+
+  abbrev v₆ : Val
+  v₆ = sliceVal (b, o) (length ys)
 
   abbrev at : Vals sum.signature (κ, tt)
-  at = (v₁ ∷ [], (v₂ ∷ [], (v₃ ∷ [], (v₄ ∷ [], (v₅ ∷ [], tt)))))
+  at = (v₁ ∷ [], (v₂ ∷ [], (v₃ ∷ [], (v₄ ∷ [], (v₅ ∷ [], (v₆ ∷ [], tt))))))
 
   abbrev Post : Val → SProp 𝓤
   Post = walkOf 𝓤 H A sum.ended stayed (sum.clauses 𝓤 H A mem run) .post (((κ, tt), (q, tt), tt, x, at), tt)
@@ -126,39 +132,42 @@ module _ {M : Type 1} (𝓤 : URA M) (H : Heap 𝓤) (A : Atoms 𝓤) (W : Given
   abbrev Table : Fml
   Table = ShrSlice (named 0) κ u8 .own table (v₁ ∷ [])
 
+  abbrev Index : Fml
+  Index = ShrSlice (named 0) κ u8 .own index (v₂ ∷ [])
+
   abbrev Bytes : Fml
-  Bytes = ShrSlice (named 0) κ u8 .own bytes (v₂ ∷ [])
+  Bytes = ShrSlice (named 0) κ u8 .own bytes (v₃ ∷ [])
 
   abbrev Haves : Fml
-  Haves = ShrSlice (named 0) κ R .own haves (v₃ ∷ [])
+  Haves = ShrSlice (named 0) κ R .own haves (v₄ ∷ [])
 
   abbrev Need : Fml
-  Need = ShrSlice (named 0) κ u8 .own need (v₄ ∷ [])
+  Need = ShrSlice (named 0) κ u8 .own need (v₅ ∷ [])
 
   abbrev Out : Fml
-  Out = MutSlice (named 0) κ u8 .own out (v₅ ∷ [])
+  Out = MutSlice (named 0) κ u8 .own out (v₆ ∷ [])
 
   abbrev Kept : Item 𝓤
-  Kept = ‵ Table ⊛ (‵ Bytes ⊛ ‵ Need)
+  Kept = ‵ Table ⊛ (‵ Index ⊛ (‵ Bytes ⊛ ‵ Need))
 
   abbrev opened : Item 𝓤
-  opened = Token ⊛ (‵ Table ⊛ (‵ Bytes ⊛ (‵ Haves ⊛ (‵ Need ⊛ ‵ Out))))
+  opened = Token ⊛ (‵ Table ⊛ (‵ Index ⊛ (‵ Bytes ⊛ (‵ Haves ⊛ (‵ Need ⊛ ‵ Out)))))
 
   opens : ent 𝓤 (onEntry 𝓤 H A sum.signature (κ, tt) (q, tt) x at) (⋆ 𝓤 H A (opened ∷ []))
   opens =
-      qed W (Token ∷ ‵ (owns (ShrSlice (named 0) κ u8 ∷ ShrSlice (named 0) κ u8 ∷ ShrSlice (named 0) κ R ∷ ShrSlice (named 0) κ u8 ∷ MutSlice (named 0) κ u8 ∷ []) x at) ∷ []) ∵
-      frame ! $ fsplit ! $ frame ! $ fsplit ! $ frame ! $ fsplit ! $ frame ! $ fsplit ! $ frame ! $ fsplit ! $ move ! (1 ∷ []) $ drop ! $ done !
+      qed W (Token ∷ ‵ (owns (ShrSlice (named 0) κ u8 ∷ ShrSlice (named 0) κ u8 ∷ ShrSlice (named 0) κ u8 ∷ ShrSlice (named 0) κ R ∷ ShrSlice (named 0) κ u8 ∷ MutSlice (named 0) κ u8 ∷ []) x at) ∷ []) ∵
+      frame ! $ fsplit ! $ frame ! $ fsplit ! $ frame ! $ fsplit ! $ frame ! $ fsplit ! $ frame ! $ fsplit ! $ frame ! $ fsplit ! $ move ! (1 ∷ []) $ drop ! $ done !
 
   -- the call of `lay`: what it is passed, what it asks, and what is known of its result
   abbrev to-lay : Lay 𝓤 H A mem run .Ghost
-  to-lay = (((κ, tt), (q, tt), tt, (haves, tt), (v₃ ∷ [], tt)), tt)
+  to-lay = (((κ, tt), (q, tt), tt, (haves, tt), (v₄ ∷ [], tt)), tt)
 
-  lay-asked : ent 𝓤 (onEntry 𝓤 H A lay.signature (κ, tt) (q, tt) (haves, tt) (v₃ ∷ [], tt)) (Lay 𝓤 H A mem run .pre to-lay)
-  lay-asked = qed W (Token ∷ ‵ (owns (ShrSlice (named 0) κ R ∷ []) (haves, tt) (v₃ ∷ [], tt)) ∷ []) ∵ join ! $ frame ! $ done !
+  lay-asked : ent 𝓤 (onEntry 𝓤 H A lay.signature (κ, tt) (q, tt) (haves, tt) (v₄ ∷ [], tt)) (Lay 𝓤 H A mem run .pre to-lay)
+  lay-asked = qed W (Token ∷ ‵ (owns (ShrSlice (named 0) κ R ∷ []) (haves, tt) (v₄ ∷ [], tt)) ∷ []) ∵ join ! $ frame ! $ done !
 
   goes-lay : ent 𝓤 (⋆ 𝓤 H A (Token ∷ ‵ Haves ∷ [])) (sep 𝓤 (Lay 𝓤 H A mem run .pre to-lay) (sem 𝓤 H A Haves))
   goes-lay =
-      qed W (Token ∷ ‵ Haves ∷ []) ∵ move ! (1 ∷ []) $ use1 W (‵ Haves ⊛ ‵ Haves) (shr-slice-copy 𝓤 H A W (named 0) κ R .twice haves (v₃ ∷ [])) $ split ! $
+      qed W (Token ∷ ‵ Haves ∷ []) ∵ move ! (1 ∷ []) $ use1 W (‵ Haves ⊛ ‵ Haves) (shr-slice-copy 𝓤 H A W (named 0) κ R .twice haves (v₄ ∷ [])) $ split ! $
       -- [what haves owns, twice; the token]
       nothing ! $ move ! (1 ∷ 0 ∷ []) $ fjoin ! $ move ! (2 ∷ 0 ∷ []) $ use2 W (raw (Lay 𝓤 H A mem run .pre to-lay)) lay-asked $ frame ! $ done !
 
@@ -169,92 +178,95 @@ module _ {M : Type 1} (𝓤 : URA M) (H : Heap 𝓤) (A : Atoms 𝓤) (W : Given
   lay-said l = exE 𝓤 _ (λ ws. snd∗ 𝓤 (sem 𝓤 H A (lasts lay.ended (κ, tt) (haves, tt) ws)) (fact 𝓤 (Laid-all l)))
 
   -- the call of `laid_to_send`, at the value l with the machine value u
-  abbrev send-args : Laid → RefT (List ℕ) × (RefT (List ℕ) × (Laid × (RefT (List ℕ) × (RefT (List ℕ) × Unit {0}))))
-  send-args l = (table, (bytes, (l, (need, (out, tt)))))
+  abbrev send-args : Laid → RefT (List ℕ) × (RefT (List ℕ) × (RefT (List ℕ) × (Laid × (RefT (List ℕ) × (RefT (List ℕ) × Unit {0})))))
+  send-args l = (table, (index, (bytes, (l, (need, (out, tt))))))
 
   abbrev send-vals : Val → Vals send.signature (κ, tt)
-  send-vals u = (v₁ ∷ [], (v₂ ∷ [], (u ∷ [], (v₄ ∷ [], (v₅ ∷ [], tt)))))
+  send-vals u = (v₁ ∷ [], (v₂ ∷ [], (v₃ ∷ [], (u ∷ [], (v₅ ∷ [], (v₆ ∷ [], tt))))))
 
   abbrev to-send : Laid → Val → Send 𝓤 H A mem run .Ghost
   to-send l u = (((κ, tt), (q, tt), tt, send-args l, send-vals u), tt)
 
   send-asked : (l : Laid) (u : Val) → ent 𝓤 (onEntry 𝓤 H A send.signature (κ, tt) (q, tt) (send-args l) (send-vals u)) (Send 𝓤 H A mem run .pre (to-send l u))
   send-asked l u =
-      qed W (Token ∷ ‵ (owns (ShrSlice (named 0) κ u8 ∷ ShrSlice (named 0) κ u8 ∷ B ∷ ShrSlice (named 0) κ u8 ∷ MutSlice (named 0) κ u8 ∷ []) (send-args l) (send-vals u)) ∷ []) ∵
+      qed W (Token ∷ ‵ (owns (ShrSlice (named 0) κ u8 ∷ ShrSlice (named 0) κ u8 ∷ ShrSlice (named 0) κ u8 ∷ B ∷ ShrSlice (named 0) κ u8 ∷ MutSlice (named 0) κ u8 ∷ []) (send-args l) (send-vals u)) ∷ []) ∵
       join ! $ frame ! $ done !
 
   abbrev passed : Laid → Val → Item 𝓤
-  passed l u = ((((‵ Table ⊛ ‵ Bytes) ⊛ ‵ (B .own l (u ∷ []))) ⊛ ‵ Need) ⊛ ‵ Out) ⊛ Token
+  passed l u = (((((‵ Table ⊛ ‵ Index) ⊛ ‵ Bytes) ⊛ ‵ (B .own l (u ∷ []))) ⊛ ‵ Need) ⊛ ‵ Out) ⊛ Token
 
   goes-send : (l : Laid) (u : Val) → ent 𝓤 (⋆ 𝓤 H A (passed l u ∷ [])) (⋆ 𝓤 H A ((raw (Send 𝓤 H A mem run .pre (to-send l u)) ⊛ Kept) ∷ []))
   goes-send l u =
-      qed W (passed l u ∷ []) ∵ split ! $ split ! $ split ! $ split ! $ split ! $
-      -- [what table, bytes, l, need and out own; the token]
+      qed W (passed l u ∷ []) ∵ split ! $ split ! $ split ! $ split ! $ split ! $ split ! $
+      -- [what table, index, bytes, l, need and out own; the token]
       use1 W (‵ Table ⊛ ‵ Table) (shr-slice-copy 𝓤 H A W (named 0) κ u8 .twice table (v₁ ∷ [])) $ split ! $ move ! (2 ∷ []) $
-      use1 W (‵ Bytes ⊛ ‵ Bytes) (shr-slice-copy 𝓤 H A W (named 0) κ u8 .twice bytes (v₂ ∷ [])) $ split ! $ move ! (5 ∷ []) $
-      use1 W (‵ Need ⊛ ‵ Need) (shr-slice-copy 𝓤 H A W (named 0) κ u8 .twice need (v₄ ∷ [])) $ split ! $
-      -- [what need, bytes and table own, each twice; what l and out own; the token]
-      nothing ! $ move ! (8 ∷ 0 ∷ []) $ fjoin ! $ move ! (1 ∷ 0 ∷ []) $ fjoin ! $ move ! (6 ∷ 0 ∷ []) $ fjoin ! $ move ! (2 ∷ 0 ∷ []) $ fjoin ! $ move ! (3 ∷ 0 ∷ []) $ fjoin ! $
-      move ! (4 ∷ 0 ∷ []) $ use2 W (raw (Send 𝓤 H A mem run .pre (to-send l u))) (send-asked l u) $ move ! (0 ∷ 3 ∷ 2 ∷ []) $ frame ! $ frame ! $ frame ! $ done !
+      use1 W (‵ Index ⊛ ‵ Index) (shr-slice-copy 𝓤 H A W (named 0) κ u8 .twice index (v₂ ∷ [])) $ split ! $ move ! (4 ∷ []) $
+      use1 W (‵ Bytes ⊛ ‵ Bytes) (shr-slice-copy 𝓤 H A W (named 0) κ u8 .twice bytes (v₃ ∷ [])) $ split ! $ move ! (7 ∷ []) $
+      use1 W (‵ Need ⊛ ‵ Need) (shr-slice-copy 𝓤 H A W (named 0) κ u8 .twice need (v₅ ∷ [])) $ split ! $
+      -- [what need, bytes, index and table own, each twice; what l and out own; the token]
+      nothing ! $ move ! (10 ∷ 0 ∷ []) $ fjoin ! $ move ! (1 ∷ 0 ∷ []) $ fjoin ! $ move ! (8 ∷ 0 ∷ []) $ fjoin ! $ move ! (2 ∷ 0 ∷ []) $ fjoin ! $ move ! (3 ∷ 0 ∷ []) $ fjoin ! $
+      move ! (4 ∷ 0 ∷ []) $ fjoin ! $
+      move ! (5 ∷ 0 ∷ []) $ use2 W (raw (Send 𝓤 H A mem run .pre (to-send l u))) (send-asked l u) $ move ! (0 ∷ 4 ∷ 3 ∷ 2 ∷ []) $ frame ! $ frame ! $ frame ! $ frame ! $ done !
 
   -- what is known of its result, and of the buffer's last list
   abbrev Sent : Laid → List ℕ → Write → Type 0
-  Sent l zs r = Written (toSendOutput (now table) (now bytes) (usedWords l) (now need)) ys zs r
+  Sent l zs r = Written (toSendOutput (now table) (now index) (now bytes) (usedWords l) (now need)) ys zs r
 
   abbrev Lasts : Type 0
-  Lasts = Unit {0} × (Unit {0} × (Unit {0} × (Unit {0} × (List ℕ × Unit {0}))))
+  Lasts = Unit {0} × (Unit {0} × (Unit {0} × (Unit {0} × (Unit {0} × (List ℕ × Unit {0})))))
 
-  exits : (r : Write) (u : Val) (zs : List ℕ) → Written (toSendOutput (now table) (now bytes) (summaryWords (now haves)) (now need)) ys zs r → length zs ≡ length ys
+  exits : (r : Write) (u : Val) (zs : List ℕ) → Written (toSendOutput (now table) (now index) (now bytes) (summaryWords (now haves)) (now need)) ys zs r → length zs ≡ length ys
       → ent 𝓤 (⋆ 𝓤 H A (‵ (O.the-row .own r (u ∷ [])) ∷ Token ∷ ‵ (finally u8 γ zs) ∷ Kept ∷ ‵ Haves ∷ [])) (Post u)
   exits r u zs e l =
       qed W (‵ (O.the-row .own r (u ∷ [])) ∷ Token ∷ ‵ (finally u8 γ zs) ∷ Kept ∷ ‵ Haves ∷ []) ∵
-      suffices ! _ (ends-at 𝓤 H A sum.ended stayed (sum.clauses 𝓤 H A mem run) W (((κ, tt), (q, tt), tt, x, at), tt) u r (tt, (tt, (tt, (tt, (zs, tt))))) (tt, (tt, (tt, (tt, (l, tt)))))) $ says ! e $
-      move ! (1 ∷ []) $ frame ! $ nothing ! $ move ! (2 ∷ 0 ∷ []) $ fjoin ! $ move ! (2 ∷ []) $ split ! $ move ! (1 ∷ []) $ split ! $
-      -- [what bytes, need and table own; the last list; the result; what haves owns]
-      move ! (1 ∷ 3 ∷ []) $ fjoin ! $ move ! (4 ∷ 0 ∷ []) $ fjoin ! $ move ! (1 ∷ 0 ∷ []) $ fjoin ! $ move ! (1 ∷ 0 ∷ []) $ fjoin ! $ frame ! $ done !
+      suffices ! _ (ends-at 𝓤 H A sum.ended stayed (sum.clauses 𝓤 H A mem run) W (((κ, tt), (q, tt), tt, x, at), tt) u r (tt, (tt, (tt, (tt, (tt, (zs, tt)))))) (tt, (tt, (tt, (tt, (tt, (l, tt))))))) $ says ! e $
+      move ! (1 ∷ []) $ frame ! $ nothing ! $ move ! (2 ∷ 0 ∷ []) $ fjoin ! $ move ! (2 ∷ []) $ split ! $ move ! (1 ∷ []) $ split ! $ move ! (1 ∷ []) $ split ! $
+      -- [what bytes, need, index and table own; the last list; the result; what haves owns]
+      move ! (1 ∷ 4 ∷ []) $ fjoin ! $ move ! (5 ∷ 0 ∷ []) $ fjoin ! $ move ! (1 ∷ 0 ∷ []) $ fjoin ! $ move ! (1 ∷ 0 ∷ []) $ fjoin ! $ move ! (1 ∷ 0 ∷ []) $ fjoin ! $ frame ! $ done !
 
   module _ (C : Calls 𝓤 H) (Λ : Loops 𝓤 H) (fm : FmC 𝓤 H (W .laws) C) (known-lay : Triple 𝓤 (C #summaries·lay) (Lay 𝓤 H A mem run)) (known-send : Triple 𝓤 (C #summaries·laid-to-send) (Send 𝓤 H A mem run)) where
-    walk : Is (ShrSlice (named 0) κ u8) table (v₁ ∷ []) → Is (ShrSlice (named 0) κ u8) bytes (v₂ ∷ []) → Is (ShrSlice (named 0) κ R) haves (v₃ ∷ []) → Is (ShrSlice (named 0) κ u8) need (v₄ ∷ []) → Room u8 (length ys)
-        → ent 𝓤 (onEntry 𝓤 H A sum.signature (κ, tt) (q, tt) x at) (WpFn 𝓤 H C Λ code.function (v₁ ∷ v₂ ∷ v₃ ∷ v₄ ∷ v₅ ∷ []) Post)
-    walk p₁ p₂ p₃ p₄ room =
-        qed W (raw (onEntry 𝓤 H A sum.signature (κ, tt) (q, tt) x at) ∷ []) ∵ enter ! C Λ code.function (v₁ ∷ v₂ ∷ v₃ ∷ v₄ ∷ v₅ ∷ []) _ $
-        alloc1 ! (λ l₀. alloc1 ! (λ l₁. alloc1 ! (λ l₂. alloc1 ! (λ l₃. alloc1 ! (λ l₄. alloc1 ! (λ l₅. alloc1 ! (λ l₆. alloc1 ! (λ l₇. alloc1 ! (λ l₈. alloc0 ! $ params1 ! $
-        pass1 ! (init ! 14 refl (shr-slice-lawful 𝓤 H A W (named 0) κ u8 .typed table (v₁ ∷ []) p₁ .0)) $ pass1 ! (init ! 12 refl (shr-slice-lawful 𝓤 H A W (named 0) κ u8 .typed bytes (v₂ ∷ []) p₂ .0)) $
-        pass1 ! (init ! 10 refl (shr-slice-lawful 𝓤 H A W (named 0) κ R .typed haves (v₃ ∷ []) p₃ .0)) $ pass1 ! (init ! 8 refl (shr-slice-lawful 𝓤 H A W (named 0) κ u8 .typed need (v₄ ∷ []) p₄ .0)) $
+    walk : Is (ShrSlice (named 0) κ u8) table (v₁ ∷ []) → Is (ShrSlice (named 0) κ u8) index (v₂ ∷ []) → Is (ShrSlice (named 0) κ u8) bytes (v₃ ∷ []) → Is (ShrSlice (named 0) κ R) haves (v₄ ∷ []) → Is (ShrSlice (named 0) κ u8) need (v₅ ∷ []) → Room u8 (length ys)
+        → ent 𝓤 (onEntry 𝓤 H A sum.signature (κ, tt) (q, tt) x at) (WpFn 𝓤 H C Λ code.function (v₁ ∷ v₂ ∷ v₃ ∷ v₄ ∷ v₅ ∷ v₆ ∷ []) Post)
+    walk p₁ p₂ p₃ p₄ p₅ room =
+        qed W (raw (onEntry 𝓤 H A sum.signature (κ, tt) (q, tt) x at) ∷ []) ∵ enter ! C Λ code.function (v₁ ∷ v₂ ∷ v₃ ∷ v₄ ∷ v₅ ∷ v₆ ∷ []) _ $
+        alloc1 ! (λ l₀. alloc1 ! (λ l₁. alloc1 ! (λ l₂. alloc1 ! (λ l₃. alloc1 ! (λ l₄. alloc1 ! (λ l₅. alloc1 ! (λ l₆. alloc1 ! (λ l₇. alloc1 ! (λ l₈. alloc1 ! (λ l₉. alloc0 ! $ params1 ! $
+        pass1 ! (init ! 16 refl (shr-slice-lawful 𝓤 H A W (named 0) κ u8 .typed table (v₁ ∷ []) p₁ .0)) $ pass1 ! (init ! 14 refl (shr-slice-lawful 𝓤 H A W (named 0) κ u8 .typed index (v₂ ∷ []) p₂ .0)) $
+        pass1 ! (init ! 12 refl (shr-slice-lawful 𝓤 H A W (named 0) κ u8 .typed bytes (v₃ ∷ []) p₃ .0)) $
+        pass1 ! (init ! 10 refl (shr-slice-lawful 𝓤 H A W (named 0) κ R .typed haves (v₄ ∷ []) p₄ .0)) $ pass1 ! (init ! 8 refl (shr-slice-lawful 𝓤 H A W (named 0) κ u8 .typed need (v₅ ∷ []) p₅ .0)) $
         pass1 ! (init ! 6 refl (tt, (tt, (record { fits = room .0 }, tt)))) $ pass0 ! $
-        move ! (18 ∷ []) $ use1 W opened opens $ split ! $ move ! (1 ∷ []) $ split ! $ move ! (1 ∷ []) $ split ! $ move ! (1 ∷ []) $ split ! $ move ! (1 ∷ []) $ split ! $
-        -- [what need, out, haves, bytes and table own; the token; room for _8; …; room for _7; …; room for _6; …; _5; …; _4; …; _3; …; _2; …; _1; …; room for _0; …]
-        move ! (5 ∷ 2 ∷ []) $ use2 W (raw (Lay 𝓤 H A mem run .pre to-lay) ⊛ ‵ Haves) goes-lay $ split ! $
-        calls-at ! fm (Lay 𝓤 H A mem run) known-lay to-lay (and-then ! (load ! (from ! (stop !)) (look ! 16 refl)) (no-more !)) (λ u₁.
+        move ! (20 ∷ []) $ use1 W opened opens $ split ! $ move ! (1 ∷ []) $ split ! $ move ! (1 ∷ []) $ split ! $ move ! (1 ∷ []) $ split ! $ move ! (1 ∷ []) $ split ! $ move ! (1 ∷ []) $ split ! $
+        -- [what need, out, haves, bytes, index and table own; the token; room for _9; …; room for _8; …; room for _7; …; _6; …; _5; …; _4; …; _3; …; _2; …; _1; …; room for _0; …]
+        move ! (6 ∷ 2 ∷ []) $ use2 W (raw (Lay 𝓤 H A mem run .pre to-lay) ⊛ ‵ Haves) goes-lay $ split ! $
+        calls-at ! fm (Lay 𝓤 H A mem run) known-lay to-lay (and-then ! (load ! (from ! (stop !)) (look ! 17 refl)) (no-more !)) (λ u₁.
         use1 W (later (some (λ (l : Laid). (Token ⊛ ‵ (B .own l (u₁ ∷ []))) ⊛ raw (ensured 𝓤 H A lay.ended (lay.clauses 𝓤 H A mem run) (κ, tt) (haves, tt) tt l)))) (id⊢ 𝓤 _) $ await ! tt $ pick ! (λ l.
         split ! $ move ! (1 ∷ []) $ use1 W (raw (fact 𝓤 (Laid-all l))) (lay-said l) $ heard ! (Laid-all l) (λ e₁. split ! $ move ! (1 ∷ []) $
-        -- [what l owns; the token; what haves, need, out, bytes and table own; room for _8; …; room for _7; …; room for _6; …; _5; …; _4; …; _3; …; _2; …; _1; …; room for _0; …]
-        peeks ! B (Is B) (shows 𝓤 H A B) l (u₁ ∷ []) (λ is₁. land ! (from ! (stop !)) (init ! 11 refl (LL.lawful T.the-type T′.the-laws 𝓤 H A W .typed l _ is₁ .0)) $
-        assigns ! (addr ! (from ! (fld ! refl (hop ! (look-in ! 13 (sub ! 0 refl (whole !))) (stop !))))) (from ! (stop !)) (init ! 9 refl (tt, tt)) $
-        assigns ! (agg ! (and-then ! (load ! (from ! (stop !)) (look ! 9 refl)) (and-then ! (load ! (from ! (fld ! refl (stop !))) (look-in ! 13 (sub ! 1 refl (whole !)))) (no-more !)))) (from ! (stop !)) (init ! 7 refl (tt, (tt, (record { fits = room .0 }, tt)))) $
-        move ! (6 ∷ 5 ∷ 0 ∷ 3 ∷ 4 ∷ 1 ∷ []) $ join ! $ join ! $ join ! $ join ! $ join ! $ use1 W (raw (Send 𝓤 H A mem run .pre (to-send l u₁)) ⊛ Kept) (goes-send l u₁) $ split ! $
-        -- [what `laid_to_send` asks; what table, bytes and need own; what haves owns; _8; …; _7; …; _6; …; _5; …; _4; …; _3; …; _2; …; _1; …; room for _0; …]
+        -- [what l owns; the token; what haves, need, out, bytes, index and table own; room for _9; …; room for _8; …; room for _7; …; _6; …; _5; …; _4; …; _3; …; _2; …; _1; …; room for _0; …]
+        peeks ! B (Is B) (shows 𝓤 H A B) l (u₁ ∷ []) (λ is₁. land ! (from ! (stop !)) (init ! 12 refl (LL.lawful T.the-type T′.the-laws 𝓤 H A W .typed l _ is₁ .0)) $
+        assigns ! (addr ! (from ! (fld ! refl (hop ! (look-in ! 14 (sub ! 0 refl (whole !))) (stop !))))) (from ! (stop !)) (init ! 10 refl (tt, tt)) $
+        assigns ! (agg ! (and-then ! (load ! (from ! (stop !)) (look ! 10 refl)) (and-then ! (load ! (from ! (fld ! refl (stop !))) (look-in ! 14 (sub ! 1 refl (whole !)))) (no-more !)))) (from ! (stop !)) (init ! 8 refl (tt, (tt, (record { fits = room .0 }, tt)))) $
+        move ! (7 ∷ 6 ∷ 5 ∷ 0 ∷ 3 ∷ 4 ∷ 1 ∷ []) $ join ! $ join ! $ join ! $ join ! $ join ! $ join ! $ use1 W (raw (Send 𝓤 H A mem run .pre (to-send l u₁)) ⊛ Kept) (goes-send l u₁) $ split ! $
+        -- [what `laid_to_send` asks; what table, index, bytes and need own; what haves owns; _9; …; _8; …; _7; …; _6; …; _5; …; _4; …; _3; …; _2; …; _1; …; room for _0; …]
         calls-at ! fm (Send 𝓤 H A mem run) known-send (to-send l u₁)
-        (and-then ! (load ! (from ! (stop !)) (look ! 17 refl)) (and-then ! (load ! (from ! (stop !)) (look ! 15 refl)) (and-then ! (load ! (from ! (stop !)) (look ! 7 refl)) (and-then ! (load ! (from ! (stop !)) (look ! 11 refl)) (and-then ! (load ! (from ! (stop !)) (look ! 3 refl)) (no-more !)))))) (λ u₂.
+        (and-then ! (load ! (from ! (stop !)) (look ! 19 refl)) (and-then ! (load ! (from ! (stop !)) (look ! 17 refl)) (and-then ! (load ! (from ! (stop !)) (look ! 15 refl)) (and-then ! (load ! (from ! (stop !)) (look ! 7 refl)) (and-then ! (load ! (from ! (stop !)) (look ! 11 refl)) (and-then ! (load ! (from ! (stop !)) (look ! 3 refl)) (no-more !))))))) (λ u₂.
         use1 W (later (some (λ (r : Write). (Token ⊛ ‵ (O.the-row .own r (u₂ ∷ []))) ⊛ raw (ensured 𝓤 H A send.ended (send.clauses 𝓤 H A mem run) (κ, tt) (send-args l) tt r)))) (id⊢ 𝓤 _) $ await ! tt $ pick ! (λ r.
-        split ! $ move ! (1 ∷ []) $ use1 W (some (λ (zs : Lasts). ‵ (lasts send.ended (κ, tt) (send-args l) zs) ⊛ raw (fact 𝓤 (Sent l (zs .1 .1 .1 .1 .0) r)))) (id⊢ 𝓤 _) $ pick ! (λ zs.
-        split ! $ move ! (1 ∷ []) $ heard ! (Sent l (zs .1 .1 .1 .1 .0) r) (λ e₂.
-        fsplit ! $ drop ! $ fsplit ! $ drop ! $ fsplit ! $ drop ! $ fsplit ! $ drop ! $ fsplit ! $ move ! (1 ∷ []) $ drop ! $ fsplit ! $ move ! (1 ∷ []) $ feqL ! (λ same.
-        -- [the last list; the token and the result; what table, bytes and need own; what haves owns; _8; …]
+        split ! $ move ! (1 ∷ []) $ use1 W (some (λ (zs : Lasts). ‵ (lasts send.ended (κ, tt) (send-args l) zs) ⊛ raw (fact 𝓤 (Sent l (zs .1 .1 .1 .1 .1 .0) r)))) (id⊢ 𝓤 _) $ pick ! (λ zs.
+        split ! $ move ! (1 ∷ []) $ heard ! (Sent l (zs .1 .1 .1 .1 .1 .0) r) (λ e₂.
+        fsplit ! $ drop ! $ fsplit ! $ drop ! $ fsplit ! $ drop ! $ fsplit ! $ drop ! $ fsplit ! $ drop ! $ fsplit ! $ move ! (1 ∷ []) $ drop ! $ fsplit ! $ move ! (1 ∷ []) $ feqL ! (λ same.
+        -- [the last list; the token and the result; what table, index, bytes and need own; what haves owns; _9; …]
         move ! (1 ∷ []) $ split ! $ move ! (1 ∷ []) $ peeks ! O.the-row (Is O.the-row) (shows 𝓤 H A O.the-row) r (u₂ ∷ []) (λ is₂.
-        land ! (from ! (stop !)) (init ! 21 refl (EL.lawful O.the-type O′.the-laws 𝓤 H A W tt .typed r _ is₂ .0)) $
-        returns ! (look ! 21 refl) $ forget ! 5 refl $ forget ! 7 refl $ forget ! 9 refl $ forget ! 11 refl $ forget ! 13 refl $ forget ! 15 refl $ forget ! 17 refl $ forget ! 19 refl $ forget ! 21 refl $
-        move ! (21 ∷ 22 ∷ []) $ free1 ! $ move ! (19 ∷ 20 ∷ []) $ free1 ! $ move ! (17 ∷ 18 ∷ []) $ free1 ! $ move ! (15 ∷ 16 ∷ []) $ free1 ! $ move ! (13 ∷ 14 ∷ []) $ free1 ! $ move ! (11 ∷ 12 ∷ []) $ free1 ! $ move ! (9 ∷ 10 ∷ []) $ free1 ! $ move ! (7 ∷ 8 ∷ []) $ free1 ! $ move ! (5 ∷ 6 ∷ []) $ free1 ! $ free0 ! $
-        by ! (exits r u₂ (zs .1 .1 .1 .1 .0) (laid-written (now table) (now bytes) (now need) (now haves) l ys (zs .1 .1 .1 .1 .0) r e₁ e₂) same))))))))))))))))))))
+        land ! (from ! (stop !)) (init ! 23 refl (EL.lawful O.the-type O′.the-laws 𝓤 H A W tt .typed r _ is₂ .0)) $
+        returns ! (look ! 23 refl) $ forget ! 5 refl $ forget ! 7 refl $ forget ! 9 refl $ forget ! 11 refl $ forget ! 13 refl $ forget ! 15 refl $ forget ! 17 refl $ forget ! 19 refl $ forget ! 21 refl $ forget ! 23 refl $
+        move ! (23 ∷ 24 ∷ []) $ free1 ! $ move ! (21 ∷ 22 ∷ []) $ free1 ! $ move ! (19 ∷ 20 ∷ []) $ free1 ! $ move ! (17 ∷ 18 ∷ []) $ free1 ! $ move ! (15 ∷ 16 ∷ []) $ free1 ! $ move ! (13 ∷ 14 ∷ []) $ free1 ! $ move ! (11 ∷ 12 ∷ []) $ free1 ! $ move ! (9 ∷ 10 ∷ []) $ free1 ! $ move ! (7 ∷ 8 ∷ []) $ free1 ! $ move ! (5 ∷ 6 ∷ []) $ free1 ! $ free0 ! $
+        by ! (exits r u₂ (zs .1 .1 .1 .1 .1 .0) (laid-written (now table) (now index) (now bytes) (now need) (now haves) l ys (zs .1 .1 .1 .1 .1 .0) r e₁ e₂) same)))))))))))))))))))))
 
 module _ {M : Type 1} (𝓤 : URA M) (H : Heap 𝓤) (A : Atoms 𝓤) (W : Given 𝓤 H A) (mem : Memory → SProp 𝓤) (run : Routine → Fun 𝓤) where
   summaries-to-send-walks : (C : Calls 𝓤 H) (Λ : Loops 𝓤 H) → FmC 𝓤 H (W .laws) C → Triple 𝓤 (C #summaries·lay) (Lay 𝓤 H A mem run) → Triple 𝓤 (C #summaries·laid-to-send) (Send 𝓤 H A mem run)
       → Walks 𝓤 H A sum.ended stayed (WpFn 𝓤 H C Λ code.function) (sum.clauses 𝓤 H A mem run)
-  summaries-to-send-walks C Λ fm known-lay known-send = walked 𝓤 H A sum.ended stayed (sum.clauses 𝓤 H A mem run) (WpFn 𝓤 H C Λ code.function) (λ κs. (slice-vals, (slice-vals, (slice-vals, (slice-vals, (slice-vals, tt))))))
-      (λ κs. (shr-slice-tells (named 0) (κs .0) u8, (shr-slice-tells (named 0) (κs .0) u8, (shr-slice-tells (named 0) (κs .0) R, (shr-slice-tells (named 0) (κs .0) u8, (mut-slice-tells (named 0) (κs .0) u8, tt))))))
+  summaries-to-send-walks C Λ fm known-lay known-send = walked 𝓤 H A sum.ended stayed (sum.clauses 𝓤 H A mem run) (WpFn 𝓤 H C Λ code.function) (λ κs. (slice-vals, (slice-vals, (slice-vals, (slice-vals, (slice-vals, (slice-vals, tt)))))))
+      (λ κs. (shr-slice-tells (named 0) (κs .0) u8, (shr-slice-tells (named 0) (κs .0) u8, (shr-slice-tells (named 0) (κs .0) u8, (shr-slice-tells (named 0) (κs .0) R, (shr-slice-tells (named 0) (κs .0) u8, (mut-slice-tells (named 0) (κs .0) u8, tt)))))))
       (λ κs qs bounds a g are. via 𝓤 _ (fst∗ 𝓤 _ (emp 𝓤))
-      (walk 𝓤 H A W mem run (κs .0) (qs .0) (a .0) (a .1 .0) (a .1 .1 .1 .0) (a .1 .1 .0) (a .1 .1 .1 .1 .0 .ptr .0) (a .1 .1 .1 .1 .0 .ptr .1) (a .1 .1 .1 .1 .0 .name) (a .1 .1 .1 .1 .0 .now) C Λ fm known-lay known-send
-      (are .0) (are .1 .0) (are .1 .1 .0) (are .1 .1 .1 .0) (are .1 .1 .1 .1 .0 .0 .1)))
+      (walk 𝓤 H A W mem run (κs .0) (qs .0) (a .0) (a .1 .0) (a .1 .1 .0) (a .1 .1 .1 .1 .0) (a .1 .1 .1 .0) (a .1 .1 .1 .1 .1 .0 .ptr .0) (a .1 .1 .1 .1 .1 .0 .ptr .1) (a .1 .1 .1 .1 .1 .0 .name) (a .1 .1 .1 .1 .1 .0 .now) C Λ fm known-lay known-send
+      (are .0) (are .1 .0) (are .1 .1 .0) (are .1 .1 .1 .0) (are .1 .1 .1 .1 .0) (are .1 .1 .1 .1 .1 .0 .0 .1)))
 
 summaries-to-send-meets : {M : Type 1} (𝓤 : URA M) (H : Heap 𝓤) (A : Atoms 𝓤) (W : Given 𝓤 H A) (mem : Memory → SProp 𝓤) (run : Routine → Fun 𝓤) (𝓣 : Tables 𝓤 H)
     → Triple 𝓤 (𝓣 .C #summaries·lay) (Lay 𝓤 H A mem run) → Triple 𝓤 (𝓣 .C #summaries·laid-to-send) (Send 𝓤 H A mem run)
@@ -265,8 +277,11 @@ summaries-to-send-meets 𝓤 H A W mem run 𝓣 known-lay known-send =
       (
         goes-none-slice 𝓤 H A W 1 (0 ∷ []) tt (plain (λ _. u8)) yes,
         (
-          goes-none-slice 𝓤 H A W 1 (0 ∷ []) tt (plain (λ _. R)) yes,
-          (goes-none-slice 𝓤 H A W 1 (0 ∷ []) tt (plain (λ _. u8)) yes, (goes-gave-slice 𝓤 H A W 1 0 tt (plain (λ _. u8)), tt)),
+          goes-none-slice 𝓤 H A W 1 (0 ∷ []) tt (plain (λ _. u8)) yes,
+          (
+            goes-none-slice 𝓤 H A W 1 (0 ∷ []) tt (plain (λ _. R)) yes,
+            (goes-none-slice 𝓤 H A W 1 (0 ∷ []) tt (plain (λ _. u8)) yes, (goes-gave-slice 𝓤 H A W 1 0 tt (plain (λ _. u8)), tt)),
+          ),
         ),
       ),
     )
