@@ -1,9 +1,10 @@
 //! Hashes to send, for one have and for sixteen. The crate's own function can only be
-//! reached through a first message, and the library tests its table in each call;
-//! both are measured apart, as the rest.
+//! reached through a first message, and the library tests its table and index in each
+//! call; both are measured apart, as the rest.
 
 use crate::measure::{line, Line};
 use bisquetower::raw;
+use compare::inputs::index::index_of;
 use compare::inputs::selection::lend;
 use compare::inputs::table::{table_bytes, Likeness, Shape};
 use compare::inputs::Random;
@@ -38,6 +39,7 @@ pub fn measure_all() {
 /// last sync. The need is one row of those.
 struct Choice {
     table: Vec<u8>,
+    index: Vec<u8>,
     s: Vec<u8>,
     haves: Vec<u64>,
     need: Hash,
@@ -62,6 +64,7 @@ impl Choice {
         let need = hashes[rows / 2];
         let chosen = hashes_to_send(&document, &published, &[ChangeHash(need)]);
         let choice = Choice {
+            index: index_of(&table),
             table,
             s,
             haves,
@@ -85,8 +88,9 @@ impl Choice {
     }
 
     fn library(&self, out: &mut [u8]) -> u64 {
-        let (table, s) = (black_box(&self.table), black_box(&self.s));
-        let [first, written, ..] = raw::hashes_to_send(table, s, &self.haves, &self.need, out);
+        let (table, index) = (black_box(&self.table), black_box(&self.index));
+        let (s, haves) = (black_box(&self.s), &self.haves);
+        let [first, written, ..] = raw::hashes_to_send(table, index, s, haves, &self.need, out);
         assert_eq!(first, 0);
         written
     }
@@ -104,16 +108,19 @@ impl Choice {
             let chosen = hashes_to_send(&self.document, black_box(&self.published), &need);
             (HASH * black_box(chosen).len()) as u64
         };
-        let note = "library: tests table and haves too; crate: a whole first message";
+        let note = "library: tests table, index and haves too; crate: a whole first message";
         measure(name, size, note, library, published);
     }
 
     /// What is no choosing: the library's call without haves and needs, which tests
-    /// the table, and the crate's message for a peer who has said nothing but that it
+    /// the table and the index, and the crate's message for a peer who has said nothing but that it
     /// needs all that was chosen.
     fn rest(&self, name: &str, size: &str) {
         let mut out = [];
-        let library = || raw::hashes_to_send(black_box(&self.table), &[], &[], &[], &mut out)[0];
+        let library = || {
+            let (table, index) = (black_box(&self.table), black_box(&self.index));
+            raw::hashes_to_send(table, index, &[], &[], &[], &mut out)[0]
+        };
         let published = || {
             let sent = hashes_to_send(&self.document, &[], black_box(&self.chosen));
             u64::from(black_box(sent).is_empty())

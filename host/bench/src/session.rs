@@ -1,9 +1,11 @@
 //! Sessions: a first message planned, messages received, and whole catch-ups through
-//! bytes. The library tests its table in each call, and the crate loads what a message
-//! brings, which here is the host's to do; both are measured apart, as the rest.
+//! bytes. The library tests its table and index in each call, and the crate loads what a
+//! message brings, which here is the host's to do; both are measured apart, as the rest.
+//! The host's index is ready: what it takes to build and extend one stands with the tables.
 
 use crate::measure::{line_of, Line};
 use bisquetower::raw;
+use compare::inputs::index::index_of;
 use compare::inputs::table::{table_bytes, Likeness, Shape};
 use compare::inputs::Random;
 use compare::model::session::Value;
@@ -79,6 +81,20 @@ pub fn measure_all() {
     }
 }
 
+/// A table and its index, as a host keeps them.
+struct Indexed {
+    table: Vec<u8>,
+    index: Vec<u8>,
+}
+
+impl Indexed {
+    fn of(document: &Automerge) -> Indexed {
+        let table = table_of(document);
+        let index = index_of(&table);
+        Indexed { table, index }
+    }
+}
+
 /// A session and the buffers that a host keeps for it and for what it says, each as
 /// long as it may have to be.
 struct Desk {
@@ -104,7 +120,7 @@ impl Desk {
         }
     }
 
-    fn plan(&mut self, table: &[u8], waiting: &[u8]) -> [u64; 16] {
+    fn plan(&mut self, lent: &Indexed, waiting: &[u8]) -> [u64; 16] {
         let [shared, last_sent, their_heads, their_need, sent] = &mut self.hashes;
         let [heads, need, have, list] = &mut self.said;
         raw::plan(
@@ -116,7 +132,8 @@ impl Desk {
             &self.haves,
             &self.bytes,
             sent,
-            table,
+            &lent.table,
+            &lent.index,
             waiting,
             heads,
             need,
@@ -144,11 +161,11 @@ impl Desk {
         answer[1] as usize
     }
 
-    fn receive(&mut self, table: &[u8], before: usize, message: &[u8]) {
-        assert_eq!(self.hear(table, before, message), [0; 4]);
+    fn receive(&mut self, lent: &Indexed, before: usize, message: &[u8]) {
+        assert_eq!(self.hear(lent, before, message), [0; 4]);
     }
 
-    fn hear(&mut self, table: &[u8], before: usize, message: &[u8]) -> [u64; 4] {
+    fn hear(&mut self, lent: &Indexed, before: usize, message: &[u8]) -> [u64; 4] {
         let [shared, last_sent, their_heads, their_need, sent] = &mut self.hashes;
         raw::receive(
             &mut self.words,
@@ -159,7 +176,8 @@ impl Desk {
             &mut self.haves,
             &mut self.bytes,
             sent,
-            table,
+            &lent.table,
+            &lent.index,
             before,
             message,
             1,
@@ -171,23 +189,23 @@ impl Desk {
         self.words[0] + self.words[3]
     }
 
-    /// Tests a table and does nothing else, since a message of no bytes is refused; how
-    /// many rows it has.
-    fn test(&mut self, table: &[u8]) -> u64 {
-        assert_eq!(self.hear(table, 0, &[]), [1, 0, 0, 0]);
-        (table.len() / ROW) as u64
+    /// Tests a table and its index and does nothing else, since a message of no bytes is
+    /// refused; how many rows it has.
+    fn test(&mut self, lent: &Indexed) -> u64 {
+        assert_eq!(self.hear(lent, 0, &[]), [1, 0, 0, 0]);
+        (lent.table.len() / ROW) as u64
     }
 }
 
 /// A message: over what it is planned, what it brings and beside what it is heard.
 struct Step {
     from: usize,
-    table: Vec<u8>,
+    table: Indexed,
     waiting: Vec<u8>,
     chunks: Vec<u8>,
     lengths: Vec<u64>,
     before: usize,
-    after: Vec<u8>,
+    after: Indexed,
     message: Vec<u8>,
     /// The hearer's session before it.
     hearer: Value,
@@ -227,7 +245,7 @@ impl Talk {
     /// and haves are said.
     fn plan(&self, name: &str, size: &str) {
         let document = &self.documents[STATION];
-        let table = table_of(document);
+        let table = Indexed::of(document);
         let mut desk = Desk::fresh();
         let plan = desk.plan(&table, &[]);
         let length = desk.write(&plan, &[], &[]);
@@ -252,11 +270,11 @@ impl Talk {
     }
 
     fn rest_of_plan(&self, name: &str, size: &str) {
-        let table = table_of(&self.documents[STATION]);
+        let table = Indexed::of(&self.documents[STATION]);
         let rows = self.documents[STATION].rows().len() as u64;
         let mut desk = Desk::fresh();
         let library = || desk.test(black_box(&table));
-        let note = "library: the table tested; crate: nothing";
+        let note = "library: table and index tested; crate: nothing";
         measure(name, size, note, library, || rows, black_box);
     }
 
@@ -290,7 +308,7 @@ impl Talk {
             let theirs = state.their_heads.as_ref().map_or(0, Vec::len);
             (state.shared_heads.len() + theirs) as u64
         };
-        let note = "library: reads the bytes and tests the table; crate: reads and loads";
+        let note = "library: reads the bytes, tests table and index; crate: reads and loads";
         measure(name, size, note, library, given, published);
     }
 
@@ -310,7 +328,7 @@ impl Talk {
             black_box(&state);
             document.rows().len() as u64
         };
-        let note = "library: the table tested; crate: the changes loaded by the stand-in";
+        let note = "library: table and index tested; crate: the changes loaded by the stand-in";
         measure(name, size, note, library, given, published);
     }
 
@@ -338,7 +356,8 @@ impl Talk {
             }
             said
         };
-        let note = "library: change bytes ready, the host's loading left out; crate: loads too";
+        let note =
+            "library: change bytes and index ready, the host's loading left out; crate: loads too";
         measure(name, size, note, library, || self.units(), published);
     }
 
@@ -363,7 +382,7 @@ impl Talk {
             }
             units[VALIDATOR].0.rows().len() as u64
         };
-        let note = "library: the tables tested; crate: the changes loaded by the stand-in";
+        let note = "library: tables and indexes tested; crate: the changes loaded by the stand-in";
         measure(name, size, note, library, || self.units(), published);
     }
 }
@@ -376,7 +395,7 @@ fn step(pair: &mut Pair, from: usize) -> Step {
     let chunks = Message::decode(&message).expect("a good message").changes;
     let lengths = chunks.iter().map(|chunk| chunk.len() as u64).collect();
     let speaker = pair.units[from].document();
-    let (table, waiting) = (table_of(speaker), waiting_of(speaker));
+    let (table, waiting) = (Indexed::of(speaker), waiting_of(speaker));
     pair.hear(1 - from, &message);
     Step {
         from,
@@ -385,7 +404,7 @@ fn step(pair: &mut Pair, from: usize) -> Step {
         chunks: chunks.iter().flatten().copied().collect(),
         lengths,
         before,
-        after: table_of(pair.units[1 - from].document()),
+        after: Indexed::of(pair.units[1 - from].document()),
         message,
         hearer,
     }

@@ -44,6 +44,7 @@ mod flags;
 mod hash;
 mod have;
 mod host;
+mod index;
 mod memory;
 pub mod message;
 pub mod raw;

@@ -5,7 +5,7 @@ use std::fmt;
 /// Why a call refused: 01's number, and the value that goes with it.
 #[derive(Clone, Copy, Debug, PartialEq, Eq)]
 pub struct Refusal {
-    /// 1 to 11.
+    /// 1 to 12.
     pub number: u64,
     /// A place, a row, a byte, a length or 0, by the number.
     pub value: u64,
@@ -67,6 +67,7 @@ impl Refusal {
             9 => format!("row {value} is the first bad row of the waiting table"),
             10 => "the session is bad, or a filter passed as numbers is".to_string(),
             11 => "more rows before loading are named than there are rows".to_string(),
+            12 => "the index doesn't fit the change table".to_string(),
             number => format!("no refusal has the number {number} (its value: {value})"),
         }
     }
@@ -102,19 +103,23 @@ mod tests {
         assert_eq!(answer(words), Err(refusal));
     }
 
-    /// Refusals 8, 10 and 11 have the value 0 always, so theirs don't show it.
+    /// Refusals 8 and 10 to 12 have the value 0 always, so theirs don't show it.
     #[test]
     fn each_sentence_is_its_own_and_shows_its_value() {
-        let sentences: Vec<String> = (1..=11).map(|number| sentence(number, 66)).collect();
+        let sentences: Vec<String> = (1..=12).map(|number| sentence(number, 66)).collect();
         for (k, one) in sentences.iter().enumerate() {
             let number = k + 1;
             let shown = if number == 2 { "42" } else { "66" };
-            assert_eq!(one.contains(shown), ![8, 10, 11].contains(&number), "{one}");
+            assert_eq!(
+                one.contains(shown),
+                ![8, 10, 11, 12].contains(&number),
+                "{one}"
+            );
             assert!(!sentences[..k].contains(one), "{one}");
         }
         assert_eq!(
-            sentence(12, 0),
-            "no refusal has the number 12 (its value: 0)"
+            sentence(13, 0),
+            "no refusal has the number 13 (its value: 0)"
         );
     }
 }

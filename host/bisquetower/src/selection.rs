@@ -30,7 +30,7 @@ pub fn hashes_to_send(
     let need = bytes_of(need);
     let room = HASH * table.rows() + need.len();
     let list = room::written(room, |out| {
-        raw::hashes_to_send(table.as_bytes(), &bytes, &haves, &need, out)
+        raw::hashes_to_send(table.as_bytes(), table.index(), &bytes, &haves, &need, out)
     });
     list.map(|bytes| hashes_in(&bytes))
 }

@@ -9,6 +9,7 @@ pub use parts::SessionParts;
 
 use crate::hash::{hashes_in, ChangeHash, HASH};
 use crate::have::{haves_in, Have};
+use crate::index::Index;
 use crate::message::HAVE_WORDS;
 use crate::refusal::Refusal;
 use crate::{raw, saved, SavedState};
@@ -64,11 +65,21 @@ const NEEDS_RESET: usize = 15;
 /// # Ok::<(), Box<dyn std::error::Error>>(())
 /// ```
 #[doc(alias = "State")]
-#[derive(Clone, Debug, PartialEq, Eq)]
+#[derive(Clone, Debug)]
 pub struct Session {
     words: [u64; WORDS],
     lists: Lists,
+    /// That of the table which was lent last: no part of what the session knows.
+    index: Index,
 }
+
+impl PartialEq for Session {
+    fn eq(&self, other: &Session) -> bool {
+        (self.words, &self.lists) == (other.words, &other.lists)
+    }
+}
+
+impl Eq for Session {}
 
 /// The lists of a session, each as long as its words say: hashes one after the other,
 /// and haves as words over bytes.
@@ -103,9 +114,14 @@ impl Session {
     fn fresh(write: fn(&mut [u64; WORDS])) -> Session {
         let mut words = [raw::UNWRITTEN; WORDS];
         write(&mut words);
+        Session::of(words, Lists::default())
+    }
+
+    fn of(words: [u64; WORDS], lists: Lists) -> Session {
         Session {
             words,
-            lists: Lists::default(),
+            lists,
+            index: Index::default(),
         }
     }
 
@@ -116,7 +132,7 @@ impl Session {
             shared,
             ..Lists::default()
         };
-        Ok(Session { words, lists })
+        Ok(Session::of(words, lists))
     }
 
     /// The bytes of its saved state.

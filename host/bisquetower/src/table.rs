@@ -1,6 +1,7 @@
 //! Change tables and waiting tables.
 
 use crate::hash::{bytes_of, hashes_in, ChangeHash, HASH};
+use crate::index::Index;
 use crate::refusal::{answer, Refusal};
 use crate::{raw, room};
 use std::collections::HashMap;
@@ -31,7 +32,11 @@ const DEPENDENCIES: usize = 15;
 /// # Ok::<(), bisquetower::Refusal>(())
 /// ```
 #[derive(Clone, Debug, Default, PartialEq, Eq)]
-pub struct Table(Vec<u8>);
+pub struct Table {
+    bytes: Vec<u8>,
+    /// Always that of these rows.
+    index: Index,
+}
 
 impl Table {
     /// Bytes of a row.
@@ -40,8 +45,8 @@ impl Table {
     /// The table of records, if it is good.
     pub fn new(bytes: impl Into<Vec<u8>>) -> Result<Table, Refusal> {
         let bytes = bytes.into();
-        answer(raw::check_table(&bytes))?;
-        Ok(Table(bytes))
+        let index = Index::of(&bytes)?;
+        Ok(Table { bytes, index })
     }
 
     /// The table of changes and their dependencies, if it is good: every dependency is
@@ -64,19 +69,62 @@ impl Table {
         rows.bytes
     }
 
+    /// Adds a change behind the others, if the table is good with it; if not, it stays as
+    /// it was.
+    ///
+    /// ```
+    /// use bisquetower::{ChangeHash, Table};
+    ///
+    /// let [a, b, c] = [b'a', b'b', b'c'].map(|name| ChangeHash([name; 32]));
+    /// let mut table = Table::from_changes([(b, vec![])])?;
+    /// table.push(a, &[b])?;
+    /// assert_eq!(table, Table::from_changes([(b, vec![]), (a, vec![b])])?);
+    /// assert_eq!(table.push(a, &[]).unwrap_err().number, 6);
+    /// assert_eq!(table.push(c, &[c]).unwrap_err().number, 6);
+    /// assert_eq!(table.rows(), 2);
+    /// # Ok::<(), bisquetower::Refusal>(())
+    /// ```
+    pub fn push(&mut self, hash: ChangeHash, dependencies: &[ChangeHash]) -> Result<(), Refusal> {
+        let before = self.bytes.len();
+        let row = record(hash, dependencies, self.rows(), |one| self.find(one));
+        self.bytes.extend(row);
+        match self.index.extended(&self.bytes) {
+            Ok(index) => {
+                self.index = index;
+                Ok(())
+            }
+            Err(refusal) => {
+                self.bytes.truncate(before);
+                Err(refusal)
+            }
+        }
+    }
+
+    /// The row of a hash.
+    fn find(&self, hash: &ChangeHash) -> Option<usize> {
+        let rows: Vec<usize> = self.index.rows().collect();
+        let place = rows.binary_search_by_key(hash, |&row| self.hash(row));
+        place.ok().map(|place| rows[place])
+    }
+
     /// How many rows it has.
     pub fn rows(&self) -> usize {
-        self.0.len() / Table::ROW
+        self.bytes.len() / Table::ROW
     }
 
     /// Its records.
     pub fn as_bytes(&self) -> &[u8] {
-        &self.0
+        &self.bytes
+    }
+
+    /// What is lent beside its records.
+    pub(crate) fn index(&self) -> &[u8] {
+        self.index.as_bytes()
     }
 
     /// The hash of a row. Panics if there is no such row, here and below.
     pub fn hash(&self, row: usize) -> ChangeHash {
-        let record = &self.0[Table::ROW * row..][..HASH];
+        let record = &self.bytes[Table::ROW * row..][..HASH];
         ChangeHash(record.try_into().expect("so long"))
     }
 
@@ -87,7 +135,7 @@ impl Table {
 
     /// The rows that a row depends on, ascending.
     pub fn dependencies(&self, row: usize) -> Vec<usize> {
-        let numbers = self.0[Table::ROW * row + HASH..][..Table::ROW - HASH].chunks_exact(2);
+        let numbers = self.bytes[Table::ROW * row + HASH..][..Table::ROW - HASH].chunks_exact(2);
         let mut numbers = numbers.map(|two| u16::from_le_bytes([two[0], two[1]]).into());
         let count = numbers.next().unwrap_or_default();
         numbers.take(count).collect()
@@ -96,7 +144,9 @@ impl Table {
     /// The rows that no row depends on, ascending.
     pub fn heads(&self) -> Vec<ChangeHash> {
         let rows = self.rows();
-        let heads = room::written(HASH * rows, |out| raw::heads(&self.0, rows, out));
+        let heads = room::written(HASH * rows, |out| {
+            raw::heads(&self.bytes, self.index(), rows, out)
+        });
         hashes_in(&heads.expect("a good table has heads"))
     }
 
@@ -105,7 +155,10 @@ impl Table {
     pub fn beyond(&self, hashes: &[ChangeHash]) -> Result<Vec<ChangeHash>, Refusal> {
         let lent = bytes_of(hashes);
         let room = HASH * self.rows();
-        room::written(room, |out| raw::beyond(&self.0, &lent, out)).map(|b| hashes_in(&b))
+        let beyond = room::written(room, |out| {
+            raw::beyond(&self.bytes, self.index(), &lent, out)
+        });
+        beyond.map(|bytes| hashes_in(&bytes))
     }
 
     /// What is missing of these hashes and of all that waiting changes ask for them,
@@ -117,7 +170,7 @@ impl Table {
     ) -> Result<Vec<ChangeHash>, Refusal> {
         let lent = bytes_of(hashes);
         let missing = room::written(lent.len(), |out| {
-            raw::missing(&self.0, &waiting.0, &lent, out)
+            raw::missing(&self.bytes, self.index(), &waiting.0, &lent, out)
         });
         missing.map(|bytes| hashes_in(&bytes))
     }
@@ -138,7 +191,7 @@ impl Waiting {
     /// The table of records beside a change table, if it is good.
     pub fn new(bytes: impl Into<Vec<u8>>, table: &Table) -> Result<Waiting, Refusal> {
         let bytes = bytes.into();
-        answer(raw::check_tables(&table.0, &bytes))?;
+        answer(raw::check_tables(&table.bytes, table.index(), &bytes))?;
         Ok(Waiting(bytes))
     }
 
@@ -197,19 +250,8 @@ pub(crate) struct Rows {
 impl Rows {
     pub(crate) fn push(&mut self, hash: ChangeHash, dependencies: &[ChangeHash]) {
         let own = self.bytes.len() / Table::ROW;
-        // A row that depends on itself is bad, as one on what isn't there has to be.
-        let number = |dependency| self.numbers.get(dependency).copied().unwrap_or(own);
-        let mut numbers: Vec<usize> = dependencies.iter().map(number).collect();
-        numbers.sort_unstable();
-        numbers.dedup();
-        let mut fields = [0; 1 + DEPENDENCIES];
-        let all = std::iter::once(numbers.len()).chain(numbers);
-        for (field, number) in fields.iter_mut().zip(all) {
-            *field = u16::try_from(number).unwrap_or(u16::MAX);
-        }
-        self.bytes.extend(hash.0);
-        self.bytes
-            .extend(fields.iter().flat_map(|n| n.to_le_bytes()));
+        let row = record(hash, dependencies, own, |one| self.find(one));
+        self.bytes.extend(row);
         self.numbers.entry(hash).or_insert(own);
     }
 
@@ -217,4 +259,25 @@ impl Rows {
     pub(crate) fn find(&self, hash: &ChangeHash) -> Option<usize> {
         self.numbers.get(hash).copied()
     }
+}
+
+/// The record of a change that is to be this row.
+fn record(
+    hash: ChangeHash,
+    dependencies: &[ChangeHash],
+    own: usize,
+    find: impl Fn(&ChangeHash) -> Option<usize>,
+) -> Vec<u8> {
+    // A row that depends on itself is bad, as one on what isn't there has to be.
+    let number = |dependency| find(dependency).unwrap_or(own);
+    let mut numbers: Vec<usize> = dependencies.iter().map(number).collect();
+    numbers.sort_unstable();
+    numbers.dedup();
+    let mut fields = [0; 1 + DEPENDENCIES];
+    let all = std::iter::once(numbers.len()).chain(numbers);
+    for (field, number) in fields.iter_mut().zip(all) {
+        *field = u16::try_from(number).unwrap_or(u16::MAX);
+    }
+    let fields = fields.iter().flat_map(|n| n.to_le_bytes());
+    hash.0.into_iter().chain(fields).collect()
 }

@@ -1,4 +1,4 @@
-//! The C header: what it declares, and a program in C that reads messages with it.
+//! The C header: what it declares, and programs in C that read messages and tables with it.
 
 #[path = "../build/exported.rs"]
 #[allow(dead_code)]
@@ -8,7 +8,7 @@ mod header;
 #[path = "../build/kit.rs"]
 mod kit;
 
-use bisquetower::raw;
+use bisquetower::{raw, ChangeHash, Table};
 use std::fs;
 use std::io::Write;
 use std::path::{Path, PathBuf};
@@ -53,12 +53,12 @@ void bt_all(
     assert!(text.contains(declared), "{text}");
 }
 
-/// Builds tests/c/read_message.c with the header and the archive, for x86-64.
-fn program() -> PathBuf {
-    let folder = Path::new(env!("CARGO_TARGET_TMPDIR")).join("c");
+/// Builds a program of tests/c with the header and the archive, for x86-64.
+fn program(name: &str) -> PathBuf {
+    let folder = Path::new(env!("CARGO_TARGET_TMPDIR")).join(name);
     fs::create_dir_all(&folder).unwrap();
     fs::write(folder.join("bisquetower.h"), raw::HEADER).unwrap();
-    let (c, program) = (here().join("tests/c"), folder.join("read_message"));
+    let (c, program) = (here().join("tests/c"), folder.join(name));
     let tools = kit::tools().expect("the kit that proved the library");
     let built = Command::new(tools.join("clang"))
         .args(["--target=x86_64-unknown-linux-gnu", "-fuse-ld=lld"])
@@ -73,7 +73,7 @@ fn program() -> PathBuf {
         .args(["-ffreestanding", "-fno-builtin", "-fno-stack-protector"])
         .args(["-nostdlib", "-static", "-I"])
         .args([&folder, Path::new("-I"), &c.join("alone")])
-        .args([c.join("read_message.c"), c.join("alone/start.c")])
+        .args([c.join(format!("{name}.c")), c.join("alone/start.c")])
         .arg(here().join("../../target/staticlib/libsync.a"))
         .arg("-o")
         .arg(&program)
@@ -84,8 +84,8 @@ fn program() -> PathBuf {
     program
 }
 
-/// What the program says of a message.
-fn read(program: &Path, message: &[u8]) -> Output {
+/// What the program says of its input.
+fn read(program: &Path, input: &[u8]) -> Output {
     let mut command = match cfg!(target_arch = "x86_64") {
         true => Command::new(program),
         false => {
@@ -101,19 +101,22 @@ fn read(program: &Path, message: &[u8]) -> Output {
         .spawn()
         .expect("it starts");
     let mut stdin = child.stdin.take().expect("a pipe");
-    stdin.write_all(message).expect("it reads");
+    stdin.write_all(input).expect("it reads");
     drop(stdin);
     child.wait_with_output().expect("it ends")
 }
 
+/// The status with which the program ends, and its line.
+fn says(program: &Path, input: &[u8], status: i32, line: &str) {
+    let left = read(program, input);
+    assert_eq!(String::from_utf8_lossy(&left.stdout), format!("{line}\n"));
+    assert_eq!(left.status.code(), Some(status));
+}
+
 #[test]
 fn a_program_in_c_reads_messages() {
-    let program = program();
-    let said = |message: &[u8], status: i32, line: &str| {
-        let left = read(&program, message);
-        assert_eq!(String::from_utf8_lossy(&left.stdout), format!("{line}\n"));
-        assert_eq!(left.status.code(), Some(status));
-    };
+    let program = program("read_message");
+    let said = |message: &[u8], status, line: &str| says(&program, message, status, line);
     let all = "version 2, heads 0, need 0, haves 1, chunks 1, flags 4";
     said(b"\x43\0\0\x01\0\0\x01\x04sync\x02\x02\x84", 0, all);
     let none = "version 1, heads 0, need 0, haves 0, chunks 0, flags 256";
@@ -122,4 +125,18 @@ fn a_program_in_c_reads_messages() {
     said(b"\x41", 1, "refusal 2, value 65");
     said(b"", 1, "refusal 1, value 0");
     said(&vec![0x42; 4_194_305], 1, "refusal 4, value 0");
+}
+
+/// It builds the table's index and lends it.
+#[test]
+fn a_program_in_c_reads_tables() {
+    let program = program("read_table");
+    let said = |table: &[u8], status, line: &str| says(&program, table, status, line);
+    let [a, b, c] = [b'a', b'b', b'c'].map(|name| ChangeHash([name; 32]));
+    let table = Table::lay([(c, vec![]), (a, vec![c]), (b, vec![c])]);
+    said(&table, 0, "rows 3, heads 2");
+    said(&table[..64], 0, "rows 1, heads 1");
+    said(b"", 0, "rows 0, heads 0");
+    said(&table[..65], 1, "refusal 6, value 1");
+    said(&vec![0; 65_537], 1, "refusal 4, value 0");
 }

@@ -251,6 +251,46 @@ fn a_document_past_its_limit_is_refused() {
     assert_eq!(session, before);
 }
 
+/// A session goes on over a document that isn't the one it spoke of last: as many changes,
+/// one more, or fewer, and never what it would have said of the old one.
+#[test]
+fn a_session_over_another_document() {
+    let other = |changes: u32| {
+        let mut memory = Memory::new();
+        for n in 0..changes {
+            let mut next = change(n);
+            next.hash = hash(10_000 - n);
+            next.dependencies.clear();
+            memory.add(next).unwrap();
+        }
+        memory
+    };
+    let mut session = Session::new();
+    for host in [
+        chain(30),
+        other(30),
+        chain(31),
+        chain(32),
+        other(20),
+        chain(0),
+        other(1),
+    ] {
+        let mut anew = Session::from_parts(&session.parts()).unwrap();
+        let said = session.generate(&host).unwrap();
+        assert_eq!(said, anew.generate(&host).unwrap());
+        assert_eq!(session, anew);
+        let mut heads: Vec<ChangeHash> = host.changes().iter().map(|one| one.hash).collect();
+        heads.retain(|one| {
+            !host
+                .changes()
+                .iter()
+                .any(|on| on.dependencies.contains(one))
+        });
+        heads.sort();
+        assert_eq!(said.map(|said| said.heads), Some(heads));
+    }
+}
+
 #[test]
 fn memory_refuses_what_it_cant_keep() {
     let mut memory = chain(2);

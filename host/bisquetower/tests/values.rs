@@ -155,6 +155,36 @@ fn a_table_of_the_most_rows() {
     assert_eq!(Table::new(&table.as_bytes()[..63]), Err(refusal(6, 0)));
 }
 
+/// A table that grows is the one that is made at once, with all that is found in it.
+#[test]
+fn a_table_grows_row_by_row() {
+    let on = |row: usize| match row {
+        0 => vec![],
+        _ => vec![hash(row - 1), hash(row / 2)],
+    };
+    let mut table = Table::default();
+    for row in 0..1_024 {
+        table.push(hash(row), &on(row)).unwrap();
+        if row % 128 == 127 {
+            let rows = (0..=row).map(|row| (hash(row), on(row)));
+            assert_eq!(Table::from_changes(rows), Ok(table.clone()));
+            assert_eq!(table.heads(), [hash(row)]);
+        }
+    }
+    let full = table.clone();
+    assert_eq!(table.push(hash(1_024), &[]), Err(refusal(4, 0)));
+    let mut short = Table::from_changes([(hash(0), vec![])]).unwrap();
+    for (change, on) in [
+        (hash(0), vec![]),
+        (hash(1), vec![hash(1)]),
+        (hash(1), vec![hash(2)]),
+    ] {
+        assert_eq!(short.push(change, &on), Err(refusal(6, 1)));
+    }
+    assert_eq!(short.push(hash(1), &hashes(16)), Err(refusal(6, 1)));
+    assert_eq!((short.rows(), table), (1, full));
+}
+
 #[test]
 fn bad_rows_are_told() {
     let fifteen: Vec<_> = (0..15).map(|n| (hash(n), vec![])).collect();

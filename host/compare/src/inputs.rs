@@ -2,6 +2,7 @@
 //! random items, damaged.
 
 pub mod filter;
+pub mod index;
 pub mod message;
 pub mod selection;
 pub mod session;

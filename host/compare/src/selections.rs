@@ -3,8 +3,9 @@
 //! over the stand-in document, whose graph rests on document 01.
 
 use crate::guarded::{Fill, Guarded, FILLS};
+use crate::inputs::index::{index_of, Beside};
 use crate::inputs::selection::{lend, Case};
-use crate::inputs::Random;
+use crate::inputs::{shown, Random};
 use crate::model::selection::hashes_to_send;
 use crate::model::table::{Hash, HASH};
 use crate::model::{self, Refused};
@@ -70,7 +71,8 @@ pub fn compare_model(cases: &[Case], random: &mut Random) -> Result<Tally, Strin
     let mut tally = Tally::default();
     for case in cases {
         let (s, records) = lend(&case.haves, random);
-        let chosen = hashes_to_send(&case.table, &s, &records, &case.need.concat());
+        let index = index_of(&case.table);
+        let chosen = hashes_to_send(&case.table, &index, &s, &records, &case.need.concat());
         let crates = published(case);
         if chosen.as_ref() != Ok(&crates) {
             return Err(format!("{case:?}: {chosen:?} isn't the crate's {crates:?}"));
@@ -84,6 +86,7 @@ pub fn compare_model(cases: &[Case], random: &mut Random) -> Result<Tally, Strin
 #[derive(Clone, Copy)]
 pub struct Selection<'a> {
     pub table: &'a [u8],
+    pub index: Beside<'a>,
     pub s: &'a [u8],
     pub haves: &'a [u64],
     pub need: &'a [u8],
@@ -91,24 +94,29 @@ pub struct Selection<'a> {
 
 impl Selection<'_> {
     fn model(&self) -> Result<Vec<Hash>, Refused> {
-        hashes_to_send(self.table, self.s, self.haves, self.need)
+        let index = self.index.of(self.table);
+        hashes_to_send(self.table, &index, self.s, self.haves, self.need)
     }
 
     fn shown(&self) -> String {
         let Selection {
             table,
+            index,
             s,
             haves,
             need,
         } = self;
+        let index = shown(&index.of(table));
         let [table, s, need] = [table, s, need].map(|bytes| bytes.len());
-        format!("a table of {table} bytes, haves {haves:?} over {s}, a need of {need}")
+        let lent = format!("a table of {table} bytes, index {index}");
+        format!("{lent}, haves {haves:?} over {s}, a need of {need}")
     }
 }
 
 /// A selection with one buffer.
 struct Asked<'a> {
     selection: Selection<'a>,
+    index: Vec<u8>,
     expected: [u64; 4],
     answer: [u64; 4],
     out: Guarded<u8>,
@@ -125,6 +133,7 @@ impl<'a> Asked<'a> {
         let wanted = chosen.as_ref().map(|hashes| hashes.concat());
         Asked {
             selection,
+            index: selection.index.of(selection.table),
             expected: model::write(out.expected(), wanted.map_err(|&refused| refused)),
             answer: [raw::UNWRITTEN; 4],
             out,
@@ -137,8 +146,10 @@ impl<'a> Asked<'a> {
             s,
             haves,
             need,
+            ..
         } = self.selection;
-        batch.hashes_to_send(table, s, haves, need, self.out.lent(), &mut self.answer);
+        let (out, answer) = (self.out.lent(), &mut self.answer);
+        batch.hashes_to_send(table, &self.index, s, haves, need, out, answer);
     }
 
     fn agrees(&self) -> Result<(), String> {
@@ -195,6 +206,7 @@ pub fn compare_cases(cases: &[Case], random: &mut Random) -> Result<(Tally, Vec<
     for (case, (s, haves, need)) in cases.iter().zip(&lent) {
         let selection = Selection {
             table: &case.table,
+            index: Beside::Own,
             s,
             haves,
             need,

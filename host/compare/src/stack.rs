@@ -1,6 +1,7 @@
 //! How much stack each exported call takes: inputs that lead it as deep as it goes,
 //! and what docs/ABI.md promises.
 
+use crate::inputs::index::index_of;
 use crate::inputs::message::{filter_string, Draft};
 use crate::inputs::table::{table_bytes, waiting_bytes, Likeness, Shape, WaitingRow};
 use crate::inputs::Random;
@@ -9,6 +10,7 @@ use crate::model::message::CHUNKS;
 use crate::model::table::{Hash, DEPENDENCIES, HASH, HASHES, ROWS, WAITING_ROWS};
 use crate::sessions::lent::Lent;
 use crate::sessions::library::{plan, receive, Planning, Receiving};
+use crate::tables::but_the_last;
 use bisquetower::message::{View, CHUNK_WORDS, HAVES, HAVE_WORDS};
 use bisquetower::raw;
 use std::collections::BTreeMap;
@@ -145,41 +147,56 @@ fn tables(random: &mut Random) -> Vec<Deep> {
         let hashes: Vec<Hash> = rows.iter().map(|row| row.hash).collect();
         let own = random.hashes(WAITING_ROWS, Likeness::Spread);
         let waiting = waiting_bytes(&random.waiting_rows(&own, &own));
-        let [first, second, third, fourth] = [(); 4].map(|()| table_bytes(&rows));
+        let lent = || {
+            let table = table_bytes(&rows);
+            let index = index_of(&table);
+            (table, index)
+        };
+        let [first, second, third, fourth, fifth, sixth] = [(); 6].map(|()| lent());
         let list = hashes.concat();
         deep_calls.extend([
-            deep("bt_check_table", move || raw::check_table(&first)),
+            deep("bt_check_table", move || raw::check_table(&first.0)),
             deep("bt_check_tables", move || {
-                raw::check_tables(&second, &waiting)
+                raw::check_tables(&second.0, &second.1, &waiting)
             }),
             deep("bt_heads", move || {
-                raw::heads(&third, ROWS, &mut vec![0; HASH * ROWS])
+                raw::heads(&third.0, &third.1, ROWS, &mut vec![0; HASH * ROWS])
             }),
             deep("bt_beyond", move || {
-                raw::beyond(&fourth, &list, &mut vec![0; HASH * ROWS])
+                raw::beyond(&fourth.0, &fourth.1, &list, &mut vec![0; HASH * ROWS])
+            }),
+            deep("bt_build_index", move || {
+                raw::build_index(&fifth.0, &mut vec![0; 2 * ROWS])
+            }),
+            deep("bt_extend_index", move || {
+                let before = index_of(but_the_last(&sixth.0));
+                raw::extend_index(&sixth.0, &before, &mut vec![0; 2 * ROWS])
             }),
         ]);
-        let table = table_bytes(&rows);
+        let (table, index) = lent();
         let field = random.bytes(8_192);
         let s = [field, hashes.concat()].concat();
         let haves = [8_192, 1, 65_536, 1, 64, 0, 8_192].repeat(HAVES);
         let need = hashes.concat();
         deep_calls.push(deep("bt_hashes_to_send", move || {
-            raw::hashes_to_send(&table, &s, &haves, &need, &mut vec![0; 2 * HASH * ROWS])
+            let out = &mut vec![0; 2 * HASH * ROWS];
+            raw::hashes_to_send(&table, &index, &s, &haves, &need, out)
         }));
     }
     let table = table_bytes(&random.rows(ROWS, Shape::Any, Likeness::Spread));
     for (waiting, list) in chains(random) {
         for table in [Vec::new(), table.clone()] {
             let (waiting, list) = (waiting.clone(), list.clone());
+            let index = index_of(&table);
             deep_calls.push(deep("bt_missing", move || {
-                raw::missing(&table, &waiting, &list, &mut vec![0; HASH * HASHES])
+                let out = &mut vec![0; HASH * HASHES];
+                raw::missing(&table, &index, &waiting, &list, out)
             }));
         }
     }
     let unknown = random.bytes(HASH * HASHES);
     deep_calls.push(deep("bt_missing", move || {
-        raw::missing(&[], &[], &unknown, &mut vec![0; HASH * HASHES])
+        raw::missing(&[], &[], &[], &unknown, &mut vec![0; HASH * HASHES])
     }));
     deep_calls
 }
@@ -297,6 +314,7 @@ fn sessions(random: &mut Random) -> Vec<Deep> {
             let planning = Planning {
                 session,
                 table: table_bytes(&rows),
+                index: index_of(&table_bytes(&rows)),
                 waiting,
                 rooms: [2 * HASH * ROWS; 6],
             };
@@ -308,6 +326,7 @@ fn sessions(random: &mut Random) -> Vec<Deep> {
         let receiving = Receiving {
             session,
             table: table_bytes(&rows),
+            index: index_of(&table_bytes(&rows)),
             before: ROWS / 2,
             message: message(hashes),
             loaded: 1,

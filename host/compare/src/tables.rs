@@ -4,6 +4,8 @@
 //! own graph can't be had.
 
 use crate::guarded::{Fill, Guarded, FILLS};
+use crate::inputs::index::{index_bytes, Beside};
+use crate::inputs::shown;
 use crate::model::table::{self, Hash, HASH, ROW, WAITING_ROW};
 use crate::model::{self, Refused};
 use crate::same_answer;
@@ -18,20 +20,32 @@ pub enum Call<'a> {
     },
     CheckTables {
         table: &'a [u8],
+        index: Beside<'a>,
         waiting: &'a [u8],
     },
     Heads {
         table: &'a [u8],
+        index: Beside<'a>,
         before: usize,
     },
     Beyond {
         table: &'a [u8],
+        index: Beside<'a>,
         hashes: &'a [u8],
     },
     Missing {
         table: &'a [u8],
+        index: Beside<'a>,
         waiting: &'a [u8],
         hashes: &'a [u8],
+    },
+    BuildIndex {
+        table: &'a [u8],
+    },
+    /// Its own is the index of the rows but the last.
+    ExtendIndex {
+        table: &'a [u8],
+        index: Beside<'a>,
     },
 }
 
@@ -40,12 +54,35 @@ pub enum Call<'a> {
 enum Found {
     Rows(usize),
     Hashes(Vec<Hash>),
+    Index(Vec<u8>),
+}
+
+impl Found {
+    /// What is written of it; none if it is a number.
+    fn written(&self) -> Option<Vec<u8>> {
+        match self {
+            Found::Rows(_) => None,
+            Found::Hashes(hashes) => Some(hashes.concat()),
+            Found::Index(index) => Some(index.clone()),
+        }
+    }
 }
 
 /// The calls by name.
-pub const NAMES: [&str; 5] = ["check_table", "check_tables", "heads", "beyond", "missing"];
+pub const NAMES: [&str; 7] = [
+    "check_table",
+    "check_tables",
+    "heads",
+    "beyond",
+    "missing",
+    "build_index",
+    "extend_index",
+];
 
-impl Call<'_> {
+/// The first words that an answer may have: 0, or a refusal's number.
+pub const ANSWERS: usize = 13;
+
+impl<'a> Call<'a> {
     /// The call's place in `NAMES`.
     pub fn kind(&self) -> usize {
         match self {
@@ -54,65 +91,118 @@ impl Call<'_> {
             Call::Heads { .. } => 2,
             Call::Beyond { .. } => 3,
             Call::Missing { .. } => 4,
+            Call::BuildIndex { .. } => 5,
+            Call::ExtendIndex { .. } => 6,
         }
     }
 
-    /// Whether it writes hashes.
+    /// Whether it writes hashes or an index.
     fn writes(&self) -> bool {
         self.kind() >= 2
     }
 
-    fn library<'a>(&self, batch: &mut Batch<'a>, out: &'a mut [u8], answer: &'a mut [u64; 4]) {
+    /// The same call with another index, if it has one.
+    pub fn beside(mut self, other: &'a [u8]) -> Call<'a> {
+        match &mut self {
+            Call::CheckTable { .. } | Call::BuildIndex { .. } => {}
+            Call::CheckTables { index, .. }
+            | Call::Heads { index, .. }
+            | Call::Beyond { index, .. }
+            | Call::Missing { index, .. }
+            | Call::ExtendIndex { index, .. } => *index = Beside::Other(other),
+        }
+        self
+    }
+
+    /// The index that is lent.
+    fn index(&self) -> Vec<u8> {
+        match *self {
+            Call::CheckTable { .. } | Call::BuildIndex { .. } => Vec::new(),
+            Call::CheckTables { table, index, .. }
+            | Call::Heads { table, index, .. }
+            | Call::Beyond { table, index, .. }
+            | Call::Missing { table, index, .. } => index.of(table),
+            Call::ExtendIndex { table, index } => index.of(but_the_last(table)),
+        }
+    }
+
+    fn library<'m>(
+        &self,
+        index: &[u8],
+        batch: &mut Batch<'m>,
+        out: &'m mut [u8],
+        answer: &'m mut [u64; 4],
+    ) {
         match *self {
             Call::CheckTable { table } => batch.check_table(table, answer),
-            Call::CheckTables { table, waiting } => batch.check_tables(table, waiting, answer),
-            Call::Heads { table, before } => batch.heads(table, before, out, answer),
-            Call::Beyond { table, hashes } => batch.beyond(table, hashes, out, answer),
+            Call::CheckTables { table, waiting, .. } => {
+                batch.check_tables(table, index, waiting, answer)
+            }
+            Call::Heads { table, before, .. } => batch.heads(table, index, before, out, answer),
+            Call::Beyond { table, hashes, .. } => batch.beyond(table, index, hashes, out, answer),
             Call::Missing {
                 table,
                 waiting,
                 hashes,
-            } => batch.missing(table, waiting, hashes, out, answer),
+                ..
+            } => batch.missing(table, index, waiting, hashes, out, answer),
+            Call::BuildIndex { table } => batch.build_index(table, out, answer),
+            Call::ExtendIndex { table, .. } => batch.extend_index(table, index, out, answer),
         }
     }
 
-    fn model(&self) -> Result<Found, Refused> {
+    fn model(&self, index: &[u8]) -> Result<Found, Refused> {
         match *self {
             Call::CheckTable { table } => table::check_table(table).map(Found::Rows),
-            Call::CheckTables { table, waiting } => {
-                table::check_tables(table, waiting).map(Found::Rows)
+            Call::CheckTables { table, waiting, .. } => {
+                table::check_tables(table, index, waiting).map(Found::Rows)
             }
-            Call::Heads { table, before } => table::heads(table, before).map(Found::Hashes),
-            Call::Beyond { table, hashes } => table::beyond(table, hashes).map(Found::Hashes),
+            Call::Heads { table, before, .. } => {
+                table::heads(table, index, before).map(Found::Hashes)
+            }
+            Call::Beyond { table, hashes, .. } => {
+                table::beyond(table, index, hashes).map(Found::Hashes)
+            }
             Call::Missing {
                 table,
                 waiting,
                 hashes,
-            } => table::missing(table, waiting, hashes).map(Found::Hashes),
+                ..
+            } => table::missing(table, index, waiting, hashes).map(Found::Hashes),
+            Call::BuildIndex { table } => table::build_index(table).map(Found::Index),
+            Call::ExtendIndex { table, .. } => table::extend_index(table, index).map(Found::Index),
         }
     }
 
-    /// What the stand-in document finds. The tables and lists must be good.
+    /// What the stand-in document finds, which has no index. The tables and lists must be
+    /// good.
     fn stand_in(&self) -> Found {
         let found = |hashes: Vec<ChangeHash>| Found::Hashes(hashes.iter().map(|h| h.0).collect());
         match *self {
             Call::CheckTable { table } => Found::Rows(document(table, &[]).rows().len()),
-            Call::CheckTables { table, waiting } => {
+            Call::CheckTables { table, waiting, .. } => {
                 Found::Rows(document(table, waiting).waiting().len())
             }
-            Call::Heads { table, before } => {
+            Call::Heads { table, before, .. } => {
                 found(document(&table[..ROW * before], &[]).get_heads())
             }
-            Call::Beyond { table, hashes } => {
+            Call::Beyond { table, hashes, .. } => {
                 found(document(table, &[]).rows_beyond(&change_hashes(hashes)))
             }
             Call::Missing {
                 table,
                 waiting,
                 hashes,
+                ..
             } => {
                 let asked = change_hashes(hashes).into_iter();
                 found(document(table, waiting).missing_deps_from(asked))
+            }
+            Call::BuildIndex { table } | Call::ExtendIndex { table, .. } => {
+                let document = document(table, &[]);
+                let mut rows: Vec<usize> = (0..document.rows().len()).collect();
+                rows.sort_by_key(|&row| document.rows()[row].hash());
+                Found::Index(index_bytes(&rows))
             }
         }
     }
@@ -120,16 +210,19 @@ impl Call<'_> {
     fn shown(&self) -> String {
         let name = NAMES[self.kind()];
         let (table, rest) = match *self {
-            Call::CheckTable { table } => (table, String::new()),
-            Call::CheckTables { table, waiting } => {
+            Call::CheckTable { table }
+            | Call::BuildIndex { table }
+            | Call::ExtendIndex { table, .. } => (table, String::new()),
+            Call::CheckTables { table, waiting, .. } => {
                 (table, format!(", {} waiting bytes", waiting.len()))
             }
-            Call::Heads { table, before } => (table, format!(", before {before}")),
-            Call::Beyond { table, hashes } => (table, format!(", a list of {}", hashes.len())),
+            Call::Heads { table, before, .. } => (table, format!(", before {before}")),
+            Call::Beyond { table, hashes, .. } => (table, format!(", a list of {}", hashes.len())),
             Call::Missing {
                 table,
                 waiting,
                 hashes,
+                ..
             } => {
                 let (waiting, hashes) = (waiting.len(), hashes.len());
                 (
@@ -138,8 +231,17 @@ impl Call<'_> {
                 )
             }
         };
-        format!("{name} of a table of {} bytes{rest}", table.len())
+        let index = shown(&self.index());
+        format!(
+            "{name} of a table of {} bytes{rest}, index {index}",
+            table.len()
+        )
     }
+}
+
+/// The rows of a table but the last.
+pub fn but_the_last(table: &[u8]) -> &[u8] {
+    &table[..table.len().saturating_sub(ROW)]
 }
 
 fn change_hashes(bytes: &[u8]) -> Vec<ChangeHash> {
@@ -203,7 +305,7 @@ impl Rooms {
 #[derive(Clone, Copy, Debug, Default)]
 pub struct Tally {
     /// By call, then by the answer's first word.
-    answers: [[u64; 12]; 5],
+    answers: [[u64; ANSWERS]; NAMES.len()],
 }
 
 impl Tally {
@@ -222,6 +324,7 @@ impl Tally {
 /// A call with one buffer.
 struct Asked<'a> {
     call: Call<'a>,
+    index: Vec<u8>,
     expected: [u64; 4],
     answer: [u64; 4],
     out: Guarded<u8>,
@@ -232,11 +335,12 @@ impl<'a> Asked<'a> {
         let mut out = Guarded::new(room, fill);
         let expected = match found {
             Ok(Found::Rows(rows)) => [0, *rows as u64, 0, 0],
-            Ok(Found::Hashes(hashes)) => model::write(out.expected(), Ok(hashes.concat())),
+            Ok(found) => model::write(out.expected(), Ok(found.written().unwrap_or_default())),
             Err(refused) => model::write(out.expected(), Err(*refused)),
         };
         Asked {
             call,
+            index: call.index(),
             expected,
             answer: [raw::UNWRITTEN; 4],
             out,
@@ -244,7 +348,8 @@ impl<'a> Asked<'a> {
     }
 
     fn ask<'m>(&'m mut self, batch: &mut Batch<'m>) {
-        self.call.library(batch, self.out.lent(), &mut self.answer);
+        let (out, answer) = (self.out.lent(), &mut self.answer);
+        self.call.library(&self.index, batch, out, answer);
     }
 
     fn agrees(&self) -> Result<(), String> {
@@ -266,7 +371,7 @@ impl<'a> Asked<'a> {
 pub fn compare(calls: &[(Call, Rooms)]) -> Result<Tally, String> {
     let mut asked = Vec::new();
     for &(call, rooms) in calls {
-        let found = call.model();
+        let found = call.model(&call.index());
         if let Ok(found) = &found {
             if *found != call.stand_in() {
                 let shown = call.shown();
@@ -278,10 +383,8 @@ pub fn compare(calls: &[(Call, Rooms)]) -> Result<Tally, String> {
             continue;
         }
         // A refused call gets some buffers too, long enough for its hashes.
-        let wanted = match &found {
-            Ok(Found::Hashes(hashes)) => HASH * hashes.len(),
-            _ => 2 * HASH,
-        };
+        let written = found.as_ref().ok().and_then(Found::written);
+        let wanted = written.map_or(2 * HASH, |bytes| bytes.len());
         for room in rooms.sizes(wanted) {
             asked.extend(FILLS.map(|fill| Asked::new(call, &found, room, fill)));
         }
@@ -304,7 +407,7 @@ pub fn ask(call: Call, room: usize) -> ([u64; 4], Vec<u8>) {
     let mut out = vec![0; room];
     let mut answer = [raw::UNWRITTEN; 4];
     let mut batch = Batch::new();
-    call.library(&mut batch, &mut out, &mut answer);
+    call.library(&call.index(), &mut batch, &mut out, &mut answer);
     batch.run();
     let written = if answer[0] == 0 && call.writes() {
         answer[1] as usize

@@ -15,6 +15,7 @@ mod random;
 mod refusals;
 
 use bisquetower::raw;
+use compare::inputs::index::index_of;
 use compare::inputs::selection::{lend, Case};
 use compare::inputs::table::{table_bytes, Row};
 use compare::inputs::Random;
@@ -55,7 +56,8 @@ fn answer(selection: Selection) -> [u64; 2] {
 fn chosen(table: &[u8], haves: &[OwnHave], need: &[Hash]) -> Vec<Hash> {
     let (s, records) = lend(haves, &mut Random(1));
     let mut out = vec![0; ROOM];
-    let answer = raw::hashes_to_send(table, &s, &records, &need.concat(), &mut out);
+    let index = index_of(table);
+    let answer = raw::hashes_to_send(table, &index, &s, &records, &need.concat(), &mut out);
     assert_eq!(answer[0], 0);
     let hashes = out[..answer[1] as usize].chunks(HASH);
     hashes.map(|hash| hash.try_into().unwrap()).collect()

@@ -1,4 +1,4 @@
-//! Change tables and waiting tables, heads, rows beyond and what is missing: the
+//! Change tables and waiting tables, heads, rows beyond, what is missing, and indexes: the
 //! proved library against the model and the stand-in document.
 //! `compare::tables` says what is held against what.
 
@@ -6,6 +6,8 @@
 mod buffers;
 #[path = "tables/graph.rs"]
 mod graph;
+#[path = "tables/index.rs"]
+mod index;
 #[path = "tables/literal.rs"]
 mod literal;
 #[path = "tables/missing.rs"]
@@ -17,6 +19,7 @@ mod records;
 #[path = "tables/refusals.rs"]
 mod refusals;
 
+use compare::inputs::index::Beside;
 use compare::inputs::table::{table_bytes, waiting_bytes, Row, WaitingRow};
 use compare::model::table::{Hash, HASH, HASHES};
 use compare::tables::{ask, compare, Call, Rooms, Tally};
@@ -27,6 +30,8 @@ const CHECK_TABLES: usize = 1;
 const HEADS: usize = 2;
 const BEYOND: usize = 3;
 const MISSING: usize = 4;
+const BUILD_INDEX: usize = 5;
+const EXTEND_INDEX: usize = 6;
 
 /// More than any call writes.
 const ROOM: usize = HASH * HASHES + 1;
@@ -62,23 +67,49 @@ fn check(table: &[u8]) -> Call<'_> {
 }
 
 fn check_tables<'a>(table: &'a [u8], waiting: &'a [u8]) -> Call<'a> {
-    Call::CheckTables { table, waiting }
+    let index = Beside::Own;
+    Call::CheckTables {
+        table,
+        index,
+        waiting,
+    }
 }
 
 fn heads(table: &[u8], before: usize) -> Call<'_> {
-    Call::Heads { table, before }
+    let index = Beside::Own;
+    Call::Heads {
+        table,
+        index,
+        before,
+    }
 }
 
 fn beyond<'a>(table: &'a [u8], hashes: &'a [u8]) -> Call<'a> {
-    Call::Beyond { table, hashes }
+    let index = Beside::Own;
+    Call::Beyond {
+        table,
+        index,
+        hashes,
+    }
 }
 
 fn missing<'a>(table: &'a [u8], waiting: &'a [u8], hashes: &'a [u8]) -> Call<'a> {
+    let index = Beside::Own;
     Call::Missing {
         table,
+        index,
         waiting,
         hashes,
     }
+}
+
+fn build_index(table: &[u8]) -> Call<'_> {
+    Call::BuildIndex { table }
+}
+
+fn extend_index(table: &[u8]) -> Call<'_> {
+    let index = Beside::Own;
+    Call::ExtendIndex { table, index }
 }
 
 /// A hash whose order follows `n`.

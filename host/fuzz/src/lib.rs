@@ -1,10 +1,13 @@
 //! What is compared of the bytes that libFuzzer makes. A difference panics.
 
 use compare::filters::{compare_reads as compare_filters, Build, Haves, Part};
+use compare::inputs::index::Beside;
+use compare::inputs::table::{table_bytes, Row};
 use compare::messages::{compare as compare_messages, compare_lists};
 use compare::model::filter::{self, Filter};
 use compare::scale::script;
 use compare::states::{compare_reads as compare_states, Reading};
+use compare::tables::{compare as compare_tables, Call, Rooms};
 use compare::writes::{compare_rooms, Write};
 
 /// A program of one target.
@@ -86,6 +89,61 @@ pub fn state(data: &[u8]) {
         let write = Write::State { shared, count };
         agreed(compare_rooms(write, [0, wanted - 2, wanted - 1, wanted]));
     }
+}
+
+/// How many rows there are, how long an index is; of each row two bytes, that its hash
+/// begins with and by whose bits it depends on the rows just before it; the index; and a
+/// hash list, which gives the rows' hashes their other bytes too.
+pub fn table(data: &[u8]) {
+    let [count, length, rest @ ..] = data else {
+        return;
+    };
+    let (rows, rest) = rest.split_at((2 * usize::from(*count)).min(rest.len()));
+    let (index, hashes) = rest.split_at(usize::from(*length).min(rest.len()));
+    let row = |(number, two): (usize, &[u8])| {
+        let mut hash = [0; 32];
+        hash.iter_mut()
+            .zip(hashes)
+            .for_each(|(to, from)| *to = *from);
+        hash[0] = two[0];
+        let on = (0..8).filter(|bit| two[1] >> bit & 1 == 1 && *bit < number);
+        let mut dependencies: Vec<usize> = on.map(|bit| number - 1 - bit).collect();
+        dependencies.reverse();
+        Row { hash, dependencies }
+    };
+    let rows: Vec<Row> = rows.chunks_exact(2).enumerate().map(row).collect();
+    let (before, table) = (rows.len() / 2, &table_bytes(&rows)[..]);
+    let calls = [Beside::Own, Beside::Other(index)].map(|index| {
+        let waiting = &[];
+        [
+            Call::CheckTables {
+                table,
+                index,
+                waiting,
+            },
+            Call::Heads {
+                table,
+                index,
+                before,
+            },
+            Call::Beyond {
+                table,
+                index,
+                hashes,
+            },
+            Call::Missing {
+                table,
+                index,
+                waiting,
+                hashes,
+            },
+            Call::ExtendIndex { table, index },
+        ]
+    });
+    let alone = [Call::CheckTable { table }, Call::BuildIndex { table }];
+    let calls = calls.as_flattened().iter().chain(&alone);
+    let calls: Vec<(Call, Rooms)> = calls.map(|&call| (call, Rooms::Enough)).collect();
+    agreed(compare_tables(&calls));
 }
 
 /// A session script.

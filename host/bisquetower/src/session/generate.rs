@@ -59,22 +59,26 @@ impl Session {
         } = &mut self.lists;
         last_sent.resize(LIST, 0);
         sent.resize(LIST, 0);
-        let words = raw::plan(
-            &mut self.words,
-            shared,
-            last_sent,
-            their_heads,
-            their_need,
-            haves,
-            bytes,
-            sent,
-            table,
-            waiting,
-            &mut heads,
-            &mut need,
-            &mut have,
-            &mut list,
-        );
+        let session = &mut self.words;
+        let words = self.index.beside(table, |index| {
+            raw::plan(
+                session,
+                shared,
+                last_sent,
+                their_heads,
+                their_need,
+                haves,
+                bytes,
+                sent,
+                table,
+                index,
+                waiting,
+                &mut heads,
+                &mut need,
+                &mut have,
+                &mut list,
+            )
+        });
         self.trim();
         let answer = answer(words)?;
         let [what, version, flags, document, head_count, need_count, have_count, ..] = answer;

@@ -98,7 +98,7 @@ impl Session {
             &lists.bytes,
             &lists.sent,
         ))?;
-        Ok(Session { words, lists })
+        Ok(Session::of(words, lists))
     }
 }
 

@@ -58,20 +58,24 @@ impl Session {
         // What is kept of haves stands in the message, but for the numbers between.
         let room = bytes.len().max(message.len());
         bytes.resize(room, 0);
-        let words = raw::receive(
-            &mut self.words,
-            shared,
-            last_sent,
-            their_heads,
-            their_need,
-            haves,
-            bytes,
-            sent,
-            table,
-            before,
-            message,
-            loaded.into(),
-        );
+        let session = &mut self.words;
+        let words = self.index.beside(table, |index| {
+            raw::receive(
+                session,
+                shared,
+                last_sent,
+                their_heads,
+                their_need,
+                haves,
+                bytes,
+                sent,
+                table,
+                index,
+                before,
+                message,
+                loaded.into(),
+            )
+        });
         self.trim();
         refusal::answer(words).map(|_| ())
     }

@@ -273,7 +273,7 @@ fn bad_numbers(row: usize) -> Vec<Vec<usize>> {
 }
 
 /// The first, the last and one between of so many rows.
-fn places(count: usize) -> BTreeSet<usize> {
+pub(super) fn places(count: usize) -> BTreeSet<usize> {
     let some = [0, count / 2, count.saturating_sub(1)];
     some.into_iter().filter(|&place| place < count).collect()
 }

@@ -151,15 +151,17 @@ fn body(table: &Table, s: &Value) -> (bool, Vec<Hash>) {
     }
 }
 
-/// The same for what is lent: "10, 6, 9", each table's 4 just before its rows.
+/// The same for what is lent: "10, 6, 9", each table's 4 just before its rows, and 12
+/// "directly after 6".
 pub fn of_lent(
     words: &[u64; WORDS],
     lists: &Lists,
     table: &[u8],
+    index: &[u8],
     waiting: &[u8],
 ) -> Result<Planned, Refused> {
     let s = Value::of(words, lists)?;
-    let table = table::table(table)?;
+    let table = table::indexed(table, index)?;
     let waiting = table::waiting(&table, waiting)?;
     planned(&table, &waiting, &s)
 }

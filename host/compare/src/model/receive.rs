@@ -117,16 +117,18 @@ fn advanced(table: &Table, old: &[Hash], shared: &[Hash]) -> Vec<Hash> {
 #[derive(Clone, Copy, Debug)]
 pub struct Told<'a> {
     pub table: &'a [u8],
+    pub index: &'a [u8],
     pub before: usize,
     pub message: &'a [u8],
     pub loaded: bool,
 }
 
-/// The same for what is lent: "10, 6, 11, then the input from its first byte".
+/// The same for what is lent: "10, 6, 11, then the input from its first byte", and 12
+/// "directly after 6".
 pub fn of_lent(words: &[u64; WORDS], lists: &Lists, told: &Told) -> Received {
     let step = || {
         let s = Value::of(words, lists)?;
-        let table = table::table(told.table)?;
+        let table = table::indexed(told.table, told.index)?;
         if told.before > table.rows.len() {
             return Err((11, 0));
         }

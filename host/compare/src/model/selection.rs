@@ -4,20 +4,21 @@
 use super::filter::contains;
 use super::have::{haves, limited, Have};
 use super::Refused;
-use crate::model::table::{hash_list, table, Hash, Table, HASH};
+use crate::model::table::{hash_list, indexed, Hash, Table, HASH};
 use std::collections::{BTreeSet, HashSet};
 
 /// The hashes to send: "held needs outside S, then S in table order", and with no
 /// have the held needs alone. 10 for the haves comes first, then 4 and 6 for the
-/// table, 4 and 1 for the need, and 4 for the haves.
+/// table, 12 for its index, 4 and 1 for the need, and 4 for the haves.
 pub fn hashes_to_send(
     lent: &[u8],
+    index: &[u8],
     s: &[u8],
     records: &[u64],
     need: &[u8],
 ) -> Result<Vec<Hash>, Refused> {
     let haves = haves(s, records)?;
-    let table = table(lent)?;
+    let table = indexed(lent, index)?;
     let need = hash_list(need)?;
     limited(&haves)?;
     Ok(chosen(&table, &haves, &need))

@@ -1,9 +1,10 @@
 //! Document 01's change table and waiting table, heads, rows beyond and what is
-//! missing, in plain Rust: written from the document's sentences, with sets, maps
-//! and a list of what is still open, and no eye to speed.
+//! missing, and change request M-100's index, in plain Rust: written from their
+//! sentences, with sets, maps and a list of what is still open, and no eye to speed.
+//! The index is tested and then left alone; nothing is looked up in it.
 
 use crate::model::Refused;
-use std::collections::{BTreeSet, HashMap, HashSet};
+use std::collections::{BTreeMap, BTreeSet, HashMap, HashSet};
 
 /// "Hash 32 bytes", "Change row, 64 bytes", "Waiting row, 544 bytes".
 pub const HASH: usize = 32;
@@ -77,6 +78,32 @@ fn change_row(record: &[u8], own: usize) -> Option<Row> {
     })
 }
 
+/// A good change table that is lent with its index: 12, "index doesn't fit the table",
+/// comes "directly after 6".
+pub fn indexed(lent: &[u8], index: &[u8]) -> Result<Table, Refused> {
+    let table = table(lent)?;
+    match fits(&table, index) {
+        true => Ok(table),
+        false => Err((12, 0)),
+    }
+}
+
+/// "row numbers in ascending order of hash": two bytes each, little-endian, as many as
+/// there are rows.
+fn fits(table: &Table, index: &[u8]) -> bool {
+    let numbers = index.chunks(2).map(|two| match *two {
+        [low, high] => usize::from(low) + 256 * usize::from(high),
+        // Half an entry is of no row.
+        _ => usize::MAX,
+    });
+    let hashes: Option<Vec<Hash>> = numbers
+        .map(|number| table.rows.get(number).map(|row| row.hash))
+        .collect();
+    hashes.is_some_and(|hashes| {
+        hashes.len() == table.rows.len() && hashes.windows(2).all(|two| two[0] < two[1])
+    })
+}
+
 /// The rows of a waiting table beside this change table; 9 names the first bad
 /// row, 4 a table that is too long.
 pub fn waiting(table: &Table, lent: &[u8]) -> Result<Waiting, Refused> {
@@ -139,13 +166,36 @@ pub fn check_table(lent: &[u8]) -> Result<usize, Refused> {
 }
 
 /// How many rows a waiting table has.
-pub fn check_tables(lent: &[u8], waiting_lent: &[u8]) -> Result<usize, Refused> {
-    Ok(waiting(&table(lent)?, waiting_lent)?.len())
+pub fn check_tables(lent: &[u8], index: &[u8], waiting_lent: &[u8]) -> Result<usize, Refused> {
+    Ok(waiting(&indexed(lent, index)?, waiting_lent)?.len())
+}
+
+/// The index of a table, "built from any good table".
+pub fn build_index(lent: &[u8]) -> Result<Vec<u8>, Refused> {
+    Ok(table(lent)?.index())
+}
+
+/// "extended by one row at a time with the same result as building afresh": the index
+/// that is lent has to fit the rows but the last. Without a row there is no last one.
+pub fn extend_index(lent: &[u8], index: &[u8]) -> Result<Vec<u8>, Refused> {
+    let whole = table(lent)?;
+    let before = lent.len().checked_sub(ROW).ok_or((12, 0))?;
+    indexed(&lent[..before], index)?;
+    Ok(whole.index())
 }
 
 impl Table {
     pub(crate) fn holds(&self, hash: &Hash) -> bool {
         self.row_of.contains_key(hash)
+    }
+
+    /// The numbers of the rows by their hashes.
+    fn index(&self) -> Vec<u8> {
+        let sorted: BTreeMap<Hash, usize> = self.row_of.iter().map(|(&h, &row)| (h, row)).collect();
+        let numbers = sorted.into_values();
+        numbers
+            .flat_map(|row| [(row % 256) as u8, (row / 256) as u8])
+            .collect()
     }
 
     /// "Heads: rows that no row depends on, ascending bytes", of the first rows
@@ -209,17 +259,22 @@ impl Table {
 }
 
 /// The heads of the first rows; 11 if there are fewer.
-pub fn heads(lent: &[u8], before: usize) -> Result<Vec<Hash>, Refused> {
-    table(lent)?.heads(before).ok_or((11, 0))
+pub fn heads(lent: &[u8], index: &[u8], before: usize) -> Result<Vec<Hash>, Refused> {
+    indexed(lent, index)?.heads(before).ok_or((11, 0))
 }
 
-pub fn beyond(lent: &[u8], list: &[u8]) -> Result<Vec<Hash>, Refused> {
-    let table = table(lent)?;
+pub fn beyond(lent: &[u8], index: &[u8], list: &[u8]) -> Result<Vec<Hash>, Refused> {
+    let table = indexed(lent, index)?;
     Ok(table.beyond(&hash_list(list)?))
 }
 
-pub fn missing(lent: &[u8], waiting_lent: &[u8], list: &[u8]) -> Result<Vec<Hash>, Refused> {
-    let table = table(lent)?;
+pub fn missing(
+    lent: &[u8],
+    index: &[u8],
+    waiting_lent: &[u8],
+    list: &[u8],
+) -> Result<Vec<Hash>, Refused> {
+    let table = indexed(lent, index)?;
     let waiting = waiting(&table, waiting_lent)?;
     table.missing(&waiting, &hash_list(list)?)
 }

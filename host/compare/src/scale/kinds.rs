@@ -108,7 +108,13 @@ pub const KINDS: &[Kind] = &[
     },
     Kind {
         name: "tables",
-        bytes: &[("table", 64), ("waiting table", 512), ("hashes", 32)],
+        bytes: &[
+            ("table", 64),
+            ("index", 2),
+            ("index but for the last row", 2),
+            ("waiting table", 512),
+            ("hashes", 32),
+        ],
         numbers: &["before", "room"],
         a_round: 400,
         make: tables::tables,

@@ -1,6 +1,7 @@
 //! Hashes to send.
 
 use super::case::{apart, Case, Compared};
+use crate::inputs::index::Beside;
 use crate::inputs::selection::{lend, Case as Choice};
 use crate::inputs::Random;
 use crate::selections::{compare, compare_cases, Selection};
@@ -48,12 +49,14 @@ pub fn choose_damaged(case: &Case) -> Compared {
             _ => random.damage(&mut need),
         }
     }
+    let index = random.index(&table);
     let rooms = match random.one_in(4) {
         true => Rooms::One(random.below(200)),
         false => Rooms::Enough,
     };
     let selection = Selection {
         table: &table,
+        index: Beside::Other(&index),
         s: &s,
         haves: &haves,
         need: &need,

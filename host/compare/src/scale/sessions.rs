@@ -102,6 +102,9 @@ pub fn plan(case: &Case) -> Compared {
         }
     }
     let mut planning = Planning::new(session, table, waiting);
+    if random.one_in(10) {
+        planning.index = random.other_index(&planning.table);
+    }
     if random.one_in(3) {
         resize(&mut random, &mut planning.rooms);
     }
@@ -138,6 +141,9 @@ pub fn receive(case: &Case) -> Compared {
     let loaded = if loaded { 1 + random.number() / 2 } else { 0 };
     let message = hearing.message.clone();
     let mut receiving = Receiving::new(session, table, before, message, loaded);
+    if random.one_in(10) {
+        receiving.index = random.other_index(&receiving.table);
+    }
     if random.one_in(3) {
         resize(&mut random, &mut receiving.rooms);
     }

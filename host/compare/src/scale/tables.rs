@@ -1,15 +1,16 @@
-//! Tables checked, heads, rows beyond, and what is missing.
+//! Tables checked, heads, rows beyond, what is missing, and indexes.
 
 use super::case::{apart, room, Case, Compared};
+use crate::inputs::index::Beside;
 use crate::inputs::table::{
     row_faults, table_bytes, waiting_bytes, waiting_faults, LIKENESSES, SHAPES,
 };
 use crate::inputs::Random;
 use crate::model::table::HASH;
-use crate::tables::{compare, Call, Rooms, NAMES};
+use crate::tables::{but_the_last, compare, Call, Rooms, ANSWERS, NAMES};
 
-/// Tables and a list over a few hashes, so that they meet, each now and then damaged;
-/// how many rows were there before, and room for what is found.
+/// Tables, indexes and a list over a few hashes, so that they meet, each now and then
+/// damaged; how many rows were there before, and room for what is found.
 pub fn tables(random: &mut Random) -> Case {
     let most = if random.one_in(50) { 100 } else { 12 };
     let (held, waits, unknown) = (random.below(most), random.below(8), random.below(8));
@@ -40,28 +41,52 @@ pub fn tables(random: &mut Random) -> Case {
             random.damage(bytes);
         }
     }
+    let index = random.index(&table);
+    let shorter = random.index(but_the_last(&table));
     let numbers = [random.below(held + 2), random.below(HASH * most)];
-    Case::new([table, queue, hashes], numbers.map(|n| n as u64))
+    Case::new(
+        [table, index, shorter, queue, hashes],
+        numbers.map(|n| n as u64),
+    )
 }
 
-/// All five calls, with room enough and with the room that is told.
+/// All seven calls, with room enough and with the room that is told.
 pub fn calls(case: &Case) -> Compared {
-    let ([table, waiting, hashes], [before, lent]) = (case.lent(), case.told());
+    let ([table, index, shorter, waiting, hashes], [before, lent]) = (case.lent(), case.told());
     let before = before as usize;
+    let [index, shorter] = [index, shorter].map(|bytes| Beside::Other(bytes));
     let all = [
         Call::CheckTable { table },
-        Call::CheckTables { table, waiting },
-        Call::Heads { table, before },
-        Call::Beyond { table, hashes },
+        Call::CheckTables {
+            table,
+            index,
+            waiting,
+        },
+        Call::Heads {
+            table,
+            index,
+            before,
+        },
+        Call::Beyond {
+            table,
+            index,
+            hashes,
+        },
         Call::Missing {
             table,
+            index,
             waiting,
             hashes,
+        },
+        Call::BuildIndex { table },
+        Call::ExtendIndex {
+            table,
+            index: shorter,
         },
     ];
     let told = Rooms::One(room(lent));
     let tally = compare(&all.map(|call| (call, Rooms::Enough)))?;
     compare(&all.map(|call| (call, told)))?;
     let refused = |word: usize| (0..NAMES.len()).any(|kind| tally.of(kind, word) > 0);
-    Ok((1..12).any(|word| apart(word as u64) && refused(word)))
+    Ok((1..ANSWERS).any(|word| apart(word as u64) && refused(word)))
 }

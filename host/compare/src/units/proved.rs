@@ -3,10 +3,12 @@
 
 use super::{load, parts_for, table_of, waiting_of, Heard, Unit};
 use crate::guarded::FILLS;
+use crate::inputs::index::index_of;
 use crate::messages::parts;
 use crate::model::message;
 use crate::model::session::Value;
 use crate::model::state::{READ_ONLY, WORDS};
+use crate::model::table::ROW;
 use crate::sessions::lent::Lent;
 use crate::sessions::library::{compare_plans, compare_receipts, Planning, Receiving};
 use bisquetower::raw;
@@ -15,18 +17,54 @@ use crate_under_test::facade::Automerge;
 struct Proved {
     document: Automerge,
     session: Lent,
+    index: Vec<u8>,
 }
 
 /// A unit of the library.
 pub fn proved(document: Automerge, session: Value) -> Box<dyn Unit> {
     let session = Lent::laid(&session);
-    Box::new(Proved { document, session })
+    let index = built(&table_of(&document));
+    Box::new(Proved {
+        document,
+        session,
+        index,
+    })
+}
+
+fn built(table: &[u8]) -> Vec<u8> {
+    written(2 * (table.len() / ROW), |out| raw::build_index(table, out))
+}
+
+/// What a call writes that is to write so many bytes.
+fn written(length: usize, call: impl FnOnce(&mut [u8]) -> [u64; 4]) -> Vec<u8> {
+    let mut out = vec![0; length];
+    assert_eq!(call(&mut out), [0, length as u64, 0, 0]);
+    out
+}
+
+impl Proved {
+    /// The table, once its index has followed it row by row; it is built anew where the
+    /// document is another one.
+    fn indexed(&mut self) -> Vec<u8> {
+        let table = table_of(&self.document);
+        let first = table.get(..ROW * (self.index.len() / 2));
+        if first.is_none_or(|rows| index_of(rows) != self.index) {
+            self.index = built(&table);
+        }
+        for row in self.index.len() / 2..table.len() / ROW {
+            self.index = written(2 * (row + 1), |out| {
+                raw::extend_index(&table[..ROW * (row + 1)], &self.index, out)
+            });
+        }
+        table
+    }
 }
 
 impl Unit for Proved {
     fn speak(&mut self) -> Option<Vec<u8>> {
-        let (table, waiting) = (table_of(&self.document), waiting_of(&self.document));
-        let planning = Planning::new(self.session.clone(), table, waiting);
+        let (table, waiting) = (self.indexed(), waiting_of(&self.document));
+        let mut planning = Planning::new(self.session.clone(), table, waiting);
+        planning.index.clone_from(&self.index);
         let left = compare_plans(&[planning], &FILLS).unwrap_or_else(|why| panic!("{why}"));
         let left = left.into_iter().next().expect("one answer");
         assert_eq!(left.answer[0], 0, "within the limits");
@@ -52,9 +90,9 @@ impl Unit for Proved {
             Ok(Some(changes)) if !read_only => load(&mut self.document, &changes),
             _ => true,
         };
-        let table = table_of(&self.document);
-        let session = self.session.clone();
-        let receiving = Receiving::new(session, table, before, message.to_vec(), loaded.into());
+        let (table, session) = (self.indexed(), self.session.clone());
+        let mut receiving = Receiving::new(session, table, before, message.to_vec(), loaded.into());
+        receiving.index.clone_from(&self.index);
         let left = compare_receipts(&[receiving], &FILLS).unwrap_or_else(|why| panic!("{why}"));
         let left = left.into_iter().next().expect("one answer");
         self.session = left.session;

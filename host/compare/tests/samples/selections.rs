@@ -2,6 +2,7 @@
 
 use crate::{count, stored, Out};
 use bisquetower::raw::Batch;
+use compare::inputs::index::index_of;
 use compare::inputs::table::Row;
 use compare::model::have::{contained, HAVE_WORDS};
 use compare::model::table::HASH;
@@ -17,7 +18,8 @@ fn the_library_answers_the_selections() {
     let mut batch = Batch::new();
     for ((record, table), out) in records.iter().zip(&tables).zip(&mut outs) {
         let Record { s, haves, need, .. } = record;
-        batch.hashes_to_send(table, s, haves, need, &mut out.bytes, &mut out.answer);
+        let (bytes, answer) = (&mut out.bytes, &mut out.answer);
+        batch.hashes_to_send(table, &index_of(table), s, haves, need, bytes, answer);
     }
     batch.run();
     for (record, out) in records.iter().zip(&outs) {

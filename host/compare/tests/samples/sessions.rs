@@ -1,6 +1,7 @@
 //! Steps of a session.
 
 use crate::{count, stored};
+use compare::inputs::index::index_of;
 use compare::inputs::table::waiting_bytes;
 use compare::samples::sessions::{lists_of, Record, Step, KINDS, OF_EACH};
 use compare::sessions::lent::Lent;
@@ -14,6 +15,7 @@ const ROOM: usize = 2_048;
 fn the_library_takes_the_steps() {
     for record in stored::<Record>() {
         let (table, session) = (record.table(), record.before.clone());
+        let index = index_of(&table);
         let after = match &record.step {
             Step::Plan {
                 waiting,
@@ -23,6 +25,7 @@ fn the_library_takes_the_steps() {
                 let left = plan(&Planning {
                     session,
                     table,
+                    index,
                     waiting: waiting_bytes(waiting),
                     rooms: [ROOM; 6],
                 });
@@ -40,6 +43,7 @@ fn the_library_takes_the_steps() {
                 let left = receive(&Receiving {
                     session,
                     table,
+                    index,
                     before: *rows_before,
                     message: message.clone(),
                     loaded: u64::from(*loaded),

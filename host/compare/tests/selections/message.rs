@@ -3,6 +3,7 @@
 use crate::ROOM;
 use bisquetower::message::{View, CHUNK_WORDS, HAVES, HAVE_WORDS};
 use bisquetower::raw;
+use compare::inputs::index::index_of;
 use compare::inputs::message::Draft;
 use compare::inputs::Random;
 use compare::model::have::OwnHave;
@@ -34,7 +35,8 @@ fn from_a_message() {
         let view = View::read(&s, &mut haves, &mut chunks).expect("a good message");
         let mut out = vec![0; ROOM];
         let (haves, need) = (view.have_words(), view.need());
-        let answer = raw::hashes_to_send(&case.table, &s, haves, need, &mut out);
+        let index = index_of(&case.table);
+        let answer = raw::hashes_to_send(&case.table, &index, &s, haves, need, &mut out);
         assert_eq!(answer[0], 0);
 
         let message = published::read_message(&s).expect("a good message");

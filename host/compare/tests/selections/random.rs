@@ -1,16 +1,17 @@
 //! Random selections, damaged.
 
+use compare::inputs::index::Beside;
 use compare::inputs::selection::lend;
 use compare::inputs::Seed;
 use compare::selections::{compare, Selection};
-use compare::tables::Rooms;
+use compare::tables::{Rooms, ANSWERS};
 
 /// Random selections with some parts damaged, against the model.
 #[test]
 fn random_and_damaged() {
     let seed = Seed::fixed();
     let mut random = seed.random(3);
-    let mut seen = [0; 11];
+    let mut seen = [0; ANSWERS];
     for round in 0..5_000 {
         let case = random.case(0..12, 0..4);
         let (s, mut haves) = lend(&case.haves, &mut random);
@@ -30,8 +31,10 @@ fn random_and_damaged() {
                 _ => drop(need.pop()),
             }
         }
+        let index = random.index(&table);
         let selection = Selection {
             table: &table,
+            index: Beside::Other(&index),
             s: &s,
             haves: &haves,
             need: &need,
@@ -46,7 +49,7 @@ fn random_and_damaged() {
         }
     }
     assert!(
-        [0, 1, 6, 7, 10].iter().all(|&first| seen[first] > 100),
+        [0, 1, 6, 7, 10, 12].iter().all(|&first| seen[first] > 100),
         "{seen:?}"
     );
 }

@@ -1,6 +1,7 @@
 //! Refusals in their order, sizes at their limits, buffers of every size.
 
 use crate::{answer, diamond};
+use compare::inputs::index::{index_of, Beside};
 use compare::inputs::selection::lend;
 use compare::inputs::table::{set_number, table_bytes, Likeness, Shape};
 use compare::inputs::Random;
@@ -12,6 +13,8 @@ use compare::tables::Rooms;
 #[derive(Clone)]
 struct Lent {
     table: Vec<u8>,
+    /// The table's own, if none is here.
+    index: Option<Vec<u8>>,
     s: Vec<u8>,
     haves: Vec<u64>,
     need: Vec<u8>,
@@ -21,6 +24,7 @@ impl Lent {
     fn selection(&self) -> Selection<'_> {
         Selection {
             table: &self.table,
+            index: self.index.as_deref().map_or(Beside::Own, Beside::Other),
             s: &self.s,
             haves: &self.haves,
             need: &self.need,
@@ -33,6 +37,7 @@ fn good() -> Lent {
     let (table, [a, b, ..]) = diamond();
     Lent {
         table,
+        index: None,
         s: vec![0; 100],
         haves: vec![3, 2, 20, 10, 7, 70, 25],
         need: [a, b].concat(),
@@ -44,7 +49,7 @@ type Fault = (&'static str, fn(&mut Lent) -> [u64; 2]);
 
 /// In the order of their refusals. One that is made after another stands, where
 /// they are made of the same part.
-const FAULTS: [Fault; 11] = [
+const FAULTS: [Fault; 14] = [
     ("haves that aren't whole", |l| {
         l.haves.push(0);
         [10, 0]
@@ -74,6 +79,20 @@ const FAULTS: [Fault; 11] = [
     ("a partial row", |l| {
         l.table.truncate(ROW * 3 + 63);
         [6, 3]
+    }),
+    ("the index of another table", |l| {
+        let mut index = index_of(&good().table);
+        index.swap(0, 2);
+        l.index = Some(index);
+        [12, 0]
+    }),
+    ("an index without its last byte", |l| {
+        l.index = Some(vec![0; 7]);
+        [12, 0]
+    }),
+    ("an index of 1,025 entries", |l| {
+        l.index = Some(vec![0; 2 * 1_025]);
+        [12, 0]
     }),
     ("1,025 needs", |l| {
         l.need = vec![2; 32 * 1_025];
@@ -212,6 +231,7 @@ fn every_size() {
         let need = case.need.concat();
         let selection = Selection {
             table: &case.table,
+            index: Beside::Own,
             s: &s,
             haves: &haves,
             need: &need,

@@ -9,10 +9,11 @@ use compare::scaled;
 use compare::sessions::lent::Lent;
 use compare::sessions::library::{compare_plans, compare_receipts, Planning, Receiving};
 use compare::sessions::{publish, same_as_the_crate, same_session};
+use compare::tables::ANSWERS;
 use std::ops::Range;
 
 /// How often each answer was given, by its first word.
-type Seen = [u64; 12];
+type Seen = [u64; ANSWERS];
 
 /// Makes a buffer's length another one.
 fn resize(random: &mut Random, rooms: &mut [usize]) {
@@ -54,6 +55,9 @@ fn plan_steps(random: &mut Random, batches: usize, of: usize, rows: Range<usize>
                 }
             }
             let mut planning = Planning::new(session, table, waiting);
+            if random.one_in(10) {
+                planning.index = random.other_index(&planning.table);
+            }
             if random.one_in(3) {
                 resize(random, &mut planning.rooms);
             }
@@ -100,6 +104,9 @@ fn receive_steps(random: &mut Random, batches: usize, of: usize, rows: Range<usi
             let loaded = if loaded { 1 + random.number() / 2 } else { 0 };
             let message = hearing.message.clone();
             let mut receiving = Receiving::new(session, table, before, message, loaded);
+            if random.one_in(10) {
+                receiving.index = random.other_index(&receiving.table);
+            }
             if random.one_in(3) {
                 resize(random, &mut receiving.rooms);
             }
@@ -128,14 +135,14 @@ fn often(seen: &Seen, least: u64, answers: &[usize]) {
 fn random_plans() {
     let seed = Seed::fixed();
     let seen = plan_steps(&mut seed.random(0), scaled(100, 2_500), 200, 0..10);
-    often(&seen, 100, &[0, 6, 7, 9, 10]);
+    often(&seen, 100, &[0, 6, 7, 9, 10, 12]);
 }
 
 #[test]
 fn random_receipts() {
     let seed = Seed::fixed();
     let seen = receive_steps(&mut seed.random(1), scaled(100, 2_500), 200, 0..10);
-    often(&seen, 100, &[0, 1, 6, 7, 8, 10, 11]);
+    often(&seen, 100, &[0, 1, 6, 7, 8, 10, 11, 12]);
 }
 
 /// Up to as many rows as there may be.

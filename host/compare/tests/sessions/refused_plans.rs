@@ -12,7 +12,7 @@ use compare::sessions::library::{plan_answer, Planning};
 type Fault = (&'static str, fn(&mut Planning), (u64, u64));
 
 /// In the order of the refusals.
-const FAULTS: [Fault; 9] = [
+const FAULTS: [Fault; 12] = [
     (
         "a count past its limit",
         |p| p.session.words[0] = 1_025,
@@ -24,6 +24,21 @@ const FAULTS: [Fault; 9] = [
         (4, 0),
     ),
     ("a bad row", |p| p.table[ROW + 32] = 16, (6, 1)),
+    (
+        "the index of another table",
+        |p| p.index.swap(0, 2),
+        (12, 0),
+    ),
+    (
+        "an index without its last byte",
+        |p| p.index.truncate(5),
+        (12, 0),
+    ),
+    (
+        "an index of 1,025 entries",
+        |p| p.index.resize(2 * (ROWS + 1), 0),
+        (12, 0),
+    ),
     (
         "a long waiting table",
         |p| p.waiting.resize(WAITING_ROW * WAITING_ROWS + 1, 0),

@@ -12,7 +12,7 @@ type Fault = (&'static str, fn(&mut Receiving), (u64, u64));
 
 /// In the order of the refusals. That loading failed and that the joined heads are too
 /// many can't both be.
-const FAULTS: [Fault; 8] = [
+const FAULTS: [Fault; 11] = [
     (
         "a count past its limit",
         |r| r.session.words[8] = 1_025,
@@ -24,6 +24,21 @@ const FAULTS: [Fault; 8] = [
         (4, 0),
     ),
     ("a bad row", |r| r.table[ROW + 32] = 16, (6, 1)),
+    (
+        "the index of another table",
+        |r| r.index.swap(0, 2),
+        (12, 0),
+    ),
+    (
+        "an index without its last byte",
+        |r| r.index.truncate(5),
+        (12, 0),
+    ),
+    (
+        "an index of 1,025 entries",
+        |r| r.index.resize(2 * (ROWS + 1), 0),
+        (12, 0),
+    ),
     ("too many rows before", |r| r.before = 4, (11, 0)),
     ("another first byte", |r| r.message[0] = 0x41, (2, 0x41)),
     ("a failed load", |r| r.loaded = 0, (8, 0)),

@@ -4,7 +4,7 @@ use crate::{agree, beyond, check, heads, Bytes, BEYOND, CHECK_TABLE, HEADS};
 use compare::inputs::table::{table_bytes, Likeness, Row, Shape, LIKENESSES, SHAPES};
 use compare::inputs::Random;
 use compare::model::table::{Hash, HASH, HASHES};
-use compare::tables::Rooms;
+use compare::tables::{Rooms, ANSWERS};
 
 /// Good tables of every shape and size: their rows, heads and rows beyond lists
 /// of none, all, one, the heads, unknown and repeated hashes.
@@ -25,7 +25,7 @@ fn tables_of_all_shapes_and_sizes() {
             };
             let calls: Vec<_> = calls.into_iter().map(|call| (call, rooms)).collect();
             let tally = agree(&calls);
-            let refused: u64 = (1..12).map(|word| tally.of(CHECK_TABLE, word)).sum();
+            let refused: u64 = (1..ANSWERS).map(|word| tally.of(CHECK_TABLE, word)).sum();
             assert_eq!(refused, 0, "{count} rows, {shape:?}");
         }
     }

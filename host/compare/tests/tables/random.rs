@@ -1,25 +1,28 @@
-//! Random tables and lists, good and damaged, through all five calls.
+//! Random tables and lists, good and damaged, through all seven calls.
 
 use crate::{
-    beyond, check, check_tables, heads, missing, with_record, Bytes, BEYOND, CHECK_TABLE,
-    CHECK_TABLES, HEADS, MISSING,
+    beyond, build_index, check, check_tables, extend_index, heads, missing, with_record, Bytes,
+    BEYOND, BUILD_INDEX, CHECK_TABLE, CHECK_TABLES, EXTEND_INDEX, HEADS, MISSING,
 };
 use compare::inputs::table::{
     row_faults, table_bytes, waiting_bytes, waiting_faults, LIKENESSES, SHAPES,
 };
 use compare::inputs::{Random, Seed};
 use compare::model::table::HASH;
-use compare::tables::{compare, Rooms, Tally, NAMES};
+use compare::tables::{but_the_last, compare, Call, Rooms, Tally, NAMES};
 
 /// What the random tests lend.
 struct Lent {
     table: Bytes,
+    index: Bytes,
+    /// Of the rows but the last.
+    shorter: Bytes,
     waiting: Bytes,
     hashes: Bytes,
     before: usize,
 }
 
-/// Tables and a list over a few hashes, so that they meet; each now and then
+/// Tables, indexes and a list over a few hashes, so that they meet; each now and then
 /// damaged.
 fn lent(random: &mut Random, most: usize) -> Lent {
     let (held, waits, unknown) = (random.below(most), random.below(8), random.below(8));
@@ -34,6 +37,8 @@ fn lent(random: &mut Random, most: usize) -> Lent {
     let waiting = random.waiting_rows(&all[held..held + waits], &all);
     let mut lent = Lent {
         table: table_bytes(&rows),
+        index: Vec::new(),
+        shorter: Vec::new(),
         waiting: waiting_bytes(&waiting),
         hashes: Vec::new(),
         before: random.below(held + 2),
@@ -60,6 +65,8 @@ fn lent(random: &mut Random, most: usize) -> Lent {
             random.damage(bytes);
         }
     }
+    lent.index = random.index(&lent.table);
+    lent.shorter = random.index(but_the_last(&lent.table));
     lent
 }
 
@@ -73,16 +80,25 @@ fn compare_random(seed: Seed, rounds: usize, batch: usize, most: usize) -> Tally
             let (table, waiting, hashes) = (&one.table, &one.waiting, &one.hashes);
             calls.extend([
                 (check(table), Rooms::Enough),
-                (check_tables(table, waiting), Rooms::Enough),
+                (
+                    check_tables(table, waiting).beside(&one.index),
+                    Rooms::Enough,
+                ),
             ]);
             let writing = [
-                heads(table, one.before),
-                beyond(table, hashes),
-                missing(table, waiting, hashes),
+                heads(table, one.before).beside(&one.index),
+                beyond(table, hashes).beside(&one.index),
+                missing(table, waiting, hashes).beside(&one.index),
+                build_index(table),
+                extend_index(table).beside(&one.shorter),
             ];
             calls.extend(writing.map(|call| {
+                let item = match call {
+                    Call::BuildIndex { .. } | Call::ExtendIndex { .. } => 2,
+                    _ => HASH,
+                };
                 let rooms = match random.below(3) {
-                    0 => Rooms::One(random.below(HASH * most)),
+                    0 => Rooms::One(random.below(item * most)),
                     _ => Rooms::Enough,
                 };
                 (call, rooms)
@@ -96,16 +112,18 @@ fn compare_random(seed: Seed, rounds: usize, batch: usize, most: usize) -> Tally
     tally
 }
 
-/// Random small tables, good and damaged, through all five calls.
+/// Random small tables, good and damaged, through all seven calls.
 #[test]
 fn random_small_tables() {
     let tally = compare_random(Seed::fixed(), 20, 1_000, 12);
-    let seen: [(usize, &[usize]); 5] = [
+    let seen: [(usize, &[usize]); 7] = [
         (CHECK_TABLE, &[0, 6]),
-        (CHECK_TABLES, &[0, 6, 9]),
-        (HEADS, &[0, 6, 7, 11]),
-        (BEYOND, &[0, 1, 6, 7]),
-        (MISSING, &[0, 1, 6, 7, 9]),
+        (CHECK_TABLES, &[0, 6, 9, 12]),
+        (HEADS, &[0, 6, 7, 11, 12]),
+        (BEYOND, &[0, 1, 6, 7, 12]),
+        (MISSING, &[0, 1, 6, 7, 9, 12]),
+        (BUILD_INDEX, &[0, 6, 7]),
+        (EXTEND_INDEX, &[0, 6, 7, 12]),
     ];
     for (kind, words) in seen {
         for &word in words {

@@ -1,9 +1,10 @@
 //! Arguments that are wrong at once: the order of their refusals.
 
 use crate::{
-    answer, beyond, check, check_tables, diamond, heads, list, missing, waiting, with_record,
-    Bytes, First, ROOM,
+    answer, beyond, build_index, check, check_tables, diamond, extend_index, heads, list, missing,
+    waiting, with_record, Bytes, First, ROOM,
 };
+use compare::inputs::index::index_bytes;
 use compare::model::table::{HASH, HASHES, ROW, ROWS, WAITING_ROW, WAITING_ROWS};
 
 /// Something to lend, and the refusal that it brings, if any.
@@ -31,6 +32,20 @@ fn faulty_tables() -> [Faulty; 4] {
         (twice, Some([6, 2])),
         (good[..200].to_vec(), Some([6, 3])),
         (long, Some([4, 0])),
+    ]
+}
+
+/// The diamond's index, and some that don't fit it: two entries in each other's place,
+/// an entry that is no row, too short, odd, too long.
+fn faulty_indexes() -> [Faulty; 6] {
+    let bad = Some([12, 0]);
+    [
+        (index_bytes(&[0, 1, 2, 3]), None),
+        (index_bytes(&[0, 2, 1, 3]), bad),
+        (index_bytes(&[0, 1, 2, 4]), bad),
+        (index_bytes(&[0, 1, 2]), bad),
+        (index_bytes(&[0, 1, 2, 3])[..7].to_vec(), bad),
+        (index_bytes(&[3; ROWS + 1]), bad),
     ]
 }
 
@@ -65,52 +80,86 @@ fn faulty_lists() -> [(Faulty, u64); 7] {
     ]
 }
 
-/// Arguments of heads that are wrong at once: 4 or 6, then 11, then 7.
+/// Arguments of heads that are wrong at once: 4 or 6, then 12, 11 and 7.
 #[test]
 fn refusals_of_heads_in_their_order() {
     for (table, table_fault) in faulty_tables() {
         let expected = first(&[table_fault], [0, 4]);
         assert_eq!(answer(check(&table), 0), expected);
-        for (before, before_fault) in [(3, None), (5, Some([11, 0]))] {
-            for (room, short) in rooms_around(64) {
-                let expected = first(&[table_fault, before_fault, short], [0, 64]);
-                assert_eq!(answer(heads(&table, before), room), expected);
+        for (index, index_fault) in faulty_indexes() {
+            for (before, before_fault) in [(3, None), (5, Some([11, 0]))] {
+                for (room, short) in rooms_around(64) {
+                    let faults = [table_fault, index_fault, before_fault, short];
+                    let call = heads(&table, before).beside(&index);
+                    assert_eq!(answer(call, room), first(&faults, [0, 64]));
+                }
             }
         }
     }
 }
 
-/// Arguments of beyond that are wrong at once: 4 or 6, then the list's 4 or 1,
-/// then 7.
+/// Arguments of beyond that are wrong at once: 4 or 6, then 12, then the list's 4 or
+/// 1, then 7.
 #[test]
 fn refusals_of_beyond_in_their_order() {
     for (table, table_fault) in faulty_tables() {
-        for ((hashes, list_fault), _) in faulty_lists() {
-            for (room, short) in rooms_around(128) {
-                let expected = first(&[table_fault, list_fault, short], [0, 128]);
-                assert_eq!(answer(beyond(&table, &hashes), room), expected);
+        for (index, index_fault) in faulty_indexes() {
+            for ((hashes, list_fault), _) in faulty_lists() {
+                for (room, short) in rooms_around(128) {
+                    let faults = [table_fault, index_fault, list_fault, short];
+                    let call = beyond(&table, &hashes).beside(&index);
+                    assert_eq!(answer(call, room), first(&faults, [0, 128]));
+                }
             }
         }
     }
 }
 
-/// Arguments of missing that are wrong at once: 4 or 6, then 4 or 9, then the
-/// list's 4 or 1, then 4 for what is missing, then 7.
+/// Arguments of missing that are wrong at once: 4 or 6, then 12, then 4 or 9, then the
+/// list's 4 or 1, then 4 for what is missing, then 7. Of the indexes that don't
+/// fit, one has an entry that is no row and one is odd.
 #[test]
 fn refusals_of_missing_in_their_order() {
     for (table, table_fault) in faulty_tables() {
-        for (waiting, waiting_fault) in faulty_waitings() {
-            let expected = first(&[table_fault, waiting_fault], [0, 2]);
-            assert_eq!(answer(check_tables(&table, &waiting), 0), expected);
-            for ((hashes, list_fault), count) in faulty_lists() {
-                let many = (count > HASHES as u64).then_some([4, 0]);
-                let wanted = HASH as u64 * count;
-                for (room, short) in [(0, Some([7, wanted])), (ROOM, None)] {
-                    let faults = [table_fault, waiting_fault, list_fault, many, short];
-                    let expected = first(&faults, [0, wanted]);
-                    let call = missing(&table, &waiting, &hashes);
-                    assert_eq!(answer(call, room), expected);
+        for (index, index_fault) in faulty_indexes().into_iter().step_by(2) {
+            for (waiting, waiting_fault) in faulty_waitings() {
+                let expected = first(&[table_fault, index_fault, waiting_fault], [0, 2]);
+                let call = check_tables(&table, &waiting).beside(&index);
+                assert_eq!(answer(call, 0), expected);
+                for ((hashes, list_fault), count) in faulty_lists() {
+                    let many = (count > HASHES as u64).then_some([4, 0]);
+                    let wanted = HASH as u64 * count;
+                    for (room, short) in [(0, Some([7, wanted])), (ROOM, None)] {
+                        let before = [table_fault, index_fault, waiting_fault];
+                        let faults = [&before[..], &[list_fault, many, short]].concat();
+                        let call = missing(&table, &waiting, &hashes).beside(&index);
+                        assert_eq!(answer(call, room), first(&faults, [0, wanted]));
+                    }
                 }
+            }
+        }
+    }
+}
+
+/// Building refuses with 4 or 6, then 7; extending with 4 or 6, then 12, then 7.
+#[test]
+fn refusals_of_indexes_in_their_order() {
+    for (table, table_fault) in faulty_tables() {
+        for (room, short) in rooms_around(8) {
+            let expected = first(&[table_fault, short], [0, 8]);
+            assert_eq!(answer(build_index(&table), room), expected);
+            for (index, index_fault) in [
+                (index_bytes(&[0, 1, 2]), None),
+                (index_bytes(&[0, 2, 1]), Some([12, 0])),
+                (index_bytes(&[0, 1, 3]), Some([12, 0])),
+                (index_bytes(&[0, 1, 2, 3]), Some([12, 0])),
+                (index_bytes(&[0, 1]), Some([12, 0])),
+                (vec![0, 0, 1, 0, 2], Some([12, 0])),
+                (index_bytes(&[2; ROWS]), Some([12, 0])),
+            ] {
+                let expected = first(&[table_fault, index_fault, short], [0, 8]);
+                let call = extend_index(&table).beside(&index);
+                assert_eq!(answer(call, room), expected);
             }
         }
     }

@@ -2,6 +2,7 @@
 
 use super::{sixteen, sixteen_of, SPARE};
 use crate::guarded::{Fill, Guarded, FILLS};
+use crate::inputs::index::index_of;
 use crate::model::have::haves;
 use crate::model::plan::{self, Plan, Planned, ANSWER_WORDS, NOTHING};
 use crate::model::state::{Lists, WORDS};
@@ -16,6 +17,7 @@ use bisquetower::raw::{Batch, UNWRITTEN};
 pub struct Planning {
     pub session: Lent,
     pub table: Vec<u8>,
+    pub index: Vec<u8>,
     pub waiting: Vec<u8>,
     /// How long the buffers are, in the order in which their room is tested: heads,
     /// need, have, hash list, last-sent, sent.
@@ -23,10 +25,11 @@ pub struct Planning {
 }
 
 impl Planning {
-    /// With room to spare.
+    /// With the table's own index, and room to spare.
     pub fn new(session: Lent, table: Vec<u8>, waiting: Vec<u8>) -> Planning {
         let mut planning = Planning {
             session,
+            index: index_of(&table),
             table,
             waiting,
             rooms: [0; 6],
@@ -38,7 +41,8 @@ impl Planning {
     /// What the model plans, were there room for everything.
     pub fn model(&self) -> Result<Planned, Refused> {
         let Lent { words, .. } = &self.session;
-        plan::of_lent(words, &self.session.lists(), &self.table, &self.waiting)
+        let (table, index) = (&self.table, &self.index);
+        plan::of_lent(words, &self.session.lists(), table, index, &self.waiting)
     }
 
     /// How long the buffers have to be, those of the session for what they have too.
@@ -94,6 +98,7 @@ impl<'a> PlanCall<'a> {
         let Planning {
             session,
             table,
+            index,
             waiting,
             ..
         } = self.planning;
@@ -102,7 +107,7 @@ impl<'a> PlanCall<'a> {
             sent: self.buffers[5].left(),
             ..session.lists()
         };
-        let planned = plan::of_lent(&session.words, &lists, table, waiting);
+        let planned = plan::of_lent(&session.words, &lists, table, index, waiting);
         let [heads, need, have, list, last_sent, sent] =
             self.buffers.each_mut().map(Guarded::expected);
         let mut buffers = plan::Buffers {
@@ -120,6 +125,7 @@ impl<'a> PlanCall<'a> {
         let Planning {
             session,
             table,
+            index,
             waiting,
             ..
         } = self.planning;
@@ -134,6 +140,7 @@ impl<'a> PlanCall<'a> {
             &session.bytes,
             sent,
             table,
+            index,
             waiting,
             heads,
             need,

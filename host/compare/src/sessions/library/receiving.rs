@@ -2,6 +2,7 @@
 
 use super::{sixteen, sixteen_of, SPARE};
 use crate::guarded::{Fill, Guarded, FILLS};
+use crate::inputs::index::index_of;
 use crate::model::receive::{self, Received, Told};
 use crate::model::state::{Lists, WORDS};
 use crate::same_answer;
@@ -13,6 +14,7 @@ use bisquetower::raw::{Batch, UNWRITTEN};
 pub struct Receiving {
     pub session: Lent,
     pub table: Vec<u8>,
+    pub index: Vec<u8>,
     pub before: usize,
     pub message: Vec<u8>,
     /// 0 for a load that failed.
@@ -23,7 +25,7 @@ pub struct Receiving {
 }
 
 impl Receiving {
-    /// With room to spare.
+    /// With the table's own index, and room to spare.
     pub fn new(
         session: Lent,
         table: Vec<u8>,
@@ -33,6 +35,7 @@ impl Receiving {
     ) -> Self {
         let mut receiving = Receiving {
             session,
+            index: index_of(&table),
             table,
             before,
             message,
@@ -46,6 +49,7 @@ impl Receiving {
     fn told(&self) -> Told<'_> {
         Told {
             table: &self.table,
+            index: &self.index,
             before: self.before,
             message: &self.message,
             loaded: self.loaded != 0,
@@ -165,6 +169,7 @@ impl<'a> ReceiveCall<'a> {
             bytes,
             sent,
             &told.table,
+            &told.index,
             told.before,
             &told.message,
             told.loaded,
