@@ -17,7 +17,8 @@ pub use Rattle.session.proofs.PlanLaws.{
   own-filters,
 }
 pub use Rattle.session.proofs.ReceiveLaws.{
-  join-once,
+  joined-heads,
+  join-again,
   advance-ascends,
   shared-few,
   flagged-keeps,

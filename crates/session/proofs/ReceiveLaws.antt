@@ -21,7 +21,7 @@ use Rattle.rules.specs.declared.refusal.Refusal.{Refusal}
 use Rattle.rules.specs.declared.refusal.Refusal.the-variants.{PastSize, LoadFailed, BadRowsBefore}
 use Rattle.rules.proofs.Cases.{split, both}
 use Rattle.rules.proofs.KeepLaws.{keep-member, keep-most, keep-ascends, once-ascends}
-use Rattle.rules.proofs.OrderLaws.{ascend-ascends, ascend-members, member-append, member-none}
+use Rattle.rules.proofs.OrderLaws.{ascend-ascends, ascend-members, ascending-unique, member-append, member-none}
 use Rattle.state.specs.Session.{State}
 use Rattle.tables.specs.Table.{Row, held}
 use Rattle.session.specs.Plan.{empty}
@@ -47,6 +47,9 @@ use Rattle.session.specs.Receive.{
 
 -- ---- the shared heads
 
+or-among : (a b : Bool) → (a ≡ true → b ≡ true) → (a || b) ≡ b
+or-among a b f = split a (λ e. rw (e, f e)) (λ e. rw e)
+
 module _ (t : List Row) (theirHeads shared : List ℕ) where
   pub join-ascends : ascends (join t theirHeads shared) ≡ true
   unfolding join
@@ -61,6 +64,31 @@ module _ (t : List Row) (theirHeads shared : List ℕ) where
   join-members h =
       ascend-members h (keep (held t) theirHeads ++ shared)
       ∙ rw (member-append h (keep (held t) theirHeads) shared, keep-member (held t) theirHeads h)
+
+  -- What joined heads are: ascending, each hash once, and the members of both, all of them and no others.
+  pub record JoinedHeads (l : List ℕ) : Type 0 where
+    pub ascending : ascends l ≡ true
+    pub once : Once l
+    pub members : (h : ℕ) → member h l ≡ ((held t h && member h theirHeads) || member h shared)
+
+  pub joined-heads : JoinedHeads (join t theirHeads shared)
+  joined-heads = record { ascending = join-ascends; once = join-once; members = join-members }
+
+  -- no other list is that
+  pub joined-one : (l : List ℕ) → JoinedHeads l → l ≡ join t theirHeads shared
+  joined-one l j = ascending-unique l (join t theirHeads shared) (j .ascending) join-ascends (λ h. j .members h ∙ sym (join-members h))
+
+  -- heads that were shared already add nothing: however many are heard again, the list is no longer for them
+  pub join-again : ascends shared ≡ true → ((h : ℕ) → (held t h && member h theirHeads) ≡ true → member h shared ≡ true)
+      → join t theirHeads shared ≡ shared
+  join-again a among =
+      sym
+      (joined-one shared
+      (record {
+        ascending = a;
+        once = once-ascends shared a;
+        members = λ h. sym (or-among (held t h && member h theirHeads) (member h shared) (among h));
+      }))
 
 module _ (headsBefore headsNow shared : List ℕ) where
   pub advance-ascends : ascends (advance headsBefore headsNow shared) ≡ true
