@@ -2,8 +2,9 @@
 //! the intended differences are left out.
 //!
 //! Those of wire items are bytes (`wire`), for the proved program crates/replay, which
-//! has them as its standard input. Those of messages, saved states, hashes to send,
-//! filters and steps of a session are text, a file of host/compare/samples for each:
+//! has them as its standard input. Those of messages, saved states (and those with
+//! repeats), hashes to send, filters and steps of a session are text, a file of
+//! host/compare/samples for each:
 //!
 //! ```text
 //!   # 60 records: what the columns are
@@ -17,6 +18,7 @@
 
 pub mod filters;
 pub mod messages;
+pub mod repeats;
 pub mod selections;
 pub mod sessions;
 pub mod states;
@@ -68,7 +70,7 @@ pub fn path(name: &str) -> PathBuf {
     root.join(name)
 }
 
-pub fn files() -> [File; 6] {
+pub fn files() -> [File; 7] {
     let records = wire::sample();
     let wire = File {
         name: wire::FILE,
@@ -82,6 +84,7 @@ pub fn files() -> [File; 6] {
         file::<selections::Record>(),
         file::<filters::Record>(),
         file::<sessions::Record>(),
+        file::<repeats::Record>(),
     ]
 }
 

@@ -5,6 +5,8 @@
 mod filters;
 #[path = "samples/messages.rs"]
 mod messages;
+#[path = "samples/repeats.rs"]
+mod repeats;
 #[path = "samples/selections.rs"]
 mod selections;
 #[path = "samples/sessions.rs"]

@@ -1,11 +1,12 @@
 //! Refusals of receiving, each alone and two at a time: the earlier one is given.
 
 use crate::{hashes, receiving, table};
+use compare::guarded::FILLS;
 use compare::inputs::message::Draft;
 use compare::model::session::Value;
 use compare::model::state::READ_ONLY;
 use compare::model::table::{HASHES, ROW, ROWS};
-use compare::sessions::library::{receive_answer, Receiving};
+use compare::sessions::library::{compare_receipts, receive_answer, Receiving};
 
 /// What goes wrong, and the refusal that it is.
 type Fault = (&'static str, fn(&mut Receiving), (u64, u64));
@@ -106,6 +107,40 @@ fn too_many_joined_heads() {
     assert_eq!(receive_answer(&loads), [0; 4]);
     loads.session.words[9 + READ_ONLY] = 1;
     refused(&loads, "read-only", (4, 0));
+}
+
+/// The limit counts joined heads once each: as many as a list may have, heard again; the
+/// same with repeats among the old ones; and one more.
+#[test]
+fn repeats_are_not_counted() {
+    let most = HASHES as u16;
+    let rows: Vec<(u16, &[usize])> = (1..=most).map(|n| (n, &[][..])).collect();
+    let rows = table(&rows);
+    // A list is full: all heads but the last are held, or all of them.
+    let unknown: Vec<u16> = (2..=most).chain([5_000]).collect();
+    let held: Vec<u16> = (1..=most).rev().collect();
+    let hear = |old: Vec<u16>, heads: &[u16]| {
+        let session = Value {
+            shared: hashes(old),
+            ..Value::default()
+        };
+        let heard = Draft {
+            heads: hashes(heads.iter().copied()),
+            ..Draft::new()
+        };
+        let one = receiving(&session, &rows, &heard);
+        let left = compare_receipts(&[one], &FILLS).unwrap_or_else(|why| panic!("{why}"));
+        let shared = left[0].session.value().expect("a good session").shared;
+        (left[0].answer, shared)
+    };
+    let all = hashes(1..=most);
+    assert_eq!(hear((1..=most).collect(), &unknown), ([0; 4], all.clone()));
+    assert_eq!(hear(vec![1; HASHES], &unknown), ([0; 4], all));
+    let as_heard = hashes(held.iter().copied());
+    assert_eq!(hear((1..=most).collect(), &held), ([0; 4], as_heard));
+    let one_more = [vec![1; HASHES - 1], vec![6_000]].concat();
+    let left = hashes(one_more.iter().copied());
+    assert_eq!(hear(one_more, &unknown), ([4, 0, 0, 0], left));
 }
 
 /// What is wrong in a message, at its place, whatever loading came to.
