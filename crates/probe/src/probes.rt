@@ -22,12 +22,14 @@ pub fn u32_at(bytes: &[u8], at: usize) -> u32
         + 256 * (byte(bytes, at + 1) + 256 * (byte(bytes, at + 2) + 256 * byte(bytes, at + 3)))
 }
 
-// One step of a probe: both numbers are below m, so the sum is less than twice m.
+// One step of a probe. Both numbers are below m, so the sum is less than twice m, and taking m off at most once leaves its remainder: no
+// division.
 pub fn step(a: u32, b: u32, m: u32) -> u32
     requires { ⌜ (a < m) × (b < m) × (m ≤ 8 * sizes .field) ⌝ }
     ensures { λ r. ⌜ (r ≡ (a + b) % m) × (r < m) ⌝ }
 {
-    (a + b) % m
+    let sum = a + b;
+    if sum < m { sum } else { sum - m }
 }
 
 // The two numbers that move from probe to probe; x is the probe.
