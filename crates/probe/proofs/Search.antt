@@ -25,10 +25,6 @@ use Rattle.bloom.proofs.Rules.{ruled}
 -- ---- probes
 
 module _ (field : List ℕ) (m x y z : ℕ) where
-  -- before the first probe all of them decide
-  pub probes-start : (k rounds : ℕ) → k ≡ 0 → noneClear field (probesFrom (rounds - k) m x y z) ≡ noneClear field (probesFrom rounds m x y z)
-  probes-start k rounds e = let all : rounds - k ≡ rounds = omega arith in rw all
-
   -- the probe is clear: the filter misses
   pub probe-clear : (left : ℕ) → 0 < left → clearAt field x ≡ true → noneClear field (probesFrom left m x y z) ≡ false
   unfolding noneClear probesFrom

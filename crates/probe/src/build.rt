@@ -11,12 +11,13 @@ use rules::refusal::Refusal;
 use rules::sizes::HASH_SIZE;
 ghost use mathlib.Core.Bool.{true};
 ghost use mathlib.Core.Path.{_≡_};
-ghost use Prim.Native.Nat.{_+_, _*_, _≤_, _<_};
+ghost use Prim.Native.Nat.{_+_, _*_, _%_, _≤_, _<_};
 ghost use lib.ListN.{length, replicate};
 ghost use lib.Seq.{sets};
-ghost use Rattle.probe.specs.Build.{setBit, addHash, addHashes, filterOf, buildOutput};
+ghost use Rattle.probe.specs.Build.{setBit, setBits, addHashes, filterOf, buildOutput};
+ghost use Rattle.probe.specs.Probes.{u32At, probesFrom};
 ghost use Rattle.bloom.specs.Filter.{fieldSize, filterRules};
-ghost use Rattle.rules.specs.Hash.{hashAt, hashesAt};
+ghost use Rattle.rules.specs.Hash.{hashesAt};
 ghost use Rattle.rules.specs.Output.{Written, Output};
 ghost use Rattle.rules.specs.Sizes.{sizes};
 
@@ -31,17 +32,45 @@ pub fn set_bit(field: &mut [u8], probe: usize)
     }
 }
 
-// Adds the hash at a place to a field.
-pub fn add_hash(field: &mut [u8], probes: u64, hashes: &[u8], at: usize)
-    requires { ⌜ (0 < length (now field)) × (length (now field) ≤ sizes .field) × (at + sizes .hash ≤ length (now hashes)) ⌝ }
-    ensures { λ _. ⌜ now (field .exit) ≡ addHash probes (now (field .entry)) (hashAt (now (hashes .entry)) at) ⌝ }
+// Where the probes of a hash start, and by what they are stepped: its first three words, reduced by the field's bits.
+struct Start {
+    x: u32,
+    y: u32,
+    z: u32,
+}
+
+// The start of the hash at a place.
+fn start_of(hashes: &[u8], at: usize, m: u32) -> Start
+    requires { ⌜ (at + sizes .hash ≤ length (now hashes)) × (0 < m) ⌝ }
+    ensures { λ r. ⌜ r ≡ record { x = u32At (now (hashes .entry)) at % m; y = u32At (now (hashes .entry)) (at + 4) % m; z = u32At (now (hashes .entry)) (at + 8) % m } ⌝ }
 {
-    let m = 8 * field.len() as u32;
     let x = u32_at(hashes, at) % m;
     let y = u32_at(hashes, at + 4) % m;
     let z = u32_at(hashes, at + 8) % m;
-    let mut probe = Probe { x, y };
-    let rounds = count(probes);
+    Start { x, y, z }
+}
+
+// The start of hash i of a list of n; past its end nothing is claimed of it.
+fn start_in(hashes: &[u8], i: usize, n: usize, m: u32) -> Start
+    requires { ⌜ (sizes .hash * n ≤ length (now hashes)) × (n ≤ m) ⌝ }
+    ensures { λ r. ⌜ (i < n → r ≡ record { x = u32At (now (hashes .entry)) (sizes .hash * i) % m; y = u32At (now (hashes .entry)) (sizes .hash * i + 4) % m; z = u32At (now (hashes .entry)) (sizes .hash * i + 8) % m }) ⌝ }
+{
+    if i < n {
+        return start_of(hashes, HASH_SIZE * i, m);
+    }
+    Start { x: 0, y: 0, z: 0 }
+}
+
+// Sets the bits of the probes from a start.
+fn set_probes(field: &mut [u8], rounds: u64, start: Start, m: u32)
+    requires { ⌜ (start .x < m) × (start .y < m) × (start .z < m) × (m ≤ 8 * sizes .field) ⌝ }
+    ensures { λ _. ⌜ now (field .exit) ≡ setBits (now (field .entry)) (probesFrom rounds m (start .x) (start .y) (start .z)) ⌝ }
+{
+    let z = start.z;
+    let mut probe = Probe {
+        x: start.x,
+        y: start.y,
+    };
     let mut k: u64 = 0;
     while k < rounds {
         set_bit(field, probe.x as usize);
@@ -61,15 +90,21 @@ fn clear(field: &mut [u8])
     }
 }
 
-// Adds every hash of a list that is lent as bytes.
+// Adds every hash of a list that is lent as bytes. The start of a hash is reduced before the bits of the one before it are set, so that the
+// processor divides while it sets them.
 fn add_hashes(field: &mut [u8], probes: u64, hashes: &[u8], n: usize)
     requires { ⌜ (n ≤ 8 * length (now field)) × (length (now field) ≤ sizes .field) × (sizes .hash * n ≤ length (now hashes)) ⌝ }
     ensures { λ _. ⌜ now (field .exit) ≡ addHashes probes (now (field .entry)) (hashesAt (now (hashes .entry)) 0 n) ⌝ }
 {
+    let m = 8 * field.len() as u32;
+    let rounds = count(probes);
+    let mut next = start_in(hashes, 0, n, m);
     let mut i = 0;
     while i < n {
-        add_hash(field, probes, hashes, HASH_SIZE * i);
+        let start = next;
         i += 1;
+        next = start_in(hashes, i, n, m);
+        set_probes(field, rounds, start, m);
     }
 }
 

@@ -28,7 +28,8 @@ pub fn clear_bit(field: &[u8], probe: usize) -> bool
 }
 
 // Whether some have's filter contains the hash at a place. One clear bit ends that filter, and the search goes on with the next; a run of
-// probes without one leaves it as contained.
+// probes without one leaves it as contained. Half of the hashes that a filter misses end at their first probe, so what only later ones need
+// is reduced behind it.
 pub fn contains_hash(bytes: &[u8], haves: &[u64], hashes: &[u8], at: usize) -> bool
     requires { ⌜ GoodFilters (now bytes) (now haves) × (at + sizes .hash ≤ length (now hashes)) ⌝ }
     ensures { λ r. ⌜ r ≡ anyContains (filtersOf (now (bytes .entry)) (now (haves .entry))) (hashAt (now (hashes .entry)) at) ⌝ }
@@ -49,16 +50,19 @@ pub fn contains_hash(bytes: &[u8], haves: &[u64], hashes: &[u8], at: usize) -> b
         let field = &bytes[place..place + size];
         let m = 8 * size as u32;
         let x = first % m;
+        if clear_bit(field, x as usize) {
+            continue 'next_filter;
+        }
         let y = second % m;
         let z = third % m;
         let mut probe = Probe { x, y };
         let rounds = count(f.probes);
-        let mut k: u64 = 0;
+        let mut k: u64 = 1;
         while k < rounds {
+            probe = probe.next(z, m);
             if clear_bit(field, probe.x as usize) {
                 continue 'next_filter;
             }
-            probe = probe.next(z, m);
             k += 1;
         }
         return true;

@@ -1,29 +1,37 @@
 -- `probe::build::add_hashes` meets its contract: adding the hashes that are left to the field as it is gives what adding all of them to the
--- field as it was gives. Assumes nothing.
-use Prim.Native.Nat.{ℕ, suc, _+_, _-_, _*_, _≤_, _<_}
+-- field as it was gives, and the start that is held is that of the first of them. Assumes nothing.
+use Prim.Native.Nat.{ℕ, suc, _+_, _-_, _*_, _%_, _≤_, _<_, max}
 use mathlib.Core.List.{List}
-use mathlib.Core.Path.{_≡_, refl, ap, _∙_}
-use native.Mathlib.Nat.{sub-zero}
+use mathlib.Core.Path.{_≡_, refl, sym, ap, _∙_}
+use native.Mathlib.Nat.{sub-zero, mod-lt}
 use native.Mathlib.Omega.{arith}
 use borrow.Author.Needs.{needs}
 use lib.ListN.{length}
-use Rattle.rules.specs.Hash.{hashAt, hashesAt}
+use Rattle.rules.specs.Hash.{Bytes, hashAt, hashesAt}
 use Rattle.rules.specs.Sizes.{sizes}
-use Rattle.probe.specs.Build.{addHash, addHashes}
+use Rattle.probe.specs.Build.{setBits, addHash, addHashes}
+use Rattle.probe.specs.Probes.{u32At, probesFrom}
+use Rattle.probe.specs.declared.build.Start.{Start}
 use Rattle.probe.proofs.FieldLaws.{length-add-hash}
+use Rattle.probe.proofs.ProbeLaws.{probes-at}
 use Rattle.probe.proofs.build.add_hashes.Statement.{statement}
 use Rattle.probe.proofs.build.add_hashes.Tie as tie
 
+-- the start of the hash at a place
+abbrev startAt : List ℕ → ℕ → ℕ → Start
+startAt s at m = record { x = u32At s at % m; y = u32At s (at + 4) % m; z = u32At s (at + 8) % m }
+
 abbrev Inv-loop : tie.InvT-loop
-Inv-loop field₀ probes hashes n i₀ field i =
+Inv-loop field₀ probes hashes n m rounds next₀ i₀ field next i =
     record {
       upto : i ≤ n;
       long : length field ≡ length field₀;
+      starts : i < n → next ≡ startAt hashes (sizes .hash * i) m;
       rest : addHashes probes field (hashesAt hashes (sizes .hash * i) (n - i)) ≡ addHashes probes field₀ (hashesAt hashes 0 n);
     }
 
 abbrev μ-loop : tie.MeasureT-loop
-μ-loop field₀ probes hashes n i₀ field i = n - i
+μ-loop field₀ probes hashes n m rounds next₀ i₀ field next i = n - i
 
 -- one hash more
 added-more : (p : ℕ) (field next s : List ℕ) (n i : ℕ) → i < n
@@ -40,30 +48,80 @@ added-all : (p : ℕ) (field s : List ℕ) (n i : ℕ) → n ≤ i → field ≡
 unfolding addHashes hashesAt
 added-all p field s n i h = let left : n - i ≡ 0 = omega arith in rw left
 
+-- the numbers of a start are remainders
+starts-below : (s : List ℕ) (at m : ℕ) (start : Start) → 0 < m → start ≡ startAt s at m → (start .x < m) × (start .y < m) × (start .z < m)
+starts-below s at m start h e = rw e (mod-lt _ h, mod-lt _ h, mod-lt _ h)
+
+-- the bits of the probes from a hash's start are what adding the hash sets
+of-start : (field next : List ℕ) (p : ℕ) (s : List ℕ) (at m rounds : ℕ) (start : Start) → Bytes s → at + sizes .hash ≤ length s
+    → m ≡ 8 * length field → rounds ≡ max 1 p → start ≡ startAt s at m
+    → next ≡ setBits field (probesFrom rounds m (start .x) (start .y) (start .z)) → next ≡ addHash p field (hashAt s at)
+unfolding addHash
+of-start field next p s at m rounds start bytes h em er es e =
+    e ∙ rw (es, er, em) (sym (ap (setBits field) (probes-at (8 * length field) p s at bytes h)))
+
+-- setting the bits from the start that is held adds the hash
+held-added : (t : tie.In-loop Inv-loop μ-loop) (next : List ℕ)
+    → let l = t .before in
+    let a = l .before .before .before .before .before .args in
+    let start = l .loop .next in
+    next ≡ setBits (l .loop .field) (probesFrom (l .before .before .count .result) (8 * length (a .field .now)) (start .x) (start .y) (start .z))
+    → next ≡ addHash (a .probes) (l .loop .field) (hashAt (a .hashes .now) (sizes .hash * l .loop .i))
+held-added t next e =
+    let l = t .before in
+    let known = l .before .before .before in
+    of-start _ _ _ _ _ _ _ _
+    (λ i. known .shared-slice-known .given i .fits)
+    (omega (arith, known .before .before .pre .2, t .loop-test .taken))
+    (ap (λ (n : ℕ). 8 * n) (sym (l .loop .inv .long)))
+    (l .before .before .count .ensures)
+    (l .loop .inv .starts (t .loop-test .taken))
+    e
+
+cast-m : tie.Need-cast-m Inv-loop μ-loop
+cast-m c = search needs
+
+mul-m : tie.Need-mul-m Inv-loop μ-loop
+mul-m c = search needs
+
+count-requires : tie.Need-count-requires Inv-loop μ-loop
+count-requires c κs = search needs
+
+start-in-requires : tie.Need-start-in-requires Inv-loop μ-loop
+start-in-requires c κs = search needs
+
 loop-holds : tie.Need-loop-holds Inv-loop μ-loop
-loop-holds c = record { upto = omega arith; long = refl; rest = rw sub-zero }
-
-mul-add-hash : tie.Need-mul-add-hash Inv-loop μ-loop
-mul-add-hash c = search needs
-
-add-hash-requires : tie.Need-add-hash-requires Inv-loop μ-loop
-add-hash-requires c κs = search needs
+loop-holds c = record { upto = omega arith; long = refl; starts = c .start-in .ensures; rest = rw sub-zero }
 
 add-i : tie.Need-add-i Inv-loop μ-loop
 add-i c = search needs
+
+start-in-requires-2 : tie.Need-start-in-requires-2 Inv-loop μ-loop
+start-in-requires-2 c κs = search needs
+
+set-probes-requires : tie.Need-set-probes-requires Inv-loop μ-loop
+set-probes-requires c κs =
+    let t = c .before .before in
+    let l = t .before in
+    let p = l .before .before .before .before .before .pre in
+    let b = starts-below _ _ _ _ (omega (arith, p .0, t .loop-test .taken)) (l .loop .inv .starts (t .loop-test .taken)) in
+    (b .0, b .1, b .2, omega (arith, p .1))
 
 loop-less : tie.Need-loop-less Inv-loop μ-loop
 loop-less c = search needs
 
 loop-again : tie.Need-loop-again Inv-loop μ-loop
 loop-again c =
-    let added = c .before .before .add-hash .ensures in
-    let t = c .before .before .before .before in
-    let l = t .before .loop in
+    let set = c .before .before in
+    let n = set .before .before in
+    let t = n .before in
+    let l = t .before in
+    let added = held-added t _ (set .set-probes .ensures) in
     record {
-      upto = omega arith;
-      long = ap length added ∙ length-add-hash _ _ _ ∙ l .inv .long;
-      rest = added-more _ _ _ _ _ _ (t .loop-test .taken) added ∙ l .inv .rest;
+      upto = omega (arith, t .loop-test .taken);
+      long = ap length added ∙ length-add-hash _ _ _ ∙ l .loop .inv .long;
+      starts = n .start-in2 .ensures;
+      rest = added-more _ _ _ _ _ _ (t .loop-test .taken) added ∙ l .loop .inv .rest;
     }
 
 same-length : tie.Need-same-length Inv-loop μ-loop
@@ -78,10 +136,14 @@ add-hashes-spec =
     (tie.spec
     Inv-loop
     μ-loop
+    cast-m
+    mul-m
+    count-requires
+    start-in-requires
     loop-holds
-    mul-add-hash
-    add-hash-requires
     add-i
+    start-in-requires-2
+    set-probes-requires
     loop-less
     loop-again
     same-length

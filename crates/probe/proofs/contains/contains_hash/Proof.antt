@@ -1,5 +1,5 @@
 -- `probe::contains::contains_hash` meets its contract: the filters from record i on decide what all of them do, and in a filter the probes
--- that are left decide what all of them do (Search). A good filter's field isn't empty and stands inside the lent bytes, so each probe does.
+-- behind one that isn't clear decide what all of them do (Search). A good filter's field isn't empty and stands inside the lent bytes, so each probe does.
 -- Assumes nothing.
 use Prim.Native.Nat.{ℕ, _+_, _-_, _*_, _%_, _≤_, _<_, max}
 use borrow.Author.Needs.{needs}
@@ -14,7 +14,6 @@ use Rattle.probe.specs.Contains.{noneClear, contains, anyContains}
 use Rattle.probe.specs.Probes.{probesFrom}
 use Rattle.bloom.specs.Have.{filterWith, filtersOf}
 use Rattle.probe.proofs.Search.{
-  probes-start,
   probe-clear,
   probe-on,
   probes-done,
@@ -37,7 +36,9 @@ Inv-loop bytes haves hashes at first second third total i place size field m x y
       xs : probe .x < m;
       ys : probe .y < m;
       upto : k ≤ rounds;
-      rest : noneClear field (probesFrom (rounds - k) m (probe .x) (probe .y) z) ≡ noneClear field (probesFrom rounds m x y z);
+      rest :
+          noneClear field (probesFrom (rounds - k) m ((probe .x + probe .y) % m) ((probe .y + z) % m) z)
+          ≡ noneClear field (probesFrom rounds m x y z);
     }
 
 abbrev μ-loop : tie.MeasureT-loop
@@ -63,9 +64,30 @@ good c =
     let start = e .before .before .before .before .before .before .before .before .before in
     probed _ _ (rw (e .filter-in .ensures) (start .pre .0 .each (e .before .before .next-filter .i) (e .before .next-filter-test .taken))) (c .if1 .left)
 
--- the filter's own probes, in the loop's terms
-decides : (c : tie.After-count Inv-loop μ-loop Inv-next-filter μ-next-filter)
-    → let e = c .before .before .before .before in
+-- the filter's own probes, in the code's terms
+decides : (c : tie.After-field Inv-loop μ-loop Inv-next-filter μ-next-filter)
+    → let e = c .before .before .before in
+    let w = e .before .before .before in
+    let a = w .before .before .before .before .before .before .args in
+    let f = e .filter-in .result in
+    let m = 8 * f .size in
+    contains (filterWith (now (a .bytes)) f) (hashAt (now (a .hashes)) (a .at))
+    ≡ noneClear
+    (take (f .place + f .size - f .place) (drop (f .place) (now (a .bytes))))
+    (probesFrom (max 1 (f .probes)) m (w .before .before .u32-at .result % m) (w .before .u32-at2 .result % m) (w .u32-at3 .result % m))
+decides c =
+    let w = c .before .before .before .before .before .before in
+    let known = w .before .before .before in
+    rw (w .before .before .u32-at .ensures, w .before .u32-at2 .ensures, w .u32-at3 .ensures)
+    (probes-decide _ _ _ _
+    (good (c .before))
+    (c .before .if1 .left)
+    (λ i. known .shared-slice-known3 .given i .fits)
+    (known .before .before .before .pre .1))
+
+-- the same once they are counted
+counted : (c : tie.After-count Inv-loop μ-loop Inv-next-filter μ-next-filter)
+    → let e = c .before .before .before .before .before .before in
     let w = e .before .before .before in
     let a = w .before .before .before .before .before .before .args in
     let f = e .filter-in .result in
@@ -74,21 +96,12 @@ decides : (c : tie.After-count Inv-loop μ-loop Inv-next-filter μ-next-filter)
     ≡ noneClear
     (take (f .place + f .size - f .place) (drop (f .place) (now (a .bytes))))
     (probesFrom (c .count .result) m (w .before .before .u32-at .result % m) (w .before .u32-at2 .result % m) (w .u32-at3 .result % m))
-decides c =
-    let e = c .before .before .before .before in
-    let w = e .before .before .before in
-    let known = w .before .before .before in
-    rw (c .count .ensures, w .before .before .u32-at .ensures, w .before .u32-at2 .ensures, w .u32-at3 .ensures)
-    (probes-decide _ _ _ _
-    (good (c .before .before))
-    (c .before .before .if1 .left)
-    (λ i. known .shared-slice-known3 .given i .fits)
-    (known .before .before .before .pre .1))
+counted c = rw (c .count .ensures) (decides (c .before .before .before))
 
 -- each probe is a remainder by the field's bits, of which there are some
-inside : (c : tie.After-count Inv-loop μ-loop Inv-next-filter μ-next-filter) (n : ℕ)
-    → let m = 8 * c .before .before .before .before .filter-in .result .size in n % m < m
-inside c n = let p = good (c .before .before) in mod-lt n (omega arith)
+inside : (c : tie.After-field Inv-loop μ-loop Inv-next-filter μ-next-filter) (n : ℕ)
+    → let m = 8 * c .before .before .before .filter-in .result .size in n % m < m
+inside c n = let p = good (c .before) in mod-lt n (omega arith)
 
 u32-at-requires : tie.Need-u32-at-requires Inv-loop μ-loop Inv-next-filter μ-next-filter
 u32-at-requires c κs = omega (arith, c .before .before .before .pre .1)
@@ -152,20 +165,10 @@ mul-m c = let p = good (c .before) in omega arith
 rem-x : tie.Need-rem-x Inv-loop μ-loop Inv-next-filter μ-next-filter
 rem-x c = let p = good (c .before) in omega arith
 
-rem-y : tie.Need-rem-y Inv-loop μ-loop Inv-next-filter μ-next-filter
-rem-y c = let p = good (c .before) in omega arith
-
-rem-z : tie.Need-rem-z Inv-loop μ-loop Inv-next-filter μ-next-filter
-rem-z c = let p = good (c .before) in omega arith
-
-count-requires : tie.Need-count-requires Inv-loop μ-loop Inv-next-filter μ-next-filter
-count-requires c κs = search needs
-
-loop-holds : tie.Need-loop-holds Inv-loop μ-loop Inv-next-filter μ-next-filter
-loop-holds c = record { xs = inside c _; ys = inside c _; upto = omega arith; rest = probes-start _ _ _ _ _ _ _ refl }
-
 cast-clear-bit : tie.Need-cast-clear-bit Inv-loop μ-loop Inv-next-filter μ-next-filter
-cast-clear-bit c = let p = good (c .before .before .before .before .before) in omega (arith, c .before .before .loop .inv .xs)
+cast-clear-bit c =
+    let p = good (c .before) in
+    omega (arith, inside c (c .before .before .before .before .before .before .before .before .u32-at .result))
 
 clear-bit-requires : tie.Need-clear-bit-requires Inv-loop μ-loop Inv-next-filter μ-next-filter
 clear-bit-requires c κs = search needs
@@ -175,10 +178,10 @@ next-filter-less-2 c = search needs
 
 next-filter-again-2 : tie.Need-next-filter-again-2 Inv-loop μ-loop Inv-next-filter μ-next-filter
 next-filter-again-2 c =
-    let l = c .before .before .before .before in
-    let e = l .before .before .before .before .before in
+    let f = c .before .before in
+    let e = f .before .before .before in
     let shut = sym (c .before .clear-bit .ensures) ∙ c .if2 .taken in
-    let misses = decides (l .before) ∙ sym (l .loop .inv .rest) ∙ probe-clear _ _ _ _ _ _ (omega (arith, c .before .before .before .loop-test .taken)) shut in
+    let misses = decides f ∙ probe-clear _ _ _ _ _ _ (omega arith) shut in
     record {
       upto = omega (arith, e .before .next-filter-test .taken);
       rest =
@@ -186,11 +189,63 @@ next-filter-again-2 c =
           ∙ e .before .before .next-filter .inv .rest;
     }
 
+rem-y : tie.Need-rem-y Inv-loop μ-loop Inv-next-filter μ-next-filter
+rem-y c = let p = good (c .before .before .before) in omega arith
+
+rem-z : tie.Need-rem-z Inv-loop μ-loop Inv-next-filter μ-next-filter
+rem-z c = let p = good (c .before .before .before) in omega arith
+
+count-requires : tie.Need-count-requires Inv-loop μ-loop Inv-next-filter μ-next-filter
+count-requires c κs = search needs
+
+loop-holds : tie.Need-loop-holds Inv-loop μ-loop Inv-next-filter μ-next-filter
+loop-holds c =
+    let f = c .before .before .before in
+    let open′ = sym (c .before .before .clear-bit .ensures) ∙ c .before .if2 .left in
+    record {
+      xs = inside f _;
+      ys = inside f _;
+      upto = omega (arith, c .count .ensures);
+      rest = sym (probe-on _ _ _ _ _ _ _ (omega (arith, c .count .ensures)) open′);
+    }
+
 next-requires : tie.Need-next-requires Inv-loop μ-loop Inv-next-filter μ-next-filter
 next-requires c κs =
-    let l = c .before .before .before .before in
-    let p = good (l .before .before .before) in
-    (l .loop .inv .xs, l .loop .inv .ys, inside (l .before) _, omega arith)
+    let l = c .before in
+    let f = l .before .before .before .before in
+    let p = good (f .before) in
+    (l .loop .inv .xs, l .loop .inv .ys, inside f _, omega arith)
+
+cast-clear-bit-2 : tie.Need-cast-clear-bit-2 Inv-loop μ-loop Inv-next-filter μ-next-filter
+cast-clear-bit-2 c =
+    let n = c .before in
+    let f = n .before .before .before .before .before .before in
+    let p = good (f .before) in
+    let x : n .next .result .x < 8 * f .before .before .before .filter-in .result .size = rw (n .next .ensures) (inside f _) in
+    omega arith
+
+clear-bit-requires-2 : tie.Need-clear-bit-requires-2 Inv-loop μ-loop Inv-next-filter μ-next-filter
+clear-bit-requires-2 c κs = search needs
+
+next-filter-less-3 : tie.Need-next-filter-less-3 Inv-loop μ-loop Inv-next-filter μ-next-filter
+next-filter-less-3 c = search needs
+
+next-filter-again-3 : tie.Need-next-filter-again-3 Inv-loop μ-loop Inv-next-filter μ-next-filter
+next-filter-again-3 c =
+    let n = c .before .before .before in
+    let l = n .before .before in
+    let e = l .before .before .before .before .before .before .before in
+    let shut = sym (c .before .clear-bit2 .ensures) ∙ c .if3 .taken in
+    let misses =
+    counted (l .before)
+    ∙ sym (l .loop .inv .rest)
+    ∙ probe-clear _ _ _ _ _ _ (omega (arith, n .before .loop-test .taken)) (rw (n .next .ensures) at shut) in
+    record {
+      upto = omega (arith, e .before .next-filter-test .taken);
+      rest =
+          sym (search-on _ _ _ _ _ _ (e .before .next-filter-test .taken) (e .filter-in .ensures) misses)
+          ∙ e .before .before .next-filter .inv .rest;
+    }
 
 add-k : tie.Need-add-k Inv-loop μ-loop Inv-next-filter μ-next-filter
 add-k c = search needs
@@ -200,22 +255,24 @@ loop-less c = search needs
 
 loop-again : tie.Need-loop-again Inv-loop μ-loop Inv-next-filter μ-next-filter
 loop-again c =
-    let l = c .before .before .before .before .before in
-    let open′ = sym (c .before .before .clear-bit .ensures) ∙ c .before .if2 .left in
+    let n = c .before .before .before in
+    let l = n .before .before in
+    let f = l .before .before .before .before in
+    let open′ = sym (c .before .clear-bit2 .ensures) ∙ c .if3 .left in
     record {
-      xs = rw (c .next .ensures) (inside (l .before) _);
-      ys = rw (c .next .ensures) (inside (l .before) _);
-      upto = omega (arith, c .before .before .before .before .loop-test .taken);
+      xs = rw (n .next .ensures) (inside f _);
+      ys = rw (n .next .ensures) (inside f _);
+      upto = omega (arith, n .before .loop-test .taken);
       rest =
-          rw (c .next .ensures)
-          (sym (probe-on _ _ _ _ _ _ _ (omega (arith, c .before .before .before .before .loop-test .taken)) open′) ∙ l .loop .inv .rest);
+          rw (n .next .ensures)
+          (sym (probe-on _ _ _ _ _ _ _ (omega (arith, n .before .loop-test .taken)) (rw (n .next .ensures) at open′)) ∙ l .loop .inv .rest);
     }
 
 returns : tie.Need-returns Inv-loop μ-loop Inv-next-filter μ-next-filter
 returns c =
     let l = c .before in
-    let e = l .before .before .before .before .before in
-    let all = decides (l .before) ∙ sym (l .loop .inv .rest) ∙ probes-done _ _ _ _ _ _ (omega (arith, c .loop-test .left)) in
+    let e = l .before .before .before .before .before .before .before in
+    let all = counted (l .before) ∙ sym (l .loop .inv .rest) ∙ probes-done _ _ _ _ _ _ (omega (arith, c .loop-test .left)) in
     sym (search-found _ _ _ _ _ _ (e .before .next-filter-test .taken) (e .filter-in .ensures) all)
     ∙ e .before .before .next-filter .inv .rest
 
@@ -247,15 +304,19 @@ contains-hash-spec =
     cast-m
     mul-m
     rem-x
-    rem-y
-    rem-z
-    count-requires
-    loop-holds
     cast-clear-bit
     clear-bit-requires
     next-filter-less-2
     next-filter-again-2
+    rem-y
+    rem-z
+    count-requires
+    loop-holds
     next-requires
+    cast-clear-bit-2
+    clear-bit-requires-2
+    next-filter-less-3
+    next-filter-again-3
     add-k
     loop-less
     loop-again
