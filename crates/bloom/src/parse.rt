@@ -9,6 +9,7 @@ use rules::sizes::PROBES;
 use wire::parse::left;
 ghost use mathlib.Core.Path.{_≡_};
 ghost use Prim.Native.Nat.{_≤_};
+ghost use Rattle.bloom.specs.Ignored.{countedAt};
 ghost use Rattle.bloom.specs.Read.{filterAt, numbersAt, fieldAt};
 ghost use Rattle.numbers.specs.Number.{mostFilter};
 
@@ -123,4 +124,32 @@ pub fn parse(bytes: &[u8], at: usize, end: usize) -> Parsed
         };
     }
     parse_numbers(bytes, at, end)
+}
+
+// A filter that was read, the place where it ended, and how many bytes of its part stand behind that.
+pub enum Counted {
+    Filter {
+        filter: FilterNumbers,
+        next: usize,
+        ignored: usize,
+    },
+    Refused(Refusal),
+}
+
+// The filter at a place, and the number of bytes that are ignored: those behind its field.
+pub fn parse_counted(bytes: &[u8], at: usize, end: usize) -> Counted
+    ensures { λ r. ⌜ r ≡ countedAt (now (bytes .entry)) at end ⌝ }
+{
+    let parsed = parse(bytes, at, end);
+    match parsed {
+        Parsed::Filter { filter, next } => {
+            let ignored = left(bytes, next, end);
+            Counted::Filter {
+                filter,
+                next,
+                ignored,
+            }
+        }
+        Parsed::Refused(r) => Counted::Refused(r),
+    }
 }

@@ -1,4 +1,5 @@
 -- Laws that the crates above cite.
+pub mod IgnoredLaws
 pub mod Meaning
 pub mod Messages
 pub mod Promises

@@ -32,9 +32,10 @@ use Rattle.wire.specs.declared.parse.Prefixed.the-variants.{Part, Refused as No
 use Rattle.wire.specs.declared.parse.Run.{Run}
 use Rattle.wire.proofs.Item.{prefixed-inside, hash-list-inside}
 use Rattle.items.specs.Items.{chunkWords}
-use Rattle.decode.specs.Read.{read, refused, headsAt, openingAt, sectionAt, messageAt, DecodedInto}
+use Rattle.decode.specs.Read.{read, refused, headsAt, openingAt, sectionAt, messageAt}
+use Rattle.decode.specs.Ignored.{DecodedInto}
+use Rattle.decode.specs.declared.decode.Counted.{Counted}
 use Rattle.decode.specs.declared.opening.Opening.the-variants.{Heads, Refused as NotOpened}
-use Rattle.decode.specs.declared.parse.Decoded.{Decoded}
 use Rattle.decode.specs.declared.parse.Flagged.the-variants.{Section as Sectioned, Refused as NoSection}
 use Rattle.decode.specs.declared.parse.Places.{Places}
 use Rattle.items.proofs.ItemLaws.{haves-behind, chunks-behind}
@@ -56,12 +57,12 @@ use Rattle.decode.proofs.ReadLaws.{
 
 -- ---- one result
 
-pub decoded-once : (s haves₀ haves₁ haves₂ chunks₀ chunks₁ chunks₂ : List ℕ) (r₁ r₂ : Decoded)
-    → DecodedInto s haves₀ haves₁ chunks₀ chunks₁ r₁
-    → DecodedInto s haves₀ haves₂ chunks₀ chunks₂ r₂
-    → (r₁ ≡ r₂) × (haves₁ ≡ haves₂) × (chunks₁ ≡ chunks₂)
-decoded-once s haves₀ haves₁ haves₂ chunks₀ chunks₁ chunks₂ r₁ r₂ a b =
-    (a .answer ∙ sym (b .answer), a .haves ∙ sym (b .haves), a .chunks ∙ sym (b .chunks))
+pub decoded-once : (s haves₀ haves₁ haves₂ chunks₀ chunks₁ chunks₂ ignored₀ ignored₁ ignored₂ : List ℕ) (r₁ r₂ : Counted)
+    → DecodedInto s haves₀ haves₁ chunks₀ chunks₁ ignored₀ ignored₁ r₁
+    → DecodedInto s haves₀ haves₂ chunks₀ chunks₂ ignored₀ ignored₂ r₂
+    → (r₁ ≡ r₂) × (haves₁ ≡ haves₂) × (chunks₁ ≡ chunks₂) × (ignored₁ ≡ ignored₂)
+decoded-once s haves₀ haves₁ haves₂ chunks₀ chunks₁ chunks₂ ignored₀ ignored₁ ignored₂ r₁ r₂ a b =
+    (a .answer ∙ sym (b .answer), a .haves ∙ sym (b .haves), a .chunks ∙ sym (b .chunks), a .ignored ∙ sym (b .ignored))
 
 -- ---- the first refusals, in their order
 

@@ -1,7 +1,7 @@
 -- A message read: one law for each case of each stage; what stands behind a message that was read, stage by stage; and what the call leaves.
 use Prim.Native.Nat.{ℕ, _-_, _*_, _≤_, _<_}
 use mathlib.Core.List.{List}
-use mathlib.Core.Path.{_≡_, refl, sym, _∙_, ap, subst}
+use mathlib.Core.Path.{_≡_, refl, sym, _∙_, ap, ap₂, subst}
 use native.Mathlib.Omega.{arith}
 use borrow.Author.Tests.{lt-ltb, le-ltb, lt-leb, le-leb, eq-eqb, ne-eqb}
 use lib.ListN.{length, getD}
@@ -22,6 +22,7 @@ use Rattle.wire.specs.declared.parse.Listed.{Listed}
 use Rattle.wire.specs.declared.parse.Listed.the-variants.{Items, Refused as NotListed}
 use Rattle.wire.specs.declared.parse.Prefixed.the-variants.{Part, Refused as NoPart}
 use Rattle.wire.specs.declared.parse.Run.{Run}
+use Rattle.items.specs.Ignored.{CountedPut}
 use Rattle.items.specs.Items.{
   haveItem,
   chunkItem,
@@ -56,11 +57,12 @@ use Rattle.decode.specs.Read.{
   roomFor,
   havesInto,
   chunksInto,
-  DecodedInto,
 }
+use Rattle.decode.specs.Ignored.{ignoredOf, behindOf, countedOf, ignoredInto, DecodedInto}
+use Rattle.decode.specs.declared.decode.Counted.{Counted}
+use Rattle.decode.specs.declared.decode.Counted.the-variants.{Message as Counts, Refused as NotCounted}
 use Rattle.decode.specs.declared.opening.Opening.{Opening}
 use Rattle.decode.specs.declared.opening.Opening.the-variants.{Heads, Refused as NotOpened}
-use Rattle.decode.specs.declared.parse.Decoded.{Decoded}
 use Rattle.decode.specs.declared.parse.Decoded.the-variants.{Message as Placed, Refused}
 use Rattle.decode.specs.declared.parse.Flagged.{Flagged}
 use Rattle.decode.specs.declared.parse.Flagged.the-variants.{Section as Sectioned, Refused as NoSection}
@@ -299,15 +301,15 @@ not-placed (read q haves chunks) r e = absurd (let z : _≡_ {A = ℕ} 0 1 = cc 
 not-placed (refused q) r e = cc
 
 -- 7 with the words wanted
-abbrev short-of : ℕ → Decoded
-short-of n = Refused (NoRoom n)
+abbrev short-of : ℕ → Counted
+short-of n = NotCounted (NoRoom n)
 
-pub decode-refused : (s haves₀ chunks₀ : List ℕ) (r : Refusal) → decodedOf (messageAt s) ≡ Refused r
-    → DecodedInto s haves₀ haves₀ chunks₀ chunks₀ (Refused r)
-unfolding roomFor decodedOf havesInto chunksInto
-decode-refused s haves₀ chunks₀ r e =
+pub decode-refused : (s haves₀ chunks₀ ignored₀ : List ℕ) (r : Refusal) → decodedOf (messageAt s) ≡ Refused r
+    → DecodedInto s haves₀ haves₀ chunks₀ chunks₀ ignored₀ ignored₀ (NotCounted r)
+unfolding roomFor countedOf havesInto chunksInto ignoredInto
+decode-refused s haves₀ chunks₀ ignored₀ r e =
     let q = not-placed (messageAt s) r e in
-    record { answer = rw q; haves = rw q; chunks = rw q }
+    record { answer = rw q; haves = rw q; chunks = rw q; ignored = rw q }
 
 module _ (s : List ℕ) (p : Places) (is : decodedOf (messageAt s) ≡ Placed p) where
   words : record { haves : List ℕ; chunks : List ℕ; is : messageAt s ≡ read p haves chunks }
@@ -336,42 +338,58 @@ module _ (s : List ℕ) (p : Places) (is : decodedOf (messageAt s) ≡ Placed p)
   chunks-read room h =
       record { words = words .chunks; next = stages .atSection; is = chunk-words .each; fits = omega (arith, chunk-words .long) }
 
-  module _ (haves₀ chunks₀ : List ℕ) where
+  module _ (haves₀ chunks₀ ignored₀ : List ℕ) where
     pub haves-short : length haves₀ < haveWords * p .haves .count
-        → DecodedInto s haves₀ haves₀ chunks₀ chunks₀ (Refused (NoRoom (haveWords * p .haves .count)))
-    unfolding roomFor decodedOf havesInto chunksInto
+        → DecodedInto s haves₀ haves₀ chunks₀ chunks₀ ignored₀ ignored₀ (NotCounted (NoRoom (haveWords * p .haves .count)))
+    unfolding roomFor countedOf havesInto chunksInto ignoredInto
     haves-short h =
         let l = have-words .long in
         let short : length haves₀ < length (words .haves) = omega arith in
         let t = lt-ltb _ _ short in
-        record { answer = rw (words .is, t) (ap short-of (sym l)); haves = rw (words .is, t); chunks = rw (words .is, t) }
+        record {
+          answer = rw (words .is, t) (ap short-of (sym l));
+          haves = rw (words .is, t);
+          chunks = rw (words .is, t);
+          ignored = rw (words .is, t);
+        }
 
     module _ (room : haveWords * p .haves .count ≤ length haves₀) where
       pub chunks-short : length chunks₀ < chunkWords * p .chunks .count
-          → DecodedInto s haves₀ haves₀ chunks₀ chunks₀ (Refused (NoRoom (chunkWords * p .chunks .count)))
-      unfolding roomFor decodedOf havesInto chunksInto
+          → DecodedInto s haves₀ haves₀ chunks₀ chunks₀ ignored₀ ignored₀ (NotCounted (NoRoom (chunkWords * p .chunks .count)))
+      unfolding roomFor countedOf havesInto chunksInto ignoredInto
       chunks-short h =
           let l = chunk-words .long in
           let fits : length (words .haves) ≤ length haves₀ = omega (arith, have-words .long) in
           let short : length chunks₀ < length (words .chunks) = omega arith in
           let f = le-ltb _ _ fits in
           let t = lt-ltb _ _ short in
-          record { answer = rw (words .is, f, t) (ap short-of (sym l)); haves = rw (words .is, f, t); chunks = rw (words .is, f, t) }
+          record {
+            answer = rw (words .is, f, t) (ap short-of (sym l));
+            haves = rw (words .is, f, t);
+            chunks = rw (words .is, f, t);
+            ignored = rw (words .is, f, t);
+          }
 
       module _ (more : chunkWords * p .chunks .count ≤ length chunks₀) where
-        pub decoded : (haves₁ chunks₁ : List ℕ)
-            → haves₁ ≡ sets haves₀ 0 (wordsOf (manyAt (haveItem s) (p .haves .count) (p .haves .start)))
+        pub decoded : (haves₁ chunks₁ ignored₁ : List ℕ) (sum behind : ℕ)
+            → CountedPut s (p .haves .start) (p .haves .count) haves₀ haves₁ ignored₀ ignored₁ sum
             → chunks₁ ≡ sets chunks₀ 0 (wordsOf (manyAt (chunkItem s) (p .chunks .count) (p .chunks .start)))
-            → DecodedInto s haves₀ haves₁ chunks₀ chunks₁ (Placed p)
-        unfolding roomFor decodedOf havesInto chunksInto wordsOf afterItem
-        decoded haves₁ chunks₁ a b =
+            → behind ≡ behindOf s (p .flags) (p .next)
+            → DecodedInto s haves₀ haves₁ chunks₀ chunks₁ ignored₀ ignored₁ (Counts p sum behind)
+        unfolding roomFor countedOf havesInto chunksInto ignoredInto ignoredOf wordsOf afterItem
+        decoded haves₁ chunks₁ ignored₁ sum behind a b c =
             let fits : length (words .haves) ≤ length haves₀ = omega (arith, have-words .long) in
             let room : length (words .chunks) ≤ length chunks₀ = omega (arith, chunk-words .long) in
             let f = le-ltb _ _ fits in
             let g = le-ltb _ _ room in
-            let x : haves₁ ≡ sets haves₀ 0 (words .haves) = rw (have-words .each) at a in
+            let x : haves₁ ≡ sets haves₀ 0 (words .haves) = rw (have-words .each) at (a .words) in
             let y : chunks₁ ≡ sets chunks₀ 0 (words .chunks) = rw (chunk-words .each) at b in
-            record { answer = rw (words .is, f, g); haves = rw (words .is, f, g) x; chunks = rw (words .is, f, g) y }
+            record {
+              answer = rw (words .is, f, g) (ap₂ (λ (k l : ℕ). Counts p k l) (a .sum) c);
+              haves = rw (words .is, f, g) x;
+              chunks = rw (words .is, f, g) y;
+              ignored = rw (words .is, f, g) (a .numbers);
+            }
 
 -- The stages make the message.
 pub behind-read : (s : List ℕ) (p : Places) (haves chunks : List ℕ) → MessageBehind s p haves chunks → messageAt s ≡ read p haves chunks

@@ -1,4 +1,4 @@
--- Reading what was written gives the message back. 01, Wire: "Reading what was written gives the message back if its filters have n at least 1 or
+-- Reading what was written gives the message back, and ignores nothing. 01, Wire: "Reading what was written gives the message back if its filters have n at least 1 or
 -- are the default and its flags are below 80." Part after part is read where it was written.
 use Prim.Native.Nat.{ℕ, _+_, _-_, _%_, _≤_, _<_}
 use mathlib.Core.List.{List, [], _∷_, _++_}
@@ -18,13 +18,15 @@ use Rattle.message.specs.declared.version.MessageVersion.{MessageVersion}
 use Rattle.message.specs.declared.version.MessageVersion.the-variants.{V1, V2}
 use Rattle.rules.specs.Hash.{hashesAt}
 use Rattle.rules.specs.Sizes.{sizes}
-use Rattle.wire.specs.Item.{run, prefixedBytes, hashListBytes}
+use Rattle.wire.specs.Item.{run, leftAt, prefixedBytes, hashListBytes}
 use Rattle.numbers.specs.Number.{shortest}
 use Rattle.wire.specs.declared.parse.Run.{Run}
-use Rattle.wire.proofs.Item.{prefixed-inside, prefixed-written, hash-list-inside, hash-list-written}
+use Rattle.wire.proofs.Item.{left-is, prefixed-inside, prefixed-written, hash-list-inside, hash-list-written}
 use Rattle.numbers.proofs.Number.{shortest-one}
+use Rattle.items.specs.Ignored.{total}
 use Rattle.items.specs.Items.{chunksOf}
 use Rattle.items.proofs.RoundTrip.{onward, haves-written, chunks-written}
+use Rattle.decode.specs.Ignored.{ignoredOf, behindOf}
 use Rattle.decode.specs.Read.{read, headsAt, openingAt, sectionAt, messageAt, messageOf}
 use Rattle.decode.specs.declared.parse.Flagged.the-variants.{Section as Sectioned}
 use Rattle.decode.specs.declared.parse.Places.{Places}
@@ -39,18 +41,22 @@ pub record ReadBack (s : List ℕ) (m : Message) : Type 0 where
   pub chunks : List ℕ
   pub is : messageAt s ≡ read places haves chunks
   pub says : messageOf s places haves chunks ≡ m
+  -- 02, M-103: numbers of ignored bytes are zero after writing and reading
+  pub ignored : total (ignoredOf s places) ≡ 0
+  pub behind : behindOf s (places .flags) (places .next) ≡ 0
 
 -- ---- the flags section
 
 record SectionWritten (s : List ℕ) (at : ℕ) (flags : Section) : Type 0 where
   next : ℕ
   is : sectionAt s at ≡ Sectioned flags next
+  behind : behindOf s flags next ≡ 0
 
 section-written : (s : List ℕ) (at : ℕ) (flags : Section) → SaidFlags flags → slice at (length s) s ≡ sectionBytes flags → SectionWritten s at flags
-unfolding sectionBytes flagsIn addFlags prefixedBytes
+unfolding sectionBytes flagsIn addFlags prefixedBytes behindOf
 section-written s at Absent good same =
     let l : length s - at ≡ 0 = sym (length-slice at (length s) s (omega arith)) ∙ ap length same in
-    record { next = at; is = section-none s at (omega arith) }
+    record { next = at; is = section-none s at (omega arith); behind = refl }
 section-written s at (Present f) good same =
     let t : List ℕ = 0x02 ∷ (0x80 + f .0 % 0x80) ∷ [] in
     let form : slice at (length s) s ≡ prefixedBytes t ++ [] = rw (shortest-one 2 (omega arith)) same in
@@ -62,7 +68,10 @@ section-written s at (Present f) good same =
     let low : 0x80 + f .0 % 0x80 - 0x80 ≡ f .0 = omega arith in
     let said : flagsIn t ≡ f .0 = rw (le-ltb (0x80 + f .0 % 0x80) 0x80 high, or-zero-l (0x80 + f .0 % 0x80 - 0x80)) low in
     let whole : f ≡ flagsOf (flagsIn (slice start end s)) = ap flagsOf (sym (ap flagsIn (w .1) ∙ said)) in
-    record { next = end; is = section-read s at (omega (arith, inside)) start end f (w .0) whole }
+    let l : length s - at ≡ 3 = sym (length-slice at (length s) s (omega arith)) ∙ ap length same in
+    let long : length (prefixedBytes t) ≡ 3 = rw (shortest-one 2 (omega arith)) in
+    let none : leftAt s end (length s) ≡ 0 = omega (arith, left-is s end (length s)) in
+    record { next = end; is = section-read s at (omega (arith, inside)) start end f (w .0) whole; behind = none }
 
 -- ---- the whole message
 
@@ -86,7 +95,7 @@ same-message : (v : MessageVersion) (f : Section) (a₁ a₂ b₁ b₂ : List �
 same-message v f a₁ a₂ b₁ b₂ c₁ c₂ d₁ d₂ p q r t = rw (p, q, r, t)
 
 pub message-there-and-back : (s : List ℕ) (m : Message) → s ≡ messageBytes m → SoundMessage m → SaidMessage m → ReadBack s m
-unfolding messageBytes messageOf
+unfolding messageBytes messageOf ignoredOf
 message-there-and-back s m e sound said =
     let b5 : List ℕ = sectionBytes (m .flags) in
     let b4 : List ℕ = counted prefixedBytes (m .chunks) ++ b5 in
@@ -158,4 +167,6 @@ message-there-and-back s m e sound said =
           (n .1)
           (hv .says)
           (ch .says);
+      ignored = hv .nothing;
+      behind = sec .behind;
     }

@@ -3,7 +3,6 @@
 use Prim.Native.Nat.{ℕ}
 use mathlib.Core.Bool.{cond}
 use mathlib.Core.List.{List}
-use mathlib.Core.Path.{_≡_}
 use lib.Dec.{ltb, leb, eqb}
 use lib.ListN.{length, getD}
 use lib.Seq.{slice, sets}
@@ -119,14 +118,9 @@ unfoldable pub chunksInto : Reading → List ℕ → List ℕ
 chunksInto (read places haves chunks) before = sets before 0 chunks
 chunksInto (refused r) before = before
 
--- A message read into lent lists, and what the call leaves.
+-- A message read into lent lists.
 abbrev pub readWith : List ℕ → List ℕ → List ℕ → Reading
 readWith s haves chunks = roomFor (messageAt s) (length haves) (length chunks)
-
-pub record DecodedInto (s haves₀ haves₁ chunks₀ chunks₁ : List ℕ) (r : Decoded) : Type 0 where
-  pub answer : r ≡ decodedOf (readWith s haves₀ chunks₀)
-  pub haves : haves₁ ≡ havesInto (readWith s haves₀ chunks₀) haves₀
-  pub chunks : chunks₁ ≡ chunksInto (readWith s haves₀ chunks₀) chunks₀
 
 -- The message as a value, from its places and words.
 unfoldable pub messageOf : List ℕ → Places → List ℕ → List ℕ → Message

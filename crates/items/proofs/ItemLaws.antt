@@ -6,6 +6,7 @@ use mathlib.Core.Path.{_≡_, refl, sym, _∙_, ap}
 use native.Mathlib.Nat.{mul-suc}
 use native.Mathlib.Numerals.{add-one}
 use native.Mathlib.Omega.{arith}
+use denote.Enum.Declared.{tagOf, declared}
 use lib.ListN.{length, length-append}
 use lib.Seq.{sets, length-sets}
 use Rattle.bloom.specs.Read.{filterAt, afterFilter}
@@ -49,7 +50,9 @@ use Rattle.items.specs.Items.{
   wordsOf,
   AllRead,
 }
+use Rattle.items.specs.declared.haves.HaveRead.{HaveRead}
 use Rattle.items.specs.declared.haves.HaveRead.the-variants.{Have, Refused as NoHave}
+use Rattle.items.proofs.haves.HaveRead.{enum}
 
 -- ---- one have
 
@@ -89,6 +92,11 @@ module _ (s : List ℕ) (at : ℕ) where
   pub chunk-item : (start end : ℕ) → prefixedAt s at (length s) ≡ Part start end → chunkItem s at ≡ item (start ∷ (end - start) ∷ []) end
   unfolding chunkItem afterPart
   chunk-item start end e = rw e
+
+-- an answer by its tag
+pub told-refused : (x : HaveRead) → tagOf (declared enum) x ≡ 1 → (r : Refusal) × (x ≡ NoHave r)
+told-refused (Have sync f next) e = absurd (omega arith)
+told-refused (NoHave r) e = (r, refl)
 
 -- ---- items one after the other
 

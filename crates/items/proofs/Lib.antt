@@ -1,4 +1,5 @@
 -- Laws that the crates above cite.
+pub mod IgnoredLaws
 pub mod ItemLaws
 pub mod Meaning
 pub mod RoundTrip

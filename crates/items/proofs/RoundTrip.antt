@@ -1,4 +1,4 @@
--- Reading haves and chunks that were written gives them back. Items one after the other are read one after the other whatever an item is; a have and
+-- Reading haves and chunks that were written gives them back, and ignores nothing. Items one after the other are read one after the other whatever an item is; a have and
 -- a chunk give their one-item laws, and the laws of hash lists, prefixed strings and filters do the rest.
 use Prim.Native.Nat.{ℕ, zero, suc, _+_, _-_, _*_, _≤_, _<_}
 use mathlib.Core.Bool.{true}
@@ -11,14 +11,16 @@ use Rattle.bloom.specs.Filter.{Filter, filterOf4, filterRules, filterBytes, def
 use Rattle.bloom.specs.Have.{Have, haveWords, haveCount, numbersOf, filterWith, haveIn, havesFrom, havesOf}
 use Rattle.bloom.specs.declared.have.FilterNumbers.{FilterNumbers}
 use Rattle.bloom.specs.declared.parse.Parsed.the-variants.{Filter as Read}
+use Rattle.bloom.specs.Ignored.{ignoredAt}
 use Rattle.bloom.specs.Read.{filterAt}
 use Rattle.bloom.proofs.Filters.{no-bytes, filter-written, default-written}
+use Rattle.bloom.proofs.IgnoredLaws.{ignored-none, ignored-written}
 use Rattle.message.specs.Message.{joined, counted, haveBytes}
 use Rattle.message.specs.Sound.{Each, SoundHave, SaidFilter, entries, default, SaidHave}
 use Rattle.rules.specs.Hash.{hashesAt}
 use Rattle.rules.specs.Sizes.{sizes}
 use Rattle.rules.proofs.Hash.{slice-parts}
-use Rattle.wire.specs.Item.{run, prefixedAt, hashListAt, prefixedBytes, hashListBytes}
+use Rattle.wire.specs.Item.{run, leftAt, afterPart, afterListed, prefixedAt, hashListAt, prefixedBytes, hashListBytes}
 use Rattle.numbers.specs.Number.{shortest, most64}
 use Rattle.wire.specs.declared.parse.Listed.the-variants.{Items}
 use Rattle.wire.specs.declared.parse.Prefixed.the-variants.{Part}
@@ -27,6 +29,8 @@ use Rattle.wire.proofs.Item.{count-checks, prefixed-inside, prefixed-written, h
 use Rattle.numbers.proofs.Meaning.{number-inside, number-written}
 use Rattle.numbers.proofs.Number.{slice-past}
 use Rattle.items.specs.Items.{Item, item, afterItem, haveWordList, haveItem, chunkItem, manyAt, list, listFrom, listAt, havesAt, chunksAt, chunksOf}
+use Rattle.items.specs.Ignored.{haveIgnored, ignoredFrom, total}
+use Rattle.items.proofs.IgnoredLaws.{ignored-on}
 use Rattle.items.proofs.ItemLaws.{have-read, have-item, chunk-item, many-read, many-sized, have-sized, have-below, chunk-below, list-read}
 use Rattle.items.proofs.Words.{first-word, word}
 
@@ -90,6 +94,8 @@ record ListWritten {A : Type 0} (limit : ℕ) (bytes : A → List ℕ) (s : List
   says : SayAll Says words xs
   items : manyAt one (length xs) start ≡ item words (at + length (counted bytes xs))
   there : at + length (counted bytes xs) ≤ length s
+  rest : List ℕ
+  body : slice start (length s) s ≡ joined bytes xs ++ rest
 
 module _ {A : Type 0} (limit : ℕ) (bytes : A → List ℕ) (s : List ℕ) (one : ℕ → Item) (Good : A → Type 0) (Says : List ℕ → A → Type 0)
     (below : (at : ℕ) (words : List ℕ) (next : ℕ) → one at ≡ item words next → next ≤ length s)
@@ -121,6 +127,8 @@ module _ {A : Type 0} (limit : ℕ) (bytes : A → List ℕ) (s : List ℕ) (one
         says = m .says;
         items = items;
         there = omega (arith, inside .there);
+        rest = rest;
+        body = body;
       }
 
 -- ---- a chunk
@@ -260,6 +268,53 @@ have-written s small h good at rest same =
     have-joined s h at sync i from end (l .0) (l .1) (q .0) (omega (arith, length-append hl (prefixedBytes fb)))
     (filter-back s from end (h .filter) (good .0 .filter) (good .1) (q .1))
 
+-- ---- nothing is ignored
+
+filter-nothing : (s : List ℕ) (from end : ℕ) (f : Filter) → filterRules (f .entries) (f .bits) (f .probes) (length (f .field)) ≡ true → SaidFilter f
+    → from ≤ end
+    → end ≤ length s
+    → slice from end s ≡ filterBytes f
+    → ignoredAt s from end ≡ 0
+unfolding leftAt
+filter-nothing s from end f rules (entries h) up there same = ignored-written s from end f rules h up there same
+filter-nothing s from end f rules (default e) up there same =
+    let none : filterBytes f ≡ [] = ap filterBytes e ∙ no-bytes 0 defaultBits defaultProbes [] refl in
+    ignored-none s from end (ap length (same ∙ none))
+
+have-nothing : (s : List ℕ) → length s ≤ sizes .message → (h : Have) → GoodHave h → (at : ℕ) (rest : List ℕ)
+    → slice at (length s) s ≡ haveBytes h ++ rest
+    → haveIgnored s at ≡ 0
+unfolding haveBytes haveIgnored afterListed afterPart
+have-nothing s small h good at rest same =
+    let hl : List ℕ = hashListBytes (h .lastSync) in
+    let fb : List ℕ = filterBytes (h .filter) in
+    let first : slice at (length s) s ≡ hl ++ (prefixedBytes fb ++ rest) = same ∙ append-assoc hl (prefixedBytes fb) rest in
+    let l = hash-list-written s (h .lastSync) (prefixedBytes fb ++ rest) at (length s) (good .0 .lastSync .are) (good .0 .lastSync .few) first in
+    let i : ℕ = at + length hl in
+    let inside = hash-list-inside s at (length s) (run (at + length (shortest (length (h .lastSync)))) (length (h .lastSync))) i (l .0) in
+    let second = onward s hl (prefixedBytes fb ++ rest) at (inside .there) first in
+    let long : length (prefixedBytes fb) ≤ length s = no-longer s (prefixedBytes fb) rest i second in
+    let q = prefixed-written s fb rest i (length s) (omega (arith, prefixed-longer fb)) second in
+    let from : ℕ = i + length (shortest (length fb)) in
+    let end : ℕ = i + length (prefixedBytes fb) in
+    let w = prefixed-inside s i (length s) from end (q .0) in
+    rw (l .0, q .0) (filter-nothing s from end (h .filter) (good .0 .filter) (good .1) (w .upward) (w .there) (q .1))
+
+haves-nothing : (s : List ℕ) → length s ≤ sizes .message → (hs : List Have) → Each GoodHave hs → (at : ℕ) (rest : List ℕ)
+    → slice at (length s) s ≡ joined haveBytes hs ++ rest
+    → total (ignoredFrom s (length hs) at) ≡ 0
+unfolding joined Each ignoredFrom total
+haves-nothing s small [] good at rest same = refl
+haves-nothing s small (h ∷ hs) good at rest same =
+    let first : slice at (length s) s ≡ haveBytes h ++ (joined haveBytes hs ++ rest) = same ∙ append-assoc (haveBytes h) (joined haveBytes hs) rest in
+    let o = have-written s small h (good .0) at (joined haveBytes hs ++ rest) first in
+    let next : ℕ = at + length (haveBytes h) in
+    let inside = have-below s at (o .words) next (o .is) in
+    let behind = onward s (haveBytes h) (joined haveBytes hs ++ rest) at inside first in
+    let one = have-nothing s small h (good .0) at (joined haveBytes hs ++ rest) first in
+    let more = haves-nothing s small hs (good .1) next rest behind in
+    rw (ignored-on s (length hs) at (o .words) next (o .is), one, more)
+
 haves-said : (s : List ℕ) (hs : List Have) (i : ℕ) (before words : List ℕ) → length before ≡ i * haveWords → SayAll (HaveSays s) words hs
     → havesFrom s (before ++ words) i (length hs) ≡ hs
 unfolding SayAll havesFrom haveIn
@@ -291,6 +346,7 @@ pub record HavesBack (s : List ℕ) (at : ℕ) (hs : List Have) : Type 0 where
   pub is : havesAt s at ≡ list haves words (at + length (counted haveBytes hs))
   pub there : at + length (counted haveBytes hs) ≤ length s
   pub says : havesOf s words ≡ hs
+  pub nothing : total (ignoredFrom s (haves .count) (haves .start)) ≡ 0
 
 pub haves-written : (s : List ℕ) → length s ≤ sizes .message → (hs : List Have) → Each SoundHave hs → Each SaidHave hs → length hs ≤ sizes .haves
     → (at : ℕ) (rest : List ℕ)
@@ -310,6 +366,7 @@ haves-written s small hs sound said few at rest same =
       is = w .is;
       there = w .there;
       says = haves-back s hs (w .words) long (w .says);
+      nothing = haves-nothing s small hs (good-haves hs sound said) (w .start) (w .rest) (w .body);
     }
 
 pub record ChunksBack (s : List ℕ) (at : ℕ) (ts : List (List ℕ)) : Type 0 where

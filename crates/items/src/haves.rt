@@ -12,10 +12,13 @@ use wire::parse::length_prefix;
 use wire::parse::length_prefixed_bytes;
 use wire::parse::length_prefixed_hashes;
 ghost use mathlib.Core.Path.{_≡_};
+ghost use Prim.Native.Nat.{_+_, _≤_};
 ghost use lib.ListN.{length};
 ghost use lib.Seq.{sets};
 ghost use Rattle.wire.specs.Item.{run};
-ghost use Rattle.items.specs.Items.{haveAt, haveItem, manyAt, listFrom, listedOf, havesAt, wordsOf, AllRead};
+ghost use Rattle.bloom.specs.Have.{haveWords};
+ghost use Rattle.items.specs.Ignored.{CountedPut};
+ghost use Rattle.items.specs.Items.{haveAt, haveWordList, haveItem, manyAt, listFrom, listedOf, havesAt, wordsOf, AllRead};
 
 // A have: where its last-sync hashes stand, its filter, and the next place.
 pub enum HaveRead {
@@ -93,6 +96,20 @@ pub fn parse_haves(bytes: &[u8], at: usize) -> Listed
     }
 }
 
+// Puts the words of a have at a place of the list.
+fn put_have(out: &mut [u64], at: usize, sync: Run, filter: FilterNumbers)
+    requires { ⌜ at + haveWords ≤ length (now out) ⌝ }
+    ensures { λ _. ⌜ now (out .exit) ≡ sets (now (out .entry)) at (haveWordList sync filter) ⌝ }
+{
+    out[at] = sync.start as u64;
+    out[at + 1] = sync.count as u64;
+    out[at + 2] = filter.entries;
+    out[at + 3] = filter.bits;
+    out[at + 4] = filter.probes;
+    out[at + 5] = filter.place as u64;
+    out[at + 6] = filter.size as u64;
+}
+
 // Puts the words of so many haves, which were passed over before, at the start of the list.
 pub fn put_haves(bytes: &[u8], start: usize, count: usize, out: &mut [u64])
     requires { ⌜ AllRead (manyAt (haveItem (now bytes)) count start) (length (now out)) ⌝ }
@@ -108,14 +125,7 @@ pub fn put_haves(bytes: &[u8], start: usize, count: usize, out: &mut [u64])
                 filter,
                 next: after,
             } => {
-                let at = HAVE_WORDS * k;
-                out[at] = sync.start as u64;
-                out[at + 1] = sync.count as u64;
-                out[at + 2] = filter.entries;
-                out[at + 3] = filter.bits;
-                out[at + 4] = filter.probes;
-                out[at + 5] = filter.place as u64;
-                out[at + 6] = filter.size as u64;
+                put_have(out, HAVE_WORDS * k, sync, filter);
                 next = after;
             }
             // Never: the message is the one that was walked before, and that walk read every have here.
@@ -125,4 +135,44 @@ pub fn put_haves(bytes: &[u8], start: usize, count: usize, out: &mut [u64])
         }
         k += 1;
     }
+}
+
+// Puts the words of so many haves, which were passed over before, and beside them how many bytes stand behind each filter's field. Returns the sum
+// of these numbers.
+pub fn put_counted(
+    bytes: &[u8],
+    start: usize,
+    count: usize,
+    out: &mut [u64],
+    ignored: &mut [u64],
+) -> usize
+    requires { ⌜ AllRead (manyAt (haveItem (now bytes)) count start) (length (now out)) × (count ≤ length (now ignored)) ⌝ }
+    ensures { λ r. ⌜ CountedPut (now (bytes .entry)) start count (now (out .entry)) (now (out .exit)) (now (ignored .entry)) (now (ignored .exit)) r ⌝ }
+{
+    let mut next = start;
+    let mut sum = 0;
+    let mut k = 0;
+    while k < count {
+        let have = parse_have(bytes, next);
+        match have {
+            HaveRead::Have {
+                sync,
+                filter,
+                next: after,
+            } => {
+                // A filter's string ends with its have.
+                let behind = after - (filter.place + filter.size);
+                put_have(out, HAVE_WORDS * k, sync, filter);
+                ignored[k] = behind as u64;
+                sum += behind;
+                next = after;
+            }
+            // Never, as above.
+            HaveRead::Refused(_) => {
+                return sum;
+            }
+        }
+        k += 1;
+    }
+    sum
 }

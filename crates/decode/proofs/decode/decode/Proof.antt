@@ -21,7 +21,7 @@ mul-have-words c =
 returns : tie.Need-returns
 returns c =
     let r = c .before .before .before .before .before in
-    haves-short _ _ (sym (r .before .before .parse .ensures) ∙ r .read .given .1) _ _ (c .if1 .taken)
+    haves-short _ _ (sym (r .before .before .parse .ensures) ∙ r .read .given .1) _ _ _ (c .if1 .taken)
 
 mul-chunk-words : tie.Need-mul-chunk-words
 mul-chunk-words c =
@@ -32,20 +32,24 @@ returns-2 : tie.Need-returns-2
 returns-2 c =
     let e = c .before .before in
     let r = e .before .before .before .before .before in
-    chunks-short _ _ (sym (r .before .before .parse .ensures) ∙ r .read .given .1) _ _ (e .if1 .left) (c .if2 .taken)
+    chunks-short _ _ (sym (r .before .before .parse .ensures) ∙ r .read .given .1) _ _ _ (e .if1 .left) (c .if2 .taken)
 
-put-haves-requires : tie.Need-put-haves-requires
-put-haves-requires c κs =
-    let e = c .before .before .before in
+put-counted-requires : tie.Need-put-counted-requires
+put-counted-requires c κs =
+    let e = c .before .before .before .before in
     let r = e .before .before .before .before .before in
-    haves-read _ _ (sym (r .before .before .parse .ensures) ∙ r .read .given .1) _ (e .if1 .left)
+    let is = sym (r .before .before .parse .ensures) ∙ r .read .given .1 in
+    (haves-read _ _ is _ (e .if1 .left), omega (arith, few-haves _ _ is, c))
 
 put-chunks-requires : tie.Need-put-chunks-requires
 put-chunks-requires c κs =
-    let f = c .before .before .before .before .before in
+    let f = c .before .before .before .before .before .before in
     let e = f .before .before in
     let r = e .before .before .before .before .before in
     chunks-read _ _ (sym (r .before .before .parse .ensures) ∙ r .read .given .1) _ (f .if2 .left)
+
+behind-section-requires : tie.Need-behind-section-requires
+behind-section-requires c κs = search needs
 
 enum-known-read-2 : tie.Need-enum-known-read-2
 enum-known-read-2 c = search needs
@@ -58,19 +62,20 @@ same-length-2 c = search needs
 
 returns-3 : tie.Need-returns-3
 returns-3 c =
-    let k = c .before .before in
+    let k = c .before .before .before in
     let h = k .before .before .before .before in
-    let f = h .before .before in
+    let f = h .before .before .before in
     let e = f .before .before in
     let r = e .before .before .before .before .before in
-    decoded _ _ (sym (r .before .before .parse .ensures) ∙ r .read .given .1) _ _ (e .if1 .left) (f .if2 .left) _ _
-    (h .put-haves .ensures)
+    decoded _ _ (sym (r .before .before .parse .ensures) ∙ r .read .given .1) _ _ _ (e .if1 .left) (f .if2 .left) _ _ _ _ _
+    (h .put-counted .ensures)
     (k .put-chunks .ensures)
+    (c .behind-section .ensures)
 
 returns-4 : tie.Need-returns-4
 returns-4 c =
     let r = c .before in
-    decode-refused _ _ _ _ (sym (r .before .before .parse .ensures) ∙ r .read2 .given .1)
+    decode-refused _ _ _ _ _ (sym (r .before .before .parse .ensures) ∙ r .read2 .given .1)
 
 pub decode-spec : {M : Type 1} → statement M
 decode-spec =
@@ -82,8 +87,9 @@ decode-spec =
     returns
     mul-chunk-words
     returns-2
-    put-haves-requires
+    put-counted-requires
     put-chunks-requires
+    behind-section-requires
     enum-known-read-2
     same-length
     same-length-2
