@@ -25,6 +25,7 @@ wire-bind =
       passed-good = λ κs a x y u v p q. (once p q, refl);
       passed-few = λ κs a x y u v p q. (once p q, refl);
       parse = λ κs a x y u v p q. (once p q, refl);
+      parse-counted = λ κs a x y u v p q. (once p q, refl);
       filter-rules = λ κs a x y u v p q. (once p q, refl);
       build-rules = λ κs a x y u v p q. (once p q, refl);
       filter-size = λ κs a x y u v p q. (once p q, refl);

@@ -19,6 +19,7 @@ use Rattle.bloom.proofs.have.inside as of-inside
 use Rattle.bloom.proofs.have.passed_good as of-passed-good
 use Rattle.bloom.proofs.have.passed_few as of-passed-few
 use Rattle.bloom.proofs.parse.parse as of-parse
+use Rattle.bloom.proofs.parse.parse_counted as of-parse-counted
 use Rattle.bloom.proofs.rule.filter_rules as of-filter-rules
 use Rattle.bloom.proofs.rule.build_rules as of-build-rules
 use Rattle.bloom.proofs.to_bytes.filter_size as of-filter-size
@@ -53,6 +54,7 @@ pub record WireBind : Type 0 where
   pub passed-good : Binds of-passed-good.ended of-passed-good.Reads.Post
   pub passed-few : Binds of-passed-few.ended of-passed-few.Reads.Post
   pub parse : Binds of-parse.ended of-parse.Reads.Post
+  pub parse-counted : Binds of-parse-counted.ended of-parse-counted.Reads.Post
   pub filter-rules : Binds of-filter-rules.ended of-filter-rules.Reads.Post
   pub build-rules : Binds of-build-rules.ended of-build-rules.Reads.Post
   pub filter-size : Binds of-filter-size.ended of-filter-size.Reads.Post

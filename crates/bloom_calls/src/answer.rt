@@ -1,15 +1,19 @@
 // An answer as words.
 use answers::answer::refusal_words;
-use bloom::parse::Parsed;
+use bloom::parse::Counted;
 use probe::contains::Contained;
 ghost use mathlib.Core.Path.{_≡_};
 ghost use Rattle.bloom_calls.specs.Answer.{filterWords, containedWords};
 
-pub fn filter_words(f: Parsed) -> [u64; 8]
+pub fn filter_words(f: Counted) -> [u64; 8]
     ensures { λ w. ⌜ w ≡ filterWords f ⌝ }
 {
     match f {
-        Parsed::Filter { filter, next } => [
+        Counted::Filter {
+            filter,
+            next,
+            ignored,
+        } => [
             0,
             filter.entries,
             filter.bits,
@@ -17,9 +21,9 @@ pub fn filter_words(f: Parsed) -> [u64; 8]
             filter.place as u64,
             filter.size as u64,
             next as u64,
-            0,
+            ignored as u64,
         ],
-        Parsed::Refused(r) => [r.number(), r.value(), 0, 0, 0, 0, 0, 0],
+        Counted::Refused(r) => [r.number(), r.value(), 0, 0, 0, 0, 0, 0],
     }
 }
 

@@ -5,17 +5,17 @@ use answers::answer::write_words;
 ghost use mathlib.Core.Path.{_≡_};
 ghost use Rattle.probe.specs.Build.{buildOutput};
 ghost use Rattle.bloom.specs.Filter.{filterOutput, filterOf4};
-ghost use Rattle.bloom.specs.Read.{filterAt};
+ghost use Rattle.bloom.specs.Ignored.{countedAt};
 ghost use Rattle.probe.specs.Contains.{containedIn};
 ghost use Rattle.answers.specs.Answer.{Answered};
 ghost use Rattle.bloom_calls.specs.Answer.{filterWords, containedWords};
 
-// The filter at a place: 0, entries, bits, probes, place of the field, its length, next place.
+// The filter at a place: 0, entries, bits, probes, place of the field, its length, next place, bytes ignored behind the field.
 #[no_mangle]
 pub extern "C" fn bt_read_filter(bytes: &[u8], at: usize, end: usize, answer: &mut [u64; 8])
-    ensures { λ _. ⌜ now (answer .exit) ≡ filterWords (filterAt (now (bytes .entry)) at end) ⌝ }
+    ensures { λ _. ⌜ now (answer .exit) ≡ filterWords (countedAt (now (bytes .entry)) at end) ⌝ }
 {
-    *answer = filter_words(bloom::parse::parse(bytes, at, end));
+    *answer = filter_words(bloom::parse::parse_counted(bytes, at, end));
 }
 
 // Writes a filter: 0, bytes written.

@@ -1,10 +1,10 @@
--- A message and its words: what is written is read back; and a call that reads a message has one answer and leaves one content of both lists.
+-- A message and its words: what is written is read back; and a call that reads a message has one answer and leaves one content of its lists.
 use Prim.Native.Nat.{ℕ, _≤_, _<_}
 use mathlib.Core.List.{List}
 use mathlib.Core.Path.{_≡_, refl, sym, ap, ap₂, subst, _∙_}
 use borrow.Author.Tests.{eq-eqb, ne-eqb, lt-ltb, le-ltb}
-use Rattle.decode.specs.Read.{DecodedInto}
-use Rattle.decode.specs.declared.parse.Decoded.{Decoded}
+use Rattle.decode.specs.Ignored.{DecodedInto}
+use Rattle.decode.specs.declared.decode.Counted.{Counted}
 use Rattle.size.specs.Write.{partsOf, messageOutput}
 use Rattle.message.specs.Flags.{flagsOf}
 use Rattle.message.specs.declared.flags.Section.{Section}
@@ -47,16 +47,18 @@ flags-back f h = sym (section-there f h)
 
 -- ---- the words that are answered
 
-pub message-answered : (s haves₀ haves₁ chunks₀ chunks₁ words : List ℕ) (r : Decoded) → DecodedInto s haves₀ haves₁ chunks₀ chunks₁ r
+pub message-answered : (s haves₀ haves₁ chunks₀ chunks₁ ignored₀ ignored₁ words : List ℕ) (r : Counted)
+    → DecodedInto s haves₀ haves₁ chunks₀ chunks₁ ignored₀ ignored₁ r
     → words ≡ decodedWords r
-    → MessageAnswered s haves₀ haves₁ chunks₀ chunks₁ words
-message-answered s haves₀ haves₁ chunks₀ chunks₁ words r d e =
-    record { answer = e ∙ ap decodedWords (d .answer); haves = d .haves; chunks = d .chunks }
+    → MessageAnswered s haves₀ haves₁ chunks₀ chunks₁ ignored₀ ignored₁ words
+message-answered s haves₀ haves₁ chunks₀ chunks₁ ignored₀ ignored₁ words r d e =
+    record { answer = e ∙ ap decodedWords (d .answer); haves = d .haves; chunks = d .chunks; ignored = d .ignored }
 
-pub message-answered-once : {s haves chunks h₁ h₂ k₁ k₂ w₁ w₂ : List ℕ} → MessageAnswered s haves h₁ chunks k₁ w₁
-    → MessageAnswered s haves h₂ chunks k₂ w₂
-    → (w₁ ≡ w₂) × (h₁ ≡ h₂) × (k₁ ≡ k₂)
-message-answered-once x y = (x .answer ∙ sym (y .answer), x .haves ∙ sym (y .haves), x .chunks ∙ sym (y .chunks))
+pub message-answered-once : {s haves chunks ignored h₁ h₂ k₁ k₂ i₁ i₂ w₁ w₂ : List ℕ} → MessageAnswered s haves h₁ chunks k₁ ignored i₁ w₁
+    → MessageAnswered s haves h₂ chunks k₂ ignored i₂ w₂
+    → (w₁ ≡ w₂) × (h₁ ≡ h₂) × (k₁ ≡ k₂) × (i₁ ≡ i₂)
+message-answered-once x y =
+    (x .answer ∙ sym (y .answer), x .haves ∙ sym (y .haves), x .chunks ∙ sym (y .chunks), x .ignored ∙ sym (y .ignored))
 
 -- ---- a message that is written
 

@@ -4,9 +4,10 @@ use mathlib.Core.Bool.{cond}
 use mathlib.Core.List.{List, [], _∷_}
 use mathlib.Core.Path.{_≡_}
 use lib.Dec.{ltb, eqb}
-use Rattle.decode.specs.Read.{readWith, decodedOf, havesInto, chunksInto}
-use Rattle.decode.specs.declared.parse.Decoded.{Decoded}
-use Rattle.decode.specs.declared.parse.Decoded.the-variants.{Message, Refused}
+use Rattle.decode.specs.Ignored.{countedOf, ignoredInto}
+use Rattle.decode.specs.Read.{readWith, havesInto, chunksInto}
+use Rattle.decode.specs.declared.decode.Counted.{Counted}
+use Rattle.decode.specs.declared.decode.Counted.the-variants.{Message, Refused}
 use Rattle.message.specs.Flags.{flagsOf}
 use Rattle.message.specs.declared.flags.Section.{Section}
 use Rattle.message.specs.declared.flags.Section.the-variants.{Absent, Present}
@@ -30,8 +31,9 @@ sectionWord (Present f) = f .0
 unfoldable pub sectionOf : ℕ → Section
 sectionOf n = cond (ltb n 256) (Present (flagsOf n)) Absent
 
-abbrev pub decodedWords : Decoded → List ℕ
-decodedWords (Message p) =
+-- The places, then both numbers of ignored bytes: behind the filters' fields, and after the flags section.
+abbrev pub decodedWords : Counted → List ℕ
+decodedWords (Message p ignored behind) =
     0
     ∷ versionWord (p .version)
     ∷ p .heads .start
@@ -44,11 +46,14 @@ decodedWords (Message p) =
     ∷ p .chunks .count
     ∷ sectionWord (p .flags)
     ∷ p .next
+    ∷ ignored
+    ∷ behind
     ∷ []
-decodedWords (Refused r) = numberOf r ∷ valueOf r ∷ 0 ∷ 0 ∷ 0 ∷ 0 ∷ 0 ∷ 0 ∷ 0 ∷ 0 ∷ 0 ∷ 0 ∷ []
+decodedWords (Refused r) = numberOf r ∷ valueOf r ∷ 0 ∷ 0 ∷ 0 ∷ 0 ∷ 0 ∷ 0 ∷ 0 ∷ 0 ∷ 0 ∷ 0 ∷ 0 ∷ 0 ∷ []
 
--- Reading a message: its words, and both lent lists at exit.
-pub record MessageAnswered (s haves₀ haves₁ chunks₀ chunks₁ words : List ℕ) : Type 0 where
-  pub answer : words ≡ decodedWords (decodedOf (readWith s haves₀ chunks₀))
+-- Reading a message: its words, and the lent lists at exit.
+pub record MessageAnswered (s haves₀ haves₁ chunks₀ chunks₁ ignored₀ ignored₁ words : List ℕ) : Type 0 where
+  pub answer : words ≡ decodedWords (countedOf s (readWith s haves₀ chunks₀))
   pub haves : haves₁ ≡ havesInto (readWith s haves₀ chunks₀) haves₀
   pub chunks : chunks₁ ≡ chunksInto (readWith s haves₀ chunks₀) chunks₀
+  pub ignored : ignored₁ ≡ ignoredInto s (readWith s haves₀ chunks₀) ignored₀

@@ -7,19 +7,20 @@ ghost use Rattle.size.specs.Write.{partsOf, messageOutput};
 ghost use Rattle.answers.specs.Answer.{Answered};
 ghost use Rattle.message_calls.specs.MessageWords.{versionOf, sectionOf, MessageAnswered};
 
-// Reads a message: 0, version, place and count of the heads, the need, the haves and the chunks, flags, next place; the words of haves and chunks
-// go into their lists.
+// Reads a message: 0, version, place and count of the heads, the need, the haves and the chunks, flags, next place, bytes ignored behind the fields of
+// its filters, bytes after its flags section; the words of haves and chunks go into their lists, and so does the number of bytes ignored in each have.
 #[no_mangle]
 pub extern "C" fn bt_read_message(
     bytes: &[u8],
     haves: &mut [u64],
     chunks: &mut [u64],
-    answer: &mut [u64; 12],
+    ignored: &mut [u64; 16],
+    answer: &mut [u64; 14],
 )
     ensures { λ _. ⌜ MessageAnswered (now (bytes .entry)) (now (haves .entry)) (now (haves .exit)) (now (chunks .entry)) (now (chunks .exit))
-        (now (answer .exit)) ⌝ }
+        (now (ignored .entry)) (now (ignored .exit)) (now (answer .exit)) ⌝ }
 {
-    *answer = decoded_words(decode::decode::decode(bytes, haves, chunks));
+    *answer = decoded_words(decode::decode::decode(bytes, haves, chunks, ignored));
 }
 
 // Writes a message from its parts: 0, bytes written.

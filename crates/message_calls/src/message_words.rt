@@ -1,5 +1,5 @@
 // A message as words.
-use decode::parse::Decoded;
+use decode::decode::Counted;
 use message::flags::MessageFlags;
 use message::flags::Section;
 use message::version::MessageVersion;
@@ -42,11 +42,15 @@ pub fn section_of(n: u64) -> Section
     Section::Absent
 }
 
-pub fn decoded_words(d: Decoded) -> [u64; 12]
+pub fn decoded_words(d: Counted) -> [u64; 14]
     ensures { λ w. ⌜ w ≡ decodedWords d ⌝ }
 {
     match d {
-        Decoded::Message(p) => {
+        Counted::Message {
+            places: p,
+            ignored,
+            behind,
+        } => {
             let version = p.version;
             let heads = p.heads;
             let need = p.need;
@@ -66,8 +70,10 @@ pub fn decoded_words(d: Decoded) -> [u64; 12]
                 chunks.count as u64,
                 section_word(flags),
                 p.next as u64,
+                ignored as u64,
+                behind as u64,
             ]
         }
-        Decoded::Refused(r) => [r.number(), r.value(), 0, 0, 0, 0, 0, 0, 0, 0, 0, 0],
+        Counted::Refused(r) => [r.number(), r.value(), 0, 0, 0, 0, 0, 0, 0, 0, 0, 0, 0, 0],
     }
 }

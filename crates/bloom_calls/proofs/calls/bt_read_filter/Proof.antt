@@ -5,14 +5,14 @@ use borrow.Author.Needs.{needs}
 use Rattle.bloom_calls.proofs.calls.bt_read_filter.Statement.{statement}
 use Rattle.bloom_calls.proofs.calls.bt_read_filter.Tie as tie
 
-parse-requires : tie.Need-parse-requires
-parse-requires c κs = search needs
+parse-counted-requires : tie.Need-parse-counted-requires
+parse-counted-requires c κs = search needs
 
 filter-words-requires : tie.Need-filter-words-requires
 filter-words-requires c κs = search needs
 
 returns : tie.Need-returns
-returns c = c .filter-words .ensures ∙ ap filterWords (c .before .parse .ensures)
+returns c = c .filter-words .ensures ∙ ap filterWords (c .before .parse-counted .ensures)
 
 pub bt-read-filter-spec : {M : Type 1} → statement M
-bt-read-filter-spec = tie.close (tie.spec parse-requires filter-words-requires returns)
+bt-read-filter-spec = tie.close (tie.spec parse-counted-requires filter-words-requires returns)

@@ -17,7 +17,7 @@ same-length-2 : tie.Need-same-length-2
 same-length-2 c = search needs
 
 returns : tie.Need-returns
-returns c = message-answered _ _ _ _ _ _ _ (c .before .before .before .before .before .decode .ensures) (c .decoded-words .ensures)
+returns c = message-answered _ _ _ _ _ _ _ _ _ (c .before .before .before .before .before .decode .ensures) (c .decoded-words .ensures)
 
 pub bt-read-message-spec : {M : Type 1} → statement M
 bt-read-message-spec =
