@@ -63,10 +63,10 @@ fn room() -> (Vec<u64>, Vec<u64>) {
 
 /// A run's number is how many heads, haves and chunks there are.
 fn decode(size: &str, s: &[u8]) {
-    let (mut haves, mut chunks) = room();
+    let ((mut haves, mut chunks), mut ignored) = (room(), [0; 16]);
     let library = || {
-        let words = raw::read_message(black_box(s), &mut haves, &mut chunks);
-        black_box((&haves, &chunks));
+        let words = raw::read_message(black_box(s), &mut haves, &mut chunks, &mut ignored);
+        black_box((&haves, &chunks, &ignored));
         words[3] + words[7] + words[9]
     };
     let published = || {
@@ -85,10 +85,10 @@ fn decode(size: &str, s: &[u8]) {
 
 /// A run's number is the message's length.
 fn decode_beside_a_sum(size: &str, s: &[u8]) {
-    let (mut haves, mut chunks) = room();
+    let ((mut haves, mut chunks), mut ignored) = (room(), [0; 16]);
     let library = || {
-        let words = raw::read_message(black_box(s), &mut haves, &mut chunks);
-        black_box((&haves, &chunks));
+        let words = raw::read_message(black_box(s), &mut haves, &mut chunks, &mut ignored);
+        black_box((&haves, &chunks, &ignored));
         words[11]
     };
     let sum = || {

@@ -97,7 +97,23 @@ impl Filter {
 
     /// Reads a filter, and tells the place after it.
     pub fn parse_first(bytes: &[u8]) -> Result<(Filter, usize), Refusal> {
-        let [entries, bits, probes, place, length, next, _] =
+        let (filter, ignored) = Filter::parse_counted(bytes)?;
+        Ok((filter, bytes.len() - ignored))
+    }
+
+    /// Reads a filter, and tells how many bytes stand behind its field and are ignored.
+    ///
+    /// ```
+    /// use bisquetower::Filter;
+    ///
+    /// let (filter, ignored) = Filter::parse_counted(b"\x01\x0a\x07\x0b\x0fmore")?;
+    /// assert_eq!((filter.num_entries(), ignored), (1, 4));
+    /// // None of these bytes is written back.
+    /// assert_eq!(Filter::parse_counted(&filter.to_bytes())?, (filter, 0));
+    /// # Ok::<(), bisquetower::Refusal>(())
+    /// ```
+    pub fn parse_counted(bytes: &[u8]) -> Result<(Filter, usize), Refusal> {
+        let [entries, bits, probes, place, length, _, ignored] =
             answer(raw::read_filter(bytes, 0, bytes.len()))?;
         let filter = Filter {
             entries,
@@ -105,7 +121,7 @@ impl Filter {
             probes,
             field: bytes[place as usize..][..length as usize].to_vec(),
         };
-        Ok((filter, next as usize))
+        Ok((filter, ignored as usize))
     }
 
     /// Its bytes; none if it has no entries.

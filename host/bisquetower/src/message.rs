@@ -12,6 +12,12 @@
 //! assert_eq!((message.version(), message.flags()), (2, None));
 //! assert_eq!(message.chunks().collect::<Vec<_>>(), [b"sync"]);
 //!
+//! // A filter of one entry with 3 bytes behind its field, and 2 bytes after the flags.
+//! let odd = b"\x42\0\0\x01\0\x08\x01\x0a\x07\x0b\x0fmor\0\0en";
+//! let message = View::read(odd, &mut haves, &mut chunks).unwrap();
+//! assert_eq!(message.haves().next().unwrap().ignored, 3);
+//! assert_eq!((message.ignored(), message.behind_flags()), (3, 2));
+//!
 //! let cut = View::read(&bytes[..7], &mut haves, &mut chunks).unwrap_err();
 //! assert_eq!((cut.number, cut.value), (1, 5));
 //! ```
@@ -20,7 +26,7 @@ use crate::raw;
 use crate::refusal::{answer, Refusal};
 
 /// Words of the answer.
-pub const ANSWER_WORDS: usize = 12;
+pub const ANSWER_WORDS: usize = 14;
 
 /// Words of a have.
 pub const HAVE_WORDS: usize = 7;
@@ -51,6 +57,9 @@ pub struct View<'a> {
     chunks: &'a [u64],
     flags: u64,
     next: u64,
+    ignored: [u64; HAVES],
+    ignored_sum: u64,
+    behind_flags: u64,
 }
 
 /// What the peer has: the hashes of the last sync, one after the other, and its
@@ -67,6 +76,8 @@ pub struct Have<'a> {
     pub probes: u64,
     /// Its bit field.
     pub field: &'a [u8],
+    /// How many bytes stand behind the field and are ignored.
+    pub ignored: u64,
 }
 
 impl<'a> View<'a> {
@@ -77,8 +88,9 @@ impl<'a> View<'a> {
         haves: &'a mut [u64],
         chunks: &'a mut [u64],
     ) -> Result<View<'a>, Refusal> {
-        let words = raw::read_message(bytes, haves, chunks);
-        View::of(bytes, words, haves, chunks)
+        let mut ignored = [0; HAVES];
+        let words = raw::read_message(bytes, haves, chunks, &mut ignored);
+        View::of(bytes, words, haves, chunks, ignored)
     }
 
     /// The message of an answer and of the lists that `raw::read_message` left with
@@ -88,8 +100,9 @@ impl<'a> View<'a> {
         words: [u64; ANSWER_WORDS],
         haves: &'a [u64],
         chunks: &'a [u64],
+        ignored: [u64; HAVES],
     ) -> Result<View<'a>, Refusal> {
-        let [version, heads, head_count, need, need_count, _, have_count, _, chunk_count, flags, next] =
+        let [version, heads, head_count, need, need_count, _, have_count, _, chunk_count, flags, next, ignored_sum, behind_flags] =
             answer(words)?;
         Ok(View {
             bytes,
@@ -100,6 +113,9 @@ impl<'a> View<'a> {
             chunks: &chunks[..CHUNK_WORDS * chunk_count as usize],
             flags,
             next,
+            ignored,
+            ignored_sum,
+            behind_flags,
         })
     }
 
@@ -125,13 +141,15 @@ impl<'a> View<'a> {
 
     /// What the sender has.
     pub fn haves(&self) -> impl ExactSizeIterator<Item = Have<'a>> {
-        let bytes = self.bytes;
-        self.haves.chunks(HAVE_WORDS).map(move |words| Have {
+        let (bytes, ignored) = (self.bytes, self.ignored);
+        let haves = self.haves.chunks(HAVE_WORDS).enumerate();
+        haves.map(move |(k, words)| Have {
             last_sync: hashes(bytes, words[0], words[1]),
             entries: words[2],
             bits: words[3],
             probes: words[4],
             field: part(bytes, words[5], words[6]),
+            ignored: ignored[k],
         })
     }
 
@@ -150,6 +168,18 @@ impl<'a> View<'a> {
     /// None if there is no flags section.
     pub fn flags(&self) -> Option<u8> {
         u8::try_from(self.flags).ok()
+    }
+
+    /// How many bytes stand behind the fields of its filters and are ignored, all
+    /// together.
+    pub fn ignored(&self) -> u64 {
+        self.ignored_sum
+    }
+
+    /// How many bytes stand after its flags section and are ignored; without a section
+    /// there are none.
+    pub fn behind_flags(&self) -> u64 {
+        self.behind_flags
     }
 
     /// The place after all that was read.

@@ -99,7 +99,7 @@ mod tests {
         };
         assert_eq!(answer([7, 64, 0, 0]), Err(refusal));
         assert_eq!(answer([0, 1, 2, 3, 4, 5, 6, 8]), Ok([1, 2, 3, 4, 5, 6, 8]));
-        let words = [7, 64, 0, 0, 0, 0, 0, 0, 0, 0, 0, 0];
+        let words = [7, 64, 0, 0, 0, 0, 0, 0, 0, 0, 0, 0, 0, 0];
         assert_eq!(answer(words), Err(refusal));
     }
 

@@ -53,12 +53,13 @@ impl Message {
             vec![0; HAVES * HAVE_WORDS],
             vec![0; FEW_CHUNKS * CHUNK_WORDS],
         );
-        let mut words = raw::read_message(bytes, &mut haves, &mut chunks);
+        let mut ignored = [0; HAVES];
+        let mut words = raw::read_message(bytes, &mut haves, &mut chunks, &mut ignored);
         if let Err(Refusal { number: 7, value }) = answer(words) {
             chunks.resize(value as usize, 0);
-            words = raw::read_message(bytes, &mut haves, &mut chunks);
+            words = raw::read_message(bytes, &mut haves, &mut chunks, &mut ignored);
         }
-        let view = message::View::of(bytes, words, &haves, &chunks)?;
+        let view = message::View::of(bytes, words, &haves, &chunks, ignored)?;
         Ok(Message {
             heads: hashes_in(view.heads()),
             need: hashes_in(view.need()),

@@ -117,10 +117,12 @@ fn says(program: &Path, input: &[u8], status: i32, line: &str) {
 fn a_program_in_c_reads_messages() {
     let program = program("read_message");
     let said = |message: &[u8], status, line: &str| says(&program, message, status, line);
-    let all = "version 2, heads 0, need 0, haves 1, chunks 1, flags 4";
+    let all = "version 2, heads 0, need 0, haves 1, chunks 1, flags 4, ignored 0 and 0";
     said(b"\x43\0\0\x01\0\0\x01\x04sync\x02\x02\x84", 0, all);
-    let none = "version 1, heads 0, need 0, haves 0, chunks 0, flags 256";
+    let none = "version 1, heads 0, need 0, haves 0, chunks 0, flags 256, ignored 0 and 0";
     said(b"\x42\0\0\0\0", 0, none);
+    let odd = "version 1, heads 0, need 0, haves 1, chunks 0, flags 0, ignored 2 and 3";
+    said(b"\x42\0\0\x01\0\x05\0\0\0no\0\0yes", 0, odd);
     said(b"\x42\0\0\0\x01\x02\xaa", 1, "refusal 1, value 5");
     said(b"\x41", 1, "refusal 2, value 65");
     said(b"", 1, "refusal 1, value 0");

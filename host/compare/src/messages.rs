@@ -8,7 +8,7 @@ pub mod parts;
 
 use crate::guarded::{Fill, Guarded, FILLS};
 use crate::inputs;
-use crate::model::have::HAVE_WORDS;
+use crate::model::have::{HAVES, HAVE_WORDS};
 use crate::model::message::Message as Places;
 use crate::model::message::{ANSWER_WORDS, CHUNK_WORDS, NO_FLAGS};
 use crate::model::{self, Refused};
@@ -31,6 +31,10 @@ pub struct Tally {
     pub with_haves: u64,
     pub with_chunks: u64,
     pub with_flags: u64,
+    /// Of the messages that were read: those with bytes behind a filter's field, with
+    /// bytes after the flags.
+    pub ignoring: u64,
+    pub behind_flags: u64,
 }
 
 impl Tally {
@@ -46,6 +50,8 @@ impl Tally {
         self.with_haves += other.with_haves;
         self.with_chunks += other.with_chunks;
         self.with_flags += other.with_flags;
+        self.ignoring += other.ignoring;
+        self.behind_flags += other.behind_flags;
     }
 
     fn count(&mut self, words: &[u64; ANSWER_WORDS], beside: &Beside) {
@@ -55,6 +61,8 @@ impl Tally {
             self.with_haves += u64::from(words[7] > 0);
             self.with_chunks += u64::from(words[9] > 0);
             self.with_flags += u64::from(words[10] != NO_FLAGS);
+            self.ignoring += u64::from(words[12] > 0);
+            self.behind_flags += u64::from(words[13] > 0);
         }
     }
 }
@@ -65,13 +73,19 @@ struct Expected {
     read: Result<Places, Refused>,
     haves: Vec<u64>,
     chunks: Vec<u64>,
+    ignored: [u64; HAVES],
 }
 
 impl Expected {
     fn of(s: &[u8]) -> Expected {
         let read = model::message::parse(s);
         let lists = read.as_ref().ok();
+        let mut ignored = [0; HAVES];
+        if let Some(message) = lists {
+            ignored[..message.ignored.len()].copy_from_slice(&message.ignored);
+        }
         Expected {
+            ignored,
             haves: lists.map_or(Vec::new(), |message| message.haves.concat()),
             chunks: lists.map_or(Vec::new(), |message| message.chunks.concat()),
             read,
@@ -90,14 +104,15 @@ impl Expected {
     /// The words of the answer in room enough.
     fn words(&self) -> [u64; ANSWER_WORDS] {
         let (mut haves, mut chunks) = (self.haves.clone(), self.chunks.clone());
-        model::message::answer(&self.read, &mut haves, &mut chunks)
+        model::message::answer(&self.read, &mut haves, &mut chunks, &mut [0; HAVES])
     }
 }
 
 /// How the model's reading of a message stands beside the crate's.
 pub fn beside_model(s: &[u8]) -> Result<Beside, String> {
     let expected = Expected::of(s);
-    let view = View::of(s, expected.words(), &expected.haves, &expected.chunks);
+    let Expected { haves, chunks, .. } = &expected;
+    let view = View::of(s, expected.words(), haves, chunks, expected.ignored);
     beside_crate(s, &view)
 }
 
@@ -109,7 +124,8 @@ pub fn compare_model<S: AsRef<[u8]>>(messages: &[S]) -> Result<Tally, String> {
         let told = |why| format!("{}: {why}", inputs::shown(s));
         let expected = Expected::of(s);
         let words = expected.words();
-        let view = View::of(s, words, &expected.haves, &expected.chunks);
+        let Expected { haves, chunks, .. } = &expected;
+        let view = View::of(s, words, haves, chunks, expected.ignored);
         let beside = beside_crate(s, &view).map_err(told)?;
         tally.count(&words, &beside);
         if let (Ok(view), Beside::Read(message)) = (view, beside) {
@@ -124,38 +140,47 @@ pub fn compare_model<S: AsRef<[u8]>>(messages: &[S]) -> Result<Tally, String> {
     Ok(tally)
 }
 
-/// A read with its two lists.
+/// A read with its lists.
 struct Asked<'a> {
     s: &'a [u8],
     expected: [u64; ANSWER_WORDS],
     answer: [u64; ANSWER_WORDS],
     haves: Guarded<u64>,
     chunks: Guarded<u64>,
+    ignored: Guarded<u64>,
 }
 
 impl<'a> Asked<'a> {
     fn new(s: &'a [u8], expected: &Expected, rooms: [usize; 2], fill: Fill) -> Self {
         let [mut haves, mut chunks] = rooms.map(|room| Guarded::new(room, fill));
-        let words = model::message::answer(&expected.read, haves.expected(), chunks.expected());
+        let mut ignored = Guarded::new(HAVES, fill);
+        let (first, second, third) = (haves.expected(), chunks.expected(), ignored.expected());
+        let words = model::message::answer(&expected.read, first, second, third);
         Asked {
             s,
             expected: words,
             answer: [raw::UNWRITTEN; ANSWER_WORDS],
             haves,
             chunks,
+            ignored,
         }
     }
 
     fn ask<'m>(&'m mut self, batch: &mut Batch<'m>) {
         let (haves, chunks) = (self.haves.lent(), self.chunks.lent());
-        batch.read_message(self.s, haves, chunks, &mut self.answer);
+        let ignored = self.ignored.lent().try_into().expect("a number a have");
+        batch.read_message(self.s, haves, chunks, ignored, &mut self.answer);
     }
 
     fn agrees(&self) -> Result<(), String> {
         let rooms = [self.haves.room(), self.chunks.room()];
         let told = |why| format!("{} into {rooms:?} words: {why}", inputs::shown(self.s));
         same_answer(self.answer, self.expected).map_err(told)?;
-        let lists = [("haves", &self.haves), ("chunks", &self.chunks)];
+        let lists = [
+            ("haves", &self.haves),
+            ("chunks", &self.chunks),
+            ("numbers of ignored bytes", &self.ignored),
+        ];
         for (name, list) in lists {
             let named = |why| told(format!("of the {name}, {why}"));
             list.agrees().map_err(named)?;
@@ -164,7 +189,9 @@ impl<'a> Asked<'a> {
     }
 
     fn view(&self) -> Result<View<'_>, Refusal> {
-        View::of(self.s, self.answer, self.haves.left(), self.chunks.left())
+        let (haves, chunks) = (self.haves.left(), self.chunks.left());
+        let ignored = self.ignored.left().try_into().expect("a number a have");
+        View::of(self.s, self.answer, haves, chunks, ignored)
     }
 }
 

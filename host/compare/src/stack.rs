@@ -279,7 +279,7 @@ fn messages(random: &mut Random) -> Vec<Deep> {
     vec![
         deep("bt_read_message", move || {
             let (mut haves, mut chunks) = lists();
-            raw::read_message(&read, &mut haves, &mut chunks)
+            raw::read_message(&read, &mut haves, &mut chunks, &mut [0; HAVES])
         }),
         deep("bt_write_message", write),
     ]

@@ -1,6 +1,8 @@
 //! Messages read and written: the proved library against the crate and the model.
 //! `compare::messages` says what is held against what.
 
+#[path = "messages/ignored.rs"]
+mod ignored;
 #[path = "messages/limits.rs"]
 mod limits;
 #[path = "messages/lists.rs"]
@@ -16,6 +18,7 @@ mod write;
 
 use bisquetower::raw;
 use compare::messages::{compare, Tally};
+use compare::model::have::HAVES;
 use compare::model::message::{ANSWER_WORDS, CHUNKS, CHUNK_WORDS};
 
 /// Most of what one exchange with the library is worth.
@@ -42,7 +45,7 @@ const ROOM: [usize; 2] = [7 * 16, CHUNK_WORDS * CHUNKS as usize];
 /// What the library alone says, with room enough, and its two lists.
 fn ask(s: &[u8]) -> ([u64; ANSWER_WORDS], Vec<u64>, Vec<u64>) {
     let [mut haves, mut chunks] = ROOM.map(|room| vec![0; room]);
-    let words = raw::read_message(s, &mut haves, &mut chunks);
+    let words = raw::read_message(s, &mut haves, &mut chunks, &mut [0; HAVES]);
     (words, haves, chunks)
 }
 

@@ -2,15 +2,15 @@
 #include "print.h"
 #include <bisquetower.h>
 
-enum { MOST = 4194304, ANSWER = 12, HAVE = 7, HAVES = 16, CHUNK = 2, CHUNKS = 4096 };
+enum { MOST = 4194304, ANSWER = 14, HAVE = 7, HAVES = 16, CHUNK = 2, CHUNKS = 4096 };
 
 static uint8_t message[MOST + 1];
-static uint64_t haves[HAVE * HAVES], chunks[CHUNK * CHUNKS], answer[ANSWER];
+static uint64_t haves[HAVE * HAVES], chunks[CHUNK * CHUNKS], ignored[HAVES], answer[ANSWER];
 
 int main(void) {
     size_t length = 0;
     for (ssize_t n; length <= MOST && (n = read(0, message + length, MOST + 1 - length)) > 0;) length += (size_t)n;
-    bt_read_message(message, length, haves, HAVE * HAVES, chunks, CHUNK * CHUNKS, answer);
+    bt_read_message(message, length, haves, HAVE * HAVES, chunks, CHUNK * CHUNKS, ignored, answer);
     if (answer[0] != 0) return print_refusal(answer);
     print_number("version ", answer[1]);
     print_number(", heads ", answer[3]);
@@ -18,6 +18,8 @@ int main(void) {
     print_number(", haves ", answer[7]);
     print_number(", chunks ", answer[9]);
     print_number(", flags ", answer[10]);
+    print_number(", ignored ", answer[12]);
+    print_number(" and ", answer[13]);
     print("\n");
     return 0;
 }

@@ -28,12 +28,31 @@ pub fn field_size(entries: u64, bits: u64) -> u128 {
 }
 
 /// The eight words that a reader has to answer: 0, entries, bits, probes, place
-/// and length of the field, next place; or the refusal.
+/// and length of the field, next place, bytes of the part behind that; or the
+/// refusal.
 pub fn read(s: &[u8], at: usize, end: usize) -> [u64; 8] {
     match numbers(s, at, end) {
-        Ok([n, b, p, place, length]) => [0, n, b, p, place, length, place + length, 0],
+        Ok([n, b, p, place, length]) => {
+            let next = place + length;
+            [
+                0,
+                n,
+                b,
+                p,
+                place,
+                length,
+                next,
+                ignored(s, next as usize, end),
+            ]
+        }
         Err((number, value)) => [number, value, 0, 0, 0, 0, 0, 0],
     }
+}
+
+/// Document 02, M-103: "the number of bytes behind its field", byte by byte.
+pub(super) fn ignored(s: &[u8], next: usize, end: usize) -> u64 {
+    let behind = |&place: &usize| next <= place && place < end;
+    (0..s.len()).filter(behind).count() as u64
 }
 
 /// Entries, bits, probes, place and length of the field: all three numbers are

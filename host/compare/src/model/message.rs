@@ -13,7 +13,7 @@ pub const MESSAGE: usize = 4_194_304;
 pub const CHUNKS: u64 = 4_096;
 
 /// Words of an answer, and of a chunk's record: place and length.
-pub const ANSWER_WORDS: usize = 12;
+pub const ANSWER_WORDS: usize = 14;
 pub const CHUNK_WORDS: usize = 2;
 
 /// How an answer says that there is no flags section.
@@ -34,12 +34,20 @@ pub struct Message {
     /// Their value, or `NO_FLAGS`.
     pub flags: u64,
     pub next: u64,
+    /// Bytes behind the field of each have's filter, and after the flags section.
+    pub ignored: Vec<u64>,
+    pub behind: u64,
 }
 
-/// What a reader has to answer and to leave in the two lists: they are filled from
-/// their starts, and stay as they were if either is too short.
-pub fn read(s: &[u8], haves: &mut [u64], chunks: &mut [u64]) -> [u64; ANSWER_WORDS] {
-    answer(&parse(s), haves, chunks)
+/// What a reader has to answer and to leave in the lists: they are filled from their
+/// starts, and stay as they were if either of the first two is too short.
+pub fn read(
+    s: &[u8],
+    haves: &mut [u64],
+    chunks: &mut [u64],
+    ignored: &mut [u64],
+) -> [u64; ANSWER_WORDS] {
+    answer(&parse(s), haves, chunks, ignored)
 }
 
 /// The same for a message that was read before.
@@ -47,6 +55,7 @@ pub fn answer(
     message: &Result<Message, Refused>,
     haves: &mut [u64],
     chunks: &mut [u64],
+    ignored: &mut [u64],
 ) -> [u64; ANSWER_WORDS] {
     let fitting = message.as_ref().map_err(|&refused| refused);
     let fitting = fitting.and_then(|message| {
@@ -61,6 +70,7 @@ pub fn answer(
         }
         haves[..records.len()].copy_from_slice(&records);
         chunks[..pieces.len()].copy_from_slice(&pieces);
+        ignored[..message.ignored.len()].copy_from_slice(&message.ignored);
         Ok(message)
     });
     let mut words = [0; ANSWER_WORDS];
@@ -71,7 +81,8 @@ pub fn answer(
             words[4..6].copy_from_slice(&m.need);
             words[6..8].copy_from_slice(&[m.haves_at, m.haves.len() as u64]);
             words[8..10].copy_from_slice(&[m.chunks_at, m.chunks.len() as u64]);
-            words[10..].copy_from_slice(&[m.flags, m.next]);
+            words[10..12].copy_from_slice(&[m.flags, m.next]);
+            words[12..].copy_from_slice(&[m.ignored.iter().sum(), m.behind]);
         }
         Err((number, value)) => words[..2].copy_from_slice(&[number, value]),
     }
@@ -106,11 +117,17 @@ pub fn parse(s: &[u8]) -> Result<Message, Refused> {
     let (need, next) = list(s, next)?;
 
     let (count, haves_at) = counted(s, next, HAVES as u64)?;
-    let mut haves = Vec::new();
+    let (mut haves, mut ignored) = (Vec::new(), Vec::new());
     let mut next = haves_at;
     for _ in 0..count {
         let (have, after) = have(s, next)?;
         haves.push(have);
+        let [.., field, length] = have;
+        ignored.push(filter::ignored(
+            &s[..after],
+            (field + length) as usize,
+            after,
+        ));
         next = after;
     }
 
@@ -123,11 +140,12 @@ pub fn parse(s: &[u8]) -> Result<Message, Refused> {
         next = end;
     }
 
-    let mut flags = NO_FLAGS;
+    let (mut flags, mut behind) = (NO_FLAGS, 0);
     if next < s.len() {
         let (start, end) = prefixed(&at(s, next))?;
         flags = flags_of(&s[start..end]);
         next = end;
+        behind = s[end..].len() as u64;
     }
     Ok(Message {
         version,
@@ -139,6 +157,8 @@ pub fn parse(s: &[u8]) -> Result<Message, Refused> {
         chunks,
         flags,
         next: next as u64,
+        ignored,
+        behind,
     })
 }
 

@@ -198,7 +198,7 @@ fn filters_without_entries() {
             assert_eq!(compare_all(&parts).answers[0], 3);
             let place = lent[0].len() as u64;
             let read = raw::read_filter(&lent[2], 0, usize::MAX);
-            assert_eq!(read, [0, 0, bits, probes, place, 0, place, 0]);
+            assert_eq!(read, [0, 0, bits, probes, place, 0, place, 5]);
         }
     }
 }
@@ -266,7 +266,7 @@ fn settled_readings() {
     assert_eq!(raw::read_filter(&[9, 1, 10, 65], 1, 4), refused(4, 1));
     assert_eq!(raw::read_filter(&[9, 1, 0, 65], 1, 4), refused(5, 1));
     // Without entries b and p may be anything; what follows is ignored.
-    assert_eq!(read(&[0, 0, 0x80, 1, 5, 5]), [0, 0, 0, 128, 4, 0, 4, 0]);
+    assert_eq!(read(&[0, 0, 0x80, 1, 5, 5]), [0, 0, 0, 128, 4, 0, 4, 2]);
     assert_eq!(read(&[0, 0, 0x80]), refused(1, 2));
     assert_eq!(read(&[0, 0x80, 0]), refused(3, 1));
     // The product of the largest numbers, plus 7, is no small number.

@@ -153,7 +153,17 @@ fn random_writes() {
         if first == 0 {
             let place = written - length as u64;
             let probes = filter.probes;
-            let words = [0, entries, bits, probes, place, length as u64, written, 0];
+            let behind = out.len() as u64 - written;
+            let words = [
+                0,
+                entries,
+                bits,
+                probes,
+                place,
+                length as u64,
+                written,
+                behind,
+            ];
             assert_eq!(raw::read_filter(&out, 0, out.len()), words);
             assert_eq!(out[place as usize..written as usize], field);
         }

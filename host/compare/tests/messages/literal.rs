@@ -6,7 +6,7 @@ use bisquetower::raw;
 
 fn refused(s: &[u8]) -> [u64; 2] {
     let (words, haves, chunks) = ask(s);
-    assert_eq!(words[2..], [0; 10]);
+    assert_eq!(words[2..], [0; 12]);
     assert!(haves.iter().chain(&chunks).all(|&word| word == 0));
     [words[0], words[1]]
 }
@@ -15,7 +15,7 @@ fn refused(s: &[u8]) -> [u64; 2] {
 #[test]
 fn p1_to_p3() {
     let empty = [0x42, 0, 0, 0, 0];
-    let words = |flags, next| [0, 1, 2, 0, 3, 0, 4, 0, 5, 0, flags, next];
+    let words = |flags, next| [0, 1, 2, 0, 3, 0, 4, 0, 5, 0, flags, next, 0, 0];
     assert_eq!(ask(&empty).0, words(256, 5));
     assert_eq!(ask(&[&empty[..], &[0]].concat()).0, words(0, 6));
     assert_eq!(ask(&[&empty[..], &[2, 2, 0x84]].concat()).0, words(4, 8));
@@ -41,7 +41,7 @@ fn p1_to_p3() {
 fn p4_is_read() {
     let s = [0x42, 0, 0, 1, 0, 0, 0, 2, 2, 0x84];
     let (words, haves, chunks) = ask(&s);
-    assert_eq!(words, [0, 1, 2, 0, 3, 0, 4, 1, 7, 0, 4, 10]);
+    assert_eq!(words, [0, 1, 2, 0, 3, 0, 4, 1, 7, 0, 4, 10, 0, 0]);
     assert_eq!(haves[..8], [5, 0, 0, 10, 7, 6, 0, 0]);
     assert_eq!(chunks[0], 0);
 }
@@ -64,7 +64,7 @@ fn places_of_all_parts() {
     ];
     let s = parts.concat();
     let (words, haves, chunks) = ask(&s);
-    assert_eq!(words, [0, 2, 2, 1, 35, 2, 100, 2, 149, 2, 5, 157]);
+    assert_eq!(words, [0, 2, 2, 1, 35, 2, 100, 2, 149, 2, 5, 157, 3, 1]);
     let first = [101, 1, 1, 10, 7, 137, 2];
     let second = [140, 0, 0, 0, 128, 145, 0];
     assert_eq!(haves[..15], [&first[..], &second, &[0]].concat());

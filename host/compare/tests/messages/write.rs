@@ -2,7 +2,7 @@
 //! size, and what is read of them again.
 
 use crate::{agree, ask};
-use bisquetower::message::View;
+use bisquetower::message::{View, HAVES};
 use compare::inputs::message::{good_messages, OwnParts};
 use compare::inputs::Seed;
 use compare::messages::parts::{parts, Chunks};
@@ -26,7 +26,7 @@ fn written(parts: &OwnParts) -> Vec<u8> {
 fn every_size() {
     for s in good_messages() {
         let (words, haves, chunks) = ask(&s);
-        let view = View::of(&s, words, &haves, &chunks).expect("a good message");
+        let view = View::of(&s, words, &haves, &chunks, [0; HAVES]).expect("a good message");
         let chunks = Chunks::of(&view);
         let parts = parts(&view, &chunks);
         let wanted = bytes(&parts).unwrap().len();

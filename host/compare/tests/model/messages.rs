@@ -109,7 +109,7 @@ fn random_messages() {
 fn settled_readings() {
     let mut lists = ([7; 7 * 16], [7; 8]);
     let mut of = |s: &[u8]| {
-        let words = read(s, &mut lists.0, &mut lists.1);
+        let words = read(s, &mut lists.0, &mut lists.1, &mut [0; 16]);
         [words[0], words[1]]
     };
     assert_eq!(of(&[]), [1, 0]);
@@ -137,7 +137,7 @@ fn settled_readings() {
     // Flags are joined, not added.
     let flags = |section: &[u8]| {
         let s = [&[0x42, 0, 0, 0, 0][..], section].concat();
-        read(&s, &mut [], &mut [])[10..].to_vec()
+        read(&s, &mut [], &mut [], &mut [0; 16])[10..12].to_vec()
     };
     assert_eq!(flags(&[]), [256, 5]);
     assert_eq!(flags(&[0]), [0, 6]);

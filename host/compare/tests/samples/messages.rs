@@ -12,6 +12,7 @@ struct Asked {
     answer: [u64; ANSWER_WORDS],
     haves: Vec<u64>,
     chunks: Vec<u64>,
+    ignored: [u64; HAVES],
 }
 
 impl Asked {
@@ -21,11 +22,12 @@ impl Asked {
             answer: [UNWRITTEN; ANSWER_WORDS],
             haves: vec![0; HAVE_WORDS * HAVES],
             chunks: vec![0; CHUNK_WORDS * record.input.len()],
+            ignored: [0; HAVES],
         }
     }
 
     fn view<'a>(&'a self, s: &'a [u8]) -> Result<View<'a>, Refusal> {
-        View::of(s, self.answer, &self.haves, &self.chunks)
+        View::of(s, self.answer, &self.haves, &self.chunks, self.ignored)
     }
 }
 
@@ -37,8 +39,9 @@ fn read(records: &[Record]) -> Vec<Asked> {
             answer,
             haves,
             chunks,
+            ignored,
         } = one;
-        batch.read_message(&record.input, haves, chunks, answer);
+        batch.read_message(&record.input, haves, chunks, ignored, answer);
     }
     batch.run();
     asked

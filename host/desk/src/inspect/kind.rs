@@ -86,7 +86,10 @@ impl Kind {
     pub fn show(self, bytes: &[u8], full: bool) -> Result<String, Refusal> {
         let next = self.read(bytes)?;
         let mut text = match self {
-            Kind::Message => shown::message(&Message::decode(bytes)?, next, full),
+            Kind::Message => {
+                let ignored = ignored_in(bytes)?;
+                shown::message(&Message::decode(bytes)?, &ignored, next, full)
+            }
             Kind::State => shown::state(&SavedState::decode(bytes)?, next, full),
             Kind::Filter => shown::filter(&Filter::parse(bytes)?, next),
             Kind::Table => shown::table(&Table::new(bytes)?, full),
@@ -147,6 +150,15 @@ impl fmt::Display for Kind {
             other => other.name(),
         })
     }
+}
+
+/// How many bytes are ignored behind the field of each have's filter.
+fn ignored_in(bytes: &[u8]) -> Result<Vec<u64>, Refusal> {
+    let mut haves = vec![0; HAVES * HAVE_WORDS];
+    let mut chunks = vec![0; CHUNKS * CHUNK_WORDS];
+    let read = message::View::read(bytes, &mut haves, &mut chunks)?;
+    let ignored = read.haves().map(|have| have.ignored).collect();
+    Ok(ignored)
 }
 
 /// A waiting table, beside a change table without rows.

@@ -6,7 +6,7 @@ use crate::text::{count, hashes, number, Columns};
 use bisquetower::{ChangeHash, Filter, Have, Message, MessageFlags, MessageVersion};
 use bisquetower::{SavedState, Table, Waiting};
 
-pub fn message(message: &Message, length: usize, full: bool) -> String {
+pub fn message(message: &Message, ignored: &[u64], length: usize, full: bool) -> String {
     let version = match message.version {
         MessageVersion::V1 => 1,
         MessageVersion::V2 => 2,
@@ -23,7 +23,8 @@ pub fn message(message: &Message, length: usize, full: bool) -> String {
     } = message;
     columns.rows("heads", &n(heads.len()), &hashes(heads, full));
     columns.rows("need", &n(need.len()), &hashes(need, full));
-    let haves: Vec<String> = have.iter().map(told_have).collect();
+    let haves = have.iter().zip(ignored).map(told_have);
+    let haves: Vec<String> = haves.collect();
     columns.rows("haves", &n(have.len()), &haves);
     let bytes = changes.iter().map(Vec::len).sum();
     let chunks = match changes.len() {
@@ -37,10 +38,17 @@ pub fn message(message: &Message, length: usize, full: bool) -> String {
     format!("{}\n{columns}", Paint::of_output().bold(&title))
 }
 
-fn told_have(have: &Have) -> String {
+fn told_have((have, &ignored): (&Have, &u64)) -> String {
     let Have { last_sync, bloom } = have;
     let synced = count(last_sync.len(), "last-sync hash");
-    format!("{synced}; filter: {}", told_filter(bloom))
+    let behind = match ignored {
+        0 => String::new(),
+        _ => format!(
+            "; {} behind the filter's field",
+            count(ignored as usize, "byte")
+        ),
+    };
+    format!("{synced}; filter: {}{behind}", told_filter(bloom))
 }
 
 fn told_flags(flags: Option<MessageFlags>) -> (String, String) {

@@ -63,6 +63,32 @@ fn a_message_from_standard_input() {
     assert!(none.contains("flags   -  no section"), "{none}");
 }
 
+/// Bytes behind a filter's field, and after the flags section.
+#[test]
+fn what_is_ignored() {
+    let message = |behind: &[u8], after: &[u8]| {
+        let length = 5 + behind.len() as u8;
+        let parts: [&[u8]; 6] = [
+            b"\x42\0\0\x01\0",
+            &[length],
+            b"\x01\x0a\x07\x0b\x0f",
+            behind,
+            b"\0\x02\x02\x84",
+            after,
+        ];
+        inspect(&parts.concat()).ended(0).out
+    };
+    let odd = message(b"odd", b"more");
+    assert!(odd.contains("; 3 bytes behind the filter's field"), "{odd}");
+    assert!(odd.contains("4 bytes from place 18 on, ignored"), "{odd}");
+    assert!(message(b"o", b"").contains("; 1 byte behind the filter's field"));
+    let none = message(b"", b"");
+    assert!(
+        !none.contains("behind") && !none.contains("ignored"),
+        "{none}"
+    );
+}
+
 /// The mark stands under the byte that the refusal names.
 #[test]
 fn the_mark_is_under_the_place() {
