@@ -65,6 +65,7 @@ exported-bind =
           );
       bt-hashes-to-send = λ κs a x y u v p q. (refl, skip (skip (skip (skip (skip (joined (once (p .content) (q .content)) (joined (once (p .answer) (q .answer)) refl)))))));
       bt-read-message = λ κs a x y u v p q. (refl, skip (joined (once (p .haves) (q .haves)) (joined (once (p .chunks) (q .chunks)) (joined (once (p .ignored) (q .ignored)) (joined (once (p .answer) (q .answer)) refl)))));
+      bt-peek-heads = λ κs a x y u v p q. (refl, skip (joined (once (p .content) (q .content)) (joined (once (p .answer) (q .answer)) refl)));
       bt-write-message = λ κs a x y u v p q. (refl, skip (skip (skip (skip (skip (skip (skip (skip (joined (once (p .content) (q .content)) (joined (once (p .answer) (q .answer)) refl))))))))));
       number-words = λ κs a x y u v p q. (once p q, refl);
       prefixed-words = λ κs a x y u v p q. (once p q, refl);
@@ -86,4 +87,5 @@ exported-bind =
       section-word = λ κs a x y u v p q. (once p q, refl);
       section-of = λ κs a x y u v p q. (once p q, refl);
       decoded-words = λ κs a x y u v p q. (once p q, refl);
+      peeked-words = λ κs a x y u v p q. (once p q, refl);
     }

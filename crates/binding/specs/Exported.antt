@@ -44,12 +44,14 @@ use Rattle.session_calls.proofs.answer.received_words as of-received-words
 use Rattle.session_calls.proofs.answer.received_session as of-received-session
 use Rattle.selection_calls.proofs.calls.bt_hashes_to_send as of-bt-hashes-to-send
 use Rattle.message_calls.proofs.calls.bt_read_message as of-bt-read-message
+use Rattle.message_calls.proofs.calls.bt_peek_heads as of-bt-peek-heads
 use Rattle.message_calls.proofs.calls.bt_write_message as of-bt-write-message
 use Rattle.message_calls.proofs.message_words.version_word as of-version-word
 use Rattle.message_calls.proofs.message_words.version_of as of-version-of
 use Rattle.message_calls.proofs.message_words.section_word as of-section-word
 use Rattle.message_calls.proofs.message_words.section_of as of-section-of
 use Rattle.message_calls.proofs.message_words.decoded_words as of-decoded-words
+use Rattle.message_calls.proofs.message_words.peeked_words as of-peeked-words
 use Rattle.session_words.proofs.words.session_words as of-session-words
 use Rattle.session_words.proofs.words.session_of as of-session-of
 
@@ -106,12 +108,14 @@ pub record ExportedBind : Type 0 where
   pub bt-hashes-to-send : Binds of-bt-hashes-to-send.ended of-bt-hashes-to-send.Reads.Post
   -- the crate message_calls
   pub bt-read-message : Binds of-bt-read-message.ended of-bt-read-message.Reads.Post
+  pub bt-peek-heads : Binds of-bt-peek-heads.ended of-bt-peek-heads.Reads.Post
   pub bt-write-message : Binds of-bt-write-message.ended of-bt-write-message.Reads.Post
   pub version-word : Binds of-version-word.ended of-version-word.Reads.Post
   pub version-of : Binds of-version-of.ended of-version-of.Reads.Post
   pub section-word : Binds of-section-word.ended of-section-word.Reads.Post
   pub section-of : Binds of-section-of.ended of-section-of.Reads.Post
   pub decoded-words : Binds of-decoded-words.ended of-decoded-words.Reads.Post
+  pub peeked-words : Binds of-peeked-words.ended of-peeked-words.Reads.Post
   -- the crate session_words
   pub session-words : Binds of-session-words.ended of-session-words.Reads.Post
   pub session-of : Binds of-session-of.ended of-session-of.Reads.Post

@@ -14,6 +14,7 @@ use Rattle.decode.proofs.decode.decode as of-decode
 use Rattle.decode.proofs.opening.parse_opening as of-parse-opening
 use Rattle.decode.proofs.parse.parse_section as of-parse-section
 use Rattle.decode.proofs.parse.parse as of-parse
+use Rattle.peek.proofs.peek.peek_heads as of-peek-heads
 use Rattle.size.proofs.size.message_size as of-message-size
 use Rattle.encode.proofs.encode.encode as of-encode
 use Rattle.reader.proofs.reader.hashes_at as of-reader-hashes-at
@@ -36,6 +37,8 @@ pub record MessagesBind : Type 0 where
   pub parse-opening : Binds of-parse-opening.ended of-parse-opening.Reads.Post
   pub parse-section : Binds of-parse-section.ended of-parse-section.Reads.Post
   pub parse : Binds of-parse.ended of-parse.Reads.Post
+  -- the crate peek
+  pub peek-heads : Binds of-peek-heads.ended of-peek-heads.Reads.Post
   -- the crate size
   pub message-size : Binds of-message-size.ended of-message-size.Reads.Post
   -- the crate encode

@@ -1,4 +1,5 @@
--- A message and its words: what is written is read back; and a call that reads a message has one answer and leaves one content of its lists.
+-- A message and its words: what is written is read back; and a call that reads a message, or its heads, has one answer and leaves one content of what
+-- it was lent.
 use Prim.Native.Nat.{ℕ, _≤_, _<_}
 use mathlib.Core.List.{List}
 use mathlib.Core.Path.{_≡_, refl, sym, ap, ap₂, subst, _∙_}
@@ -11,11 +12,13 @@ use Rattle.message.specs.declared.flags.Section.{Section}
 use Rattle.message.specs.declared.flags.Section.the-variants.{Absent, Present}
 use Rattle.message.specs.declared.version.MessageVersion.{MessageVersion}
 use Rattle.message.specs.declared.version.MessageVersion.the-variants.{V1, V2}
+use Rattle.peek.specs.Peek.{PeekedInto}
+use Rattle.peek.specs.declared.peek.Peeked.{Peeked}
 use Rattle.rules.specs.Output.{Output, Written}
 use Rattle.rules.specs.declared.output.Write.{Write}
 use Rattle.answers.proofs.Answers.{answered}
 use Rattle.answers.specs.Answer.{writeWords, Answered}
-use Rattle.message_calls.specs.MessageWords.{versionWord, versionOf, sectionWord, sectionOf, decodedWords, MessageAnswered}
+use Rattle.message_calls.specs.MessageWords.{versionWord, versionOf, sectionWord, sectionOf, decodedWords, MessageAnswered, peekedWords, PeekAnswered}
 
 -- ---- the words that are passed
 
@@ -59,6 +62,12 @@ pub message-answered-once : {s haves chunks ignored h₁ h₂ k₁ k₂ i₁ i�
     → (w₁ ≡ w₂) × (h₁ ≡ h₂) × (k₁ ≡ k₂) × (i₁ ≡ i₂)
 message-answered-once x y =
     (x .answer ∙ sym (y .answer), x .haves ∙ sym (y .haves), x .chunks ∙ sym (y .chunks), x .ignored ∙ sym (y .ignored))
+
+pub peek-answered : (s before after words : List ℕ) (r : Peeked) → PeekedInto s before after r → words ≡ peekedWords r → PeekAnswered s before after words
+peek-answered s before after words r p e = record { answer = e ∙ ap peekedWords (p .answer); content = p .content }
+
+pub peek-answered-once : {s before a₁ a₂ w₁ w₂ : List ℕ} → PeekAnswered s before a₁ w₁ → PeekAnswered s before a₂ w₂ → (w₁ ≡ w₂) × (a₁ ≡ a₂)
+peek-answered-once x y = (x .answer ∙ sym (y .answer), x .content ∙ sym (y .content))
 
 -- ---- a message that is written
 

@@ -4,8 +4,10 @@ use mathlib.Core.Bool.{cond}
 use mathlib.Core.List.{List, [], _∷_}
 use mathlib.Core.Path.{_≡_}
 use lib.Dec.{ltb, eqb}
+use lib.ListN.{length}
+use Rattle.answers.specs.Answer.{refusalWords}
 use Rattle.decode.specs.Ignored.{countedOf, ignoredInto}
-use Rattle.decode.specs.Read.{readWith, havesInto, chunksInto}
+use Rattle.decode.specs.Read.{openingAt, readWith, havesInto, chunksInto}
 use Rattle.decode.specs.declared.decode.Counted.{Counted}
 use Rattle.decode.specs.declared.decode.Counted.the-variants.{Message, Refused}
 use Rattle.message.specs.Flags.{flagsOf}
@@ -13,6 +15,9 @@ use Rattle.message.specs.declared.flags.Section.{Section}
 use Rattle.message.specs.declared.flags.Section.the-variants.{Absent, Present}
 use Rattle.message.specs.declared.version.MessageVersion.{MessageVersion}
 use Rattle.message.specs.declared.version.MessageVersion.the-variants.{V1, V2}
+use Rattle.peek.specs.Peek.{peekedAt, headsInto}
+use Rattle.peek.specs.declared.peek.Peeked.{Peeked}
+use Rattle.peek.specs.declared.peek.Peeked.the-variants.{Heads, Refused as NotPeeked}
 use Rattle.rules.specs.Refusal.{numberOf, valueOf}
 
 -- 1 or 2; any other number than 2 is version 1.
@@ -57,3 +62,13 @@ pub record MessageAnswered (s haves₀ haves₁ chunks₀ chunks₁ ignored₀ i
   pub haves : haves₁ ≡ havesInto (readWith s haves₀ chunks₀) haves₀
   pub chunks : chunks₁ ≡ chunksInto (readWith s haves₀ chunks₀) chunks₀
   pub ignored : ignored₁ ≡ ignoredInto s (readWith s haves₀ chunks₀) ignored₀
+
+-- The version and the number of heads.
+abbrev pub peekedWords : Peeked → List ℕ
+peekedWords (Heads version count) = 0 ∷ versionWord version ∷ count ∷ 0 ∷ []
+peekedWords (NotPeeked r) = refusalWords r
+
+-- Reading a message's heads alone: its words, and the lent buffer at exit.
+pub record PeekAnswered (s before after words : List ℕ) : Type 0 where
+  pub answer : words ≡ peekedWords (peekedAt s (length before))
+  pub content : after ≡ headsInto (openingAt s) s before

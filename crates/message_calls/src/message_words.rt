@@ -1,10 +1,12 @@
 // A message as words.
+use answers::answer::refusal_words;
 use decode::decode::Counted;
 use message::flags::MessageFlags;
 use message::flags::Section;
 use message::version::MessageVersion;
+use peek::peek::Peeked;
 ghost use mathlib.Core.Path.{_≡_};
-ghost use Rattle.message_calls.specs.MessageWords.{versionWord, versionOf, sectionWord, sectionOf, decodedWords};
+ghost use Rattle.message_calls.specs.MessageWords.{versionWord, versionOf, sectionWord, sectionOf, decodedWords, peekedWords};
 
 pub fn version_word(version: MessageVersion) -> u64
     ensures { λ r. ⌜ r ≡ versionWord version ⌝ }
@@ -75,5 +77,14 @@ pub fn decoded_words(d: Counted) -> [u64; 14]
             ]
         }
         Counted::Refused(r) => [r.number(), r.value(), 0, 0, 0, 0, 0, 0, 0, 0, 0, 0, 0, 0],
+    }
+}
+
+pub fn peeked_words(p: Peeked) -> [u64; 4]
+    ensures { λ w. ⌜ w ≡ peekedWords p ⌝ }
+{
+    match p {
+        Peeked::Heads { version, count } => [0, version_word(version), count as u64, 0],
+        Peeked::Refused(r) => refusal_words(r),
     }
 }
