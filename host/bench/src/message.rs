@@ -21,6 +21,9 @@ pub fn measure_all() {
     let (size, large) = &messages[messages.len() - 1];
     decode_beside_a_sum(size, large);
     for (size, s) in &messages {
+        peek_beside_decode(size, s);
+    }
+    for (size, s) in &messages {
         encode(size, s);
     }
 }
@@ -103,6 +106,29 @@ fn decode_beside_a_sum(size: &str, s: &[u8]) {
         note: "crate: no call of it, but the sum of the message's bytes, each read once",
     };
     line(what, library, sum);
+}
+
+/// A run's number is how many heads there are.
+fn peek_beside_decode(size: &str, s: &[u8]) {
+    let ((mut haves, mut chunks), mut ignored) = (room(), [0; 16]);
+    let mut heads = vec![0; 32 * 1_024];
+    let peeked = || {
+        let words = raw::peek_heads(black_box(s), &mut heads);
+        black_box(&heads);
+        words[2]
+    };
+    let decoded = || {
+        let words = raw::read_message(black_box(s), &mut haves, &mut chunks, &mut ignored);
+        black_box((&haves, &chunks, &ignored));
+        words[3]
+    };
+    let what = Line {
+        name: "peek, beside decode",
+        size,
+        calls: 1,
+        note: "crate: no call of it, but the library's own full read",
+    };
+    line(what, peeked, decoded);
 }
 
 /// A run's number is the message's length. The crate's call takes the message away,

@@ -1,7 +1,7 @@
 //! Messages as values.
 
 use crate::flags::{MessageFlags, MessageVersion};
-use crate::hash::{bytes_of, hashes_in, ChangeHash};
+use crate::hash::{bytes_of, hashes_in, ChangeHash, HASH};
 use crate::have::{self, Have};
 use crate::message::{self, CHUNK_WORDS, HAVES, HAVE_WORDS, NO_FLAGS};
 use crate::refusal::{answer, Refusal};
@@ -12,6 +12,9 @@ const NUMBER: usize = 10;
 
 /// As many chunks as are read without asking again.
 const FEW_CHUNKS: usize = 64;
+
+/// As many heads as are peeked at without asking again.
+const FEW_HEADS: usize = 32;
 
 /// What a unit says to another. [`message::View`] is the same without a copy, for
 /// readers who lend their own lists.
@@ -68,6 +71,35 @@ impl Message {
             flags: view.flags().map(MessageFlags),
             version: MessageVersion::of(view.version()),
         })
+    }
+
+    /// The version and the heads of a message, from its first part alone: what follows
+    /// the heads isn't looked at, and may be bad. Where [`Message::decode`] reads the
+    /// message, these are its version and heads; what is refused here is refused there
+    /// too, with the same refusal.
+    ///
+    /// ```
+    /// use bisquetower::{ChangeHash, Message, MessageVersion};
+    ///
+    /// let bytes = [&[0x42, 1][..], &[7; 32], b"what a forwarder has no use for"].concat();
+    /// let (version, heads) = Message::peek_heads(&bytes)?;
+    /// assert_eq!(version, MessageVersion::V1);
+    /// assert_eq!(heads, [ChangeHash([7; 32])]);
+    ///
+    /// let cut = Message::peek_heads(&bytes[..33]).unwrap_err();
+    /// assert_eq!((cut.number, cut.value), (1, 2));
+    /// # Ok::<(), bisquetower::Refusal>(())
+    /// ```
+    pub fn peek_heads(bytes: &[u8]) -> Result<(MessageVersion, Vec<ChangeHash>), Refusal> {
+        let mut heads = vec![0; HASH * FEW_HEADS];
+        let mut words = raw::peek_heads(bytes, &mut heads);
+        if let Err(Refusal { number: 7, value }) = answer(words) {
+            heads.resize(value as usize, 0);
+            words = raw::peek_heads(bytes, &mut heads);
+        }
+        let [version, count, _] = answer(words)?;
+        let heads = hashes_in(&heads[..HASH * count as usize]);
+        Ok((MessageVersion::of(version), heads))
     }
 
     /// Its bytes: refusal 4 if a part or the whole passes its limit.

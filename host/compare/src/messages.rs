@@ -1,9 +1,11 @@
 //! Messages read and written: the library against the model in every word, of the
 //! two lists and around them too; what a reader says of a message beside the
 //! crate's message (`beside`), and what is written of the parts that were read
-//! (`parts`) beside what the crate writes of its own.
+//! (`parts`) beside what the crate writes of its own; and the heads alone (`heads`)
+//! beside the full read.
 
 pub mod beside;
+pub mod heads;
 pub mod parts;
 
 use crate::guarded::{Fill, Guarded, FILLS};
@@ -31,6 +33,8 @@ pub struct Tally {
     pub with_haves: u64,
     pub with_chunks: u64,
     pub with_flags: u64,
+    /// Messages whose heads were answered though they are bad further on.
+    pub bad_later: u64,
     /// Of the messages that were read: those with bytes behind a filter's field, with
     /// bytes after the flags.
     pub ignoring: u64,
@@ -50,6 +54,7 @@ impl Tally {
         self.with_haves += other.with_haves;
         self.with_chunks += other.with_chunks;
         self.with_flags += other.with_flags;
+        self.bad_later += other.bad_later;
         self.ignoring += other.ignoring;
         self.behind_flags += other.behind_flags;
     }
@@ -200,7 +205,8 @@ const SPARE: usize = 3;
 
 /// Compares what the library says of these messages, with room to spare, with what
 /// the model and the crate say, and what it writes of those that are read with
-/// what both write. The first that disagrees is the error.
+/// what both write; and what it says of their heads alone. The first that disagrees
+/// is the error.
 pub fn compare<S: AsRef<[u8]>>(messages: &[S]) -> Result<Tally, String> {
     let mut asked: Vec<Asked> = Vec::with_capacity(messages.len());
     for s in messages.iter().map(AsRef::as_ref) {
@@ -239,6 +245,8 @@ pub fn compare<S: AsRef<[u8]>>(messages: &[S]) -> Result<Tally, String> {
         one.agrees().map_err(told)?;
     }
     tally.rewritten = again.len() as u64;
+    let read = asked.iter().map(|one| (one.s, one.view()));
+    tally.bad_later = heads::compare(&read.collect::<Vec<_>>())?;
     Ok(tally)
 }
 

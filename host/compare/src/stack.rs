@@ -265,7 +265,7 @@ fn messages(random: &mut Random) -> Vec<Deep> {
             vec![0; CHUNK_WORDS * CHUNKS as usize],
         )
     };
-    let read = s.clone();
+    let [read, peeked] = [s.clone(), s.clone()];
     let (mut haves, mut chunks) = lists();
     let view = View::read(&read, &mut haves, &mut chunks).expect("a good message");
     let own = Chunks::of(&view);
@@ -280,6 +280,9 @@ fn messages(random: &mut Random) -> Vec<Deep> {
         deep("bt_read_message", move || {
             let (mut haves, mut chunks) = lists();
             raw::read_message(&read, &mut haves, &mut chunks, &mut [0; HAVES])
+        }),
+        deep("bt_peek_heads", move || {
+            raw::peek_heads(&peeked, &mut vec![0; HASH * HASHES])
         }),
         deep("bt_write_message", write),
     ]

@@ -1,6 +1,8 @@
 //! Messages read and written: the proved library against the crate and the model.
 //! `compare::messages` says what is held against what.
 
+#[path = "messages/heads.rs"]
+mod heads;
 #[path = "messages/ignored.rs"]
 mod ignored;
 #[path = "messages/limits.rs"]

@@ -21,7 +21,7 @@ be read or written.
 ";
 
 const INSPECT: &str = "\
-bisquetower inspect FILE [--as KIND] [--full]
+bisquetower inspect FILE [--as KIND] [--heads] [--full]
 
 Shows what a file holds, in columns. What is refused is shown with its number,
 what it means, and the bytes around the place that it names.
@@ -30,6 +30,8 @@ what it means, and the bytes around the place that it names.
               wait). Without it the end of the file's name says (x.message and
               so on), else the bytes: the first kind that takes all of them, of
               which waiting is none.
+  --heads     of a message the version and the heads alone; what follows them
+              isn't looked at, and may be bad
   --full      hashes whole and all of them
 ";
 

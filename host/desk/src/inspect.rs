@@ -3,21 +3,24 @@
 mod kind;
 mod shown;
 
-use crate::args::Options;
+use crate::args::{Args, Options};
 use crate::failure::Failure;
 use crate::{files, hex};
-use bisquetower::Refusal;
+use bisquetower::{Message, Refusal};
 pub use kind::Kind;
 
 const OPTIONS: Options = Options {
     command: "inspect",
-    switches: &["--full"],
+    switches: &["--full", "--heads"],
     valued: &["--as"],
 };
 
 pub fn run(words: &[String]) -> Result<String, Failure> {
     let args = OPTIONS.read(words)?;
     let [file] = OPTIONS.names(&args, "one file")?;
+    if args.has("--heads") {
+        return heads(&file, &args);
+    }
     let named = match args.value("--as") {
         Some(name) => Some(Kind::named(name).ok_or_else(|| {
             OPTIONS.wrong(format!(
@@ -35,6 +38,18 @@ pub fn run(words: &[String]) -> Result<String, Failure> {
         Some(_) => String::new(),
     };
     Ok(format!("{file}: {shown}{other}"))
+}
+
+/// The version and the heads alone, of a message that may be bad further on.
+fn heads(file: &str, args: &Args) -> Result<String, Failure> {
+    if args.value("--as").is_some_and(|kind| kind != "message") {
+        return Err(OPTIONS.wrong("only a message has heads"));
+    }
+    let bytes = files::read(file)?;
+    let peeked = Message::peek_heads(&bytes);
+    let peeked = peeked.map_err(|refusal| refused(file, Kind::Message, &bytes, refusal))?;
+    let shown = shown::heads(peeked.0, &peeked.1, args.has("--full"));
+    Ok(format!("{file}: {shown}"))
 }
 
 /// The refusal, and the bytes at its place.

@@ -89,6 +89,31 @@ pub fn answer(
     words
 }
 
+/// Document 02, M-104: version and heads from the first part of the bytes. What a
+/// reader has to answer, and to leave in the buffer: the heads at its start.
+pub fn peek(s: &[u8], out: &mut [u8]) -> [u64; 4] {
+    let peeked = first_part(s).and_then(|(version, heads)| match heads.len() {
+        wanted if wanted > out.len() => Err((7, wanted as u64)),
+        length => {
+            out[..length].copy_from_slice(heads);
+            Ok([0, version, (length / HASH) as u64, 0])
+        }
+    });
+    peeked.unwrap_or_else(|(number, value)| [number, value, 0, 0])
+}
+
+/// The version and the heads' bytes. "The total size is still tested first."
+fn first_part(s: &[u8]) -> Result<(u64, &[u8]), Refused> {
+    let version = match s {
+        _ if s.len() > MESSAGE => return Err((4, 0)),
+        [] => return Err((1, 0)),
+        [first @ (0x42 | 0x43), ..] => u64::from(first - 0x41),
+        [first, ..] => return Err((2, u64::from(*first))),
+    };
+    let (start, count) = hashes(&at(s, 1))?;
+    Ok((version, &s[start..start + HASH * count]))
+}
+
 /// The whole of `s` from a place on.
 fn at(s: &[u8], at: usize) -> Read<'_> {
     let end = s.len();

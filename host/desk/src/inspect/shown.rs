@@ -6,11 +6,24 @@ use crate::text::{count, hashes, number, Columns};
 use bisquetower::{ChangeHash, Filter, Have, Message, MessageFlags, MessageVersion};
 use bisquetower::{SavedState, Table, Waiting};
 
-pub fn message(message: &Message, ignored: &[u64], length: usize, full: bool) -> String {
-    let version = match message.version {
+fn told_version(version: MessageVersion) -> u64 {
+    match version {
         MessageVersion::V1 => 1,
         MessageVersion::V2 => 2,
-    };
+    }
+}
+
+/// What a message brings, of which no more was read.
+pub fn heads(version: MessageVersion, list: &[ChangeHash], full: bool) -> String {
+    let mut columns = Columns::default();
+    columns.rows("heads", &number(list.len()), &hashes(list, full));
+    let version = told_version(version);
+    let title = format!("the heads of a message of version {version}, which is read no further");
+    format!("{}\n{columns}", Paint::of_output().bold(&title))
+}
+
+pub fn message(message: &Message, ignored: &[u64], length: usize, full: bool) -> String {
+    let version = told_version(message.version);
     let mut columns = Columns::default();
     let n = |list: usize| number(list);
     let Message {

@@ -89,6 +89,35 @@ fn what_is_ignored() {
     );
 }
 
+/// The heads of messages that are good, cut further on, and cut in the heads.
+#[test]
+fn heads_alone() {
+    let show = |name: &str| run(&["inspect", "--heads", text(&samples().join(name))]);
+    let first = show("1-validator.message").ended(0).out;
+    assert!(
+        first.contains("version 1, which is read no further"),
+        "{first}"
+    );
+    assert!(!first.contains("haves"), "{first}");
+    show("cut.message").ended(0);
+    assert!(show("long-number.message")
+        .ended(1)
+        .err
+        .contains("refusal 3, value 1"));
+
+    let heads = |bytes: &[u8]| run_with(&["inspect", "--heads", "--full", "-"], bytes);
+    let bytes = [&b"\x43\x01"[..], &[0xab; 32], b"\x80"].concat();
+    let shown = heads(&bytes).ended(0).out;
+    assert!(
+        shown.contains(&format!("heads  1  {}", "ab".repeat(32))),
+        "{shown}"
+    );
+    let refused = heads(&bytes[..33]).ended(1).err;
+    assert!(refused.contains("refusal 1, value 2"), "{refused}");
+    assert!(refused.contains("^^ place 2"), "{refused}");
+    run_with(&["inspect", "--heads", "--as", "state", "-"], &bytes).ended(2);
+}
+
 /// The mark stands under the byte that the refusal names.
 #[test]
 fn the_mark_is_under_the_place() {
