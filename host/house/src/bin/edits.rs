@@ -8,7 +8,7 @@ use std::fs;
 
 const HEAD: &str = "# Edits that must be refused
 
-Each is a wrong program, or a wrong definition, of the same shape as what stands: crates/CRATE/must-fail/EDIT.edit. The gate applies each to a copy of its crate, and the prover has to refuse it. The last column names the first fact that the prover then missed: `returns` is what a function ensures where it returns, `loop-again` that a loop's body keeps what is claimed of it, `loop-holds` that it holds before the loop, `..-requires` what a called function asks for; any other name is a law, with its file. `make edits` writes this page from what the gate left in target/.
+Each is a wrong program, or a wrong definition, of the same shape as what stands: crates/CRATE/must-fail/EDIT.edit. The gate applies each to a copy of its crate, and the prover has to refuse it. The last column names the first fact that the prover could then no longer show: `returns` is what a function ensures where it returns, `loop-again` that a loop's body keeps what is claimed of it, `loop-holds` that it holds before the loop, `..-requires` what a called function asks for; any other name is a law, with its file. Where an edit makes a test weaker, that first fact may still hold, and the false one stands behind it in the log. `make edits` writes this page from what the gate left in target/.
 ";
 
 fn main() {
