@@ -6,11 +6,11 @@ use mathlib.Core.List.{List, [], _∷_, _++_}
 use mathlib.Core.Path.{_≡_, refl, sym, ap, ap₂, _∙_}
 use native.Mathlib.Nat.{mod-lt}
 use native.Mathlib.Omega.{arith}
-use borrow.Author.Tests.{ltb-true, ltb-false, lt-ltb, ne-eqb, eqb-true, eqb-false}
+use borrow.Author.Tests.{ltb-true, ltb-false, ne-eqb, eqb-true, eqb-false}
 use lib.Arith.{bin-ind}
 use lib.Bits.{bitOr, or-step, or-shr, or-comm, or-lt}
 use lib.Dec.{ltb, eqb}
-use lib.ListN.{length, getD, set, replicate, length-set, length-append}
+use lib.ListN.{length, getD, set, replicate, length-set, length-append, length-replicate}
 use lib.Pow.{shl-shr, pow-lt}
 use lib.Seq.{getD-set-same, getD-set-other, set-out, set-set, set-comm}
 use Rattle.rules.specs.Hash.{Bytes}
@@ -21,7 +21,9 @@ use Rattle.rules.proofs.OrderLaws.{member-none, member-behind}
 use Rattle.probe.specs.Build.{setBit, setBits, addHash, addHashes, filterOf}
 use Rattle.probe.specs.Contains.{clearAt, noneClear, contains, anyContains}
 use Rattle.probe.specs.Probes.{probesOf, bitAt}
-use Rattle.bloom.specs.Filter.{Filter, fieldSize}
+use Rattle.bloom.specs.Filter.{Filter, fieldSize, filterRules}
+use Rattle.bloom.proofs.Rules.{capacity-covers, ruled}
+use Rattle.probe.proofs.ProbeLaws.{probes-below}
 
 -- ---- bits of a number
 
@@ -85,27 +87,20 @@ unfolding bitAt
 bit-stays field k j e =
     each-byte (λ x. x / 2 ^ (j % 8) % 2 ≡ 1) field k (j / 8) e (rw (or-bit (getD field (j / 8) 0) (2 ^ (k % 8)) (j % 8)) (omega arith))
 
--- A bit is clear or set, where it is there.
-not-clear : (field : List ℕ) (k : ℕ) → (k / 8 < length field → bitAt field k ≡ 1) → clearAt field k ≡ false
+-- A bit is clear or set.
+not-clear : (field : List ℕ) (k : ℕ) → bitAt field k ≡ 1 → clearAt field k ≡ false
 unfolding clearAt
-not-clear field k f =
-    split (ltb (k / 8) (length field))
-    (λ e. let one : bitAt field k ≡ 1 = f (ltb-true _ _ e) in rw (e, one))
-    (λ e. rw e)
+not-clear field k e = rw e
 
-then-set : (field : List ℕ) (k : ℕ) → clearAt field k ≡ false → k / 8 < length field → bitAt field k ≡ 1
+then-set : (field : List ℕ) (k : ℕ) → clearAt field k ≡ false → bitAt field k ≡ 1
 unfolding clearAt bitAt
-then-set field k e h =
-    let bit : ℕ = getD field (k / 8) 0 / 2 ^ (k % 8) % 2 in
-    let some : eqb bit 0 ≡ false = rw (lt-ltb (k / 8) (length field) h) at e in
-    omega (arith, eqb-false bit 0 some)
+then-set field k e = omega (arith, eqb-false (getD field (k / 8) 0 / 2 ^ (k % 8) % 2) 0 e)
 
-set-not-clear : (field : List ℕ) (k : ℕ) → clearAt (setBit field k) k ≡ false
-set-not-clear field k = not-clear (setBit field k) k (λ h. bit-set field k (rw length-set-bit at h))
+set-not-clear : (field : List ℕ) (k : ℕ) → k < 8 * length field → clearAt (setBit field k) k ≡ false
+set-not-clear field k h = not-clear (setBit field k) k (bit-set field k (omega arith))
 
 stays-not-clear : (field : List ℕ) (k j : ℕ) → clearAt field j ≡ false → clearAt (setBit field k) j ≡ false
-stays-not-clear field k j e =
-    not-clear (setBit field k) j (λ h. bit-stays field k j (then-set field j e (rw length-set-bit at h)))
+stays-not-clear field k j e = not-clear (setBit field k) j (bit-stays field k j (then-set field j e))
 
 -- ---- the bits of several probes
 
@@ -128,11 +123,12 @@ unfolding setBits
 bits-stay-not-clear field [] j e = e
 bits-stay-not-clear field (k ∷ ks) j e = bits-stay-not-clear (setBit field k) ks j (stays-not-clear field k j e)
 
-set-none-clear : (field ks : List ℕ) → noneClear (setBits field ks) ks ≡ true
+set-none-clear : (field ks : List ℕ) → ((i : ℕ) → getD ks i 0 < 8 * length field) → noneClear (setBits field ks) ks ≡ true
 unfolding setBits noneClear
-set-none-clear field [] = refl
-set-none-clear field (k ∷ ks) =
-    rw (bits-stay-not-clear (setBit field k) ks k (set-not-clear field k)) (set-none-clear (setBit field k) ks)
+set-none-clear field [] inside = refl
+set-none-clear field (k ∷ ks) inside =
+    rw (bits-stay-not-clear (setBit field k) ks k (set-not-clear field k (inside 0)))
+    (set-none-clear (setBit field k) ks (λ i. rw length-set-bit (inside (suc i))))
 
 stay-none-clear : (field ks js : List ℕ) → noneClear field js ≡ true → noneClear (setBits field ks) js ≡ true
 unfolding noneClear
@@ -155,31 +151,42 @@ hashes-stay p field [] js e = e
 hashes-stay p field (h ∷ hs) js e =
     hashes-stay p (addHash p field h) hs js (stay-none-clear field (probesOf (8 * length field) p h) js e)
 
-hash-added : (p m : ℕ) (field hs : List ℕ) (h : ℕ) → m ≡ 8 * length field → member h hs ≡ true
+hash-added : (p m : ℕ) (field hs : List ℕ) (h : ℕ) → m ≡ 8 * length field → 0 < m → member h hs ≡ true
     → noneClear (addHashes p field hs) (probesOf m p h) ≡ true
 unfolding addHashes addHash
-hash-added p m field [] h e d = absurd (member-none h d)
-hash-added p m field (g ∷ hs) h e d =
+hash-added p m field [] h e some d = absurd (member-none h d)
+hash-added p m field (g ∷ hs) h e some d =
     split (eqb h g)
     (λ q.
     let same : h ≡ g = eqb-true h g q in
-    rw (e, same) (hashes-stay p (addHash p field g) hs (probesOf (8 * length field) p g) (set-none-clear field (probesOf (8 * length field) p g))))
-    (λ q. hash-added p m (addHash p field g) hs h (rw length-add-hash e) (member-behind h g hs d (eqb-false h g q)))
+    let ks : List ℕ = probesOf (8 * length field) p g in
+    rw (e, same) (hashes-stay p (addHash p field g) hs ks (set-none-clear field ks (λ i. probes-below (8 * length field) p g i (omega arith)))))
+    (λ q. hash-added p m (addHash p field g) hs h (rw length-add-hash e) some (member-behind h g hs d (eqb-false h g q)))
 
 some-entries : (hs : List ℕ) (h : ℕ) → member h hs ≡ true → eqb (length hs) 0 ≡ false
 some-entries hs h d = ne-eqb (length hs) 0 (λ e. omega (arith, member-long h hs d))
 
--- Whatever the bits per entry and the probes are: a hash that was added is contained.
-pub added-contained : (b p : ℕ) (hs : List ℕ) (h : ℕ) → member h hs ≡ true → contains (filterOf b p hs) h ≡ true
+-- Whatever the bits per entry and the probes are, as long as there is a bit: a hash that was added is contained.
+pub added-contained : (b p : ℕ) (hs : List ℕ) (h : ℕ) → 0 < b → member h hs ≡ true → contains (filterOf b p hs) h ≡ true
 unfolding contains filterOf
-added-contained b p hs h d =
-    let field : List ℕ = replicate (fieldSize (length hs) b) 0 in
-    rw (some-entries hs h d) (hash-added p _ field hs h (ap (λ (n : ℕ). 8 * n) (length-add-hashes p field hs)) d)
+added-contained b p hs h bits d =
+    let size : ℕ = fieldSize (length hs) b in
+    let field : List ℕ = replicate size 0 in
+    let long : length field ≡ size = length-replicate size 0 in
+    let bits′ : length hs ≤ 8 * size = capacity-covers (length hs) b bits in
+    let same : 8 * length (addHashes p field hs) ≡ 8 * length field = ap (λ (n : ℕ). 8 * n) (length-add-hashes p field hs) in
+    rw (some-entries hs h d) (hash-added p _ field hs h same (omega (arith, member-long h hs d)) d)
+
+-- So in a filter that keeps the rules.
+pub accepted-contained : (b p : ℕ) (hs : List ℕ) (h : ℕ) → filterRules (length hs) b p (fieldSize (length hs) b) ≡ true → member h hs ≡ true
+    → contains (filterOf b p hs) h ≡ true
+accepted-contained b p hs h rules d =
+    added-contained b p hs h (ruled (length hs) b p (fieldSize (length hs) b) rules .full (member-long h hs d) .someBits) d
 
 -- And in a list of filters that begins with theirs.
-pub added-any : (b p : ℕ) (hs : List ℕ) (fs : List Filter) (h : ℕ) → member h hs ≡ true → anyContains (filterOf b p hs ∷ fs) h ≡ true
+pub added-any : (b p : ℕ) (hs : List ℕ) (fs : List Filter) (h : ℕ) → 0 < b → member h hs ≡ true → anyContains (filterOf b p hs ∷ fs) h ≡ true
 unfolding anyContains
-added-any b p hs fs h d = or-left (contains (filterOf b p hs) h) (anyContains fs h) (added-contained b p hs h d)
+added-any b p hs fs h bits d = or-left (contains (filterOf b p hs) h) (anyContains fs h) (added-contained b p hs h bits d)
 
 -- ---- the order of adding
 

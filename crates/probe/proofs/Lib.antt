@@ -1,6 +1,7 @@
 -- Laws that the crates above cite.
 pub mod BuildLaws
 pub mod FieldLaws
+pub mod InsideLaws
 pub mod ProbeLaws
 pub mod Promises
 pub mod Search

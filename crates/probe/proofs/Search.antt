@@ -98,6 +98,12 @@ probed s f e some =
     let full = ruled _ _ _ _ (parts .0) .full (omega arith) in
     record { some = full .some; small = full .small; inside = leb-true _ _ (parts .1) }
 
+-- the part that is lent as the field has its size
+pub field-long : (s : List ℕ) (f : FilterNumbers) → Probed s f → length (take (f .place + f .size - f .place) (drop (f .place) s)) ≡ f .size
+field-long s f good =
+    let same : f .place + f .size - f .place ≡ f .size = omega arith in
+    rw (same, take-drop (f .size) (f .place) s) (length-slice-of (f .size) s (f .place) (good .inside))
+
 -- a record's filter contains a hash if none of the probes that the hash's words give is clear in the part that is the field
 pub probes-decide : (s hashes : List ℕ) (f : FilterNumbers) (at : ℕ) → Probed s f → (f .entries ≡ 0 → ⊥) → Bytes hashes
     → at + sizes .hash ≤ length hashes

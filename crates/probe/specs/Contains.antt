@@ -1,5 +1,5 @@
 -- Whether filters contain a hash. 01, "Probes", and Refusal numbers for filters that are passed as numbers.
-use Prim.Native.Nat.{ℕ, _*_, _/_}
+use Prim.Native.Nat.{ℕ, _*_}
 use mathlib.Core.Bool.{Bool, true, false, cond, not, _||_, _&&_}
 use mathlib.Core.List.{List, [], _∷_}
 use lib.Dec.{ltb, eqb}
@@ -13,9 +13,9 @@ use Rattle.probe.specs.Probes.{probesOf, bitAt}
 use Rattle.probe.specs.declared.contains.Contained.{Contained}
 use Rattle.probe.specs.declared.contains.Contained.the-variants.{Yes, No, Refused}
 
--- A bit that is there and clear; a probe outside the field has none.
+-- A bit that is clear. Every probe of a filter that 01 accepts is a bit of its field (`probes-inside`, kept Arms).
 unfoldable pub clearAt : List ℕ → ℕ → Bool
-clearAt field k = ltb (k / 8) (length field) && eqb (bitAt field k) 0
+clearAt field k = eqb (bitAt field k) 0
 
 -- No probe's bit is clear.
 unfoldable pub noneClear : List ℕ → List ℕ → Bool

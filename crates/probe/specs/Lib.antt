@@ -1,3 +1,4 @@
 pub mod Build
 pub mod Contains
+pub mod Inside
 pub mod Probes

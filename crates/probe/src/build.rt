@@ -21,15 +21,14 @@ ghost use Rattle.rules.specs.Hash.{hashesAt};
 ghost use Rattle.rules.specs.Output.{Written, Output};
 ghost use Rattle.rules.specs.Sizes.{sizes};
 
-// Sets a bit; a probe outside the field has none.
-pub fn set_bit(field: &mut [u8], probe: usize)
+// Sets a bit of the field.
+fn set_bit(field: &mut [u8], probe: usize)
+    requires { ⌜ probe < 8 * length (now field) ⌝ }
     ensures { λ _. ⌜ now (field .exit) ≡ setBit (now (field .entry)) probe ⌝ }
 {
     let at = probe / 8;
-    if at < field.len() {
-        let one: u8 = 1;
-        field[at] = field[at] | (one << (probe % 8));
-    }
+    let one: u8 = 1;
+    field[at] = field[at] | (one << (probe % 8));
 }
 
 // Where the probes of a hash start, and by what they are stepped: its first three words, reduced by the field's bits.
@@ -63,7 +62,7 @@ fn start_in(hashes: &[u8], i: usize, n: usize, m: u32) -> Start
 
 // Sets the bits of the probes from a start.
 fn set_probes(field: &mut [u8], rounds: u64, start: Start, m: u32)
-    requires { ⌜ (start .x < m) × (start .y < m) × (start .z < m) × (m ≤ 8 * sizes .field) ⌝ }
+    requires { ⌜ (start .x < m) × (start .y < m) × (start .z < m) × (m ≤ 8 * sizes .field) × (m ≤ 8 * length (now field)) ⌝ }
     ensures { λ _. ⌜ now (field .exit) ≡ setBits (now (field .entry)) (probesFrom rounds m (start .x) (start .y) (start .z)) ⌝ }
 {
     let z = start.z;

@@ -9,22 +9,19 @@ use bloom::have::passed_good;
 use rules::refusal::Refusal;
 use rules::sizes::HASH_SIZE;
 ghost use mathlib.Core.Path.{_≡_};
-ghost use Prim.Native.Nat.{_+_, _≤_, _<_};
+ghost use Prim.Native.Nat.{_+_, _*_, _≤_, _<_};
 ghost use lib.ListN.{length};
 ghost use Rattle.bloom.specs.Have.{filtersOf, GoodFilters};
 ghost use Rattle.probe.specs.Contains.{containedIn, clearAt, anyContains};
 ghost use Rattle.rules.specs.Hash.{hashAt};
 ghost use Rattle.rules.specs.Sizes.{sizes};
 
-// Whether the bit of a probe is clear; a probe outside the field has none.
-pub fn clear_bit(field: &[u8], probe: usize) -> bool
+// Whether a bit of the field is clear.
+fn clear_bit(field: &[u8], probe: usize) -> bool
+    requires { ⌜ probe < 8 * length (now field) ⌝ }
     ensures { λ r. ⌜ r ≡ clearAt (now (field .entry)) probe ⌝ }
 {
-    let at = probe / 8;
-    if at < field.len() {
-        return (field[at] >> (probe % 8)) % 2 == 0;
-    }
-    false
+    (field[probe / 8] >> (probe % 8)) % 2 == 0
 }
 
 // Whether some have's filter contains the hash at a place. One clear bit ends that filter, and the search goes on with the next; a run of

@@ -1,16 +1,19 @@
 -- A walk that takes m + 1 rounds, computed: rows a; b on a; c on b, of which B has a. The filter of a alone, at 10 bits and 7 probes, falsely has b and c.
 -- So round one brings nothing; round two asks for the head c, which waits; round three asks for b, and both move. So the premises are met, and m rounds
 -- aren't enough. Assumes nothing.
-use Prim.Native.Nat.{ℕ, suc, _+_}
+use Prim.Native.Nat.{ℕ, suc, _+_, _≤_}
 use mathlib.Core.Bool.{Bool, true, false, not, _||_, _&&_}
 use mathlib.Core.List.{List, [], _∷_, _++_}
 use mathlib.Core.Path.{_≡_, refl, sym, ap, _∙_}
+use native.Mathlib.Nat.{le-trans}
 use native.Mathlib.Omega.{arith}
 use borrow.Author.Tests.{eqb-true}
 use lib.Dec.{eqb}
-use lib.ListN.{replicate}
+use lib.ListN.{length, replicate}
 use Rattle.bloom.specs.Filter.{fieldSize, defaultBits, defaultProbes}
 use Rattle.bloom.specs.Have.{Have}
+use Rattle.bloom.proofs.Rules.{rules-default}
+use Rattle.graph.proofs.BelowLaws.{beyond-few}
 use Rattle.graph.specs.Graph.{belowRow, below, beyond, needed, heads}
 use Rattle.members.specs.Members.{lastSyncs, filters, candidate, missed, inTheS, theS}
 use Rattle.missing.specs.Missing.{unknown, askedRow, asksFrom, missing}
@@ -19,6 +22,7 @@ use Rattle.probe.specs.Contains.{clearAt, noneClear, contains, anyContains}
 use Rattle.probe.specs.Probes.{u32At, probesFrom, probesOf, bitAt}
 use Rattle.rules.specs.Hash.{bigEndian, bigEndianBytes, hashBytes}
 use Rattle.rules.specs.Order.{member, keep, every, often, ascends, insertOnce, ascend}
+use Rattle.rules.specs.Sizes.{sizes}
 use Rattle.rules.specs.Reach.{someBelow, reachIn, reach}
 use Rattle.rules.proofs.Cases.{split, either, true-false}
 use Rattle.rules.proofs.KeepLaws.{once-none, once-cons}
@@ -231,16 +235,17 @@ unfolding
 computed = (refl, refl, refl, refl, refl)
 
 -- a round of this walk in which such a reply goes
-next : (k : ℕ) (s s′ : At) (reply kept : List ℕ) → OfThree k s → offerTo three (heardIn k three) s (given k s) ≡ reply
+next : (k : ℕ) (s s′ : At) (reply kept : List ℕ) → length (s .table) ≤ sizes .rows → OfThree k s → offerTo three (heardIn k three) s (given k s) ≡ reply
     → trim three (heads (s .table)) (s .sent) ≡ kept
     → Loads three (s .table) (s .waits) reply (s′ .table) (s′ .waits)
     → s′ .sent ≡ kept ++ reply
     → s′ .named ≡ s .named ++ reply
     → OfThree (suc k) s′
-next k s s′ reply kept walk offer stays loads sends names =
+next k s s′ reply kept few walk offer stays loads sends names =
     Walk01.round (given k s) reply walk
     (record {
       holds = λ h m. absurd (member-none h m);
+      setting = rules-default (length (beyond (s .table) [])) (le-trans (beyond-few (s .table) []) few);
       have = refl;
       whole = sym offer;
       loads = loads;
@@ -249,13 +254,13 @@ next k s s′ reply kept walk offer stays loads sends names =
     })
 
 round-one : OfThree 1 after1
-round-one = next 0 (starting one) after1 [] [] Walk01.start (computed .0) (computed .3) load-none refl refl
+round-one = next 0 (starting one) after1 [] [] (omega arith) Walk01.start (computed .0) (computed .3) load-none refl refl
 
 round-two : OfThree 2 after2
-round-two = next 1 after1 after2 (c ∷ []) [] round-one (computed .1) (computed .3) load-c refl refl
+round-two = next 1 after1 after2 (c ∷ []) [] (omega arith) round-one (computed .1) (computed .3) load-c refl refl
 
 round-three : OfThree 3 after3
-round-three = next 2 after2 after3 (b ∷ []) (c ∷ []) round-two (computed .2) (computed .4) load-both refl refl
+round-three = next 2 after2 after3 (b ∷ []) (c ∷ []) (omega arith) round-two (computed .2) (computed .4) load-both refl refl
 
 -- B lacks two rows; after two rounds it doesn't hold A, after three it does.
 pub takes-one-more :

@@ -9,10 +9,10 @@ use native.Mathlib.Nat.{le-trans}
 use native.Mathlib.Omega.{arith}
 use lib.ListN.{length, take}
 use Rattle.graph.specs.Graph.{heads, below, beyond}
-use Rattle.graph.proofs.BelowLaws.{beyond-held, beyond-not-below, not-below-beyond}
+use Rattle.graph.proofs.BelowLaws.{beyond-few, beyond-held, beyond-not-below, not-below-beyond}
 use Rattle.graph.proofs.HeadLaws.{head-held, rows-below-heads}
 use Rattle.probe.specs.Build.{filterOf}
-use Rattle.probe.proofs.FieldLaws.{added-contained}
+use Rattle.probe.proofs.FieldLaws.{accepted-contained}
 use Rattle.rules.specs.Order.{member, every}
 use Rattle.rules.specs.Sizes.{sizes}
 use Rattle.rules.proofs.Cases.{split, both, either, true-false, and-false}
@@ -125,7 +125,7 @@ module _ (A b : List Row) (w : List Waiting) (b′ : List Row) (w′ : List Wait
         let l : List ℕ = beyond A (heads b) in
         record {
           holds = heads-stay;
-          covers = λ h e. heard-contains (filterOf bits probes l) h ∙ added-contained bits probes l h (beyond-both h e);
+          covers = λ h e. heard-contains (filterOf bits probes l) h ∙ accepted-contained bits probes l h (fixed .setting (length l) (beyond-few A (heads b))) (beyond-both h e);
         }
 
     one-have : m .haves ≡ heardHave (haveOf bits probes A (heads b)) ∷ []

@@ -10,7 +10,8 @@ use lib.ListN.{length}
 use Rattle.bloom.specs.Filter.{fieldSize, filterRules, defaultBits, defaultProbes}
 use Rattle.bloom.specs.Have.{Have}
 use Rattle.bloom.proofs.Rules.{rules-default}
-use Rattle.graph.specs.Graph.{heads}
+use Rattle.graph.specs.Graph.{heads, beyond}
+use Rattle.graph.proofs.BelowLaws.{beyond-few}
 use Rattle.message.specs.Message.{counted, messageBytes}
 use Rattle.message.specs.declared.version.MessageVersion.{MessageVersion}
 use Rattle.missing.specs.Missing.{missing}
@@ -48,7 +49,7 @@ use Rattle.walk.specs.Talk.{
   Statement2,
   Theorem2,
 }
-use Rattle.walk.specs.Walk.{At, Walk01, heardIn}
+use Rattle.walk.specs.Walk.{At, accepted, Walk01, heardIn}
 use Rattle.walk.proofs.Answers.{Answers, answers}
 use Rattle.walk.proofs.Asks.{Asks, asks}
 use Rattle.walk.proofs.Loaded.{loads-more}
@@ -57,7 +58,7 @@ use Rattle.walk.proofs.Returns.{Returns, returns}
 use Rattle.walk.proofs.Sides.{Fixed, nothing, SideA, SideB, Going}
 use Rattle.walk.proofs.Small.{mostWords}
 use Rattle.walk.proofs.Theorem1.{theorem-1}
-use Rattle.walk.proofs.Waits.{waits-none, loads-longer, loads-waits}
+use Rattle.walk.proofs.Waits.{waits-none, loads-longer, loads-waits, part-few}
 use Rattle.walk.proofs.Walk01.{walk01-walks}
 
 -- 10 bits and 7 probes may be set
@@ -275,10 +276,14 @@ module _ (bits probes : ℕ) (A : List Row) (B : ℕ → List Row) (W U : ℕ �
       abbrev named′ : List ℕ
       named′ = st .named ++ reply .body .hashes
 
+      -- B's filter is over no more rows than A's
+      set : accepted bits probes (B k) (lastSync k) ≡ true
+      set = tables .setting (length (beyond (B k) (lastSync k))) (le-trans (beyond-few (B k) (lastSync k)) (part-few A (fixed .sound) (B k) (st .sideB .part)))
+
       walked : Walked (suc k) (place (suc k) sent′ named′)
       walked =
           Walk01.round haves (reply .body .hashes) (st .walk)
-          (record { holds = st .sideB .shared; have = refl; whole = by-list list; loads = loaded; sends = refl; names = refl })
+          (record { holds = st .sideB .shared; setting = set; have = refl; whole = by-list list; loads = loaded; sends = refl; names = refl })
 
       part′ : Part A (B (suc k))
       part′ =

@@ -1,4 +1,4 @@
--- 01's own walk is a walk: the filter over B's rows beyond L contains them, whatever its bits and probes are, since an added hash is contained; and the
+-- 01's own walk is a walk: the filter over B's rows beyond L contains them, whatever accepted bits and probes it has, since an added hash is contained; and the
 -- whole offer is a pick. So what is promised of walks is promised of it. Assumes nothing.
 use Prim.Native.Nat.{ℕ, suc, _≤_}
 use mathlib.Core.Bool.{true}
@@ -8,36 +8,37 @@ use lib.ListN.{length}
 use Rattle.bloom.specs.Have.{Have}
 use Rattle.graph.specs.Graph.{heads, beyond}
 use Rattle.missing.specs.Missing.{missing}
-use Rattle.probe.proofs.FieldLaws.{added-contained}
+use Rattle.probe.proofs.FieldLaws.{accepted-contained}
 use Rattle.rules.specs.Order.{member, every}
 use Rattle.rules.proofs.Cases.{split}
 use Rattle.session.specs.Plan.{haveOf, havesFor}
 use Rattle.tables.specs.Table.{Row, GoodTable, held}
 use Rattle.waiting.specs.Waiting.{Waiting}
 use Rattle.walk.specs.Round.{Part, Covers, Gives, one, none, trim, Picks}
-use Rattle.walk.specs.Walk.{At, Round, Walk, Round01, Walk01, Walk01Walks, heardIn, needAt, offerTo, holdsAll, lacking}
+use Rattle.walk.specs.Walk.{At, Round, Walk, accepted, Round01, Walk01, Walk01Walks, heardIn, needAt, offerTo, holdsAll, lacking}
 use Rattle.walk.proofs.Loading.{loads-outcome}
 use Rattle.walk.proofs.Offers.{picks-whole}
 use Rattle.walk.proofs.Theorem1.{theorem-1}
 
--- A have covers, whatever its bits and probes are.
-pub have-covers : (bits probes : ℕ) (t : List Row) (l : List ℕ) → ((h : ℕ) → member h l ≡ true → held t h ≡ true) → Covers t (haveOf bits probes t l)
+-- A have covers, if its filter is accepted.
+pub have-covers : (bits probes : ℕ) (t : List Row) (l : List ℕ) → accepted bits probes t l ≡ true → ((h : ℕ) → member h l ≡ true → held t h ≡ true)
+    → Covers t (haveOf bits probes t l)
 unfolding haveOf
-have-covers bits probes t l holds = record { holds = holds; covers = added-contained bits probes (beyond t l) }
+have-covers bits probes t l rules holds = record { holds = holds; covers = λ h e. accepted-contained bits probes (beyond t l) h rules e }
 
-pub haves-given : (bits probes : ℕ) (t : List Row) (w : List Waiting) (heard l : List ℕ) → ((h : ℕ) → member h l ≡ true → held t h ≡ true)
+pub haves-given : (bits probes : ℕ) (t : List Row) (w : List Waiting) (heard l : List ℕ) → accepted bits probes t l ≡ true → ((h : ℕ) → member h l ≡ true → held t h ≡ true)
     → Gives t w heard (havesFor bits probes t (missing t w heard) heard l)
 unfolding havesFor
-haves-given bits probes t w heard l holds =
+haves-given bits probes t w heard l rules holds =
     split (every (λ h. member h heard) (missing t w heard))
-    (λ e. rw e (one (haveOf bits probes t l) e (have-covers bits probes t l holds)))
+    (λ e. rw e (one (haveOf bits probes t l) e (have-covers bits probes t l rules holds)))
     (λ e. rw e (none e))
 
 round-walks : {bits probes : ℕ} {A : List Row} {heard l : List ℕ} {s : At} {haves : List Have} {reply : List ℕ} {s′ : At}
     → Round01 bits probes A heard l s haves reply s′ → Round A heard s haves reply s′
 round-walks {bits} {probes} {A} {heard} {l} {s} {haves} {reply} {s′} r =
     record {
-      gives = subst (Gives (s .table) (s .waits) heard) (sym (r .have)) (haves-given bits probes (s .table) (s .waits) heard l (r .holds));
+      gives = subst (Gives (s .table) (s .waits) heard) (sym (r .have)) (haves-given bits probes (s .table) (s .waits) heard l (r .setting) (r .holds));
       picks = subst (Picks (offerTo A heard s haves)) (sym (r .whole)) (picks-whole (offerTo A heard s haves));
       loads = r .loads;
       sends = r .sends;
@@ -60,14 +61,15 @@ walk01-ends bits probes L A B good part k s walk e =
     let all = promised .ends k s (walks walk) e in
     (all, promised .count k s (walks walk) all)
 
--- And it can always go on, with any last-sync hashes that B holds.
+-- And it can always go on, with any last-sync hashes that B holds and any bits and probes that are accepted.
 pub walk01-goes : (bits probes : ℕ → ℕ) (L : ℕ → List ℕ) (A B : List Row) (k : ℕ) (s : At) → Walk01 bits probes L A B k s
+    → accepted (bits k) (probes k) (s .table) (L k) ≡ true
     → ((h : ℕ) → member h (L k) ≡ true → held (s .table) h ≡ true)
     → (s′ : At) × Walk01 bits probes L A B (suc k) s′
-walk01-goes bits probes L A B k s walk holds =
+walk01-goes bits probes L A B k s walk rules holds =
     let haves : List Have = havesFor (bits k) (probes k) (s .table) (needAt (heardIn k A) s) (heardIn k A) (L k) in
     let reply : List ℕ = offerTo A (heardIn k A) s haves in
     let (b′, w′, l) = loads-outcome A (s .table) (s .waits) reply in (
       record { table = b′; waits = w′; sent = trim A (heads (s .table)) (s .sent) ++ reply; named = s .named ++ reply },
-      Walk01.round haves reply walk (record { holds = holds; have = refl; whole = refl; loads = l; sends = refl; names = refl }),
+      Walk01.round haves reply walk (record { holds = holds; setting = rules; have = refl; whole = refl; loads = l; sends = refl; names = refl }),
     )

@@ -5,8 +5,9 @@ use mathlib.Core.Bool.{Bool, true, false, not, _&&_}
 use mathlib.Core.List.{List, [], _++_}
 use mathlib.Core.Path.{_≡_}
 use lib.ListN.{length}
+use Rattle.bloom.specs.Filter.{fieldSize, filterRules}
 use Rattle.bloom.specs.Have.{Have}
-use Rattle.graph.specs.Graph.{heads}
+use Rattle.graph.specs.Graph.{heads, beyond}
 use Rattle.missing.specs.Missing.{missing}
 use Rattle.rules.specs.Order.{member, keep, every, often}
 use Rattle.selection.specs.ToSend.{toSendLess}
@@ -51,9 +52,14 @@ pub data Walk (A B : List Row) : ℕ → At → Type 0 where
   start : Walk A B 0 (starting B)
   round : {k : ℕ} {s s′ : At} (haves : List Have) (reply : List ℕ) → Walk A B k s → Round A (heardIn k A) s haves reply s′ → Walk A B (suc k) s′
 
+-- The filter over the rows beyond l is one that 01 accepts.
+abbrev pub accepted : ℕ → ℕ → List Row → List ℕ → Bool
+accepted bits probes t l = filterRules (length (beyond t l)) bits probes (fieldSize (length (beyond t l)) bits)
+
 -- 01's own round, to be held beside its five steps: B names l, which it holds, builds its filter with these bits and probes, and the whole offer goes.
 pub record Round01 (bits probes : ℕ) (A : List Row) (heard l : List ℕ) (s : At) (haves : List Have) (reply : List ℕ) (s′ : At) : Type 0 where
   pub holds : (h : ℕ) → member h l ≡ true → held (s .table) h ≡ true
+  pub setting : accepted bits probes (s .table) l ≡ true
   pub have : haves ≡ havesFor bits probes (s .table) (needAt heard s) heard l
   pub whole : reply ≡ offerTo A heard s haves
   pub loads : Loads A (s .table) (s .waits) reply (s′ .table) (s′ .waits)

@@ -105,7 +105,7 @@ set-probes-requires c κs =
     let l = t .before in
     let p = l .before .before .before .before .before .pre in
     let b = starts-below _ _ _ _ (omega (arith, p .0, t .loop-test .taken)) (l .loop .inv .starts (t .loop-test .taken)) in
-    (b .0, b .1, b .2, omega (arith, p .1))
+    (b .0, b .1, b .2, omega (arith, p .1), omega (arith, l .loop .inv .long))
 
 loop-less : tie.Need-loop-less Inv-loop μ-loop
 loop-less c = search needs

@@ -1,20 +1,19 @@
--- `probe::build::set_bit` meets its contract: 1 shifted by less than 8 is a byte, and a list set past its end is the list. Assumes nothing.
-use Prim.Native.Nat.{ℕ, _*_, _/_, _%_, _^_, _≤_, _<_}
+-- `probe::build::set_bit` meets its contract: 1 shifted by less than 8 is a byte. Assumes nothing.
+use Prim.Native.Nat.{ℕ, _*_, _/_, _%_, _^_, _<_}
 use mathlib.Core.List.{List}
 use mathlib.Core.Path.{_≡_}
 use native.Mathlib.Nat.{mod-lt}
 use native.Mathlib.Omega.{arith}
 use lib.Bits.{bitOr}
-use lib.ListN.{length, getD, set}
+use lib.ListN.{getD, set}
 use lib.Pow.{pow-lt}
-use lib.Seq.{set-out}
 use Rattle.probe.specs.Build.{setBit}
 use borrow.Author.Needs.{needs}
 use Rattle.probe.proofs.build.set_bit.Statement.{statement}
 use Rattle.probe.proofs.build.set_bit.Tie as tie
 
 slice-read-field : tie.Need-slice-read-field
-slice-read-field c = search needs
+slice-read-field c = omega (arith, c .before .pre)
 
 cast-field : tie.Need-cast-field
 cast-field c = search needs
@@ -28,22 +27,15 @@ slice-write-field c = search needs
 same-length : tie.Need-same-length
 same-length c = search needs
 
-inside : (field : List ℕ) (k : ℕ) → set field (k / 8) (bitOr (getD field (k / 8) 0) (1 * 2 ^ (k % 8) % 256)) ≡ setBit field k
+bit : (field : List ℕ) (k : ℕ) → set field (k / 8) (bitOr (getD field (k / 8) 0) (1 * 2 ^ (k % 8) % 256)) ≡ setBit field k
 unfolding setBit
-inside field k =
+bit field k =
     let small : 2 ^ (k % 8) < 256 = pow-lt (mod-lt k (omega arith)) in
     let e : 1 * 2 ^ (k % 8) % 256 ≡ 2 ^ (k % 8) = omega arith in
     rw e
 
-outside : (field : List ℕ) (k : ℕ) → length field ≤ k / 8 → field ≡ setBit field k
-unfolding setBit
-outside field k h = rw (set-out field (k / 8) (bitOr (getD field (k / 8) 0) (2 ^ (k % 8))) h)
-
 returns : tie.Need-returns
-returns c = inside _ _
-
-returns-2 : tie.Need-returns-2
-returns-2 c = outside _ _ (c .if1 .left)
+returns c = bit _ _
 
 pub set-bit-spec : {M : Type 1} → statement M
 set-bit-spec =
@@ -54,5 +46,4 @@ set-bit-spec =
     shl-field
     slice-write-field
     same-length
-    returns
-    returns-2)
+    returns)

@@ -1,28 +1,22 @@
--- `probe::contains::clear_bit` meets its contract: inside the field the bit decides, outside it there is none. Assumes nothing.
-use Prim.Native.Nat.{ℕ, _/_, _%_, _^_, _≤_, _<_}
-use mathlib.Core.Bool.{false}
+-- `probe::contains::clear_bit` meets its contract: the bit of the byte that the probe is in decides. Assumes nothing.
+use Prim.Native.Nat.{ℕ, _/_, _%_, _^_}
 use mathlib.Core.List.{List}
-use mathlib.Core.Path.{_≡_}
-use borrow.Author.Tests.{lt-ltb, le-ltb}
+use mathlib.Core.Path.{_≡_, refl}
+use native.Mathlib.Omega.{arith}
 use lib.Dec.{eqb}
-use lib.ListN.{length, getD}
+use lib.ListN.{getD}
 use Rattle.probe.specs.Contains.{clearAt}
 use Rattle.probe.specs.Probes.{bitAt}
 use borrow.Author.Needs.{needs}
 use Rattle.probe.proofs.contains.clear_bit.Statement.{statement}
 use Rattle.probe.proofs.contains.clear_bit.Tie as tie
 
-module _ (field : List ℕ) (k : ℕ) where
-  inside : k / 8 < length field → eqb (getD field (k / 8) 0 / 2 ^ (k % 8) % 2) 0 ≡ clearAt field k
-  unfolding clearAt bitAt
-  inside h = rw (lt-ltb _ _ h)
-
-  outside : length field ≤ k / 8 → false ≡ clearAt field k
-  unfolding clearAt
-  outside h = rw (le-ltb _ _ h)
+bit : (field : List ℕ) (k : ℕ) → eqb (getD field (k / 8) 0 / 2 ^ (k % 8) % 2) 0 ≡ clearAt field k
+unfolding clearAt bitAt
+bit field k = refl
 
 shared-slice-read-result : tie.Need-shared-slice-read-result
-shared-slice-read-result c = search needs
+shared-slice-read-result c = omega (arith, c .before .pre)
 
 cast-result : tie.Need-cast-result
 cast-result c = search needs
@@ -31,11 +25,7 @@ shr-result : tie.Need-shr-result
 shr-result c = search needs
 
 returns : tie.Need-returns
-returns c = inside _ _ (c .before .if1 .taken)
-
-returns-2 : tie.Need-returns-2
-returns-2 c = outside _ _ (c .if1 .left)
+returns c = bit _ _
 
 pub clear-bit-spec : {M : Type 1} → statement M
-clear-bit-spec =
-    tie.close (tie.spec shared-slice-read-result cast-result shr-result returns returns-2)
+clear-bit-spec = tie.close (tie.spec shared-slice-read-result cast-result shr-result returns)

@@ -25,6 +25,7 @@ use Rattle.probe.proofs.Search.{
   search-done,
   Probed,
   probed,
+  field-long,
   probes-decide,
 }
 use Rattle.probe.proofs.contains.contains_hash.Statement.{statement}
@@ -171,7 +172,9 @@ cast-clear-bit c =
     omega (arith, inside c (c .before .before .before .before .before .before .before .before .u32-at .result))
 
 clear-bit-requires : tie.Need-clear-bit-requires Inv-loop μ-loop Inv-next-filter μ-next-filter
-clear-bit-requires c κs = search needs
+clear-bit-requires c κs =
+    let p = good (c .before) in
+    omega (arith, field-long _ _ p, inside c (c .before .before .before .before .before .before .before .before .u32-at .result))
 
 next-filter-less-2 : tie.Need-next-filter-less-2 Inv-loop μ-loop Inv-next-filter μ-next-filter
 next-filter-less-2 c = search needs
@@ -225,7 +228,12 @@ cast-clear-bit-2 c =
     omega arith
 
 clear-bit-requires-2 : tie.Need-clear-bit-requires-2 Inv-loop μ-loop Inv-next-filter μ-next-filter
-clear-bit-requires-2 c κs = search needs
+clear-bit-requires-2 c κs =
+    let n = c .before in
+    let f = n .before .before .before .before .before .before in
+    let p = good (f .before) in
+    let x : n .next .result .x < 8 * f .before .before .before .filter-in .result .size = rw (n .next .ensures) (inside f _) in
+    omega (arith, field-long _ _ p)
 
 next-filter-less-3 : tie.Need-next-filter-less-3 Inv-loop μ-loop Inv-next-filter μ-next-filter
 next-filter-less-3 c = search needs
