@@ -1,4 +1,5 @@
 -- Laws that the crates above cite.
+pub mod Arms
 pub mod Calls
 pub mod Promises
 pub mod Sessions
