@@ -9,8 +9,8 @@ use Rattle.numbers.proofs.leb128.leb128_u64 as of-leb128-u64
 use Rattle.numbers.proofs.leb128.leb128_u32 as of-leb128-u32
 use Rattle.numbers.proofs.leb128.unsigned_size as of-unsigned-size
 use Rattle.numbers.proofs.leb128.write_unsigned as of-write-unsigned
-use Rattle.wire.proofs.encode.encode_bytes as of-encode-bytes
-use Rattle.wire.proofs.encode.encode_hashes as of-encode-hashes
+use Rattle.writing.proofs.encode.encode_bytes as of-encode-bytes
+use Rattle.writing.proofs.encode.encode_hashes as of-encode-hashes
 use Rattle.wire.proofs.parse.left as of-left
 use Rattle.wire.proofs.parse.length_prefix as of-length-prefix
 use Rattle.wire.proofs.parse.length_prefixed_bytes as of-length-prefixed-bytes
@@ -40,9 +40,10 @@ pub record WireBind : Type 0 where
   pub leb128-u32 : Binds of-leb128-u32.ended of-leb128-u32.Reads.Post
   pub unsigned-size : Binds of-unsigned-size.ended of-unsigned-size.Reads.Post
   pub write-unsigned : Binds of-write-unsigned.ended of-write-unsigned.Reads.Post
-  -- the crate wire
+  -- the crate writing
   pub encode-bytes : Binds of-encode-bytes.ended of-encode-bytes.Reads.Post
   pub encode-hashes : Binds of-encode-hashes.ended of-encode-hashes.Reads.Post
+  -- the crate wire
   pub left : Binds of-left.ended of-left.Reads.Post
   pub length-prefix : Binds of-length-prefix.ended of-length-prefix.Reads.Post
   pub length-prefixed-bytes : Binds of-length-prefixed-bytes.ended of-length-prefixed-bytes.Reads.Post

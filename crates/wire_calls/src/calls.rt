@@ -55,7 +55,7 @@ pub extern "C" fn bt_write_number(n: u64, out: &mut [u8], answer: &mut [u64; 4])
 pub extern "C" fn bt_write_prefixed(bytes: &[u8], out: &mut [u8], answer: &mut [u64; 4])
     ensures { λ _. ⌜ Answered (Output.bytes (prefixedBytes (now (bytes .entry)))) (now (out .entry)) (now (out .exit)) (now (answer .exit)) ⌝ }
 {
-    *answer = write_words(wire::encode::encode_bytes(out, bytes));
+    *answer = write_words(writing::encode::encode_bytes(out, bytes));
 }
 
 // Writes a hash list that is lent as the bytes of its hashes: 0, bytes written.
@@ -63,5 +63,5 @@ pub extern "C" fn bt_write_prefixed(bytes: &[u8], out: &mut [u8], answer: &mut [
 pub extern "C" fn bt_write_hashes(hashes: &[u8], out: &mut [u8], answer: &mut [u64; 4])
     ensures { λ _. ⌜ Answered (hashListOutput (now (hashes .entry))) (now (out .entry)) (now (out .exit)) (now (answer .exit)) ⌝ }
 {
-    *answer = write_words(wire::encode::encode_hashes(out, hashes));
+    *answer = write_words(writing::encode::encode_hashes(out, hashes));
 }

@@ -1,8 +1,8 @@
--- `wire::encode::encode_bytes` meets its contract: a prefixed string is its length and its bytes. Assumes nothing.
+-- `writing::encode::encode_bytes` meets its contract: a prefixed string is its length and its bytes. Assumes nothing.
 use Rattle.wire.specs.Item.{prefixedBytes}
 use borrow.Author.Needs.{needs}
-use Rattle.wire.proofs.encode.encode_bytes.Statement.{statement}
-use Rattle.wire.proofs.encode.encode_bytes.Tie as tie
+use Rattle.writing.proofs.encode.encode_bytes.Statement.{statement}
+use Rattle.writing.proofs.encode.encode_bytes.Tie as tie
 
 encode-requires : tie.Need-encode-requires
 encode-requires c κs = search needs

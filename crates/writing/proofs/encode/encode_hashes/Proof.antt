@@ -1,4 +1,4 @@
--- `wire::encode::encode_hashes` meets its contract: bytes that are whole hashes are the bytes of the hashes that stand in them. Assumes
+-- `writing::encode::encode_hashes` meets its contract: bytes that are whole hashes are the bytes of the hashes that stand in them. Assumes
 -- nothing.
 use Prim.Native.Nat.{ℕ, _+_, _*_, _≤_}
 use mathlib.Core.List.{List, _++_}
@@ -15,11 +15,11 @@ use Rattle.rules.specs.declared.refusal.Refusal.{Refusal}
 use Rattle.rules.proofs.Hash.{length-hashes-at, hashes-at-bytes}
 use Rattle.rules.proofs.Outputs.{refused}
 use Rattle.rules.proofs.PassedLaws.{passed-is, after-refused, after-hashes}
 use Rattle.wire.specs.Item.{hashListOutput, hashListBytes}
 use Rattle.numbers.specs.Number.{shortest}
 use borrow.Author.Needs.{needs}
-use Rattle.wire.proofs.encode.encode_hashes.Statement.{statement}
-use Rattle.wire.proofs.encode.encode_hashes.Tie as tie
+use Rattle.writing.proofs.encode.encode_hashes.Statement.{statement}
+use Rattle.writing.proofs.encode.encode_hashes.Tie as tie
 
 no-list : (s : List ℕ) (r : Refusal) → passedHashes s ≡ Refused r → hashListOutput s ≡ refuse r
 unfolding hashListOutput

@@ -1,4 +1,4 @@
--- `wire::encode::encode` meets its contract: the count and the bytes put after it are both put at once. Assumes nothing.
+-- `writing::encode::encode` meets its contract: the count and the bytes put after it are both put at once. Assumes nothing.
 use Prim.Native.Nat.{ℕ, _+_}
 use mathlib.Core.List.{List, _++_}
 use mathlib.Core.Path.{_≡_, ap, _∙_}
@@ -9,8 +9,8 @@ use Rattle.rules.proofs.Outputs.{written-bytes, no-room, sets-append}
 use Rattle.numbers.specs.Number.{shortest}
 use Rattle.numbers.proofs.Number.{shortest-ten, put-then}
 use borrow.Author.Needs.{needs}
-use Rattle.wire.proofs.encode.encode.Statement.{statement}
-use Rattle.wire.proofs.encode.encode.Tie as tie
+use Rattle.writing.proofs.encode.encode.Statement.{statement}
+use Rattle.writing.proofs.encode.encode.Tie as tie
 
 unsigned-size-requires : tie.Need-unsigned-size-requires
 unsigned-size-requires c κs = search needs
