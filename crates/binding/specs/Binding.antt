@@ -1,4 +1,5 @@
--- 01, How tightly the statements bind: of every public call, as docs/API.md lists them, and of every exported one.
+-- 01, How tightly the statements bind: of every public call, as docs/API.md lists them, but for those that docs/LOOSE.md names, and of every
+-- exported one.
 use Rattle.binding.specs.Exported.{ExportedBind}
 use Rattle.binding.specs.Messages.{MessagesBind}
 use Rattle.binding.specs.Sessions.{SessionsBind}

@@ -1,5 +1,5 @@
--- What the call answers, and what it leaves in the buffers that it is lent. 01, Refusal numbers: 10; 4 and 6; 12; 4 and 9; what planning itself refuses;
--- 7 for the first buffer that is too short, the message's in wire order and then the session's.
+-- What the call answers, and what it leaves in the buffers that it is lent. 01, Refusal numbers, and 02, M-100, for 12: 10; 4 and 6; 12; 4 and 9; what
+-- planning itself refuses; 7 for the first buffer that is too short, the message's in wire order and then the session's.
 use Prim.Native.Nat.{ℕ, _+_, _*_}
 use mathlib.Core.Bool.{true, false, cond, not}
 use mathlib.Core.List.{List, [], _∷_}

@@ -1,5 +1,5 @@
--- What the public calls write, refusals in 01's order: 4 and 6 for the change table, 12 for its index, 11, 4 (then 1) for a passed list; 7 comes last
--- (`Written`).
+-- What the public calls write, refusals in the order of 01 and, for 12, of 02, M-100: 4 and 6 for the change table, 12 for its index, 11, 4 (then 1) for
+-- a passed list; 7 comes last (`Written`).
 use Prim.Native.Nat.{ℕ}
 use mathlib.Core.Bool.{cond}
 use mathlib.Core.List.{List}

@@ -1,5 +1,5 @@
--- M-105: two arms nobody can reach. The crate has a case for a probe outside the field, and one for a hash to send whose change can't be fetched. Neither
--- stands in code or definitions here, since these hold.
+-- Two arms nobody can reach. 02, M-105: the crate has a case for a probe outside the field, and one for a hash to send whose change can't be fetched.
+-- Neither stands in code or definitions here, since these hold.
 use Prim.Native.Nat.{ℕ, _<_}
 use mathlib.Core.Bool.{true}
 use mathlib.Core.List.{List, []}

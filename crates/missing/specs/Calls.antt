@@ -1,5 +1,5 @@
--- What the public call writes, refusals in 01's order: 4 and 6 for the change table, 12 for its index, 4 and 9 for the waiting table, 4 (then 1)
--- for a passed list, 4 for the resulting list; 7 comes last (`Written`).
+-- What the public call writes, refusals in the order of 01 and, for 12, of 02, M-100: 4 and 6 for the change table, 12 for its index, 4 and 9 for the
+-- waiting table, 4 (then 1) for a passed list, 4 for the resulting list; 7 comes last (`Written`).
 use Prim.Native.Nat.{ℕ}
 use mathlib.Core.Bool.{cond}
 use mathlib.Core.List.{List}

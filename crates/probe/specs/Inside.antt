@@ -1,4 +1,4 @@
--- Where the probes of a filter lie. 01, "Probes"; M-105.
+-- Where the probes of a filter lie. 01, "Probes"; 02, M-105.
 use Prim.Native.Nat.{ℕ, _*_, _/_, _<_}
 use mathlib.Core.Bool.{true}
 use mathlib.Core.Path.{_≡_}

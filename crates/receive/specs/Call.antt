@@ -1,5 +1,5 @@
--- What the call answers, and what it leaves in the session's lists. 01, Refusal numbers: 10; 4 and 6; 12; 11; the message from its first byte; 8; 4 for
--- the joined heads; 7 for the first list that is too short.
+-- What the call answers, and what it leaves in the session's lists. 01, Refusal numbers, and 02, M-100, for 12: 10; 4 and 6; 12; 11; the message from its
+-- first byte; 8; 4 for the joined heads; 7 for the first list that is too short.
 use Prim.Native.Nat.{ℕ, _*_}
 use mathlib.Core.Bool.{Bool, cond, not}
 use mathlib.Core.List.{List}

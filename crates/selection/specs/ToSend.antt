@@ -25,7 +25,7 @@ unfoldable pub toSendLess : List Row → List Have → List ℕ → List ℕ →
 toSendLess t haves need sent = keep (λ h. not (member h sent)) (toSend t haves need)
 
 -- What the call writes, for haves as records over the bytes s and a need list that is passed as bytes, a definition a stage. 01, Refusal
--- numbers: 10 for the haves, 4 and 6 for the table, 12 for its index, 4 and 1 for the need list, 4 for the haves, the list.
+-- numbers, and 02, M-100, for 12: 10 for the haves, 4 and 6 for the table, 12 for its index, 4 and 1 for the need list, 4 for the haves, the list.
 
 -- 4 for too many haves, or too many last-sync hashes of one.
 unfoldable pub sendFew : List Row → List ℕ → List ℕ → List ℕ → Output

@@ -102,7 +102,7 @@ advance headsBefore headsNow shared =
 unfoldable pub sharedLoaded : ℕ → List Row → State → Said → List ℕ
 sharedLoaded before t s m = cond (loads s m) (advance (heads (take before t)) (heads t) (s .sharedHeads)) (s .sharedHeads)
 
--- Shared heads joined with the heads of a message that are held: each once, ascending.
+-- Shared heads joined with the heads of a message that are held: each once (02, M-101), ascending.
 unfoldable pub join : List Row → List ℕ → List ℕ → List ℕ
 join t theirHeads shared = ascend (keep (held t) theirHeads ++ shared)
 
@@ -141,7 +141,8 @@ received before t s m =
       needsReset = s .needsReset;
     }
 
--- The stages, in 01's order of refusals: 11; the message's own from its first byte; 8, which alone leaves something; 4 for the joined heads.
+-- The stages, in 01's order of refusals: 11; the message's own from its first byte; 8, which alone leaves something; 4 for the joined heads, counted
+-- once each.
 unfoldable pub receiveJoined : ℕ → List Row → State → Said → Received
 receiveJoined before t s m =
     cond (ltb (sizes .hashes) (length (sharedAfter before t s m))) (refused (PastSize 0) s) (took (received before t s m))

@@ -1,5 +1,5 @@
--- A change table, its index and a waiting table checked one after the other, refusals in 01's order: 4 and 6 for the change table, 12 for its
--- index, then 4 and 9 for the waiting table.
+-- A change table, its index and a waiting table checked one after the other, refusals in the order of 01 and, for 12, of 02, M-100: 4 and 6 for the
+-- change table, 12 for its index, then 4 and 9 for the waiting table.
 use Prim.Native.Nat.{ℕ}
 use mathlib.Core.List.{List}
 use Rattle.index.specs.Index.{indexChecked}
