@@ -124,7 +124,7 @@ pub record Examples : Type 0 where
   pub p10 : (m h : ℕ) → probesOf m 0 h ≡ u32At (hashBytes h) 0 % m ∷ []
   -- the head is d
   pub p11 : (a b c d : ℕ) → Once (a ∷ b ∷ c ∷ d ∷ []) → (beyond (four a b c d) (b ∷ []) ≡ c ∷ d ∷ []) × (heads (four a b c d) ≡ d ∷ [])
-  -- with no have the held needs are all
+  -- and with no have the held needs are all
   pub p12 : (a b c d : ℕ) (v : Have) (vs : List Have) → Once (a ∷ b ∷ c ∷ d ∷ []) → OnlyMissed (v ∷ vs) a b c d
       → (toSend (four a b c d) (v ∷ vs) (c ∷ []) ≡ c ∷ b ∷ d ∷ [])
       × (toSend (four a b c d) (v ∷ vs) (d ∷ []) ≡ b ∷ d ∷ [])

@@ -69,7 +69,7 @@ plannedIn s l =
       sent = sets (l .sent) 0 (hashesBytes (s .sentHashes));
     }
 
--- Taking a message changes every list. Sent hashes only become fewer, so they have room.
+-- Taking a message may change every list. Sent hashes only become fewer, so they have room.
 pub record ReceivedRoom (s : State) (l : Lent) : Type 0 where
   pub shared : sizes .hash * length (s .sharedHeads) ≤ length (l .shared)
   pub lastSent : sizes .hash * length (s .lastSentHeads) ≤ length (l .lastSent)

@@ -29,7 +29,7 @@ pub record Joined (before after : List ℕ) (count : ℕ) (hs : List ℕ) (next 
   pub long : next ≡ length (insertAll (length before / sizes .hash) hs (hashesAt before 0 count))
   pub list : hashesAt after 0 next ≡ insertAll (length before / sizes .hash) hs (hashesAt before 0 count)
 
--- A list of which no more than `most` hashes are kept: all of it, or as many of them.
+-- A list of which no more than `most` hashes are kept: all of it, or just so many, and the list has no fewer.
 pub record UpTo (most : ℕ) (l part : List ℕ) : Type 0 where
   pub within : length part ≤ most
   pub all : length part < most → part ≡ l

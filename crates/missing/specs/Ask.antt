@@ -53,7 +53,7 @@ pub record Asked (table : List ℕ) (n : ℕ) (waitings : List ℕ) (m : ℕ) (q
     (marks′ : List Bool) (found′ : List ℕ) (count′ : ℕ) : Type 0 where
   pub way : Asks (rowsAt table 0 n) (waitingsAt waitings 0 m) (length found / sizes .hash) q marks (hashesAt found 0 count) marks′ (hashesAt found′ 0 count′)
 
--- A list asked for in a buffer that holds no more than `most` hashes: all of it, or as many of them as fit.
+-- A list asked for in a buffer that holds no more than `most` hashes: all of it, or the buffer is full, and the list has no fewer.
 pub record Found (l : List ℕ) (most : ℕ) (after : List ℕ) (count : ℕ) : Type 0 where
   pub within : count ≤ most
   pub all : count < most → Gathered l after count

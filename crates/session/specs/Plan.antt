@@ -106,7 +106,8 @@ bodyOf t s =
     (listOf [])
     (bodyHeard t (s .supportsV2) (heardAs [] (s .theirHeads)) (s .theirHave) (s .theirNeed) (s .sentHashes))
 
--- A list of no hashes. The document of no rows is one as well: there is nothing in it to tell.
+-- A list of no hashes. 01 counts a document as not empty; that of no rows is empty nevertheless, as in the crate (docs/DECISIONS.md): there is nothing in
+-- it to tell.
 abbrev pub empty : List ℕ → Bool
 empty [] = true
 empty (h ∷ hs) = false

@@ -35,7 +35,7 @@ pub data Gives (t : List Row) (w : List Waiting) (heard : List ℕ) : List Have 
 unfoldable pub trim : List Row → List ℕ → List ℕ → List ℕ
 trim t heard sent = keep (λ h. not (below t heard h)) sent
 
--- Step 4, what goes of an offer: no hash more often than there, and something if there is something. The whole offer goes so.
+-- Step 4, what goes of an offer: no hash more often than there, and something if there is something. The whole offer, 01's reply, is one such.
 pub record Picks (offer reply : List ℕ) : Type 0 where
   pub few : (h : ℕ) → often h reply ≤ often h offer
   pub some : (x : ℕ) → member x offer ≡ true → (y : ℕ) × (member y reply ≡ true)

@@ -70,7 +70,7 @@ abbrev pub left : Received → State
 left (Received.took s) = s
 left (Received.refused r s) = s
 
--- The hosts: B's tables before each round, what waits beside A (of no account), and what is lent for each message of A.
+-- The hosts: B's tables before each round and what waits beside them, what waits beside A (of no account), and what is lent for each round's messages.
 module _ (bits probes : ℕ) (A : List Row) (B : ℕ → List Row) (W U : ℕ → List Waiting) (hosts : ℕ → Host) where
   pub record Pair : Type 0 where
     pub atA : State

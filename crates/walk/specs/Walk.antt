@@ -1,5 +1,5 @@
--- The catch-up walk, and what the user wants of it (demand 3). 01, The catch-up walk. Nothing here assumes a setting of filters, a choice of last-sync
--- hashes or an order of loading: `Walk` leaves them free each round, and `Walk01` is the walk as 01 tells it.
+-- The catch-up walk, and what the user wants of it (demand 3). 01, The catch-up walk. `Walk` assumes no setting of filters, no choice of last-sync hashes
+-- and no order of loading: it leaves them free each round. `Walk01` is the walk as 01 tells it, with any filter that 01 accepts.
 use Prim.Native.Nat.{ℕ, zero, suc, _≤_}
 use mathlib.Core.Bool.{Bool, true, false, not, _&&_}
 use mathlib.Core.List.{List, [], _++_}
@@ -56,7 +56,8 @@ pub data Walk (A B : List Row) : ℕ → At → Type 0 where
 abbrev pub accepted : ℕ → ℕ → List Row → List ℕ → Bool
 accepted bits probes t l = filterRules (length (beyond t l)) bits probes (fieldSize (length (beyond t l)) bits)
 
--- 01's own round, to be held beside its five steps: B names l, which it holds, builds its filter with these bits and probes, and the whole offer goes.
+-- 01's own round, to be held beside its five steps: B names l, which it holds, builds its filter with these bits and probes, one that is accepted, and
+-- the whole offer goes.
 pub record Round01 (bits probes : ℕ) (A : List Row) (heard l : List ℕ) (s : At) (haves : List Have) (reply : List ℕ) (s′ : At) : Type 0 where
   pub holds : (h : ℕ) → member h l ≡ true → held (s .table) h ≡ true
   pub setting : accepted bits probes (s .table) l ≡ true
