@@ -20,7 +20,7 @@ unfoldable pub marked : ℕ → List Bool → ℕ
 marked zero m = 0
 marked (suc n) m = cond (getD m n false) (suc (marked n m)) (marked n m)
 
--- The numbers of a list whose places are some of p, in its order; places are counted from i.
+-- The numbers of a list for whose places p holds, in its order; places are counted from i.
 unfoldable pub pickFrom : ℕ → List ℕ → (ℕ → Bool) → List ℕ
 pickFrom i [] p = []
 pickFrom i (x ∷ xs) p = cond (p i) (x ∷ pickFrom (suc i) xs p) (pickFrom (suc i) xs p)

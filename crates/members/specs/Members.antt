@@ -41,7 +41,7 @@ theS t haves = rowsWhere t (inTheS t haves)
 
 -- ---- what internal contracts speak of; no rule of 01 stands here
 
--- Whether some number of a list is one of p.
+-- Whether p holds for some number of a list.
 unfoldable pub someOf : (ℕ → Bool) → List ℕ → Bool
 someOf p [] = false
 someOf p (k ∷ ks) = p k || someOf p ks

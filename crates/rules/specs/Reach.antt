@@ -3,7 +3,7 @@
 use Prim.Native.Nat.{ℕ, zero, suc}
 use mathlib.Core.Bool.{Bool, true, false, _||_, _&&_}
 
--- Some number below n is one of p.
+-- p holds for some number below n.
 unfoldable pub someBelow : ℕ → (ℕ → Bool) → Bool
 someBelow zero p = false
 someBelow (suc n) p = p n || someBelow n p

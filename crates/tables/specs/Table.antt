@@ -47,7 +47,7 @@ held t h = member h (rows t)
 unfoldable pub deps : List Row → ℕ → List ℕ
 deps t h = map (hashOf t) (depsOf t (rowNumber t h))
 
--- The hashes of the rows, in table order, whose numbers are some of p; numbers are counted from i.
+-- The hashes of the rows, in table order, for whose numbers p holds; numbers are counted from i.
 unfoldable pub rowsFrom : ℕ → List Row → (ℕ → Bool) → List ℕ
 rowsFrom i [] p = []
 rowsFrom i (r ∷ rs) p = cond (p i) (r .hash ∷ rowsFrom (suc i) rs p) (rowsFrom (suc i) rs p)
