@@ -1,5 +1,5 @@
--- What internal functions ensure, which learn the size before they write: no rule of 01 stands here, and no public call's contract needs it. The
--- tests are those of `messageOutput`, cut in two where the code is.
+-- What functions ensure that learn the size before they write: no rule of 01 stands here, and no exported call's contract needs it. The tests are
+-- those of `messageOutput`, cut in two where the code is.
 use Prim.Native.Nat.{ℕ, _+_, _-_, _/_, _≤_}
 use mathlib.Core.Bool.{true, cond}
 use mathlib.Core.List.{List, [], _∷_, _++_}
