@@ -1,3 +1,3 @@
 -- Laws that the crates above cite.
-pub mod HeadsLaws
+pub mod FirstLaws
 pub mod Promises

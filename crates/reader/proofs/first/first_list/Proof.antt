@@ -1,4 +1,4 @@
--- `reader::heads::message_heads` meets its contract: a walk of its MIR, by hand. A `Reader` that one call returns is held in a local and passed to the next. All that the proof knows of `new`, `moved` and `hashes` is that each meets its contract.
+-- `reader::first::first_list` meets its contract: a walk of its MIR, by hand. A `Reader` that one call returns is held in a local and passed to the next. All that the proof knows of `new`, `moved` and `hashes` is that each meets its contract.
 -- The machine value that a call returns is stored and passed on as it is. In a local of a body MIR erases the lifetime of the struct's type, so the value is shown to have the type at `erased`: what the struct owns does not say the lifetime's name.
 -- Assumes nothing.
 use mathlib.Core.Path.{_≡_, refl, ap, _∙_}
@@ -40,7 +40,7 @@ use denote.Triple.Walked.{says, Stays, stay-none-slice, walkOf, goes-none-slice,
 use denote.Exit.{yes}
 use denote.Triple.Clauses.{ensured, lasts}
 use Rattle.wire.specs.Item.{hashListAt}
-use Rattle.reader.specs.Heads.{headsIn}
+use Rattle.reader.specs.First.{firstList}
 use Rattle.reader.specs.declared.reader.Reader.{Reader}
 use Rattle.wire.specs.declared.parse.Listed.{Listed}
 use Rattle.reader.proofs.reader.Reader as T
@@ -59,21 +59,21 @@ use Rattle.reader.proofs.reader.hashes as hashes
 use Rattle.reader.proofs.reader.hashes.Symbol as hashes-def
 use Rattle.reader.proofs.reader.hashes.Symbol.{name as #reader·hashes}
 use Rattle.reader.proofs.reader.hashes.Met as hashes-thm
-use Rattle.reader.proofs.heads.message_heads.Key.{name as #reader·message-heads}
-use Rattle.reader.proofs.heads.message_heads as heads
-use Rattle.reader.proofs.heads.message_heads.Statement as stated
-use Rattle.reader.proofs.heads.message_heads.Code as code
+use Rattle.reader.proofs.first.first_list.Key.{name as #reader·first-list}
+use Rattle.reader.proofs.first.first_list as first
+use Rattle.reader.proofs.first.first_list.Statement as stated
+use Rattle.reader.proofs.first.first_list.Code as code
 
 -- the struct's type, over the signature's lifetimes
 abbrev B : Lfts 1 → RattleType
 B κs = T.the-row (namedLft 1 0 tt κs)
 
-abbrev stayed : Stays (heads.ended .signature .params) (heads.ended .kept)
+abbrev stayed : Stays (first.ended .signature .params) (first.ended .kept)
 stayed = (stay-none-slice (0 ∷ []) tt (plain (λ _. u8)) yes, tt)
 
 -- the list that a reader m′ gives which was moved to 1 from one over s
-reached : (s m m′ : RefT (List ℕ)) (n : ℕ) → m ≡ s → m′ ≡ m → n ≡ 1 → hashListAt (now m′) n (length (now m′)) ≡ headsIn (now s)
-unfolding headsIn
+reached : (s m m′ : RefT (List ℕ)) (n : ℕ) → m ≡ s → m′ ≡ m → n ≡ 1 → hashListAt (now m′) n (length (now m′)) ≡ firstList (now s)
+unfolding firstList
 reached s m m′ n a b c = ap (λ (x : RefT (List ℕ)). hashListAt (now x) n (length (now x))) (b ∙ a) ∙ ap (λ (k : ℕ). hashListAt (now s) k (length (now s))) c
 
 module _ {M : Type 1} (𝓤 : URA M) (H : Heap 𝓤) (A : Atoms 𝓤) (mem : Memory → SProp 𝓤) (run : Routine → Fun 𝓤) where
@@ -93,14 +93,14 @@ module _ {M : Type 1} (𝓤 : URA M) (H : Heap 𝓤) (A : Atoms 𝓤) (W : Given
   v = sliceVal (s .ptr) (length (s .now))
 
   abbrev found : Listed
-  found = headsIn (now s)
+  found = firstList (now s)
 
   -- the struct's type as a local of a body has it
   abbrev αᵉ : NamedLft
   αᵉ = record { mir = erased; lft = κ }
 
   abbrev Post : Val → SProp 𝓤
-  Post = walkOf 𝓤 H A heads.ended stayed (heads.clauses 𝓤 H A mem run) .post (((κ, tt), (q, tt), tt, (s, tt), (v ∷ [], tt)), tt)
+  Post = walkOf 𝓤 H A first.ended stayed (first.clauses 𝓤 H A mem run) .post (((κ, tt), (q, tt), tt, (s, tt), (v ∷ [], tt)), tt)
 
   abbrev Own : Fml
   Own = ShrSlice (named 0) κ u8 .own s (v ∷ [])
@@ -109,7 +109,7 @@ module _ {M : Type 1} (𝓤 : URA M) (H : Heap 𝓤) (A : Atoms 𝓤) (W : Given
   abbrev to-new : New 𝓤 H A mem run .Ghost
   to-new = (((κ, tt), (q, tt), tt, (s, tt), (v ∷ [], tt)), tt)
 
-  goes-new : ent 𝓤 (onEntry 𝓤 H A heads.signature (κ, tt) (q, tt) (s, tt) (v ∷ [], tt)) (sep 𝓤 (New 𝓤 H A mem run .pre to-new) (sem 𝓤 H A Own))
+  goes-new : ent 𝓤 (onEntry 𝓤 H A first.signature (κ, tt) (q, tt) (s, tt) (v ∷ [], tt)) (sep 𝓤 (New 𝓤 H A mem run .pre to-new) (sem 𝓤 H A Own))
   goes-new =
       qed W ((‵ (flft κ q) ⊛ ‵ ftrue) ∷ ‵ (owns (ShrSlice (named 0) κ u8 ∷ []) (s, tt) (v ∷ [], tt)) ∷ []) ∵
       move ! (1 ∷ []) $ fsplit ! $ use1 W (‵ Own ⊛ ‵ Own) (shr-slice-copy 𝓤 H A W (named 0) κ u8 .twice s (v ∷ [])) $ split ! $
@@ -150,13 +150,13 @@ module _ {M : Type 1} (𝓤 : URA M) (H : Heap 𝓤) (A : Atoms 𝓤) (W : Given
   exits : (t : Listed) (u : Val) → t ≡ found → ent 𝓤 (⋆ 𝓤 H A (‵ (S.the-row .own t (u ∷ [])) ∷ (‵ (flft κ q) ⊛ ‵ ftrue) ∷ ‵ Own ∷ [])) (Post u)
   exits t u e =
       qed W (‵ (S.the-row .own t (u ∷ [])) ∷ (‵ (flft κ q) ⊛ ‵ ftrue) ∷ ‵ Own ∷ []) ∵
-      suffices ! _ (ends-at 𝓤 H A heads.ended stayed (heads.clauses 𝓤 H A mem run) W (((κ, tt), (q, tt), tt, (s, tt), (v ∷ [], tt)), tt) u t (tt, tt) (tt, tt)) $ says ! e $
+      suffices ! _ (ends-at 𝓤 H A first.ended stayed (first.clauses 𝓤 H A mem run) W (((κ, tt), (q, tt), tt, (s, tt), (v ∷ [], tt)), tt) u t (tt, tt) (tt, tt)) $ says ! e $
       move ! (1 ∷ []) $ frame ! $ nothing ! $ move ! (2 ∷ 0 ∷ []) $ fjoin ! $ frame ! $ done !
 
   module _ (C : Calls 𝓤 H) (Λ : Loops 𝓤 H) (fm : FmC 𝓤 H (W .laws) C) (known-new : Triple 𝓤 (C #reader·new) (New 𝓤 H A mem run)) (known-moved : Triple 𝓤 (C #reader·moved) (Moved 𝓤 H A mem run)) (known-hashes : Triple 𝓤 (C #reader·hashes) (Hashes 𝓤 H A mem run)) where
-    walk : Is (ShrSlice (named 0) κ u8) s (v ∷ []) → ent 𝓤 (onEntry 𝓤 H A heads.signature (κ, tt) (q, tt) (s, tt) (v ∷ [], tt)) (WpFn 𝓤 H C Λ code.function (v ∷ []) Post)
+    walk : Is (ShrSlice (named 0) κ u8) s (v ∷ []) → ent 𝓤 (onEntry 𝓤 H A first.signature (κ, tt) (q, tt) (s, tt) (v ∷ [], tt)) (WpFn 𝓤 H C Λ code.function (v ∷ []) Post)
     walk p =
-        qed W (raw (onEntry 𝓤 H A heads.signature (κ, tt) (q, tt) (s, tt) (v ∷ [], tt)) ∷ []) ∵ enter ! C Λ code.function (v ∷ []) _ $
+        qed W (raw (onEntry 𝓤 H A first.signature (κ, tt) (q, tt) (s, tt) (v ∷ [], tt)) ∷ []) ∵ enter ! C Λ code.function (v ∷ []) _ $
         alloc1 ! (λ l₀. alloc1 ! (λ l₁. alloc1 ! (λ l₂. alloc1 ! (λ l₃. alloc0 ! $ params1 ! $ pass1 ! (init ! 4 refl (shr-slice-lawful 𝓤 H A W (named 0) κ u8 .typed s (v ∷ []) p .0)) $ pass0 ! $
         move ! (8 ∷ []) $ use1 W (raw (New 𝓤 H A mem run .pre to-new) ⊛ ‵ Own) goes-new $ split ! $
         calls-at ! fm (New 𝓤 H A mem run) known-new to-new (and-then ! (load ! (from ! (stop !)) (look ! 6 refl)) (no-more !)) (λ u₁.
@@ -183,23 +183,23 @@ module _ {M : Type 1} (𝓤 : URA M) (H : Heap 𝓤) (A : Atoms 𝓤) (W : Given
         by ! (exits t u₃ (e₃ ∙ reached s (r₁ .message) (r₂ .message) (r₂ .at) (e₁ .0) (e₂ .0) (e₂ .1)))))))))))))))))))
 
 module _ {M : Type 1} (𝓤 : URA M) (H : Heap 𝓤) (A : Atoms 𝓤) (W : Given 𝓤 H A) (mem : Memory → SProp 𝓤) (run : Routine → Fun 𝓤) where
-  message-heads-walks : (C : Calls 𝓤 H) (Λ : Loops 𝓤 H) → FmC 𝓤 H (W .laws) C → Triple 𝓤 (C #reader·new) (New 𝓤 H A mem run) → Triple 𝓤 (C #reader·moved) (Moved 𝓤 H A mem run) → Triple 𝓤 (C #reader·hashes) (Hashes 𝓤 H A mem run)
-      → Walks 𝓤 H A heads.ended stayed (WpFn 𝓤 H C Λ code.function) (heads.clauses 𝓤 H A mem run)
-  message-heads-walks C Λ fm known-new known-moved known-hashes = walked 𝓤 H A heads.ended stayed (heads.clauses 𝓤 H A mem run) (WpFn 𝓤 H C Λ code.function) (λ κs. (slice-vals, tt)) (λ κs. (shr-slice-tells (named 0) (κs .0) u8, tt))
+  first-list-walks : (C : Calls 𝓤 H) (Λ : Loops 𝓤 H) → FmC 𝓤 H (W .laws) C → Triple 𝓤 (C #reader·new) (New 𝓤 H A mem run) → Triple 𝓤 (C #reader·moved) (Moved 𝓤 H A mem run) → Triple 𝓤 (C #reader·hashes) (Hashes 𝓤 H A mem run)
+      → Walks 𝓤 H A first.ended stayed (WpFn 𝓤 H C Λ code.function) (first.clauses 𝓤 H A mem run)
+  first-list-walks C Λ fm known-new known-moved known-hashes = walked 𝓤 H A first.ended stayed (first.clauses 𝓤 H A mem run) (WpFn 𝓤 H C Λ code.function) (λ κs. (slice-vals, tt)) (λ κs. (shr-slice-tells (named 0) (κs .0) u8, tt))
       (λ κs qs bounds a g are. via 𝓤 _ (fst∗ 𝓤 _ (emp 𝓤)) (walk 𝓤 H A W mem run (κs .0) (qs .0) (a .0) C Λ fm known-new known-moved known-hashes (are .0)))
 
-message-heads-meets : {M : Type 1} (𝓤 : URA M) (H : Heap 𝓤) (A : Atoms 𝓤) (W : Given 𝓤 H A) (mem : Memory → SProp 𝓤) (run : Routine → Fun 𝓤) (𝓣 : Tables 𝓤 H)
+first-list-meets : {M : Type 1} (𝓤 : URA M) (H : Heap 𝓤) (A : Atoms 𝓤) (W : Given 𝓤 H A) (mem : Memory → SProp 𝓤) (run : Routine → Fun 𝓤) (𝓣 : Tables 𝓤 H)
     → Triple 𝓤 (𝓣 .C #reader·new) (New 𝓤 H A mem run) → Triple 𝓤 (𝓣 .C #reader·moved) (Moved 𝓤 H A mem run) → Triple 𝓤 (𝓣 .C #reader·hashes) (Hashes 𝓤 H A mem run)
-    → Meets 𝓤 H A heads.signature (WpFn 𝓤 H (𝓣 .C) (𝓣 .Λ) code.function) (heads.spec 𝓤 H A mem run)
-message-heads-meets 𝓤 H A W mem run 𝓣 known-new known-moved known-hashes = walk-meets 𝓤 H A heads.ended stayed W (goes-none-slice 𝓤 H A W 1 (0 ∷ []) tt (plain (λ _. u8)) yes, tt) (heads.clauses 𝓤 H A mem run) (WpFn 𝓤 H (𝓣 .C) (𝓣 .Λ) code.function) (WpFn-mono 𝓤 H (W .laws) 𝓣 code.function)
-    (message-heads-walks 𝓤 H A W mem run (𝓣 .C) (𝓣 .Λ) (fmOf 𝓤 H (W .laws) 𝓣) known-new known-moved known-hashes)
+    → Meets 𝓤 H A first.signature (WpFn 𝓤 H (𝓣 .C) (𝓣 .Λ) code.function) (first.spec 𝓤 H A mem run)
+first-list-meets 𝓤 H A W mem run 𝓣 known-new known-moved known-hashes = walk-meets 𝓤 H A first.ended stayed W (goes-none-slice 𝓤 H A W 1 (0 ∷ []) tt (plain (λ _. u8)) yes, tt) (first.clauses 𝓤 H A mem run) (WpFn 𝓤 H (𝓣 .C) (𝓣 .Λ) code.function) (WpFn-mono 𝓤 H (W .laws) 𝓣 code.function)
+    (first-list-walks 𝓤 H A W mem run (𝓣 .C) (𝓣 .Λ) (fmOf 𝓤 H (W .laws) 𝓣) known-new known-moved known-hashes)
 
-pub message-heads-spec : {M : Type 1} → stated.statement M
+pub first-list-spec : {M : Type 1} → stated.statement M
 unfolding code.routine tablesOf
-message-heads-spec 𝓤 H 𝓜 𝓖 𝓡 =
-    entered 𝓤 H (tripleOf 𝓤 H (𝓖 .A) heads.signature (heads.spec 𝓤 H (𝓖 .A) (𝓜 .mem) (𝓡 .run)))
-    (tables 𝓤 H 𝓜 𝓡 code.env .C) (tables 𝓤 H 𝓜 𝓡 code.env .Λ) #reader·message-heads code.function (code.unfolded 𝓤 H 𝓜 𝓡)
-    (message-heads-meets 𝓤 H (𝓖 .A) (givenOf 𝓤 H 𝓜 𝓖) (𝓜 .mem) (𝓡 .run) (tablesOf 𝓤 H 𝓜 (tables 𝓤 H 𝓜 𝓡 code.env))
+first-list-spec 𝓤 H 𝓜 𝓖 𝓡 =
+    entered 𝓤 H (tripleOf 𝓤 H (𝓖 .A) first.signature (first.spec 𝓤 H (𝓖 .A) (𝓜 .mem) (𝓡 .run)))
+    (tables 𝓤 H 𝓜 𝓡 code.env .C) (tables 𝓤 H 𝓜 𝓡 code.env .Λ) #reader·first-list code.function (code.unfolded 𝓤 H 𝓜 𝓡)
+    (first-list-meets 𝓤 H (𝓖 .A) (givenOf 𝓤 H 𝓜 𝓖) (𝓜 .mem) (𝓡 .run) (tablesOf 𝓤 H 𝓜 (tables 𝓤 H 𝓜 𝓡 code.env))
     (cited 𝓤 H (New 𝓤 H (𝓖 .A) (𝓜 .mem) (𝓡 .run)) 𝓜 𝓡 code.env #reader·new new-def.routine code.calls-reader·reader·new (new-thm.met 𝓤 H 𝓜 𝓖 𝓡))
     (cited 𝓤 H (Moved 𝓤 H (𝓖 .A) (𝓜 .mem) (𝓡 .run)) 𝓜 𝓡 code.env #reader·moved moved-def.routine code.calls-reader·reader·moved (moved-thm.met 𝓤 H 𝓜 𝓖 𝓡))
     (cited 𝓤 H (Hashes 𝓤 H (𝓖 .A) (𝓜 .mem) (𝓡 .run)) 𝓜 𝓡 code.env #reader·hashes hashes-def.routine code.calls-reader·reader·hashes (hashes-thm.met 𝓤 H 𝓜 𝓖 𝓡)))

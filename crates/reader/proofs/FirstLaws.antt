@@ -1,4 +1,4 @@
--- The heads that the reader finds are the message's.
+-- The list that the reader finds in a message is its heads.
 use Prim.Native.Nat.{ℕ}
 use mathlib.Core.List.{List, []}
 use mathlib.Core.Path.{_≡_, refl}
@@ -13,22 +13,22 @@ use Rattle.decode.specs.declared.opening.Opening.the-variants.{Heads}
 use Rattle.decode.specs.declared.parse.Places.{Places}
 use Rattle.decode.proofs.Messages.{opening-behind}
 use Rattle.decode.proofs.ReadLaws.{message-behind}
-use Rattle.reader.specs.Heads.{headsIn}
+use Rattle.reader.specs.First.{firstList}
 
 -- Where the first stage of a message is read, its heads are these.
 pub opening-heads : (s : List ℕ) (version : MessageVersion) (heads : Run) (next : ℕ) → openingAt s ≡ Heads version heads next
-    → headsIn s ≡ Items heads next
-unfolding headsIn
+    → firstList s ≡ Items heads next
+unfolding firstList
 opening-heads s version heads next e = opening-behind s version heads next e .list
 
 -- So they are where all of it is read.
 pub message-heads : (s : List ℕ) (p : Places) (haves chunks : List ℕ) → messageAt s ≡ read p haves chunks
-    → record { next : ℕ; is : headsIn s ≡ Items (p .heads) next }
+    → record { next : ℕ; is : firstList s ≡ Items (p .heads) next }
 message-heads s p haves chunks e =
     let b = message-behind s p haves chunks e in
     record { next = b .atNeed; is = opening-heads s (p .version) (p .heads) (b .atNeed) (b .opening) }
 
 -- No bytes: the list is cut where it would start.
-pub heads-of-none : headsIn [] ≡ NotListed (Cut 1)
-unfolding headsIn hashListAt countAt afterNumber numberAt answerAt find
-heads-of-none = refl
+pub first-of-none : firstList [] ≡ NotListed (Cut 1)
+unfolding firstList hashListAt countAt afterNumber numberAt answerAt find
+first-of-none = refl
