@@ -114,7 +114,10 @@ module _ (table oldList newList shared list mid after : List ℕ) (n before olds
       e
       (rw (old .list, new .list) at k))
 
--- no more hashes than there can be heads
+-- the list that they are advanced in, and no more hashes in it than there can be heads
+pub advanced-room : sizes .hash * (sizes .rows + 1) ≤ length {A = ℕ} (replicate (sizes .hash * (sizes .rows + 1)) 0)
+advanced-room = omega (arith, length-replicate {A = ℕ} (sizes .hash * (sizes .rows + 1)) 0)
+
 pub advanced-fits : (old shared s list : List ℕ) (n count : ℕ) → n ≤ sizes .rows
     → Gathered (advance old (heads (rowsAt s 0 n)) shared) list count
     → length list ≡ length {A = ℕ} (replicate (sizes .hash * (sizes .rows + 1)) 0)

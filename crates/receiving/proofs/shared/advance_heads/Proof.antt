@@ -1,5 +1,6 @@
 -- `receiving::shared::advance_heads` meets its contract: the shared heads that are heads still and the new ones are joined to a list that has nothing in
 -- it and is never full (SharedLaws). Assumes nothing.
+use mathlib.Core.Path.{_∙_}
 use native.Mathlib.Omega.{arith}
 use borrow.Author.Needs.{needs}
 use Rattle.lists.proofs.JoinLaws.{join-room}
@@ -53,7 +54,10 @@ join-new-requires c κs =
     )
 
 same-length : tie.Need-same-length
-same-length c = search needs
+same-length c =
+    let k = c .before .before in
+    let j = k .before .before .before .before .before .before in
+    k .join-new .kept .0 ∙ j .join-common .kept .0
 
 returns : tie.Need-returns
 returns c =

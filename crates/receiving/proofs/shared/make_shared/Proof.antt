@@ -1,7 +1,7 @@
 -- `receiving::shared::make_shared` meets its contract: one law for each way through the two tests (SharedLaws). Assumes nothing.
 use mathlib.Core.Path.{sym, _∙_}
 use borrow.Author.Needs.{needs}
-use Rattle.receiving.proofs.SharedLaws.{advanced-fits, copied-made, where-held, where-still, where-moved}
+use Rattle.receiving.proofs.SharedLaws.{advanced-room, advanced-fits, copied-made, where-held, where-still, where-moved}
 use Rattle.receiving.proofs.shared.make_shared.Statement.{statement}
 use Rattle.receiving.proofs.shared.make_shared.Tie as tie
 
@@ -57,7 +57,9 @@ slice-aggregate-advance-heads : tie.Need-slice-aggregate-advance-heads
 slice-aggregate-advance-heads c = search needs
 
 advance-heads-requires : tie.Need-advance-heads-requires
-advance-heads-requires c κs = search needs
+advance-heads-requires c κs =
+    let start = c .before .before .before .before .before .before .before .before .before in
+    (start .pre .0, start .pre .1, start .pre .2, advanced-room)
 
 slice-aggregate-join-shared : tie.Need-slice-aggregate-join-shared
 slice-aggregate-join-shared c = search needs
