@@ -1,6 +1,7 @@
--- Room for marked rows: they are as many as the rows at most, and a list with room for a whole table has room for them.
+-- Room for marked rows: they are as many as the rows at most, a list with room for a whole table has room for them, and marks that are made for a
+-- whole table and kept in length have one for each.
 use Prim.Native.Nat.{ℕ, _+_, _*_, _≤_}
-use mathlib.Core.Bool.{Bool}
+use mathlib.Core.Bool.{Bool, false}
 use mathlib.Core.List.{List}
 use mathlib.Core.Path.{_≡_}
 use native.Mathlib.Omega.{arith}
@@ -22,3 +23,6 @@ module _ (n : ℕ) where
 
   pub same-room : (room same : ℕ) → sizes .hash * n ≤ room → same ≡ room → sizes .hash * n ≤ same
   same-room room same h e = omega arith
+
+  pub marks-room : (known turned : ℕ) → n ≤ sizes .rows → known ≡ length (replicate (sizes .rows) false) → turned ≡ known → n ≤ turned
+  marks-room known turned h e k = omega (arith, length-replicate (sizes .rows) false)

@@ -10,7 +10,7 @@ use lib.Seq.{length-take-le}
 use Rattle.graph.proofs.MarkLaws.{blank}
 use Rattle.rules.specs.Sizes.{sizes}
 use Rattle.planning.proofs.FieldLaws.{beyond-gathered, setting-numbers, field-inside, field-enough, field-made}
-use Rattle.planning.proofs.RoomLaws.{marked-room, marked-few, rows-room, same-room}
+use Rattle.planning.proofs.RoomLaws.{marked-room, marked-few, rows-room, same-room, marks-room}
 use Rattle.planning.proofs.have.make_field.Statement.{statement}
 use Rattle.planning.proofs.have.make_field.Tie as tie
 
@@ -49,14 +49,21 @@ slice-aggregate-put-marked-2 c = search needs
 
 put-marked-requires : tie.Need-put-marked-requires
 put-marked-requires c κs =
-    let start = c .before .before .before .before .before .before .before .before .before .before .before .before in
-    (start .pre .0 .rows, search needs, marked-room _ _ _ (rows-room _ (start .pre .0 .rows .few)))
+    let t = c .before .before .before in
+    let m = t .before .before .before in
+    let start = m .before .before .before .before .before .before in
+    let marks = marks-room _ _ _ (start .pre .0 .rows .few) (m .mark-at-or-below .kept .1 .1 .1 .1 .1 .1 .0) (t .flip .kept .1 .0) in
+    (start .pre .0 .rows, marks, marked-room _ _ _ (rows-room _ (start .pre .0 .rows .few)))
 
 slice-aggregate-count-marked : tie.Need-slice-aggregate-count-marked
 slice-aggregate-count-marked c = search needs
 
 count-marked-requires : tie.Need-count-marked-requires
-count-marked-requires c κs = search needs
+count-marked-requires c κs =
+    let t = c .before .before .before .before .before .before in
+    let m = t .before .before .before in
+    let start = m .before .before .before .before .before .before in
+    marks-room _ _ _ (start .pre .0 .rows .few) (m .mark-at-or-below .kept .1 .1 .1 .1 .1 .1 .0) (t .flip .kept .1 .0)
 
 bits-capacity-requires : tie.Need-bits-capacity-requires
 bits-capacity-requires c κs =
