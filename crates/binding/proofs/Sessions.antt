@@ -48,7 +48,6 @@ sessions-bind =
       is-silent = λ κs a x y u v p q. (once p q, refl);
       decide-puts-of = λ κs a x y u v p q. (once p q, refl);
       check-plan = λ κs a x y u v p q. (once p q, refl);
-      forgets = λ κs a x y u v p q. (once p q, refl);
       take-flags = λ κs a x y u v p q. (once p q, refl);
       taking-puts-of = λ κs a x y u v p q. (once p q, refl);
       check-receive = λ κs a x y u v p q. (once p q, refl);

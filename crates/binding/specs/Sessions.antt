@@ -18,7 +18,6 @@ use Rattle.plan.proofs.check.check_plan as of-check-plan
 use Rattle.receive.proofs.receive.receive_sync_message as of-receive-sync-message
 use Rattle.planning.proofs.silence.is_silent as of-is-silent
 use Rattle.decide.proofs.put.puts_of as of-decide-puts-of
-use Rattle.receiving.proofs.flags.forgets as of-forgets
 use Rattle.receiving.proofs.flags.take_flags as of-take-flags
 use Rattle.taking.proofs.put.puts_of as of-taking-puts-of
 use Rattle.drafting.proofs.check.check_receive as of-check-receive
@@ -52,7 +51,6 @@ pub record SessionsBind : Type 0 where
   -- the crate decide
   pub decide-puts-of : Binds of-decide-puts-of.ended of-decide-puts-of.Reads.Post
   -- the crate receiving
-  pub forgets : Binds of-forgets.ended of-forgets.Reads.Post
   pub take-flags : Binds of-take-flags.ended of-take-flags.Reads.Post
   -- the crate taking
   pub taking-puts-of : Binds of-taking-puts-of.ended of-taking-puts-of.Reads.Post

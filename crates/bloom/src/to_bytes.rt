@@ -6,9 +6,9 @@ use rules::output::Write;
 use rules::put::copy_into;
 use rules::refusal::Refusal;
 ghost use mathlib.Core.Path.{_≡_};
-ghost use Prim.Native.Nat.{_+_, _≤_, _<_, _^_};
+ghost use Prim.Native.Nat.{_+_, _≤_, _<_};
 ghost use lib.ListN.{length};
-ghost use Rattle.bloom.specs.Filter.{Filter, filterBytes, filterOutput, filterOf4};
+ghost use Rattle.bloom.specs.Filter.{filterBytes, filterOutput, filterOf4};
 ghost use Rattle.rules.specs.Output.{Written};
 ghost use Rattle.numbers.specs.Number.{Put};
 

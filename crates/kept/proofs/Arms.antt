@@ -9,7 +9,7 @@ use lib.ListN.{length}
 use Rattle.bloom.proofs.HaveLaws.{passed-haves, good-filters}
 use Rattle.lent.specs.Good.{havesGood}
 use Rattle.lent.proofs.GoodSessions.{haves-parts, session-tests}
-use Rattle.probe.proofs.InsideLaws.{probes-inside as rules-inside, passed-inside, read-inside}
+use Rattle.probe.proofs.InsideLaws.{probes-inside as rules-inside, built-inside, passed-inside, read-inside}
 use Rattle.rules.specs.Order.{every}
 use Rattle.rules.specs.Sizes.{sizes}
 use Rattle.rules.proofs.Cases.{split}
@@ -24,6 +24,7 @@ pub probes-inside : ProbesInside
 probes-inside =
     record {
       ruled = rules-inside;
+      built = built-inside;
       read = read-inside;
       passed = λ s haves good few. passed-inside s haves (good-filters s haves (passed-haves s haves good few));
       kept =

@@ -5,16 +5,17 @@ use mathlib.Core.Bool.{true}
 use mathlib.Core.List.{List, []}
 use mathlib.Core.Path.{_≡_}
 use lib.ListN.{length}
-use Rattle.bloom.specs.Filter.{Filter, filterRules}
+use Rattle.bloom.specs.Filter.{Filter, fieldSize, filterRules}
 use Rattle.bloom.specs.Have.{haveCount, numbersIn, filterWith, passedGood, passedFew}
 use Rattle.bloom.specs.Read.{filterAt}
 use Rattle.bloom.specs.declared.have.FilterNumbers.{FilterNumbers}
 use Rattle.bloom.specs.declared.parse.Parsed.the-variants.{Filter as Read}
 use Rattle.lent.specs.Good.{sessionGood}
+use Rattle.probe.specs.Build.{filterOf}
 use Rattle.probe.specs.Inside.{Inside}
 use Rattle.rules.specs.Hash.{Bytes}
 use Rattle.rules.specs.Order.{every}
-use Rattle.session.specs.Plan.{Plan, Planned, plan}
+use Rattle.session.specs.Plan.{Planned, plan}
 use Rattle.state.specs.Session.{State}
 use Rattle.state.specs.Value.{Lent, keptHaves}
 use Rattle.state.specs.declared.session.Heard.the-variants.{Count}
@@ -22,10 +23,11 @@ use Rattle.state.specs.declared.session.Session.{Session}
 use Rattle.tables.specs.Table.{Row, GoodTable, held}
 use Rattle.waiting.specs.Waiting.{Waiting}
 
--- Of a filter that 01 accepts each probe lies inside the field: one that keeps the rules, as a built one does; one that is read; one that is passed; one
+-- Of a filter that 01 accepts each probe lies inside the field: one that keeps the rules; one that is built; one that is read; one that is passed; one
 -- that a good session keeps. Without entries nothing is probed.
 pub record ProbesInside : Type 0 where
   pub ruled : (f : Filter) → filterRules (f .entries) (f .bits) (f .probes) (length (f .field)) ≡ true → 0 < f .entries → Inside f
+  pub built : (b p : ℕ) (hs : List ℕ) → filterRules (length hs) b p (fieldSize (length hs) b) ≡ true → 0 < length hs → Inside (filterOf b p hs)
   pub read : (s : List ℕ) (at end : ℕ) (f : FilterNumbers) (next : ℕ) → Bytes s → filterAt s at end ≡ Read f next → 0 < f .entries
       → Inside (filterWith s f)
   pub passed : (s haves : List ℕ) → passedGood s haves ≡ true → passedFew haves ≡ true → (i : ℕ) → i < haveCount haves → 0 < numbersIn haves i .entries

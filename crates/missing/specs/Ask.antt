@@ -1,6 +1,6 @@
 -- Asking for what is missing, step by step. 01, Waiting table: one change is asked, or a list of them in turn; a waiting change asks its own list, once:
 -- its row is marked, so that a cycle ends. What internal functions ensure; the public call ensures `missing`.
-use Prim.Native.Nat.{ℕ, suc, _*_, _≤_, _<_, _/_}
+use Prim.Native.Nat.{ℕ, _*_, _≤_, _<_, _/_}
 use mathlib.Core.Bool.{Bool, true, false}
 use mathlib.Core.List.{List, [], _∷_}
 use mathlib.Core.Path.{_≡_}

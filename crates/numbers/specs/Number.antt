@@ -1,13 +1,12 @@
 -- Numbers. 01, Wire: LEB128 in its shortest form; Refusal numbers, 1 and 3: a number is refused with 3 as soon as nothing that may follow can mend it, and
 -- with 1 where the end cuts one that could still be good.
-use Prim.Native.Nat.{ℕ, zero, suc, _+_, _-_, _*_, _/_, _%_, _^_, _≤_, _<_}
-use mathlib.Core.Bool.{Bool, cond, _||_}
+use Prim.Native.Nat.{ℕ, zero, suc, _+_, _-_, _*_, _/_, _%_, _^_, _≤_}
+use mathlib.Core.Bool.{cond, _||_}
 use mathlib.Core.List.{List, [], _∷_, _++_}
 use mathlib.Core.Path.{_≡_}
 use lib.Dec.{ltb}
 use lib.ListN.{length}
 use lib.Seq.{slice, sets}
-use Rattle.rules.specs.declared.refusal.Refusal.{Refusal}
 use Rattle.rules.specs.declared.refusal.Refusal.the-variants.{Cut, BadNumber}
 use Rattle.numbers.specs.declared.leb128.Number.{Number}
 use Rattle.numbers.specs.declared.leb128.Number.the-variants.{Value, Refused}

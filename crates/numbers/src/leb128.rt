@@ -4,7 +4,6 @@ use rules::refusal::Refusal;
 ghost use mathlib.Core.Path.{_≡_};
 ghost use Prim.Native.Nat.{_+_, _≤_, min};
 ghost use lib.ListN.{length};
-ghost use lib.Seq.{sets};
 ghost use Rattle.rules.specs.Output.{Written, Output};
 ghost use Rattle.numbers.specs.Number.{shortest, numberAt, most64, mostFilter, Put};
 

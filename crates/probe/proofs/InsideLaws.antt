@@ -8,21 +8,23 @@ use native.Mathlib.Nat.{mod-lt}
 use native.Mathlib.Omega.{arith}
 use borrow.Author.Tests.{eqb-true, eqb-false}
 use lib.Dec.{eqb}
-use lib.ListN.{length}
+use lib.ListN.{length, length-replicate}
 use Rattle.rules.specs.Hash.{Bytes, hashBytes}
 use Rattle.rules.specs.Order.{member}
 use Rattle.rules.proofs.Cases.{split, both}
 use Rattle.rules.proofs.Hash.{length-slice-of}
 use Rattle.rules.proofs.OrderLaws.{member-none, member-behind}
-use Rattle.bloom.specs.Filter.{Filter, filterRules}
+use Rattle.bloom.specs.Filter.{Filter, fieldSize, filterRules}
 use Rattle.bloom.specs.Have.{haveCount, numbersIn, filterWith, filterGood, GoodFilters}
 use Rattle.bloom.specs.Read.{filterAt}
 use Rattle.bloom.specs.declared.have.FilterNumbers.{FilterNumbers}
 use Rattle.bloom.specs.declared.parse.Parsed.the-variants.{Filter as Read}
 use Rattle.bloom.proofs.Filters.{filter-inside, filter-ruled}
 use Rattle.bloom.proofs.Rules.{ruled}
+use Rattle.probe.specs.Build.{filterOf}
 use Rattle.probe.specs.Inside.{Inside}
 use Rattle.probe.specs.Probes.{u32At, probesFrom, probesOf}
+use Rattle.probe.proofs.FieldLaws.{length-add-hashes}
 use Rattle.probe.proofs.Search.{Probed, probed}
 
 steps-inside : (count m x y z k : ℕ) → 0 < m → x < m → member k (probesFrom count m x y z) ≡ true → k < m
@@ -43,9 +45,14 @@ field-inside f some h k e =
     steps-inside (max 1 (f .probes)) m (w % m) (u32At (hashBytes h) 4 % m) (u32At (hashBytes h) 8 % m) k (omega arith) (mod-lt w (omega arith)) e in
     omega arith
 
--- A filter that keeps the rules, as one does that is built.
+-- A filter that keeps the rules.
 pub probes-inside : (f : Filter) → filterRules (f .entries) (f .bits) (f .probes) (length (f .field)) ≡ true → 0 < f .entries → Inside f
 probes-inside f rules some = field-inside f (ruled (f .entries) (f .bits) (f .probes) (length (f .field)) rules .full some .some)
+
+-- A filter that was built.
+pub built-inside : (b p : ℕ) (hs : List ℕ) → filterRules (length hs) b p (fieldSize (length hs) b) ≡ true → 0 < length hs → Inside (filterOf b p hs)
+unfolding filterOf
+built-inside b p hs rules some = probes-inside (filterOf b p hs) (rw (length-add-hashes, length-replicate) rules) some
 
 -- A filter of numbers whose field stands in the lent bytes.
 numbers-inside : (s : List ℕ) (f : FilterNumbers) → Probed s f → Inside (filterWith s f)

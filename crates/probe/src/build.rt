@@ -13,7 +13,6 @@ ghost use mathlib.Core.Bool.{true};
 ghost use mathlib.Core.Path.{_≡_};
 ghost use Prim.Native.Nat.{_+_, _*_, _%_, _≤_, _<_};
 ghost use lib.ListN.{length, replicate};
-ghost use lib.Seq.{sets};
 ghost use Rattle.probe.specs.Build.{setBit, setBits, addHashes, filterOf, buildOutput};
 ghost use Rattle.probe.specs.Probes.{u32At, probesFrom};
 ghost use Rattle.bloom.specs.Filter.{fieldSize, filterRules};

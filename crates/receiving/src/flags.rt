@@ -1,22 +1,8 @@
 // What every message does to a session, even one whose changes don't load.
-use message::flags::MessageFlags;
 use message::flags::Section;
 use state::session::Session;
-ghost use mathlib.Core.Bool.{false};
 ghost use mathlib.Core.Path.{_≡_};
-ghost use Rattle.message.specs.Flags.{syncReset, hasFlag};
-ghost use Rattle.session.specs.Receive.{told};
 ghost use Rattle.receiving.specs.Made.{flaggedCounts};
-
-// Whether a section asks to forget what was sent.
-pub fn forgets(flags: Section) -> bool
-    ensures { λ r. ⌜ r ≡ told (λ f. hasFlag f syncReset) flags false ⌝ }
-{
-    match flags {
-        Section::Absent => false,
-        Section::Present(f) => f.wants_reset(),
-    }
-}
 
 // The session with nothing in flight, and with what a section says: that the peer knows V2, whether it understands resets and takes no changes, and
 // whether what was sent is to be forgotten.

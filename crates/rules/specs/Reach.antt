@@ -1,7 +1,7 @@
 -- What is reached from some numbers over steps from one number to another: the least set that holds the first and is closed under the
 -- second. Ancestors, waiting rows that are asked, and dependents are all of this kind.
 use Prim.Native.Nat.{ℕ, zero, suc}
-use mathlib.Core.Bool.{Bool, true, false, _||_, _&&_}
+use mathlib.Core.Bool.{Bool, false, _||_, _&&_}
 
 -- p holds for some number below n.
 unfoldable pub someBelow : ℕ → (ℕ → Bool) → Bool
