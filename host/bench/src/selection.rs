@@ -113,8 +113,8 @@ impl Choice {
     }
 
     /// What is no choosing: the library's call without haves and needs, which tests
-    /// the table and the index, and the crate's message for a peer who has said nothing but that it
-    /// needs all that was chosen.
+    /// the table and the index, and the crate's message for a peer who has said nothing
+    /// but that it needs all that was chosen.
     fn rest(&self, name: &str, size: &str) {
         let mut out = [];
         let library = || {

@@ -1,5 +1,5 @@
 //! A message that was read, part by part. The library answers places and counts in
-//! the message's own bytes, and two lists of words (docs/ABI.md); this is a view of
+//! the message's own bytes, and three lists of words (docs/ABI.md); this is a view of
 //! them, and copies nothing.
 //!
 //! ```

@@ -1,5 +1,5 @@
 //! Messages read and written: the library against the model in every word, of the
-//! two lists and around them too; what a reader says of a message beside the
+//! three lists and around them too; what a reader says of a message beside the
 //! crate's message (`beside`), and what is written of the parts that were read
 //! (`parts`) beside what the crate writes of its own; and the heads alone (`heads`)
 //! beside the full read.

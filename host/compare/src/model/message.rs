@@ -1,5 +1,5 @@
 //! Document 01's rules for messages (Wire, "Message" and "Flags"; refusals 1 to 5,
-//! 7 and 10): what a reader answers and leaves in its two lists, and the bytes of
+//! 7 and 10): what a reader answers and leaves in its three lists, and the bytes of
 //! a message that is passed as parts.
 
 use super::filter;

@@ -87,7 +87,9 @@ const FAULTS: [Fault; 14] = [
         [12, 0]
     }),
     ("an index without its last byte", |l| {
-        l.index = Some(vec![0; 7]);
+        let mut index = index_of(&good().table);
+        index.pop();
+        l.index = Some(index);
         [12, 0]
     }),
     ("an index of 1,025 entries", |l| {
