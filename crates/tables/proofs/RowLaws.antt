@@ -1,14 +1,15 @@
 -- How a row is checked. Each law is one turn of a loop over its numbers, or one way through its tests, with the tests as hypotheses.
-use Prim.Native.Nat.{ℕ, suc, _+_, _-_, _*_, _≤_, _<_}
+use Prim.Native.Nat.{ℕ, zero, suc, _+_, _-_, _*_, _≤_, _<_}
 use mathlib.Core.Bool.{Bool, true, false, _&&_}
 use mathlib.Core.List.{List, [], _∷_}
 use mathlib.Core.Path.{_≡_, refl, _∙_, ap}
+use native.Mathlib.Nat.{zero-add, add-zero, suc-add}
 use native.Mathlib.Numerals.{add-one}
 use native.Mathlib.Omega.{arith}
-use borrow.Author.Tests.{ltb-true, leb-true, eqb-true, lt-ltb, le-ltb, le-leb, lt-leb, eq-eqb, ne-eqb}
+use borrow.Author.Tests.{ltb-true, leb-true, eqb-true, eqb-false, lt-ltb, le-ltb, le-leb, lt-leb, eq-eqb, ne-eqb}
 use lib.Dec.{ltb, leb, eqb}
 use lib.ListN.{length}
-use Rattle.rules.specs.Hash.{hashAt}
+use Rattle.rules.specs.Hash.{Bytes, hashAt}
 use Rattle.rules.specs.Order.{member, every, ascends}
 use Rattle.rules.specs.Sizes.{sizes}
 use Rattle.rules.proofs.Cases.{split, both, same-truth, and-true}
@@ -131,6 +132,68 @@ module _ (s : List ℕ) (i : ℕ) where
   zero-ends j h =
       let d : sizes .dependencies - j ≡ 0 = omega arith in
       rw d
+
+  pub zeroing-is : (j : ℕ) → zeroing j ≡ zeros (u16sAt s (numberAt i j) (sizes .dependencies - j))
+  unfolding zeroing
+  zeroing-is j = refl
+
+-- ---- the same, four at a time
+
+and-parts : (x y z : Bool) → (x && (y && z)) ≡ ((x && y) && z)
+and-parts true y z = refl
+and-parts false y z = refl
+
+zeros-parts : (s : List ℕ) (at n rest : ℕ) → zeros (u16sAt s at (n + rest)) ≡ (zeros (u16sAt s at n) && zeros (u16sAt s (at + 2 * n) rest))
+unfolding zeros u16sAt
+zeros-parts s at zero rest = rw (zero-add, add-zero at)
+zeros-parts s at (suc n) rest =
+    let e : at + 2 * suc n ≡ at + 2 + 2 * n = omega arith in
+    rw (suc-add n rest, e, zeros-parts s (at + 2) n rest) (and-parts (eqb (u16At s at) 0) (zeros (u16sAt s (at + 2) n)) (zeros (u16sAt s (at + 2 + 2 * n) rest)))
+
+module _ (s : List ℕ) (i j : ℕ) (inside : j + 4 ≤ sizes .dependencies) where
+  four-parts : zeroing s i j ≡ (zeros (u16sAt s (numberAt i j) 4) && zeroing s i (j + 4))
+  unfolding zeroing
+  four-parts =
+      let long : sizes .dependencies - j ≡ 4 + (sizes .dependencies - (j + 4)) = omega arith in
+      let next : numberAt i (j + 4) ≡ numberAt i j + 2 * 4 = omega arith in
+      rw (long, next) (zeros-parts s (numberAt i j) 4 (sizes .dependencies - (j + 4)))
+
+  pub four-fail : zeros (u16sAt s (numberAt i j) 4) ≡ false → zeroing s i j ≡ false
+  four-fail e = four-parts ∙ rw e refl
+
+  pub four-on : zeros (u16sAt s (numberAt i j) 4) ≡ true → zeroing s i j ≡ zeroing s i (j + 4)
+  four-on e = four-parts ∙ rw e refl
+
+four-sum : (a b c d : ℕ) → eqb (a + b + c + d) 0 ≡ (eqb a 0 && (eqb b 0 && (eqb c 0 && (eqb d 0 && true))))
+four-sum a b c d =
+    split (eqb a 0)
+    (λ ea.
+    split (eqb b 0)
+    (λ eb.
+    split (eqb c 0)
+    (λ ec.
+    split (eqb d 0)
+    (λ ed. rw (ea, eb, ec, ed) (eq-eqb (a + b + c + d) 0 (omega (arith, eqb-true a 0 ea, eqb-true b 0 eb, eqb-true c 0 ec, eqb-true d 0 ed))))
+    (λ ed. rw (ea, eb, ec, ed) (ne-eqb (a + b + c + d) 0 (λ z. eqb-false d 0 ed (omega arith)))))
+    (λ ec. rw (ea, eb, ec) (ne-eqb (a + b + c + d) 0 (λ z. eqb-false c 0 ec (omega arith)))))
+    (λ eb. rw (ea, eb) (ne-eqb (a + b + c + d) 0 (λ z. eqb-false b 0 eb (omega arith)))))
+    (λ ea. rw ea (ne-eqb (a + b + c + d) 0 (λ z. eqb-false a 0 ea (omega arith))))
+
+pub sum-zeros : (s : List ℕ) (i j a b c d : ℕ) → a ≡ u16At s (numberAt i j) → b ≡ u16At s (numberAt i (j + 1)) → c ≡ u16At s (numberAt i (j + 2))
+    → d ≡ u16At s (numberAt i (j + 3))
+    → eqb (a + b + c + d) 0 ≡ zeros (u16sAt s (numberAt i j) 4)
+unfolding zeros u16sAt
+sum-zeros s i j a b c d ea eb ec ed =
+    let p : ℕ = numberAt i j in
+    let fb : u16At s (p + 2) ≡ b = rw eb (ap (u16At s) (omega arith)) in
+    let fc : u16At s (p + 2 + 2) ≡ c = rw ec (ap (u16At s) (omega arith)) in
+    let fd : u16At s (p + 2 + 2 + 2) ≡ d = rw ed (ap (u16At s) (omega arith)) in
+    four-sum a b c d ∙ rw (fb, fc, fd, ← ea) refl
+
+-- a number of two bytes
+pub u16-small : (s : List ℕ) (at d : ℕ) → Bytes s → d ≡ u16At s at → d < 65536
+unfolding u16At
+u16-small s at d bytes e = omega (arith, bytes at, bytes (at + 1))
 
 -- ---- a row
 

@@ -7,10 +7,10 @@ use rules::refusal::Refusal;
 use rules::sizes::DEPENDENCIES;
 use rules::sizes::ROWS;
 ghost use mathlib.Core.Path.{_≡_};
-ghost use Prim.Native.Nat.{_+_, _*_, _≤_};
+ghost use Prim.Native.Nat.{_+_, _-_, _*_, _≤_};
 ghost use lib.ListN.{length};
 ghost use Rattle.rules.specs.Sizes.{sizes};
-ghost use Rattle.tables.specs.Bytes.{rowSize, depCount, usedAt, unusedOf, numbersGood, zeros, rowGoodOf, firstBad, tableChecked};
+ghost use Rattle.tables.specs.Bytes.{u16sAt, rowSize, depCount, usedAt, unusedOf, numbersGood, zeros, rowGoodOf, firstBad, tableChecked};
 
 // A good table's number of rows, or the refusal.
 pub enum Checked {
@@ -40,12 +40,20 @@ pub fn numbers_good(table: &[u8], i: usize) -> bool
     true
 }
 
-// Whether the other numbers of row i are 0.
-pub fn zeros_good(table: &[u8], i: usize) -> bool
-    requires { ⌜ ((i + 1) * rowSize ≤ length (now table)) × (depCount (now table) i ≤ sizes .dependencies) ⌝ }
-    ensures { λ r. ⌜ r ≡ zeros (unusedOf (sizes .dependencies) (now (table .entry)) i) ⌝ }
+// Whether the four numbers of row i from the j-th on are 0. They are summed, so that one test decides.
+fn four_zeros(table: &[u8], i: usize, j: usize) -> bool
+    requires { ⌜ ((i + 1) * rowSize ≤ length (now table)) × (j + 4 ≤ sizes .dependencies) ⌝ }
+    ensures { λ r. ⌜ r ≡ zeros (u16sAt (now (table .entry)) (i * rowSize + sizes .hash + 2 + 2 * j) 4) ⌝ }
 {
-    let mut j = dep_count(table, i);
+    dep(table, i, j) + dep(table, i, j + 1) + dep(table, i, j + 2) + dep(table, i, j + 3) == 0
+}
+
+// Whether the numbers of row i from one on are 0.
+fn zeros_from(table: &[u8], i: usize, from: usize) -> bool
+    requires { ⌜ ((i + 1) * rowSize ≤ length (now table)) × (from ≤ sizes .dependencies) ⌝ }
+    ensures { λ r. ⌜ r ≡ zeros (u16sAt (now (table .entry)) (i * rowSize + sizes .hash + 2 + 2 * from) (sizes .dependencies - from)) ⌝ }
+{
+    let mut j = from;
     while j < DEPENDENCIES {
         if dep(table, i, j) != 0 {
             return false;
@@ -53,6 +61,21 @@ pub fn zeros_good(table: &[u8], i: usize) -> bool
         j += 1;
     }
     true
+}
+
+// Whether the other numbers of row i are 0, four at a time as long as there are as many.
+pub fn zeros_good(table: &[u8], i: usize) -> bool
+    requires { ⌜ ((i + 1) * rowSize ≤ length (now table)) × (depCount (now table) i ≤ sizes .dependencies) ⌝ }
+    ensures { λ r. ⌜ r ≡ zeros (unusedOf (sizes .dependencies) (now (table .entry)) i) ⌝ }
+{
+    let mut j = dep_count(table, i);
+    while j + 4 <= DEPENDENCIES {
+        if !four_zeros(table, i, j) {
+            return false;
+        }
+        j += 4;
+    }
+    zeros_from(table, i, j)
 }
 
 // Whether row i is good: its count, its numbers, and a hash that no earlier row has.
