@@ -8,8 +8,144 @@ use std::fs;
 
 const HEAD: &str = "# Edits that must be refused
 
-Each is a wrong program, or a wrong definition, of the same shape as what stands: crates/CRATE/must-fail/EDIT.edit. The gate applies each to a copy of its crate, and the prover has to refuse it. The last column names the first fact that the prover could then no longer show: `returns` is what a function ensures where it returns, `loop-again` that a loop's body keeps what is claimed of it, `loop-holds` that it holds before the loop, `..-requires` what a called function asks for; any other name is a law, with its file. Where an edit makes a test weaker, that first fact may still hold, and the false one stands behind it in the log. `make edits` writes this page from what the gate left in target/.
+Each is a wrong program, or a wrong definition, of the same shape as what stands: crates/CRATE/must-fail/EDIT.edit. The gate applies each to a copy of its crate, and the prover has to refuse it. The last column names the first false fact that the prover could then no longer show: `returns` is what a function ensures where it returns, `loop-again` that a loop's body keeps what is claimed of it, `loop-holds` that it holds before the loop, `..-requires` what a called function asks for; any other name is a law, with its file. Where an edit makes a test weaker, the log's first error may be of a fact that still holds, with the false one behind it; what is named here was read in the logs. `make edits` writes this page from what the gate left in target/.
 ";
+
+/// Edits of which the log's first error isn't the false fact, or doesn't say of which
+/// function it is: the fact, as it was read in the log.
+const READ: &[(&str, &str)] = &[
+    ("bloom/have_hashes", "`returns-3` of `have::have_good`"),
+    (
+        "decode/total_size",
+        "`returns-3` of `opening::parse_opening`",
+    ),
+    (
+        "drafting/rows_before_beyond",
+        "`returns-4` of `check::check_receive`",
+    ),
+    (
+        "drafting/told_in_spite_of_changes",
+        "`returns-2` of `make::told_heads`",
+    ),
+    ("encode/heads_first", "`returns-2` of `encode::encode`"),
+    (
+        "index/fits_equal_hashes",
+        "`loop-again` of `fit::entries_fit`",
+    ),
+    ("items/haves_limit", "`returns-2` of `haves::parse_haves`"),
+    ("lists/all_in_itself", "`loop-again` of `compare::all_in`"),
+    (
+        "message/flag_read_only",
+        "`returns` of `MessageFlags::read_only`",
+    ),
+    (
+        "message/flag_reset",
+        "`returns` of `MessageFlags::wants_reset`",
+    ),
+    (
+        "message/flag_supports_reset",
+        "`returns` of `MessageFlags::supports_reset`",
+    ),
+    (
+        "message/flags_contain",
+        "`returns` of `MessageFlags::contains`",
+    ),
+    (
+        "message/flags_low_byte",
+        "`loop-again-2` of `MessageFlags::parse_bytes`",
+    ),
+    ("message/flags_new", "`returns` of `MessageFlags::new`"),
+    (
+        "message/type_of_v1",
+        "`returns` of `MessageVersion::encode`",
+    ),
+    (
+        "missing/missing_no_room_to_tell",
+        "`returns-3` of `missing::missing_from`",
+    ),
+    (
+        "plan/other_filter",
+        "`returns` of `plan::generate_sync_message`",
+    ),
+    (
+        "planning/told_other_heads",
+        "`returns-2` of `silence::is_told`",
+    ),
+    (
+        "reader/reads_first_byte",
+        "`returns` of `reader::hashes_at`",
+    ),
+    (
+        "probe/contains_past_field",
+        "`clear-bit-requires` of `contains::contains_hash`",
+    ),
+    (
+        "receive/failed_unflagged",
+        "`returns` of `receive::receive_checked`",
+    ),
+    (
+        "receive/loads_as_peer",
+        "`returns` of `receive::receive_checked`",
+    ),
+    ("replay/all_agree", "`loop-again` of `walk::walk`"),
+    (
+        "rules/insert_repeats",
+        "`returns-3` of `hashes::insert_hash`",
+    ),
+    ("rules/limits_order", "`returns` of `sizes::limits`"),
+    ("rules/number_swapped", "`returns-9` of `Refusal::number`"),
+    (
+        "rules/passed_limit",
+        "`returns-2` of `passed::passed_hashes`",
+    ),
+    ("rules/value_of_ten", "`returns-10` of `Refusal::value`"),
+    (
+        "selection/fixed_list",
+        "`put-chosen-requires` of `to_send::put_to_send`",
+    ),
+    (
+        "selection/need_twice",
+        "`returns-3` of `chosen::held_unmarked`",
+    ),
+    ("session/reset_unheard", "`flagged-forgets` (ReceiveLaws)"),
+    (
+        "tables/table_count",
+        "`numbers-good-requires` of `check::row_good`",
+    ),
+    (
+        "tables/table_not_ascending",
+        "`loop-again` of `check::numbers_good`",
+    ),
+    (
+        "tables/table_own_row",
+        "`loop-again` of `check::numbers_good`",
+    ),
+    (
+        "taking/shared_heads_stay",
+        "`returns` of `decide::received_session`",
+    ),
+    (
+        "waiting/waiting_unasked",
+        "`returns-5` of `check::waiting_good`",
+    ),
+    (
+        "wire_calls/limits_alike",
+        "`returns` of `limits::bt_limits`",
+    ),
+];
+
+/// What no longer holds: as it was read, if the log still names it, or the log's first
+/// error.
+fn told(log: &str, krate: &str, name: &str) -> Option<String> {
+    let edit = format!("{krate}/{name}");
+    match READ.iter().find(|(read, _)| *read == edit) {
+        Some((_, fact)) => {
+            let what = fact.split('`').nth(1)?;
+            log.contains(what).then(|| fact.to_string())
+        }
+        None => Some(facts::first(log, krate, name)?.told()),
+    }
+}
 
 fn main() {
     let mut page = HEAD.to_string();
@@ -32,9 +168,9 @@ fn main() {
             .join(&name)
             .join(".log");
         let log = fs::read_to_string(log).unwrap_or_default();
-        match facts::first(&log, &krate, &name) {
+        match told(&log, &krate, &name) {
             Some(fact) => {
-                let _ = writeln!(page, "| `{name}` | {slip} | {} |", fact.told());
+                let _ = writeln!(page, "| `{name}` | {slip} | {fact} |");
             }
             None => untold.push(format!("{krate}/{name}")),
         }
