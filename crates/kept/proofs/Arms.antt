@@ -3,7 +3,7 @@
 use Prim.Native.Nat.{ℕ}
 use mathlib.Core.Bool.{true}
 use mathlib.Core.List.{List}
-use mathlib.Core.Path.{_≡_, refl, sym, subst}
+use mathlib.Core.Path.{_≡_, refl, subst}
 use lib.Dec.{ltb}
 use lib.ListN.{length}
 use Rattle.bloom.proofs.HaveLaws.{passed-haves, good-filters}
@@ -13,7 +13,7 @@ use Rattle.probe.proofs.InsideLaws.{probes-inside as rules-inside, built-inside
 use Rattle.rules.specs.Order.{every}
 use Rattle.rules.specs.Sizes.{sizes}
 use Rattle.rules.proofs.Cases.{split}
-use Rattle.session.specs.Plan.{Planned, heard, needOf, unknownSync, silence, sentAfter, planOf, planned, resetOf, planSent, planSilence, planReset, plan}
+use Rattle.session.specs.Plan.{heard, needOf, unknownSync, silence, sentAfter, planOf, resetOf, planSent, planSilence, planReset, plan}
 use Rattle.session.proofs.PlanLaws.{planned-held}
 use Rattle.state.specs.Session.{State}
 use Rattle.tables.specs.Table.{Row, GoodTable, held}

@@ -1,6 +1,6 @@
 -- What adding hashes does to a field. Setting a bit leaves every bit at the larger of what it was and what was set, so a bit once set stays
 -- set, and the order in which bits are set makes no difference. Hence what was added is contained, in whatever order it was added.
-use Prim.Native.Nat.{ℕ, suc, _+_, _*_, _/_, _%_, _^_, _≤_, _<_, max}
+use Prim.Native.Nat.{ℕ, _+_, _*_, _/_, _%_, _^_, _≤_, _<_, max}
 use mathlib.Core.Bool.{true, false}
 use mathlib.Core.List.{List, [], _∷_, _++_}
 use mathlib.Core.Path.{_≡_, refl, sym, ap, ap₂, _∙_}
@@ -17,7 +17,7 @@ use Rattle.rules.specs.Hash.{Bytes}
 use Rattle.rules.specs.Order.{member}
 use Rattle.rules.proofs.Cases.{split, or-left}
 use Rattle.rules.proofs.KeepLaws.{member-long}
-use Rattle.rules.proofs.OrderLaws.{member-none, member-behind}
+use Rattle.rules.proofs.OrderLaws.{member-none, member-here, member-there, member-behind}
 use Rattle.probe.specs.Build.{setBit, setBits, addHash, addHashes, filterOf}
 use Rattle.probe.specs.Contains.{clearAt, noneClear, contains, anyContains}
 use Rattle.probe.specs.Probes.{probesOf, bitAt}
@@ -123,12 +123,12 @@ unfolding setBits
 bits-stay-not-clear field [] j e = e
 bits-stay-not-clear field (k ∷ ks) j e = bits-stay-not-clear (setBit field k) ks j (stays-not-clear field k j e)
 
-set-none-clear : (field ks : List ℕ) → ((i : ℕ) → getD ks i 0 < 8 * length field) → noneClear (setBits field ks) ks ≡ true
+set-none-clear : (field ks : List ℕ) → ((k : ℕ) → member k ks ≡ true → k < 8 * length field) → noneClear (setBits field ks) ks ≡ true
 unfolding setBits noneClear
 set-none-clear field [] inside = refl
 set-none-clear field (k ∷ ks) inside =
-    rw (bits-stay-not-clear (setBit field k) ks k (set-not-clear field k (inside 0)))
-    (set-none-clear (setBit field k) ks (λ i. rw length-set-bit (inside (suc i))))
+    rw (bits-stay-not-clear (setBit field k) ks k (set-not-clear field k (inside k (member-here k ks))))
+    (set-none-clear (setBit field k) ks (λ j d. rw length-set-bit (inside j (member-there j k ks d))))
 
 stay-none-clear : (field ks js : List ℕ) → noneClear field js ≡ true → noneClear (setBits field ks) js ≡ true
 unfolding noneClear
@@ -160,7 +160,7 @@ hash-added p m field (g ∷ hs) h e some d =
     (λ q.
     let same : h ≡ g = eqb-true h g q in
     let ks : List ℕ = probesOf (8 * length field) p g in
-    rw (e, same) (hashes-stay p (addHash p field g) hs ks (set-none-clear field ks (λ i. probes-below (8 * length field) p g i (omega arith)))))
+    rw (e, same) (hashes-stay p (addHash p field g) hs ks (set-none-clear field ks (λ k. probes-below (8 * length field) p g k (omega arith)))))
     (λ q. hash-added p m (addHash p field g) hs h (rw length-add-hash e) some (member-behind h g hs d (eqb-false h g q)))
 
 some-entries : (hs : List ℕ) (h : ℕ) → member h hs ≡ true → eqb (length hs) 0 ≡ false

@@ -1,21 +1,15 @@
 -- M-105: of a filter that 01 accepts each probe lies inside the field, whichever hash is asked for or added. With entries it has bits, so its field has a
 -- byte, and a probe is a remainder by the field's bits. Assumes nothing.
-use Prim.Native.Nat.{ℕ, zero, suc, _+_, _*_, _/_, _%_, _<_, max}
+use Prim.Native.Nat.{ℕ, _*_, _<_}
 use mathlib.Core.Bool.{true}
 use mathlib.Core.List.{List}
-use mathlib.Core.Path.{_≡_, sym, ap, subst}
-use native.Mathlib.Nat.{mod-lt}
+use mathlib.Core.Path.{_≡_}
 use native.Mathlib.Omega.{arith}
-use borrow.Author.Tests.{eqb-true, eqb-false}
-use lib.Dec.{eqb}
 use lib.ListN.{length, length-replicate}
-use Rattle.rules.specs.Hash.{Bytes, hashBytes}
-use Rattle.rules.specs.Order.{member}
-use Rattle.rules.proofs.Cases.{split, both}
+use Rattle.rules.specs.Hash.{Bytes}
 use Rattle.rules.proofs.Hash.{length-slice-of}
-use Rattle.rules.proofs.OrderLaws.{member-none, member-behind}
 use Rattle.bloom.specs.Filter.{Filter, fieldSize, filterRules}
-use Rattle.bloom.specs.Have.{haveCount, numbersIn, filterWith, filterGood, GoodFilters}
+use Rattle.bloom.specs.Have.{haveCount, numbersIn, filterWith, GoodFilters}
 use Rattle.bloom.specs.Read.{filterAt}
 use Rattle.bloom.specs.declared.have.FilterNumbers.{FilterNumbers}
 use Rattle.bloom.specs.declared.parse.Parsed.the-variants.{Filter as Read}
@@ -23,26 +17,14 @@ use Rattle.bloom.proofs.Filters.{filter-inside, filter-ruled}
 use Rattle.bloom.proofs.Rules.{ruled}
 use Rattle.probe.specs.Build.{filterOf}
 use Rattle.probe.specs.Inside.{Inside}
-use Rattle.probe.specs.Probes.{u32At, probesFrom, probesOf}
 use Rattle.probe.proofs.FieldLaws.{length-add-hashes}
+use Rattle.probe.proofs.ProbeLaws.{probes-below}
 use Rattle.probe.proofs.Search.{Probed, probed}
-
-steps-inside : (count m x y z k : ℕ) → 0 < m → x < m → member k (probesFrom count m x y z) ≡ true → k < m
-unfolding probesFrom
-steps-inside zero m x y z k some a e = absurd (member-none k e)
-steps-inside (suc count) m x y z k some a e =
-    split (eqb k x)
-    (λ q. rw (eqb-true k x q) a)
-    (λ q. steps-inside count m ((x + y) % m) ((y + z) % m) z k some (mod-lt (x + y) some) (member-behind k x _ e (eqb-false k x q)))
 
 -- A field that isn't empty.
 field-inside : (f : Filter) → 0 < length (f .field) → Inside f
-unfolding probesOf
 field-inside f some h k e =
-    let m : ℕ = 8 * length (f .field) in
-    let w : ℕ = u32At (hashBytes h) 0 in
-    let below : k < m =
-    steps-inside (max 1 (f .probes)) m (w % m) (u32At (hashBytes h) 4 % m) (u32At (hashBytes h) 8 % m) k (omega arith) (mod-lt w (omega arith)) e in
+    let below : k < 8 * length (f .field) = probes-below (8 * length (f .field)) (f .probes) h k (omega arith) e in
     omega arith
 
 -- A filter that keeps the rules.

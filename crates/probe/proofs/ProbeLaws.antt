@@ -1,14 +1,20 @@
 -- Where a hash probes. The words of a hash are words of the bytes where it stands, and each probe is a remainder, so it stands inside the
 -- field.
 use Prim.Native.Nat.{ℕ, zero, suc, _+_, _%_, _≤_, _<_, max}
+use mathlib.Core.Bool.{true}
 use mathlib.Core.List.{List}
 use mathlib.Core.Path.{_≡_}
 use native.Mathlib.Nat.{add-assoc, add-zero, mod-lt}
 use native.Mathlib.Omega.{arith}
+use borrow.Author.Tests.{eqb-true, eqb-false}
+use lib.Dec.{eqb}
 use lib.ListN.{getD, length}
 use lib.Seq.{slice, getD-drop, getD-take}
+use Rattle.rules.proofs.Cases.{split}
 use Rattle.rules.proofs.Hash.{hash-bytes}
+use Rattle.rules.proofs.OrderLaws.{member-none, member-behind}
 use Rattle.rules.specs.Hash.{Bytes, hashAt, hashBytes}
+use Rattle.rules.specs.Order.{member}
 use Rattle.rules.specs.Sizes.{sizes}
 use Rattle.probe.specs.Probes.{u32At, probesFrom, probesOf}
 
@@ -38,15 +44,16 @@ unfolding probesOf
 probes-at m p s at b h =
     rw (hash-word s at 0 b h (omega arith), hash-word s at 4 b h (omega arith), hash-word s at 8 b h (omega arith), add-zero at)
 
--- Past the last probe the list reads 0, which is below m too.
-pub steps-below : (k m x y z i : ℕ) → 0 < m → x < m → getD (probesFrom k m x y z) i 0 < m
+steps-below : (count m x y z k : ℕ) → 0 < m → x < m → member k (probesFrom count m x y z) ≡ true → k < m
 unfolding probesFrom
-steps-below zero m x y z i h a = h
-steps-below (suc k) m x y z zero h a = a
-steps-below (suc k) m x y z (suc i) h a = steps-below k m ((x + y) % m) ((y + z) % m) z i h (mod-lt (x + y) h)
+steps-below zero m x y z k some a e = absurd (member-none k e)
+steps-below (suc count) m x y z k some a e =
+    split (eqb k x)
+    (λ q. rw (eqb-true k x q) a)
+    (λ q. steps-below count m ((x + y) % m) ((y + z) % m) z k some (mod-lt (x + y) some) (member-behind k x _ e (eqb-false k x q)))
 
-pub probes-below : (m p h i : ℕ) → 0 < m → getD (probesOf m p h) i 0 < m
+pub probes-below : (m p h k : ℕ) → 0 < m → member k (probesOf m p h) ≡ true → k < m
 unfolding probesOf
-probes-below m p h i pos =
+probes-below m p h k some =
     let w : ℕ = u32At (hashBytes h) 0 in
-    steps-below (max 1 p) m (w % m) (u32At (hashBytes h) 4 % m) (u32At (hashBytes h) 8 % m) i pos (mod-lt w pos)
+    steps-below (max 1 p) m (w % m) (u32At (hashBytes h) 4 % m) (u32At (hashBytes h) 8 % m) k some (mod-lt w some)

@@ -49,6 +49,41 @@ pub enum Call<'a> {
     },
 }
 
+impl<'a> Call<'a> {
+    /// The four calls that look up by an index what the table has.
+    pub fn looking_up(
+        table: &'a [u8],
+        index: Beside<'a>,
+        before: usize,
+        waiting: &'a [u8],
+        hashes: &'a [u8],
+    ) -> [Call<'a>; 4] {
+        [
+            Call::CheckTables {
+                table,
+                index,
+                waiting,
+            },
+            Call::Heads {
+                table,
+                index,
+                before,
+            },
+            Call::Beyond {
+                table,
+                index,
+                hashes,
+            },
+            Call::Missing {
+                table,
+                index,
+                waiting,
+                hashes,
+            },
+        ]
+    }
+}
+
 /// What a call that isn't refused finds.
 #[derive(Clone, Debug, PartialEq, Eq)]
 enum Found {

@@ -113,36 +113,17 @@ pub fn table(data: &[u8]) {
     };
     let rows: Vec<Row> = rows.chunks_exact(2).enumerate().map(row).collect();
     let (before, table) = (rows.len() / 2, &table_bytes(&rows)[..]);
-    let calls = [Beside::Own, Beside::Other(index)].map(|index| {
-        let waiting = &[];
-        [
-            Call::CheckTables {
-                table,
-                index,
-                waiting,
-            },
-            Call::Heads {
-                table,
-                index,
-                before,
-            },
-            Call::Beyond {
-                table,
-                index,
-                hashes,
-            },
-            Call::Missing {
-                table,
-                index,
-                waiting,
-                hashes,
-            },
-            Call::ExtendIndex { table, index },
-        ]
-    });
+    let calls = [Beside::Own, Beside::Other(index)]
+        .into_iter()
+        .flat_map(|index| {
+            let extend = Call::ExtendIndex { table, index };
+            Call::looking_up(table, index, before, &[], hashes)
+                .into_iter()
+                .chain([extend])
+        });
     let alone = [Call::CheckTable { table }, Call::BuildIndex { table }];
-    let calls = calls.as_flattened().iter().chain(&alone);
-    let calls: Vec<(Call, Rooms)> = calls.map(|&call| (call, Rooms::Enough)).collect();
+    let calls = calls.chain(alone);
+    let calls: Vec<(Call, Rooms)> = calls.map(|call| (call, Rooms::Enough)).collect();
     agreed(compare_tables(&calls));
 }
 

@@ -55,29 +55,13 @@ pub fn calls(case: &Case) -> Compared {
     let ([table, index, shorter, waiting, hashes], [before, lent]) = (case.lent(), case.told());
     let before = before as usize;
     let [index, shorter] = [index, shorter].map(|bytes| Beside::Other(bytes));
+    let [tables, heads, beyond, missing] = Call::looking_up(table, index, before, waiting, hashes);
     let all = [
         Call::CheckTable { table },
-        Call::CheckTables {
-            table,
-            index,
-            waiting,
-        },
-        Call::Heads {
-            table,
-            index,
-            before,
-        },
-        Call::Beyond {
-            table,
-            index,
-            hashes,
-        },
-        Call::Missing {
-            table,
-            index,
-            waiting,
-            hashes,
-        },
+        tables,
+        heads,
+        beyond,
+        missing,
         Call::BuildIndex { table },
         Call::ExtendIndex {
             table,
