@@ -1,7 +1,7 @@
 -- The marked ones of the first rows, ascending: an index has the rows in this order, so those that are marked are put one behind the other. Each law
 -- is one turn of the loop, with its tests as hypotheses; what has been put and what is left make the whole.
 use Prim.Native.Nat.{ℕ, zero, suc, _+_, _-_, _*_, _≤_, _<_}
-use mathlib.Core.Bool.{Bool, true, false, _&&_}
+use mathlib.Core.Bool.{Bool, true, false, not, _&&_}
 use mathlib.Core.List.{List, [], _∷_, map}
 use mathlib.Core.Path.{_≡_, refl, sym, ap, _∙_}
 use native.Mathlib.Omega.{arith}
@@ -16,15 +16,18 @@ use Rattle.rules.specs.Hash.{Bytes, AreHashes, hashAt, hashesBytes}
 use Rattle.rules.specs.Order.{keep, ascend, member}
 use Rattle.rules.specs.Output.{Gathered}
 use Rattle.rules.specs.Sizes.{sizes}
+use Rattle.rules.proofs.Hash.{length-hashes-bytes}
 use Rattle.rules.proofs.KeepLaws.{hashes-inside}
 use Rattle.rules.proofs.OrderLaws.{ascend-most, ascend-members}
 use Rattle.rules.proofs.Outputs.{written-gathered}
 use Rattle.tables.specs.Bytes.{u16At, u16sAt, rowSize, rowsAt}
-use Rattle.tables.specs.Table.{Row, rows, hashOf, rowsFrom, rowsWhere}
+use Rattle.tables.specs.Table.{Row, rows, hashOf, GoodTable, rowsFrom, rowsWhere}
 use Rattle.tables.proofs.GoodLaws.{rows-hashes}
-use Rattle.tables.proofs.TableLaws.{length-rows-at, take-rows-at, hash-of-row}
-use Rattle.graph.specs.Marks.{picked}
-use Rattle.graph.proofs.PickLaws.{rows-marked, rows-most, rows-member}
+use Rattle.tables.proofs.TableLaws.{length-rows, length-rows-at, take-rows-at, hash-of-row}
+use Rattle.graph.specs.Graph.{needed, heads}
+use Rattle.graph.specs.Marks.{Marks, marked, picked, Collected}
+use Rattle.graph.proofs.GraphMarks.{picked-heads, heads-many}
+use Rattle.graph.proofs.PickLaws.{rows-marked, rows-member, picked-count}
 use Rattle.graph.proofs.PutLaws.{put-one, put-same, put-none}
 
 -- ---- some of the first rows
@@ -76,11 +79,11 @@ module _ (s x : List ℕ) (n before : ℕ) (m : List Bool) where
       in
       rw d (sym (ascend-by-index (rowsAt s 0 n) (u16sAt x 0 n) ok (λ j. ltb j before && getD m j false)) ∙ ap ascend those)
 
-  few : length (ascend some) ≤ before
+  few : length (ascend some) ≤ marked before m
   unfolding some
   few =
-      let most = rows-most (rowsAt s 0 before) (λ i. getD m i false) in
-      omega (arith, ascend-most (picked (rows (rowsAt s 0 before)) m), ap length some-rows, most, length-rows-at s 0 before)
+      let count = picked-count (rows (rowsAt s 0 before)) m before (length-rows (rowsAt s 0 before) ∙ length-rows-at s 0 before) in
+      omega (arith, ascend-most (picked (rows (rowsAt s 0 before)) m), count)
 
   are-hashes : Bytes s → AreHashes (ascend some)
   unfolding some
@@ -130,7 +133,7 @@ module _ (s x : List ℕ) (n before : ℕ) (m : List Bool) where
 
     module _ (low : r < n) (e : collects r ≡ true) where
       -- there is room for one more
-      pub collecting-room : fits (rowsAt s 0 n) (u16sAt x 0 n) ≡ true → before ≤ n → count < before
+      pub collecting-room : fits (rowsAt s 0 n) (u16sAt x 0 n) ≡ true → before ≤ n → count < marked before m
       unfolding some
       collecting-room ok h =
           let more : length (collectFrom k) ≡ suc (length (collectFrom (k + 1))) = ap length (collect-taken k r inside read low e) in
@@ -153,15 +156,39 @@ module _ (s x : List ℕ) (n before : ℕ) (m : List Bool) where
   pub collecting-ends : (list₀ list : List ℕ) (count k : ℕ) → Collecting list₀ list count k → n ≤ k
       → fits (rowsAt s 0 n) (u16sAt x 0 n) ≡ true
       → before ≤ n
-      → Bytes s
-      → sizes .hash * before ≤ length list₀
-      → Gathered (ascend (picked (rows (rowsAt s 0 before)) m)) list count
-  unfolding some
-  collecting-ends list₀ list count k so l ok h all room =
-      let hs : List ℕ = ascend (picked (rows (rowsAt s 0 before)) m) in
+      → Collected (ascend (picked (rows (rowsAt s 0 before)) m)) list₀ list count
+  collecting-ends list₀ list count k so l ok h =
       let whole : collectFrom 0 ≡ ascend (picked (rows (rowsAt s 0 before)) m) = collect-is ok h in
       let none : collectFrom k ≡ [] = collect-none k l in
-      let put : list ≡ sets list₀ 0 (hashesBytes hs) = rw whole at (put-none _ none _ _ _ (so .rest)) in
       let all-put : count ≡ length (collectFrom 0) = omega (arith, so .many, ap length none) in
-      let long : count ≡ length hs = rw whole at all-put in
-      rw (put, long) (written-gathered hs list₀ (are-hashes all) (omega (arith, few)))
+      record { content = rw whole at (put-none _ none _ _ _ (so .rest)); many = rw whole at all-put }
+
+  -- what was collected stands in the buffer
+  pub collected-gathered : (before′ after : List ℕ) (count : ℕ) → Bytes s → sizes .hash * marked before m ≤ length before′
+      → Collected (ascend (picked (rows (rowsAt s 0 before)) m)) before′ after count
+      → Gathered (ascend (picked (rows (rowsAt s 0 before)) m)) after count
+  unfolding some
+  collected-gathered before′ after count all room so =
+      rw (so .content, so .many)
+      (written-gathered (ascend (picked (rows (rowsAt s 0 before)) m)) before′ (are-hashes all) (omega (arith, few)))
+
+-- ---- heads
+
+module _ (s : List ℕ) (n : ℕ) (r : List Bool) (those : Marks n r (λ i. not (needed (rowsAt s 0 n) i))) where
+  abbrev t : List Row
+  t = rowsAt s 0 n
+
+  pub heads-gathered : (list after : List ℕ) (count : ℕ) → Bytes s → sizes .hash * marked n r ≤ length list
+      → Collected (ascend (picked (rows t) r)) list after count
+      → Gathered (heads t) after count
+  heads-gathered list after count b room so =
+      let same : ascend (picked (rows t) r) ≡ heads t = picked-heads s n r those in
+      rw same at (collected-gathered s s n n r list after count b room so)
+
+  pub heads-size : GoodTable t → (count : ℕ) → count ≡ marked n r → sizes .hash * count ≡ length (hashesBytes (heads t))
+  heads-size good count e = rw (length-hashes-bytes (heads t), heads-many s n r those good, e)
+
+  pub heads-put : (out next : List ℕ) (count : ℕ) → Collected (ascend (picked (rows t) r)) out next count → next ≡ sets out 0 (hashesBytes (heads t))
+  heads-put out next count so =
+      let same : ascend (picked (rows t) r) ≡ heads t = picked-heads s n r those in
+      rw same at (so .content)

@@ -5,21 +5,22 @@ use mathlib.Core.Bool.{Bool, false, not, _||_}
 use mathlib.Core.List.{List}
 use mathlib.Core.Path.{_≡_, refl, ap, _∙_}
 use native.Mathlib.Omega.{arith}
-use lib.ListN.{length, getD, replicate}
+use lib.ListN.{length, getD}
 use lib.Seq.{sets}
 use Rattle.rules.specs.Hash.{hashesBytes}
 use Rattle.rules.specs.Order.{member, ascend}
-use Rattle.rules.specs.Output.{Gathered}
 use Rattle.rules.specs.Reach.{reach}
 use Rattle.rules.specs.Sizes.{sizes}
+use Rattle.rules.proofs.KeepLaws.{once-inside}
+use Rattle.rules.proofs.OrderLaws.{ascend-most, ascend-members}
 use Rattle.rules.proofs.ReachLaws.{reach-same}
 use Rattle.tables.specs.Bytes.{rowsAt}
-use Rattle.tables.specs.Table.{Row, rows, hashOf, depsOf, rowsWhere}
+use Rattle.tables.specs.Table.{Row, rows, hashOf, depsOf, GoodTable, rowsWhere}
 use Rattle.tables.proofs.TableLaws.{length-rows, length-rows-at}
 use Rattle.graph.specs.Graph.{needed, heads, belowRow, beyond}
 use Rattle.graph.specs.Marks.{Marks, Blank, marked, picked}
-use Rattle.graph.proofs.MarkLaws.{blank, blank-or}
-use Rattle.graph.proofs.PickLaws.{rows-marked, picked-size}
+use Rattle.graph.proofs.MarkLaws.{blank-or}
+use Rattle.graph.proofs.PickLaws.{rows-marked, rows-once, picked-size, picked-count}
 
 module _ (s : List ℕ) (n : ℕ) where
   abbrev t : List Row
@@ -73,13 +74,23 @@ module _ (s : List ℕ) (n : ℕ) where
 
   -- ---- heads
 
-  pub picked-heads : (m r : List Bool) (list : List ℕ) (count : ℕ) → n ≤ sizes .rows
-      → Marks n m (λ i. getD (replicate (sizes .rows) false) i false || needed t i)
-      → Marks n r (λ i. not (getD m i false))
-      → Gathered (ascend (picked (rows t) r)) list count
-      → Gathered (heads t) list count
-  unfolding heads
-  picked-heads m r list count few a b so =
-      let those : Marks n m (needed t) = blank-or n (replicate (sizes .rows) false) m (needed t) (blank n (sizes .rows) few) a in
-      let same : picked (rows t) r ≡ rowsWhere t (λ i. not (needed t i)) = marked-rows r (λ i. not (needed t i)) (flipped m r (needed t) those b) in
-      rw same at so
+  -- the rows that no row needs
+  pub heads-marked : (m r : List Bool) → Marks n m (needed t) → Marks n r (λ i. not (getD m i false)) → Marks n r (λ i. not (needed t i))
+  heads-marked m r a b = flipped m r (needed t) a b
+
+  module _ (r : List Bool) (those : Marks n r (λ i. not (needed t i))) where
+    pub picked-heads : ascend (picked (rows t) r) ≡ heads t
+    unfolding heads
+    picked-heads = ap ascend (marked-rows r (λ i. not (needed t i)) those)
+
+    -- no two rows have one hash, so as many heads are ascending
+    pub heads-many : GoodTable t → length (heads t) ≡ marked n r
+    unfolding heads
+    heads-many good =
+        let some : List ℕ = rowsWhere t (λ i. not (needed t i)) in
+        let same : picked (rows t) r ≡ some = marked-rows r (λ i. not (needed t i)) those in
+        let count : length (picked (rows t) r) ≡ marked n r = picked-count (rows t) r n many-rows in
+        let all : length some ≤ length (ascend some) =
+        once-inside some (ascend some) (rows-once t good (λ i. not (needed t i))) (λ h e. ascend-members h some ∙ e)
+        in
+        omega (arith, all, ascend-most some, ap length same, count)

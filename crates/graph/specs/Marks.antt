@@ -5,6 +5,8 @@ use mathlib.Core.List.{List, [], _∷_}
 use mathlib.Core.Path.{_≡_}
 use lib.Dec.{ltb}
 use lib.ListN.{length, getD, set}
+use lib.Seq.{sets}
+use Rattle.rules.specs.Hash.{hashesBytes}
 use Rattle.tables.specs.Table.{indexIn}
 
 -- The first n marks are these.
@@ -28,6 +30,11 @@ pickFrom i (x ∷ xs) p = cond (p i) (x ∷ pickFrom (suc i) xs p) (pickFrom (su
 -- The numbers of a list whose marks are set.
 unfoldable pub picked : List ℕ → List Bool → List ℕ
 picked l m = pickFrom 0 l (λ i. getD m i false)
+
+-- Hashes put at a buffer's start, and as many counted.
+pub record Collected (hs before after : List ℕ) (count : ℕ) : Type 0 where
+  pub content : after ≡ sets before 0 (hashesBytes hs)
+  pub many : count ≡ length hs
 
 -- Marks set along a list of row numbers.
 unfoldable pub markAll : List Bool → List ℕ → List Bool

@@ -10,11 +10,10 @@ ghost use lib.Seq.{sets};
 ghost use Rattle.index.specs.Index.{Indexed};
 ghost use Rattle.rules.specs.Hash.{hashesBytes};
 ghost use Rattle.rules.specs.Order.{ascend};
-ghost use Rattle.rules.specs.Output.{Gathered};
 ghost use Rattle.rules.specs.Sizes.{sizes};
 ghost use Rattle.tables.specs.Bytes.{rowsAt, GoodRows};
 ghost use Rattle.tables.specs.Table.{rows};
-ghost use Rattle.graph.specs.Marks.{marked, picked};
+ghost use Rattle.graph.specs.Marks.{marked, picked, Collected};
 
 // How many of the first n marks are set.
 pub fn count_marked(n: usize, marks: &[bool]) -> usize
@@ -52,7 +51,7 @@ pub fn put_marked(table: &[u8], n: usize, marks: &[bool], out: &mut [u8], place:
     }
 }
 
-// Puts the hashes of the first rows that are marked into a list, ascending, and returns how many they are: the index has them in this order.
+// Puts the hashes of the first rows that are marked at the start of a list, ascending, and returns how many they are: the index has them in this order.
 pub fn collect_marked(
     table: &[u8],
     index: &[u8],
@@ -61,8 +60,9 @@ pub fn collect_marked(
     marks: &[bool],
     list: &mut [u8],
 ) -> usize
-    requires { ⌜ Indexed (now table) (now index) n × (before ≤ n) × (before ≤ length (now marks)) × (sizes .hash * before ≤ length (now list)) ⌝ }
-    ensures { λ r. ⌜ Gathered (ascend (picked (rows (rowsAt (now (table .entry)) 0 before)) (now (marks .entry)))) (now (list .exit)) r ⌝ }
+    requires { ⌜ Indexed (now table) (now index) n × (before ≤ n) × (before ≤ length (now marks))
+        × (sizes .hash * marked before (now marks) ≤ length (now list)) ⌝ }
+    ensures { λ r. ⌜ Collected (ascend (picked (rows (rowsAt (now (table .entry)) 0 before)) (now (marks .entry)))) (now (list .entry)) (now (list .exit)) r ⌝ }
 {
     let mut count = 0;
     let mut k = 0;

@@ -102,6 +102,18 @@ pub fn mark_list(
     }
 }
 
+// Marks all of the first rows, or none.
+pub fn set_marks(n: usize, mark: bool, marks: &mut [bool])
+    requires { ⌜ n ≤ length (now marks) ⌝ }
+    ensures { λ _. ⌜ Marks n (now (marks .exit)) (λ i. mark) ⌝ }
+{
+    let mut i = 0;
+    while i < n {
+        marks[i] = mark;
+        i += 1;
+    }
+}
+
 // Marks just the first rows that weren't marked.
 pub fn flip(n: usize, marks: &mut [bool])
     requires { ⌜ n ≤ length (now marks) ⌝ }

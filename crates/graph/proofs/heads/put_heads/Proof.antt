@@ -1,71 +1,76 @@
--- `graph::heads::put_heads` meets its contract: the list has room for the hash of every row, and its first hashes are the heads. Assumes nothing.
-use Prim.Native.Nat.{ℕ, _*_, _≤_}
-use mathlib.Core.List.{List}
-use mathlib.Core.Path.{_≡_, _∙_}
+-- `graph::heads::put_heads` meets its contract: the rows that no row needs are the heads, as many are counted, and they are put where there is room.
+-- Assumes nothing.
+use Prim.Native.Nat.{_≤_}
+use mathlib.Core.Bool.{false}
 use native.Mathlib.Omega.{arith}
-use lib.ListN.{length, replicate, length-replicate}
-use Rattle.rules.specs.Hash.{hashesAt, hashesBytes}
-use Rattle.rules.specs.Output.{Output, Written, Gathered}
-use Rattle.rules.specs.declared.output.Write.{Write}
+use lib.ListN.{length-replicate}
 use Rattle.rules.specs.Sizes.{sizes}
-use Rattle.tables.specs.Bytes.{rowsAt}
-use Rattle.tables.proofs.TableLaws.{length-rows-at}
-use Rattle.graph.specs.Graph.{heads}
-use Rattle.graph.proofs.HeadLaws.{heads-few}
+use Rattle.rules.proofs.Outputs.{written-bytes, no-room}
+use Rattle.tables.proofs.GoodLaws.{good-part}
+use Rattle.graph.proofs.CollectLaws.{heads-size, heads-put}
+use Rattle.graph.proofs.MarkLaws.{blank}
+use Rattle.graph.proofs.PickLaws.{count-most}
 use borrow.Author.Needs.{needs}
 use Rattle.graph.proofs.heads.put_heads.Statement.{statement}
 use Rattle.graph.proofs.heads.put_heads.Tie as tie
 
-few : (s : List ℕ) (n : ℕ) → length (heads (rowsAt s 0 n)) ≤ n
-few s n = omega (arith, heads-few (rowsAt s 0 n), length-rows-at s 0 n)
+slice-aggregate-mark-heads : tie.Need-slice-aggregate-mark-heads
+slice-aggregate-mark-heads c = search needs
 
-room : (n : ℕ) → n ≤ sizes .rows → sizes .hash * n ≤ length {A = ℕ} (replicate (sizes .hash * sizes .rows) 0)
-room n h = rw length-replicate (omega arith)
+mark-heads-requires : tie.Need-mark-heads-requires
+mark-heads-requires c κs =
+    let pre = c .before .before .before .before .pre in
+    let few : c .before .before .before .before .args .before ≤ sizes .rows = omega (arith, pre .0 .rows .few, pre .1) in
+    (good-part _ _ _ (pre .0 .rows) (pre .1), omega (arith, length-replicate (sizes .rows) false), blank _ _ few)
 
-fits : (n count : ℕ) (hs list : List ℕ) → n ≤ sizes .rows → length hs ≤ n → Gathered hs list count
-    → length list ≡ length {A = ℕ} (replicate (sizes .hash * sizes .rows) 0)
-    → sizes .hash * count ≤ length list
-fits n count hs list h k so e =
-    let long : length list ≡ sizes .hash * sizes .rows = e ∙ length-replicate {A = ℕ} (sizes .hash * sizes .rows) 0 in
-    omega (arith, so .many)
+slice-aggregate-count-marked : tie.Need-slice-aggregate-count-marked
+slice-aggregate-count-marked c = search needs
 
-put : (hs list before after : List ℕ) (count : ℕ) (w : Write) → Gathered hs list count
-    → Written (Output.bytes (hashesBytes (hashesAt list 0 count))) before after w
-    → Written (Output.bytes (hashesBytes hs)) before after w
-put hs list before after count w so r = rw (so .list) at r
+count-marked-requires : tie.Need-count-marked-requires
+count-marked-requires c κs = search needs
 
-slice-aggregate-collect-heads : tie.Need-slice-aggregate-collect-heads
-slice-aggregate-collect-heads c = search needs
+mul-size : tie.Need-mul-size
+mul-size c =
+    let start = c .before .before .before .before .before .before .before .before in
+    omega (arith, count-most _ _ _ (c .count-marked .ensures), start .pre .0 .rows .few, start .pre .1)
 
-collect-heads-requires : tie.Need-collect-heads-requires
-collect-heads-requires c κs =
-    let start = c .before .before .before .before in
-    (start .pre .0, start .pre .1, room _ (omega (arith, start .pre .0 .rows .few, start .pre .1)))
+returns : tie.Need-returns
+returns c =
+    let k = c .before in
+    let m = k .before .before .before in
+    let start = m .before .before .before .before .before in
+    no-room _ _ _ (heads-size _ _ _ (m .mark-heads .ensures) (good-part _ _ _ (start .pre .0 .rows) (start .pre .1) .good) _ (k .count-marked .ensures)) (c .if1 .taken)
 
-slice-aggregate-put-list : tie.Need-slice-aggregate-put-list
-slice-aggregate-put-list c = search needs
+slice-aggregate-collect-marked : tie.Need-slice-aggregate-collect-marked
+slice-aggregate-collect-marked c = search needs
 
-put-list-requires : tie.Need-put-list-requires
-put-list-requires c κs =
-    let h = c .before .before .before in
-    let pre = h .before .before .before .before .before .pre in
-    fits _ _ _ _ (omega (arith, pre .0 .rows .few, pre .1)) (few _ _) (h .collect-heads .ensures) (h .collect-heads .kept .1 .1 .1 .1 .0)
+collect-marked-requires : tie.Need-collect-marked-requires
+collect-marked-requires c κs = search needs
 
 same-length : tie.Need-same-length
 same-length c = search needs
 
-returns : tie.Need-returns
-returns c =
+returns-2 : tie.Need-returns-2
+returns-2 c =
     let p = c .before .before in
-    put _ _ _ _ _ _ (p .before .before .before .before .collect-heads .ensures) (p .put-list .ensures)
+    let e = p .before .before .before in
+    let k = e .before in
+    let m = k .before .before .before in
+    let start = m .before .before .before .before .before in
+    written-bytes _ _ _ _ (heads-size _ _ _ (m .mark-heads .ensures) (good-part _ _ _ (start .pre .0 .rows) (start .pre .1) .good) _ (k .count-marked .ensures))
+    (e .if1 .left) (heads-put _ _ _ (m .mark-heads .ensures) _ _ _ (p .collect-marked .ensures))
 
 pub put-heads-spec : {M : Type 1} → statement M
 put-heads-spec =
     tie.close
     (tie.spec
-    slice-aggregate-collect-heads
-    collect-heads-requires
-    slice-aggregate-put-list
-    put-list-requires
+    slice-aggregate-mark-heads
+    mark-heads-requires
+    slice-aggregate-count-marked
+    count-marked-requires
+    mul-size
+    returns
+    slice-aggregate-collect-marked
+    collect-marked-requires
     same-length
-    returns)
+    returns-2)

@@ -6,6 +6,9 @@ use native.Mathlib.Omega.{arith}
 use borrow.Author.Tests.{not-true, not-false}
 use Rattle.index.proofs.HalveLaws.{entry-below, look-ordered, fit-records}
 use Rattle.graph.proofs.CollectLaws.{Collecting, collecting-starts, collecting-passed, collecting-room, collecting-taken, collecting-ends, past-first, by-mark}
+use Rattle.graph.specs.Marks.{marked}
+use Rattle.graph.proofs.PickLaws.{marked-most}
+use denote.Ref.{now}
 use borrow.Author.Needs.{needs}
 use Rattle.graph.proofs.marked.collect_marked.Statement.{statement}
 use Rattle.graph.proofs.marked.collect_marked.Tie as tie
@@ -65,7 +68,8 @@ loop-again-2 c =
 -- there is room for one hash more
 room : (c : tie.Else2 Inv-loop μ-loop)
     → let l = c .before .before .before .before in
-    l .before .loop .count < l .before .before .before .before .before .before .args .before
+    let a = l .before .before .before .before .before .before .args in
+    l .before .loop .count < marked (a .before) (now (a .marks))
 room c =
     let e = c .before .before in
     let u = e .before in
@@ -79,7 +83,7 @@ room c =
 mul-put-hash : tie.Need-mul-put-hash Inv-loop μ-loop
 mul-put-hash c =
     let start = c .before .before .before .before .before .before .before .before .before .before .before in
-    omega (arith, room (c .before), start .pre .1, start .pre .0 .rows .few)
+    omega (arith, room (c .before), marked-most (start .args .before) (now (start .args .marks)), start .pre .1, start .pre .0 .rows .few)
 
 mul-put-hash-2 : tie.Need-mul-put-hash-2 Inv-loop μ-loop
 mul-put-hash-2 c =
@@ -97,7 +101,7 @@ add-count : tie.Need-add-count Inv-loop μ-loop
 add-count c =
     let e = c .before .before .before .before in
     let start = e .before .before .before .before .before .before .before .before .before .before in
-    omega (arith, room e, start .pre .1, start .pre .0 .rows .few)
+    omega (arith, room e, marked-most (start .args .before) (now (start .args .marks)), start .pre .1, start .pre .0 .rows .few)
 
 loop-less-3 : tie.Need-loop-less-3 Inv-loop μ-loop
 loop-less-3 c = search needs
@@ -127,7 +131,7 @@ returns c =
     let b = c .before in
     let known = b .before .before .before .before in
     let pre = known .before .pre in
-    collecting-ends _ _ _ _ _ _ _ _ _ (b .loop .inv) (c .loop-test .left) (pre .0 .fit) (pre .1) (λ i. known .shared-slice-known .given i .fits) (pre .3)
+    collecting-ends _ _ _ _ _ _ _ _ _ (b .loop .inv) (c .loop-test .left) (pre .0 .fit) (pre .1)
 
 pub collect-marked-spec : {M : Type 1} → statement M
 collect-marked-spec =
