@@ -1,7 +1,7 @@
 -- What is decided from the numbers of a plan is what is planned on values, as counts: stage by stage, in the order of the refusals. Assumes nothing.
-use Prim.Native.Nat.{ℕ, _+_, _*_, _/_, _≤_, _<_}
+use Prim.Native.Nat.{ℕ, _+_, _*_, _≤_, _<_}
 use mathlib.Core.Bool.{Bool, true, false, cond, _&&_, not}
-use mathlib.Core.List.{List, [], _∷_, _++_}
+use mathlib.Core.List.{List, [], _∷_}
 use mathlib.Core.Path.{_≡_, refl, sym, ap, _∙_}
 use native.Mathlib.Omega.{arith}
 use borrow.Author.Tests.{ltb-true, ltb-false, lt-ltb, le-ltb}
@@ -17,7 +17,7 @@ use Rattle.missing.specs.Ask.{Found}
 use Rattle.probe.specs.Build.{filterOf}
 use Rattle.probe.proofs.FieldLaws.{length-add-hashes}
 use Rattle.rules.specs.Hash.{hashesAt}
-use Rattle.rules.specs.Order.{member, every, ascend}
+use Rattle.rules.specs.Order.{member, every}
 use Rattle.rules.specs.Output.{Gathered}
 use Rattle.rules.specs.Sizes.{sizes}
 use Rattle.rules.specs.declared.refusal.Refusal.the-variants.{PastSize}
@@ -28,7 +28,7 @@ use Rattle.state.specs.Value.{Lent, valueOf}
 use Rattle.state.specs.declared.session.Session.{Session}
 use Rattle.tables.specs.Table.{Row}
 use Rattle.waiting.specs.Waiting.{Waiting}
-use Rattle.planning.specs.Made.{FieldMade, SentMade}
+use Rattle.planning.specs.Made.{FieldMade}
 use Rattle.decide.specs.Call.{syncsOf, filterNumbers, statedOf, answerOf, messageRoom, sessionRoom, afterRoom, roomed}
 use Rattle.decide.specs.Draft.{Parts, headsCount, countIf, filterIf, drafted, resetStated, ifRoom, saysWith, decided}
 use Rattle.decide.specs.declared.answer.Planned.{Planned as Answer}
@@ -71,24 +71,6 @@ module _ {l after : List ℕ} {most count : ℕ} (f : Found l (most + 1) after c
   pub found-all : count ≤ most → Gathered l after count
   found-all h = f .all (omega arith)
 
-one-more : (most : ℕ) → sizes .hash * (most + 1) / sizes .hash ≡ most + 1
-one-more most = omega arith
-
-module _ {hs sent after : List ℕ} {count : ℕ} (most : ℕ) (f : SentMade hs sent (sizes .hash * (most + 1)) after count) where
-  pub sent-many : most < count → most < length (ascend (hs ++ sent))
-  sent-many h =
-      let e = f .many in
-      let u = f .are in
-      let z = one-more most in
-      omega (arith, u .full (omega (arith, u .within)))
-
-  pub sent-all : count ≤ most → Gathered (ascend (hs ++ sent)) after count
-  sent-all h =
-      let e = f .many in
-      let z = one-more most in
-      let q : hashesAt after 0 count ≡ ascend (hs ++ sent) = f .are .all (omega arith) in
-      record { many = rw q at e; list = q }
-
 -- ---- the counts of a message
 
 abbrev counted : MessageVersion → MessageFlags → Bool → ℕ → ℕ → ℕ → ℕ → FilterNumbers → ℕ → Stated
@@ -114,7 +96,8 @@ numbers-same : {bits probes e e′ p p′ z z′ : ℕ} → e ≡ e′ → p ≡
 numbers-same e p z = rw (e, p, z)
 
 module _ (bits probes : ℕ) (t : List Row) (w : List Waiting) (s : Session) (l : Lent) (ready : Parts) (d : Draft)
-    (m : DraftMade bits probes t w (valueOf s l) ready d) where
+    (asked : ℕ) (m : DraftMade bits probes t (valueOf s l) asked ready d)
+    (f : Found (needOf t w (s .«read_only») (heard (valueOf s l .theirHeads))) (sizes .hashes + 1) (ready .need) (d .need)) where
   abbrev theirs : List ℕ
   theirs = heard (valueOf s l .theirHeads)
 
@@ -126,7 +109,7 @@ module _ (bits probes : ℕ) (t : List Row) (w : List Waiting) (s : Session) (l 
 
   module _ (few : d .need ≤ sizes .hashes) where
     gives-every : every (λ h. member h theirs) needs ≡ d .gives
-    gives-every = sym (rw (found-all (m .need) few .list) at (m .gives))
+    gives-every = sym (rw (found-all f few .list) at (m .gives))
 
     pub have-given : d .gives ≡ true → havesFor bits probes t needs theirs shared ≡ haveOf bits probes t shared ∷ []
     unfolding havesFor
@@ -141,9 +124,9 @@ module _ (bits probes : ℕ) (t : List Row) (w : List Waiting) (s : Session) (l 
         ≡ numbersOf (d .entries) bits probes (sizes .hash * s .«shared_heads») (fieldSize (d .entries) bits)
     unfolding haveOf filterOf
     given-numbers e =
-        let f = m .field .made e in
-        numbers-same (sym (f .many)) (ap (λ (n : ℕ). sizes .hash * n) (length-hashes-at (l .shared) 0 (s .«shared_heads»)))
-        (field-long bits probes _ _ _ f)
+        let g = m .field .made e in
+        numbers-same (sym (g .many)) (ap (λ (n : ℕ). sizes .hash * n) (length-hashes-at (l .shared) 0 (s .«shared_heads»)))
+        (field-long bits probes _ _ _ g)
 
     given-syncs : syncsOf (haveOf bits probes t shared ∷ []) ≡ s .«shared_heads»
     unfolding haveOf
@@ -155,10 +138,10 @@ module _ (bits probes : ℕ) (t : List Row) (w : List Waiting) (s : Session) (l 
         split (d .gives)
         (λ e. rw (e, have-given e)
         (counted-same (sym (m .body .document)) (heads-count _ _ _ ∙ ap (headsCount (s .«needs_reset») (s .«supports_reset»)) (sym (m .heads .many)))
-        (sym (found-all (m .need) few .many)) refl given-syncs (given-numbers e) (sym (m .body .hashes .many))))
+        (sym (found-all f few .many)) refl given-syncs (given-numbers e) (sym (m .body .hashes .many))))
         (λ e. rw (e, have-none e)
         (counted-same (sym (m .body .document)) (heads-count _ _ _ ∙ ap (headsCount (s .«needs_reset») (s .«supports_reset»)) (sym (m .heads .many)))
-        (sym (found-all (m .need) few .many)) refl refl refl (sym (m .body .hashes .many))))
+        (sym (found-all f few .many)) refl refl refl (sym (m .body .hashes .many))))
 
   -- ---- the stages
 
@@ -173,7 +156,7 @@ module _ (bits probes : ℕ) (t : List Row) (w : List Waiting) (s : Session) (l 
         let p = planOf bits probes t w (valueOf s l) in
         let q : Planned = Planned.says p (planned t (valueOf s l)) in
         let x : Room = sessionRoom (length (heads t)) (length (sentAfter t (valueOf s l))) r in
-        rw (sym (stated-drafted few), m .heads .many, sent-all (sizes .sentHashes) (m .sent) some .many)
+        rw (sym (stated-drafted few), m .heads .many, m .sent .all some .many)
         (ap (λ (a : Answer). ifRoom (messageRoom (statedOf p) r) a) (room-answers s x q) ∙ room-answers s (messageRoom (statedOf p) r) (afterRoom x q))
 
     sent-decided : d .need ≤ sizes .hashes
@@ -181,10 +164,10 @@ module _ (bits probes : ℕ) (t : List Row) (w : List Waiting) (s : Session) (l 
     unfolding planSent sentAfter roomed answerOf
     sent-decided few =
         split (ltb (sizes .sentHashes) (d .sent))
-        (λ e. rw (e, lt-ltb _ _ (sent-many (sizes .sentHashes) (m .sent) (ltb-true _ _ e))))
+        (λ e. rw (e, lt-ltb _ _ (m .sent .many (ltb-true _ _ e))))
         (λ e.
         let some : d .sent ≤ sizes .sentHashes = ltb-false _ _ e in
-        let room : length (sentAfter t (valueOf s l)) ≤ sizes .sentHashes = omega (arith, sent-all (sizes .sentHashes) (m .sent) some .many) in
+        let room : length (sentAfter t (valueOf s l)) ≤ sizes .sentHashes = omega (arith, m .sent .all some .many) in
         rw (e, le-ltb _ _ room) (says-decided few some))
 
     reset-decided : ifRoom (messageRoom (resetStated (d .heads)) r) (Reset (resetStated (d .heads))) ≡ answer (Planned.reset (resetOf t))
@@ -195,9 +178,9 @@ module _ (bits probes : ℕ) (t : List Row) (w : List Waiting) (s : Session) (l 
     unfolding decided plan planReset planSilence roomed answerOf
     plan-decided =
         split (ltb (sizes .hashes) (d .need))
-        (λ e. rw (e, lt-ltb _ _ (found-many (m .need) (ltb-true _ _ e))))
+        (λ e. rw (e, lt-ltb _ _ (found-many {most = sizes .hashes} f (ltb-true _ _ e))))
         (λ e.
         let few : d .need ≤ sizes .hashes = ltb-false _ _ e in
-        let asked : length needs ≤ sizes .hashes = omega (arith, found-all (m .need) few .many) in
-        rw (e, le-ltb _ _ asked, sym (m .unknown), sym (m .silent))
+        let some : length needs ≤ sizes .hashes = omega (arith, found-all {most = sizes .hashes} f few .many) in
+        rw (e, le-ltb _ _ some, sym (m .unknown), sym (m .silent))
         (both-ways (λ q. answerOf s (roomed r q)) (d .unknown) reset-decided (both-ways (λ q. answerOf s (roomed r q)) (d .silent) refl (sent-decided few))))

@@ -1,6 +1,6 @@
 -- What is decided fits where it is put, and once it is put the plan is finished. Assumes nothing.
 use Prim.Native.Nat.{ℕ, _+_, _*_, _≤_}
-use mathlib.Core.Bool.{Bool, true, false, cond}
+use mathlib.Core.Bool.{Bool, true, false, cond, _&&_, not}
 use mathlib.Core.Path.{_≡_, refl}
 use native.Mathlib.Omega.{arith}
 use borrow.Author.Tests.{ltb-false}
@@ -11,7 +11,7 @@ use Rattle.session.specs.Rooms.{orShort}
 use Rattle.state.specs.declared.session.Session.{Session}
 use Rattle.decide.specs.Call.{Buffers, plannedCounts, messageRoom, sessionRoom}
 use Rattle.decide.specs.Call.{said, roomsIn}
-use Rattle.decide.specs.Draft.{Parts, SmallDraft, countIf, drafted, resetStated, ifRoom, saysWith, decided, noPuts, putsOf, Fits}
+use Rattle.decide.specs.Draft.{Parts, SmallDraft, headsCount, countIf, drafted, resetStated, ifRoom, saysWith, decided, noPuts, putsOf, Fits}
 use Rattle.decide.specs.Draft.{allPut}
 use Rattle.decide.proofs.DecideLaws.{small-drafted}
 use Rattle.decide.specs.declared.answer.Planned.{Planned as Answer}
@@ -24,13 +24,14 @@ use Rattle.decide.specs.declared.decide.Draft.{Draft}
 use Rattle.decide.specs.declared.put.Puts.{Puts}
 use Rattle.draft.specs.Make.{Long, Finished}
 
-part-there : (n most long : ℕ) → n ≤ most → sizes .hash * most ≤ long → sizes .hash * n ≤ long
-part-there n most long h l = omega arith
-
 some-there : (b : Bool) (n long : ℕ) → sizes .hash * n ≤ long → sizes .hash * countIf b n ≤ long
 unfolding countIf
 some-there true n long h = h
 some-there false n long h = omega arith
+
+heads-there : (needs supports : Bool) (n long : ℕ) → sizes .hash * n ≤ long → sizes .hash * headsCount needs supports n ≤ long
+unfolding headsCount
+heads-there needs supports n long h = split (needs && not supports) (λ e. rw e (omega arith)) (λ e. rw e h)
 
 not-short : (room wanted : ℕ) (rest : Room) → orShort Short room wanted rest ≡ Enough → (wanted ≤ room) × (rest ≡ Enough)
 not-short room wanted rest e =
@@ -82,7 +83,7 @@ module _ (s : Session) (d : Draft) (bits probes : ℕ) (ready : Parts) (b : Buff
   by-test true x y f g = f
   by-test false x y f g = g
 
-  module _ (m : SmallDraft s d bits) (long : Long s ready) where
+  module _ (m : SmallDraft s d bits) (long : Long s d ready) where
     reset-fits : Fits (putsOf (ifRoom (messageRoom (resetStated (d .heads)) (roomsIn b)) (Reset (resetStated (d .heads))))) ready b
     unfolding putsOf
     reset-fits =
@@ -90,7 +91,7 @@ module _ (s : Session) (d : Draft) (bits probes : ℕ) (ready : Parts) (b : Buff
         (λ e.
         let f = message-fits (resetStated (d .heads)) (roomsIn b) e in
         record {
-          heads = record { there = part-there _ _ _ (m .heads) (long .heads); room = f .heads };
+          heads = record { there = long .heads; room = f .heads };
           need = record { there = omega arith; room = omega arith };
           have = record { hashes = omega arith; bytes = omega arith; room = omega arith };
           list = record { there = omega arith; room = omega arith };
@@ -111,12 +112,12 @@ module _ (s : Session) (d : Draft) (bits probes : ℕ) (ready : Parts) (b : Buff
         let f = message-fits p (roomsIn b) e in
         let h = session-fits (d .heads) (d .sent) (roomsIn b) g in
         record {
-          heads = record { there = part-there _ _ _ (q .heads) (long .heads); room = f .heads };
-          need = record { there = part-there _ _ _ (q .need) (long .need); room = f .need };
+          heads = record { there = heads-there (s .«needs_reset») (s .«supports_reset») _ _ (long .heads); room = f .heads };
+          need = record { there = long .need; room = f .need };
           have = record { hashes = some-there (d .gives) _ _ (long .shared); bytes = omega (arith, q .field, long .field); room = f .have };
-          list = record { there = part-there _ _ _ (q .hashes) (long .list); room = f .list };
-          lastSent = record { there = part-there _ _ _ (m .heads) (long .heads); room = h .0 };
-          sent = record { there = part-there _ _ _ (m .sent) (long .sent); room = h .1 };
+          list = record { there = long .list; room = f .list };
+          lastSent = record { there = long .heads; room = h .0 };
+          sent = record { there = long .sent; room = h .1 };
         }))
 
     pub decided-fits : Fits (putsOf (decided s d bits probes (roomsIn b))) ready b
@@ -127,7 +128,7 @@ module _ (s : Session) (d : Draft) (bits probes : ℕ) (ready : Parts) (b : Buff
         (by-test (d .silent) _ _ none-fit (by-test (ltb (sizes .sentHashes) (d .sent)) _ _ none-fit says-fits)))
 
 -- What was decided and is counted fits.
-pub puts-fit : (s : Session) (d : Draft) (bits probes : ℕ) (ready : Parts) (b : Buffers) (a : Answer) (p : Puts) → SmallDraft s d bits → Long s ready
+pub puts-fit : (s : Session) (d : Draft) (bits probes : ℕ) (ready : Parts) (b : Buffers) (a : Answer) (p : Puts) → SmallDraft s d bits → Long s d ready
     → a ≡ decided s d bits probes (roomsIn b) → p ≡ putsOf a → Fits p ready b
 puts-fit s d bits probes ready b a p m long e q = rw (q, e) (decided-fits s d bits probes ready b m long)
 

@@ -1,5 +1,5 @@
 -- What is computed is small, starts with the bytes of what is said, and so gives what the call promises. Assumes nothing.
-use Prim.Native.Nat.{ℕ, _≤_}
+use Prim.Native.Nat.{ℕ, _+_, _≤_}
 use mathlib.Core.Bool.{Bool, true, false, cond, _&&_, not}
 use mathlib.Core.List.{List, [], _++_, append-nil}
 use mathlib.Core.Path.{_≡_, refl, ap, _∙_}
@@ -12,6 +12,7 @@ use Rattle.graph.specs.Graph.{heads}
 use Rattle.graph.proofs.BelowLaws.{beyond-few}
 use Rattle.graph.proofs.HeadLaws.{heads-few}
 use Rattle.lent.specs.Good.{sessionGood}
+use Rattle.missing.specs.Ask.{Found}
 use Rattle.lent.proofs.GoodSessions.{session-parts, good-within}
 use Rattle.probe.proofs.BuildLaws.{rules-field}
 use Rattle.rules.specs.Hash.{hashesAt, hashesBytes}
@@ -36,13 +37,13 @@ use Rattle.decide.specs.declared.answer.Planned.{Planned as Answer}
 use Rattle.decide.specs.declared.decide.Draft.{Draft}
 use Rattle.session.proofs.PlanLaws.{list-few}
 use Rattle.draft.specs.Make.{DraftMade, Finished}
-use Rattle.draft.proofs.Decided.{found-many, found-all, sent-many, sent-all, field-long, have-given, have-none, plan-decided}
+use Rattle.draft.proofs.Decided.{found-many, found-all, field-long, have-given, have-none, plan-decided}
 use Rattle.decide.proofs.PutLaws.{Starts, put-as-said, refused-starts, silent-starts, roomed-starts}
 
 -- ---- small
 
-module _ (bits probes : ℕ) (t : List Row) (w : List Waiting) (s : Session) (l : Lent) (ready : Parts) (d : Draft)
-    (m : DraftMade bits probes t w (valueOf s l) ready d) where
+module _ (bits probes : ℕ) (t : List Row) (s : Session) (l : Lent) (ready : Parts) (d : Draft) (asked : ℕ)
+    (m : DraftMade bits probes t (valueOf s l) asked ready d) (less : asked ≤ sizes .hashes + 1) where
   module _ (few : length t ≤ sizes .rows) (good : sessionGood s l ≡ true) (setting : Setting bits probes) where
     entries-few : d .entries ≤ sizes .rows
     entries-few =
@@ -54,13 +55,13 @@ module _ (bits probes : ℕ) (t : List Row) (w : List Waiting) (s : Session) (l 
     small-made =
         record {
           heads = omega (arith, m .heads .many, heads-few t);
-          need = m .need .within;
+          need = omega (arith, m .need);
           shared = session-parts s l good .shared .few;
           entries = entries-few;
           few = ruled 0 bits probes _ (setting .each 0 (omega arith)) .bits;
           field = rules-field (d .entries) bits probes (setting .each _ entries-few) .1;
           hashes = omega (arith, m .body .hashes .many, list-few t (valueOf s l) few (good-within s l good .theirNeed));
-          sent = omega (arith, m .sent .many, m .sent .are .within);
+          sent = m .sent .within;
         }
 
 -- ---- what stands ready starts with the bytes of what is said
@@ -77,8 +78,10 @@ test-starts : (b : Bool) (p q : Planned) (ready : Parts) → (b ≡ true → Sta
 test-starts true p q ready f g = f refl
 test-starts false p q ready f g = g refl
 
-module _ (bits probes : ℕ) (t : List Row) (w : List Waiting) (s : Session) (l : Lent) (ready : Parts) (d : Draft)
-    (m : DraftMade bits probes t w (valueOf s l) ready d) (same : ready .shared ≡ l .shared) where
+module _ (bits probes : ℕ) (t : List Row) (w : List Waiting) (s : Session) (l : Lent) (ready : Parts) (d : Draft) (asked : ℕ)
+    (m : DraftMade bits probes t (valueOf s l) asked ready d)
+    (f : Found (needOf t w (s .«read_only») (heard (valueOf s l .theirHeads))) (sizes .hashes + 1) (ready .need) (d .need))
+    (same : ready .shared ≡ l .shared) where
   our-heads : hashesAt (ready .heads) 0 (length (heads t)) ≡ heads t
   our-heads = gathered-start (m .heads)
 
@@ -102,9 +105,9 @@ module _ (bits probes : ℕ) (t : List Row) (w : List Waiting) (s : Session) (l 
   have-start few =
       split (d .gives)
       (λ e.
-      let f = m .field .made e in
-      rw (have-given bits probes t w s l ready d m few e) (given-start _ _ (f .is) (field-long bits probes _ _ _ f)))
-      (λ e. rw (have-none bits probes t w s l ready d m few e))
+      let g = m .field .made e in
+      rw (have-given bits probes t w s l ready d asked m f few e) (given-start _ _ (g .is) (field-long bits probes _ _ _ g)))
+      (λ e. rw (have-none bits probes t w s l ready d asked m f few e))
 
   says-start : d .need ≤ sizes .hashes → d .sent ≤ sizes .sentHashes
       → Starts (Planned.says (planOf bits probes t w (valueOf s l)) (planned t (valueOf s l))) ready
@@ -112,11 +115,11 @@ module _ (bits probes : ℕ) (t : List Row) (w : List Waiting) (s : Session) (l 
   says-start few sent =
       record {
         heads = heads-start (s .«needs_reset») (s .«supports_reset») (heads t) (ready .heads) our-heads;
-        need = gathered-start (found-all (m .need) few);
+        need = gathered-start (found-all f few);
         have = have-start few;
         list = gathered-start (m .body .hashes);
         lastSent = our-heads;
-        sent = gathered-start (sent-all (sizes .sentHashes) (m .sent) sent);
+        sent = gathered-start (m .sent .all sent);
       }
 
   reset-start : Starts (Planned.reset (resetOf t)) ready
@@ -126,14 +129,14 @@ module _ (bits probes : ℕ) (t : List Row) (w : List Waiting) (s : Session) (l 
   few-asked : length (needOf t w (s .«read_only») (heard (valueOf s l .theirHeads))) ≤ sizes .hashes → d .need ≤ sizes .hashes
   few-asked h =
       split (ltb (sizes .hashes) (d .need))
-      (λ e. absurd (omega (arith, found-many {most = sizes .hashes} (m .need) (ltb-true _ _ e))))
+      (λ e. absurd (omega (arith, found-many {most = sizes .hashes} f (ltb-true _ _ e))))
       (λ e. ltb-false _ _ e)
 
   few-sent : length (sentAfter t (valueOf s l)) ≤ sizes .sentHashes → d .sent ≤ sizes .sentHashes
   unfolding sentAfter
   few-sent h =
       split (ltb (sizes .sentHashes) (d .sent))
-      (λ e. absurd (omega (arith, sent-many (sizes .sentHashes) (m .sent) (ltb-true _ _ e))))
+      (λ e. absurd (omega (arith, m .sent .many (ltb-true _ _ e))))
       (λ e. ltb-false _ _ e)
 
   sent-starts : d .need ≤ sizes .hashes → Starts (planSent bits probes t w (valueOf s l)) ready
@@ -163,8 +166,8 @@ module _ (bits probes : ℕ) (t : List Row) (w : List Waiting) (s : Session) (l 
   -- So a plan that is finished is what the call promises.
   pub plan-called : (before after : Buffers) (a : Answer) → Finished s d bits probes ready before after a
       → PlanCalled s (plan bits probes t w (valueOf s l)) before after a
-  plan-called before after a f =
+  plan-called before after a fin =
       let q : Planned = roomed (roomsIn before) (plan bits probes t w (valueOf s l)) in
-      let is : a ≡ answerOf s q = f .answer ∙ plan-decided bits probes t w s l ready d m (roomsIn before) in
-      let put : after ≡ allPut (putsOf (answerOf s q)) ready before = rw is at (f .buffers) in
+      let is : a ≡ answerOf s q = fin .answer ∙ plan-decided bits probes t w s l ready d asked m f (roomsIn before) in
+      let put : after ≡ allPut (putsOf (answerOf s q)) ready before = rw is at (fin .buffers) in
       record { answer = is; buffers = put ∙ put-as-said s ready before q (roomed-starts (roomsIn before) _ ready plan-starts) }

@@ -1,41 +1,86 @@
 -- The parts of a plan: what each asks for follows from the tests before planning, and together they are the plan. Assumes nothing.
-use Prim.Native.Nat.{ℕ, _+_, _*_, _/_, _≤_}
-use mathlib.Core.Bool.{Bool, true, false, cond, _&&_, _||_}
-use mathlib.Core.List.{List, [], _∷_}
-use mathlib.Core.Option.{Option}
-use mathlib.Core.Path.{_≡_, refl}
+use Prim.Native.Nat.{ℕ, _+_, _*_, _/_, _≤_, _<_}
+use mathlib.Core.Bool.{Bool, true, false, cond, not, _&&_, _||_}
+use mathlib.Core.List.{List, [], _∷_, _++_}
+use mathlib.Core.Path.{_≡_, refl, sym, _∙_}
 use native.Mathlib.Omega.{arith}
-use borrow.Author.Tests.{ne-eqb}
-use lib.Dec.{eqb}
-use lib.ListN.{length}
+use borrow.Author.Tests.{ne-eqb, ltb-true, ltb-false}
+use lib.Dec.{eqb, ltb}
+use lib.ListN.{length, length-append}
+use lib.Seq.{sets}
 use Rattle.decide.specs.Draft.{Parts}
-use Rattle.graph.specs.Graph.{heads, beyond}
-use Rattle.graph.proofs.HeadLaws.{heads-few}
-use Rattle.lent.specs.Good.{havesGood, lentOf}
-use Rattle.lent.proofs.GoodSessions.{session-tests, session-parts, heard-within}
+use Rattle.decide.specs.declared.decide.Draft.{Draft}
+use Rattle.graph.specs.Graph.{needed, heads, beyond}
+use Rattle.graph.specs.Marks.{Marks, marked, picked, Collected}
+use Rattle.graph.proofs.CollectLaws.{heads-gathered}
+use Rattle.graph.proofs.GraphMarks.{picked-heads, heads-many}
+use Rattle.index.specs.Index.{Indexed}
+use Rattle.lent.specs.Good.{heardGood, havesGood, lentOf, sessionGood}
+use Rattle.lent.proofs.GoodSessions.{session-tests, session-parts}
 use Rattle.lists.specs.Lists.{same}
-use Rattle.missing.specs.Ask.{Found}
-use Rattle.planning.specs.Made.{FieldMade, BodyMade, SentMade}
-use Rattle.planning.specs.declared.body.Body.{Body as Counted}
-use Rattle.rules.specs.Hash.{hashesAt}
-use Rattle.rules.specs.Order.{member, every}
+use Rattle.planning.specs.Made.{FieldMade, SentMade, BodyChosen}
+use Rattle.planning.specs.declared.body.Body.{Body as Carried}
+use Rattle.rules.specs.Hash.{Bytes, AreHashes, hashesAt, hashesBytes}
+use Rattle.rules.specs.Order.{ascend}
 use Rattle.rules.specs.Output.{Gathered}
 use Rattle.rules.specs.Sizes.{sizes}
-use Rattle.rules.proofs.Cases.{true-false}
-use Rattle.session.specs.Plan.{Body, heard, heardAs, listOf, needOf, unknownSync, bodyHeard, bodyOf, empty, silence}
-use Rattle.session.proofs.PlanLaws.{list-few}
-use Rattle.state.specs.Session.{State}
-use Rattle.state.specs.Value.{Lent, heardHashes, heardHaves, valueOf}
+use Rattle.rules.proofs.Cases.{split, true-false}
+use Rattle.rules.proofs.Hash.{length-hashes-at}
+use Rattle.rules.proofs.OrderLaws.{ascend-most}
+use Rattle.rules.proofs.Outputs.{written-gathered}
+use Rattle.selection.specs.Chosen.{chosenBy}
+use Rattle.session.specs.Plan.{heardAs, listOf, unknownSync, bodyHeard, bodyOf, empty, silence}
+use Rattle.session.proofs.PlanLaws.{body-hashes}
+use Rattle.state.specs.Value.{Lent, heardCount, heardHashes, heardHaves, valueOf}
 use Rattle.state.specs.declared.session.Session.{Session}
 use Rattle.tables.specs.Bytes.{rowsAt}
-use Rattle.tables.specs.Table.{Row}
-use Rattle.tables.proofs.TableLaws.{length-rows-at}
-use Rattle.waiting.specs.Waiting.{Waiting}
-use Rattle.draft.specs.Make.{Checked, GivenMade, AskReady, AskedMade, CarryReady, carriedBody, CarriedMade, QuietReady, quiet, DraftMade}
-use Rattle.draft.specs.declared.make.Asked.{Asked}
-use Rattle.draft.specs.declared.make.Carried.{Carried}
+use Rattle.tables.specs.Table.{Row, rows as hashes}
+use Rattle.tables.proofs.GoodLaws.{rows-hashes}
+use Rattle.draft.specs.Make.{
+  CountReady,
+  carriedBody,
+  Counted,
+  ReadyRooms,
+  GivenMade,
+  HaveMade,
+  CarryReady,
+  AtMost,
+  CarriedMade,
+  QuietReady,
+  quiet,
+  DraftMade,
+  Long,
+}
+use Rattle.draft.specs.declared.make.Counts.{Counts}
+use Rattle.draft.specs.declared.make.Given.{Given}
 
--- ---- what is asked for
+-- ---- heads and body as marks
+
+-- The peer is heard to have no heads.
+pub counted-made : (t : List Row) (n : ℕ) (s : Session) (theirHeads theirNeed haves bytes sent : List ℕ) (headMarks marks needs : List Bool) (k : Counts)
+    (lost : Bool)
+    → n ≤ length headMarks
+    → Marks n headMarks (λ i. not (needed t i))
+    → k .heads ≡ marked n headMarks
+    → n ≤ length marks
+    → heardCount (s .«their_need») ≤ length needs
+    → lost ≡ heardAs (hashesAt theirHeads 0 0) (heardHashes theirHeads (s .«their_heads»))
+    → BodyChosen (cond (s .«peer_read_only») (listOf [])
+    (bodyHeard t (s .«supports_v2») lost (heardHaves bytes haves (s .«their_have»)) (heardHashes theirNeed (s .«their_need»))
+    (hashesAt sent 0 (s .«sent_hashes»)))) t marks (hashesAt theirNeed 0 (heardCount (s .«their_need»))) needs (k .body)
+    → Counted t n (carriedBody t s theirHeads theirNeed haves bytes sent) (hashesAt theirNeed 0 (heardCount (s .«their_need»))) headMarks marks needs k
+unfolding hashesAt bodyOf
+counted-made t n s theirHeads theirNeed haves bytes sent headMarks marks needs k lost a b c d e f g =
+    record {
+      headRoom = a;
+      areHeads = b;
+      heads = c;
+      rowMarks = d;
+      needMarks = omega (arith, e, length-hashes-at theirNeed 0 (heardCount (s .«their_need»)));
+      body = rw f at g;
+    }
+
+-- ---- the have that is given
 
 module _ {bits probes : ℕ} {gives : Bool} {hs field : List ℕ} where
   pub nothing-given : gives ≡ false → GivenMade bits probes gives hs field 0
@@ -44,52 +89,80 @@ module _ {bits probes : ℕ} {gives : Bool} {hs field : List ℕ} where
   pub field-given : {entries : ℕ} → gives ≡ true → FieldMade bits probes hs field entries → GivenMade bits probes gives hs field entries
   field-given e f = record { made = λ t. f; none = λ n. absurd (true-false gives e n) }
 
--- The buffer has room for one hash more than there may be.
-pub asked-made : (bits probes : ℕ) (t : List Row) (w : List Waiting) (reads : Bool) (theirs : Option (List ℕ)) (lastSync list field : List ℕ) (a : Asked)
-    (room : ℕ)
-    → room ≡ sizes .hash * (sizes .hashes + 1)
-    → Found (needOf t w reads (heard theirs)) (room / sizes .hash) list (a .need)
-    → a .gives ≡ every (λ h. member h (heard theirs)) (hashesAt list 0 (a .need))
-    → GivenMade bits probes (a .gives) (beyond t lastSync) field (a .entries)
-    → AskedMade bits probes t w reads theirs lastSync list field a
-asked-made bits probes t w reads theirs lastSync list field a room e f g m = record { need = rw e at f; gives = g; made = m }
-
 -- ---- what is carried
 
-module _ {table index : List ℕ} {n : ℕ} {s : Session} {theirHeads theirNeed haves bytes sent : List ℕ} {room next : ℕ}
-    (c : CarryReady table index n s theirHeads theirNeed haves bytes sent room next) where
-  abbrev t : List Row
-  t = rowsAt table 0 n
+-- A buffer that holds one hash more than there may be shows too many; one that holds more than there can be holds all.
+module _ (hs sent : List ℕ) (room : ℕ) (after : List ℕ) (count : ℕ) (m : SentMade hs sent room after count) where
+  abbrev joined : List ℕ
+  joined = ascend (hs ++ sent)
 
-  abbrev v : State
-  v = valueOf s (lentOf [] [] theirHeads theirNeed haves bytes sent)
+  all-joined : count < room / sizes .hash → Gathered joined after count
+  all-joined h =
+      let part : hashesAt after 0 count ≡ joined = m .are .all (omega (arith, m .many)) in
+      record { many = rw part at (m .many); list = part }
 
-  abbrev body : Body
-  body = carriedBody t s theirHeads theirNeed haves bytes sent
+  pub at-most : room / sizes .hash ≤ sizes .sentHashes + 1 → (room / sizes .hash ≤ sizes .sentHashes → length sent + length hs < room / sizes .hash)
+      → AtMost (sizes .sentHashes) joined after count
+  at-most few enough =
+      let few-joined : length joined ≤ length hs + length sent = omega (arith, ascend-most (hs ++ sent), length-append hs sent) in
+      split (ltb (sizes .sentHashes) (room / sizes .hash))
+      (λ e.
+      let just : sizes .sentHashes < room / sizes .hash = ltb-true _ _ e in
+      record {
+        within = omega (arith, m .many, m .are .within);
+        all = λ h. all-joined (omega arith);
+        many = λ h. omega (arith, m .many, m .are .within, m .are .full (omega (arith, m .many, m .are .within)));
+      })
+      (λ e.
+      let small : room / sizes .hash ≤ sizes .sentHashes = ltb-false _ _ e in
+      let less : length sent + length hs < room / sizes .hash = enough small in
+      let short : count < room / sizes .hash =
+      split (ltb count (room / sizes .hash))
+      (λ f. ltb-true _ _ f)
+      (λ f.
+      let long : room / sizes .hash ≤ count = ltb-false _ _ f in
+      absurd (omega (arith, m .many, m .are .within, m .are .full (omega (arith, m .many, m .are .within)))))
+      in
+      record {
+        within = omega arith;
+        all = λ h. all-joined short;
+        many = λ h. absurd (omega (arith, all-joined short .many));
+      })
 
-  -- the peer is heard to have no heads
-  pub body-made : (lost : Bool) (list : List ℕ) (r : Counted)
-      → lost ≡ heardAs (hashesAt theirHeads 0 0) (heardHashes theirHeads (s .«their_heads»))
-      → BodyMade (cond (s .«peer_read_only») (listOf [])
-      (bodyHeard t (s .«supports_v2») lost (heardHaves bytes haves (s .«their_have»)) (heardHashes theirNeed (s .«their_need»))
-      (hashesAt sent 0 (s .«sent_hashes»)))) list r
-      → BodyMade body list r
-  unfolding hashesAt bodyOf
-  body-made lost list r e b = rw e at b
+module _ {table : List ℕ} {n : ℕ} {s : Session} {marks needs : List Bool} {b : Carried} {theirNeed sent : List ℕ} {room next : ℕ}
+    (c : CarryReady table n s marks needs b theirNeed sent room next) where
+  abbrev hs : List ℕ
+  hs = chosenBy (rowsAt table 0 n) marks (hashesAt theirNeed 0 (heardCount (s .«their_need»))) needs
 
-  -- the hashes fit
-  pub body-there : (list : List ℕ) (r : Counted) → BodyMade body list r → r .hashes ≤ sizes .hashesToSend
-  body-there list r b =
-      let rows : length t ≤ sizes .rows = rw (length-rows-at table 0 n) (c .rows .rows .few) in
-      omega (arith, b .hashes .many, list-few t v rows (heard-within theirNeed (s .«their_need») (c .need)))
+  carried-room : sizes .hash * length hs ≤ room
+  carried-room = omega (arith, c .many, c .listRoom)
 
-  -- and join those that were sent
-  pub carried-made : (list after : List ℕ) (k : Carried) → BodyMade body list (k .body)
-      → SentMade (hashesAt list 0 (k .body .hashes)) (hashesAt sent 0 (s .«sent_hashes»)) next after (k .sent)
-      → CarriedMade body (hashesAt sent 0 (s .«sent_hashes»)) list after k
-  carried-made list after k b m =
-      let joined = rw (c .sentRoom) at m in
-      record { body = b; sent = rw (b .hashes .list) at joined }
+  module _ (k : ℕ) (e : k ≡ heardCount (s .«their_need»)) where
+    abbrev chosen : List ℕ
+    chosen = chosenBy (rowsAt table 0 n) marks (hashesAt theirNeed 0 k) needs
+
+    pub chosen-room : sizes .hash * length chosen ≤ room
+    chosen-room = rw e carried-room
+
+    pub chosen-marks : k ≤ length needs
+    chosen-marks = omega (arith, c .needMarks)
+
+    pub carried-list : (list after : List ℕ) → room ≡ length list → after ≡ sets list 0 (hashesBytes chosen) → Gathered hs after (b .hashes)
+    carried-list list after long put =
+        let put′ : after ≡ sets list 0 (hashesBytes hs) = rw e at put in
+        rw (put′, c .many) (written-gathered hs list (c .are) (omega (arith, carried-room)))
+
+  pub carried-made : (list after : List ℕ) (count : ℕ) → Gathered hs list (b .hashes) → length after ≡ next
+      → SentMade (hashesAt list 0 (b .hashes)) (hashesAt sent 0 (s .«sent_hashes»)) next after count
+      → CarriedMade (rowsAt table 0 n) marks (hashesAt theirNeed 0 (heardCount (s .«their_need»))) needs b (hashesAt sent 0 (s .«sent_hashes»)) list after count
+  carried-made list after count g long m =
+      let joins : SentMade hs (hashesAt sent 0 (s .«sent_hashes»)) next after count = rw (g .list) at m in
+      let before : length (hashesAt sent 0 (s .«sent_hashes»)) ≡ s .«sent_hashes» = length-hashes-at sent 0 (s .«sent_hashes») in
+      record {
+        named = g;
+        sent = at-most hs (hashesAt sent 0 (s .«sent_hashes»)) next after count joins (c .sentMost) (λ h. omega (arith, c .sentRoom h, c .many));
+        there = omega (arith, joins .many, joins .are .within);
+      }
 
 -- ---- silence
 
@@ -108,73 +181,85 @@ none-empty n (h ∷ hs) e = ne-eqb n 0 (λ z. omega arith)
 
 -- ---- all of it
 
-module _ {table index : List ℕ} {n : ℕ} {waiting : List ℕ} {m : ℕ} {s : Session} {l : Lent} (k : Checked table index n waiting m s l) where
+module _ {table index : List ℕ} {n : ℕ} (s : Session) (l : Lent) (rows : Indexed table index n) (good : sessionGood s l ≡ true) where
+  abbrev t : List Row
+  t = rowsAt table 0 n
+
   pub have-good : havesGood (l .bytes) (l .haves) (s .«their_have») ≡ true
-  have-good = session-tests s l (k .session) .theirHave
+  have-good = session-tests s l good .theirHave
 
-  pub ask-ready : {needs size : ℕ} → needs ≡ sizes .hash * (sizes .hashes + 1) → size ≡ sizes .field
-      → AskReady table index n waiting m s (l .shared) (l .theirHeads) needs size
-  ask-ready e f =
-      record {
-        rows = k .rows;
-        waitingRows = k .waitingRows;
-        heads = session-tests s l (k .session) .theirHeads;
-        syncs = session-parts s l (k .session) .shared .there;
-        room = e;
-        fieldRoom = f;
-      }
+  pub heads-good : heardGood (l .theirHeads) (s .«their_heads») ≡ true
+  heads-good = session-tests s l good .theirHeads
 
-  pub carry-ready : {room next : ℕ} → room ≡ sizes .hash * sizes .hashesToSend → next ≡ sizes .hash * (sizes .sentHashes + 1)
-      → CarryReady table index n s (l .theirHeads) (l .theirNeed) (l .haves) (l .bytes) (l .sent) room next
-  carry-ready e f =
-      let t = session-tests s l (k .session) in
-      let p = session-parts s l (k .session) in
-      record {
-        rows = k .rows;
-        heads = t .theirHeads;
-        need = t .theirNeed;
-        have = t .theirHave;
-        there = p .sent .there;
-        few = p .sent .few;
-        ascending = p .sent .ascending;
-        listRoom = e;
-        sentRoom = f;
-      }
+  pub shared-there : sizes .hash * s .«shared_heads» ≤ length (l .shared)
+  shared-there = session-parts s l good .shared .there
 
-  -- the heads fit
-  pub heads-there : (list : List ℕ) (count : ℕ) → Gathered (heads (rowsAt table 0 n)) list count → count ≤ sizes .rows
-  heads-there list count g = omega (arith, g .many, heads-few (rowsAt table 0 n), length-rows-at table 0 n, k .rows .rows .few)
+  pub count-ready : CountReady table index n s (l .theirHeads) (l .theirNeed) (l .haves) (l .bytes) (l .sent)
+  count-ready =
+      let q = session-tests s l good in
+      record { rows = rows; heads = q .theirHeads; need = q .theirNeed; have = q .theirHave; there = session-parts s l good .sent .there }
 
-  pub quiet-ready : (list : List ℕ) (count : ℕ) → Gathered (heads (rowsAt table 0 n)) list count → length list ≡ sizes .hash * sizes .rows
-      → QuietReady s (l .lastSent) (l .theirHeads) list count
-  quiet-ready list count g e =
-      record {
-        told = session-parts s l (k .session) .lastSent .there;
-        theirs = session-tests s l (k .session) .theirHeads;
-        ours = omega (arith, heads-there list count g);
-      }
+  module _ {headMarks marks needs : List Bool} {k : Counts}
+      (c : Counted t n (carriedBody t s (l .theirHeads) (l .theirNeed) (l .haves) (l .bytes) (l .sent))
+      (hashesAt (l .theirNeed) 0 (heardCount (s .«their_need»))) headMarks marks needs k)
+      (b : Bytes table)
+      {heads′ field list sent : ℕ}
+      (r : ReadyRooms k (s .«sent_hashes») heads′ field list sent) where
+    pub carry-ready : CarryReady table n s marks needs (k .body) (l .theirNeed) (l .sent) list sent
+    carry-ready =
+        let p = session-parts s l good in
+        let v = valueOf s (lentOf [] [] (l .theirHeads) (l .theirNeed) (l .haves) (l .bytes) (l .sent)) in
+        let is = c .body .hashes .list in
+        record {
+          rows = rows .rows;
+          rowMarks = c .rowMarks;
+          need = session-tests s l good .theirNeed;
+          needMarks = omega (arith, c .needMarks, length-hashes-at (l .theirNeed) 0 (heardCount (s .«their_need»)));
+          many = rw is (c .body .hashes .many);
+          are = rw is (body-hashes t (rows .rows .good) v (rows-hashes table 0 n b));
+          listRoom = r .listRoom;
+          there = p .sent .there;
+          ascending = p .sent .ascending;
+          sentThere = r .sentThere;
+          sentMost = r .sentMost;
+          sentRoom = r .sentRoom;
+        }
 
-module _ (bits probes : ℕ) (t : List Row) (w : List Waiting) (s : Session) (l : Lent) (ready : Parts) (count : ℕ) (a : Asked) (unknown : Bool) (k : Carried)
-    (silent : Bool) where
-  pub draft-made : Gathered (heads t) (ready .heads) count
-      → AskedMade bits probes t w (s .«read_only») (heardHashes (l .theirHeads) (s .«their_heads»)) (hashesAt (l .shared) 0 (s .«shared_heads»)) (ready .need)
-      (ready .field) a
+    module _ (old new : List ℕ) (count : ℕ) (long : length old ≡ heads′) (so : Collected (ascend (picked (hashes t) headMarks)) old new count) where
+      pub heads-made : Gathered (heads t) new count
+      heads-made = heads-gathered table n headMarks (c .areHeads) old new count b (omega (arith, r .headsRoom, c .heads)) so
+
+      pub heads-room : sizes .hash * count ≤ heads′
+      heads-room = omega (arith, heads-made .many, heads-many table n headMarks (c .areHeads) (rows .rows .good), c .heads, r .headsRoom)
+
+  pub quiet-ready : (list : List ℕ) (count : ℕ) → sizes .hash * count ≤ length list → QuietReady s (l .lastSent) (l .theirHeads) list count
+  quiet-ready list count h = record { told = session-parts s l good .lastSent .there; theirs = heads-good; ours = h }
+
+module _ (bits probes : ℕ) (t : List Row) (s : Session) (l : Lent) (ready : Parts) (asked count sent : ℕ) (g : Given) (unknown silent : Bool)
+    (b : Carried) where
+  abbrev drawn : Draft
+  drawn =
+      record { heads = count; need = asked; unknown = unknown; gives = g .gives; entries = g .entries; body = b; silent = silent; sent = sent }
+
+  pub draft-made : {marks needs : List Bool} {need : List ℕ} → Gathered (heads t) (ready .heads) count
+      → HaveMade bits probes t (hashesAt (ready .need) 0 asked) (heardHashes (l .theirHeads) (s .«their_heads»)) (hashesAt (l .shared) 0 (s .«shared_heads»))
+      (ready .field) g
       → unknown ≡ unknownSync t (heardHaves (l .bytes) (l .haves) (s .«their_have»))
-      → CarriedMade (carriedBody t s (l .theirHeads) (l .theirNeed) (l .haves) (l .bytes) (l .sent)) (hashesAt (l .sent) 0 (s .«sent_hashes»))
-      (ready .list) (ready .sent) k
-      → silent ≡ quiet s (l .lastSent) (l .theirHeads) (hashesAt (ready .heads) 0 count) (k .body .hashes)
-      → DraftMade bits probes t w (valueOf s l) ready
-      (record { heads = count; need = a .need; unknown = unknown; gives = a .gives; entries = a .entries; body = k .body; silent = silent; sent = k .sent })
+      → BodyChosen (carriedBody t s (l .theirHeads) (l .theirNeed) (l .haves) (l .bytes) (l .sent)) t marks need needs b
+      → CarriedMade t marks need needs b (hashesAt (l .sent) 0 (s .«sent_hashes»)) (ready .list) (ready .sent) sent
+      → silent ≡ quiet s (l .lastSent) (l .theirHeads) (hashesAt (ready .heads) 0 count) (b .hashes)
+      → DraftMade bits probes t (valueOf s l) asked ready drawn
   unfolding bodyOf silence quiet
-  draft-made h q u c e =
-      let nothing : eqb (k .body .hashes) 0 ≡ empty (bodyOf t (valueOf s l) .hashes) = none-empty _ (bodyOf t (valueOf s l) .hashes) (c .body .hashes .many) in
+  draft-made {marks} {needs} {need} h q u k c e =
+      let is : chosenBy t marks need needs ≡ bodyOf t (valueOf s l) .hashes = k .hashes .list in
+      let nothing : eqb (b .hashes) 0 ≡ empty (bodyOf t (valueOf s l) .hashes) = none-empty _ (bodyOf t (valueOf s l) .hashes) (k .hashes .many) in
       record {
         heads = h;
-        need = q .need;
+        need = refl;
         unknown = u;
         gives = q .gives;
         field = q .made;
-        body = c .body;
+        body = record { document = k .document; hashes = rw is at (c .named) };
         silent = rw (h .list, nothing) at e;
-        sent = c .sent;
+        sent = rw is at (c .sent);
       }

@@ -1,7 +1,7 @@
 -- What internal contracts speak of: the parts of a plan. No rule of 01 stands here.
-use Prim.Native.Nat.{ℕ, _+_, _*_, _≤_}
-use mathlib.Core.Bool.{Bool, true, false, _&&_, _||_}
-use mathlib.Core.List.{List, []}
+use Prim.Native.Nat.{ℕ, _+_, _*_, _/_, _≤_, _<_}
+use mathlib.Core.Bool.{Bool, true, false, not, _&&_, _||_}
+use mathlib.Core.List.{List, [], _++_}
 use mathlib.Core.Option.{Option}
 use mathlib.Core.Path.{_≡_}
 use lib.Dec.{eqb}
@@ -10,83 +10,105 @@ use Rattle.decide.specs.Call.{Buffers, roomsIn}
 use Rattle.decide.specs.Draft.{Parts, decided, putsOf, allPut}
 use Rattle.decide.specs.declared.answer.Planned.{Planned as Answer}
 use Rattle.decide.specs.declared.decide.Draft.{Draft}
-use Rattle.graph.specs.Graph.{heads, beyond}
+use Rattle.graph.specs.Graph.{needed, heads, beyond}
+use Rattle.graph.specs.Marks.{Marks, Blank, marked}
 use Rattle.index.specs.Index.{Indexed}
-use Rattle.lent.specs.Good.{heardGood, havesGood, lentOf, sessionGood}
+use Rattle.lent.specs.Good.{heardGood, havesGood, lentOf}
 use Rattle.lists.specs.Lists.{same}
-use Rattle.missing.specs.Ask.{Found}
-use Rattle.planning.specs.Made.{FieldMade, BodyMade, SentMade}
-use Rattle.rules.specs.Hash.{hashesAt}
-use Rattle.rules.specs.Order.{member, every, ascends}
+use Rattle.planning.specs.Made.{FieldMade, BlankBody, BodyChosen}
+use Rattle.planning.specs.declared.body.Body.{Body as Carried}
+use Rattle.rules.specs.Hash.{AreHashes, hashesAt}
+use Rattle.rules.specs.Order.{member, every, ascend, ascends}
 use Rattle.rules.specs.Output.{Gathered}
 use Rattle.rules.specs.Sizes.{sizes}
-use Rattle.session.specs.Plan.{Body, heard, heardAs, needOf, unknownSync, bodyOf, silence}
+use Rattle.selection.specs.Chosen.{chosenBy}
+use Rattle.session.specs.Plan.{Body, heard, heardAs, unknownSync, bodyOf, silence}
 use Rattle.state.specs.Session.{State}
-use Rattle.state.specs.Value.{Lent, heardHashes, valueOf}
+use Rattle.state.specs.Value.{heardCount, heardHashes, valueOf}
 use Rattle.state.specs.declared.session.Session.{Session}
-use Rattle.tables.specs.Bytes.{rowsAt}
+use Rattle.tables.specs.Bytes.{rowsAt, GoodRows}
 use Rattle.tables.specs.Table.{Row}
-use Rattle.tables.specs.declared.check.Checked.the-variants.{Good}
-use Rattle.waiting.specs.Bytes.{waitingChecked}
-use Rattle.waiting.specs.Waiting.{Waiting}
-use Rattle.draft.specs.declared.make.Asked.{Asked}
-use Rattle.draft.specs.declared.make.Carried.{Carried}
+use Rattle.draft.specs.declared.make.Counts.{Counts}
+use Rattle.draft.specs.declared.make.Given.{Given}
 
--- What was checked: tables of so many rows and waiting rows, an index that fits, beside a session that is good.
-pub record Checked (table index : List ℕ) (n : ℕ) (waiting : List ℕ) (m : ℕ) (s : Session) (l : Lent) : Type 0 where
+-- ---- heads and body as marks
+
+-- What the body is chosen from was tested.
+pub record CountReady (table index : List ℕ) (n : ℕ) (s : Session) (theirHeads theirNeed haves bytes sent : List ℕ) : Type 0 where
   pub rows : Indexed table index n
-  pub waitingRows : waitingChecked (rowsAt table 0 n) waiting ≡ Good m
-  pub session : sessionGood s l ≡ true
+  pub heads : heardGood theirHeads (s .«their_heads») ≡ true
+  pub need : heardGood theirNeed (s .«their_need») ≡ true
+  pub have : havesGood bytes haves (s .«their_have») ≡ true
+  pub there : sizes .hash * s .«sent_hashes» ≤ length sent
 
--- The lengths of the buffers: room for any plan, with one hash more than there may be where too many are to show.
-pub record ReadyRooms (heads need field list sent : ℕ) : Type 0 where
-  pub headsRoom : heads ≡ sizes .hash * sizes .rows
-  pub needRoom : need ≡ sizes .hash * (sizes .hashes + 1)
-  pub fieldRoom : field ≡ sizes .field
-  pub listRoom : list ≡ sizes .hash * sizes .hashesToSend
-  pub sentRoom : sent ≡ sizes .hash * (sizes .sentHashes + 1)
+-- A mark for each row twice and for each need, none of them set.
+pub record BlankMarks (n count : ℕ) (headMarks marks needs : List Bool) : Type 0 where
+  pub headRoom : n ≤ length headMarks
+  pub noHead : Blank n headMarks
+  pub body : BlankBody n count marks needs
 
--- ---- what is asked for
+-- What goes in a message, of the lists that it is chosen from.
+abbrev pub carriedBody : List Row → Session → List ℕ → List ℕ → List ℕ → List ℕ → List ℕ → Body
+carriedBody t s theirHeads theirNeed haves bytes sent = bodyOf t (valueOf s (lentOf [] [] theirHeads theirNeed haves bytes sent))
+
+-- The heads are marked, and the needs and rows that a body has, and they are counted.
+pub record Counted (t : List Row) (n : ℕ) (b : Body) (need : List ℕ) (headMarks marks needs : List Bool) (k : Counts) : Type 0 where
+  pub headRoom : n ≤ length headMarks
+  pub areHeads : Marks n headMarks (λ i. not (needed t i))
+  pub heads : k .heads ≡ marked n headMarks
+  pub rowMarks : n ≤ length marks
+  pub needMarks : length need ≤ length needs
+  pub body : BodyChosen b t marks need needs (k .body)
+
+-- The lengths of the buffers: room for what was counted. Of sent hashes there is room for one more than there can be, or than there may be, so that too
+-- many show.
+pub record ReadyRooms (k : Counts) (before heads field list sent : ℕ) : Type 0 where
+  pub headsRoom : sizes .hash * k .heads ≤ heads
+  pub fieldRoom : sizes .field ≤ field
+  pub listRoom : sizes .hash * k .body .hashes ≤ list
+  pub sentThere : sizes .hash * before ≤ sent
+  pub sentMost : sent / sizes .hash ≤ sizes .sentHashes + 1
+  pub sentRoom : sent / sizes .hash ≤ sizes .sentHashes → before + k .body .hashes < sent / sizes .hash
+
+-- ---- the have that is given
 
 -- The field of a have, if one is given.
 pub record GivenMade (bits probes : ℕ) (given : Bool) (hs field : List ℕ) (entries : ℕ) : Type 0 where
   pub made : given ≡ true → FieldMade bits probes hs field entries
   pub none : given ≡ false → entries ≡ 0
 
-pub record AskReady (table index : List ℕ) (n : ℕ) (waiting : List ℕ) (m : ℕ) (s : Session) (shared theirHeads : List ℕ) (needs size : ℕ) : Type 0 where
-  pub rows : Indexed table index n
-  pub waitingRows : waitingChecked (rowsAt table 0 n) waiting ≡ Good m
-  pub heads : heardGood theirHeads (s .«their_heads») ≡ true
-  pub syncs : sizes .hash * s .«shared_heads» ≤ length shared
-  pub room : needs ≡ sizes .hash * (sizes .hashes + 1)
-  pub fieldRoom : size ≡ sizes .field
-
-pub record AskedMade (bits probes : ℕ) (t : List Row) (w : List Waiting) (readOnlyUnit : Bool) (theirs : Option (List ℕ)) (lastSync list field : List ℕ)
-    (a : Asked) : Type 0 where
-  pub need : Found (needOf t w readOnlyUnit (heard theirs)) (sizes .hashes + 1) list (a .need)
-  pub gives : a .gives ≡ every (λ h. member h (heard theirs)) (hashesAt list 0 (a .need))
-  pub made : GivenMade bits probes (a .gives) (beyond t lastSync) field (a .entries)
+pub record HaveMade (bits probes : ℕ) (t : List Row) (need : List ℕ) (theirs : Option (List ℕ)) (lastSync field : List ℕ) (g : Given) : Type 0 where
+  pub gives : g .gives ≡ every (λ h. member h (heard theirs)) need
+  pub made : GivenMade bits probes (g .gives) (beyond t lastSync) field (g .entries)
 
 -- ---- what is carried
 
-pub record CarryReady (table index : List ℕ) (n : ℕ) (s : Session) (theirHeads theirNeed haves bytes sent : List ℕ) (room next : ℕ) : Type 0 where
-  pub rows : Indexed table index n
-  pub heads : heardGood theirHeads (s .«their_heads») ≡ true
-  pub need : heardGood theirNeed (s .«their_need») ≡ true
-  pub have : havesGood bytes haves (s .«their_have») ≡ true
-  pub there : sizes .hash * s .«sent_hashes» ≤ length sent
-  pub few : s .«sent_hashes» ≤ sizes .sentHashes
-  pub ascending : ascends (hashesAt sent 0 (s .«sent_hashes»)) ≡ true
-  pub listRoom : room ≡ sizes .hash * sizes .hashesToSend
-  pub sentRoom : next ≡ sizes .hash * (sizes .sentHashes + 1)
+pub record CarryReady (table : List ℕ) (n : ℕ) (s : Session) (marks needs : List Bool) (b : Carried) (theirNeed sent : List ℕ) (room next : ℕ) : Type 0
+  where
+    pub rows : GoodRows table n
+    pub rowMarks : n ≤ length marks
+    pub need : heardGood theirNeed (s .«their_need») ≡ true
+    pub needMarks : heardCount (s .«their_need») ≤ length needs
+    pub many : b .hashes ≡ length (chosenBy (rowsAt table 0 n) marks (hashesAt theirNeed 0 (heardCount (s .«their_need»))) needs)
+    pub are : AreHashes (chosenBy (rowsAt table 0 n) marks (hashesAt theirNeed 0 (heardCount (s .«their_need»))) needs)
+    pub listRoom : sizes .hash * b .hashes ≤ room
+    pub there : sizes .hash * s .«sent_hashes» ≤ length sent
+    pub ascending : ascends (hashesAt sent 0 (s .«sent_hashes»)) ≡ true
+    pub sentThere : sizes .hash * s .«sent_hashes» ≤ next
+    pub sentMost : next / sizes .hash ≤ sizes .sentHashes + 1
+    pub sentRoom : next / sizes .hash ≤ sizes .sentHashes → s .«sent_hashes» + b .hashes < next / sizes .hash
 
--- What goes in a message, of the lists that it is chosen from.
-abbrev pub carriedBody : List Row → Session → List ℕ → List ℕ → List ℕ → List ℕ → List ℕ → Body
-carriedBody t s theirHeads theirNeed haves bytes sent = bodyOf t (valueOf s (lentOf [] [] theirHeads theirNeed haves bytes sent))
+-- A list of which at most one more than so many are kept: all of it where it has no more than these.
+pub record AtMost (most : ℕ) (l after : List ℕ) (count : ℕ) : Type 0 where
+  pub within : count ≤ most + 1
+  pub all : count ≤ most → Gathered l after count
+  pub many : most < count → most < length l
 
-pub record CarriedMade (b : Body) (before list after : List ℕ) (k : Carried) : Type 0 where
-  pub body : BodyMade b list (k .body)
-  pub sent : SentMade (b .hashes) before (sizes .hash * (sizes .sentHashes + 1)) after (k .sent)
+pub record CarriedMade (t : List Row) (marks : List Bool) (need : List ℕ) (needs : List Bool) (b : Carried) (before list after : List ℕ) (count : ℕ) : Type 0
+  where
+    pub named : Gathered (chosenBy t marks need needs) list (b .hashes)
+    pub sent : AtMost (sizes .sentHashes) (ascend (chosenBy t marks need needs ++ before)) after count
+    pub there : sizes .hash * count ≤ length after
 
 -- ---- silence
 
@@ -103,25 +125,30 @@ quiet s lastSent theirHeads ours hashes =
 
 -- ---- the whole plan
 
--- The parts of a plan and its numbers. Of needs and sent hashes there is room for one more than there may be, so that too many show.
-pub record DraftMade (bits probes : ℕ) (t : List Row) (w : List Waiting) (s : State) (ready : Parts) (d : Draft) : Type 0 where
+-- A body: its hashes at the start of a list, and whether they go as the document.
+pub record BodyMade (b : Body) (list : List ℕ) (r : Carried) : Type 0 where
+  pub document : r .document ≡ b .document
+  pub hashes : Gathered (b .hashes) list (r .hashes)
+
+-- The parts of a plan and its numbers, so many hashes being asked for.
+pub record DraftMade (bits probes : ℕ) (t : List Row) (s : State) (asked : ℕ) (ready : Parts) (d : Draft) : Type 0 where
   pub heads : Gathered (heads t) (ready .heads) (d .heads)
-  pub need : Found (needOf t w (s .readOnly) (heard (s .theirHeads))) (sizes .hashes + 1) (ready .need) (d .need)
+  pub need : d .need ≡ asked
   pub unknown : d .unknown ≡ unknownSync t (s .theirHave)
   pub gives : d .gives ≡ every (λ h. member h (heard (s .theirHeads))) (hashesAt (ready .need) 0 (d .need))
   pub field : GivenMade bits probes (d .gives) (beyond t (s .sharedHeads)) (ready .field) (d .entries)
   pub body : BodyMade (bodyOf t s) (ready .list) (d .body)
   pub silent : d .silent ≡ silence t s
-  pub sent : SentMade (bodyOf t s .hashes) (s .sentHashes) (sizes .hash * (sizes .sentHashes + 1)) (ready .sent) (d .sent)
+  pub sent : AtMost (sizes .sentHashes) (ascend (bodyOf t s .hashes ++ s .sentHashes)) (ready .sent) (d .sent)
 
--- Parts that are long enough for any plan.
-pub record Long (s : Session) (ready : Parts) : Type 0 where
-  pub heads : sizes .hash * sizes .rows ≤ length (ready .heads)
-  pub need : sizes .hash * (sizes .hashes + 1) ≤ length (ready .need)
+-- Parts that are as long as the plan's numbers say.
+pub record Long (s : Session) (d : Draft) (ready : Parts) : Type 0 where
+  pub heads : sizes .hash * d .heads ≤ length (ready .heads)
+  pub need : sizes .hash * d .need ≤ length (ready .need)
   pub shared : sizes .hash * s .«shared_heads» ≤ length (ready .shared)
   pub field : sizes .field ≤ length (ready .field)
-  pub list : sizes .hash * sizes .hashesToSend ≤ length (ready .list)
-  pub sent : sizes .hash * (sizes .sentHashes + 1) ≤ length (ready .sent)
+  pub list : sizes .hash * d .body .hashes ≤ length (ready .list)
+  pub sent : sizes .hash * d .sent ≤ length (ready .sent)
 
 -- What was decided, and all buffers with it put.
 pub record Finished (s : Session) (d : Draft) (bits probes : ℕ) (ready : Parts) (before after : Buffers) (a : Answer) : Type 0 where

@@ -1,55 +1,110 @@
-// All parts of a plan, each computed into a buffer that is long enough for any.
+// A plan in two steps: its heads and its body as marks, which tells how many hashes they are; then all parts of it, each computed into a buffer that is
+// long enough for them.
 use decide::decide::Draft;
-use graph::heads::collect_heads;
+use graph::heads::mark_heads;
+use graph::marked::collect_marked;
+use graph::marked::count_marked;
 use planning::body::Body;
-use planning::body::make_body;
+use planning::body::mark_body;
 use planning::have::gives_have;
 use planning::have::make_field;
 use planning::have::unknown_sync;
-use planning::need::make_need;
 use planning::sent::make_sent;
 use planning::silence::heard_as;
 use planning::silence::is_silent;
 use planning::silence::is_told;
+use selection::chosen::put_chosen;
+use state::session::Heard;
 use state::session::Session;
+use state::session::heard_count;
+ghost use mathlib.Core.Bool.{true};
 ghost use mathlib.Core.Path.{_≡_};
-ghost use Prim.Native.Nat.{_*_, _≤_};
+ghost use Prim.Native.Nat.{_+_, _*_, _≤_};
 ghost use lib.ListN.{length};
 ghost use Rattle.decide.specs.Draft.{partsOf};
 ghost use Rattle.graph.specs.Graph.{beyond};
 ghost use Rattle.index.specs.Index.{Indexed};
-ghost use Rattle.lent.specs.Good.{lentOf};
+ghost use Rattle.lent.specs.Good.{heardGood, lentOf, sessionGood};
 ghost use Rattle.planning.specs.Made.{Setting};
 ghost use Rattle.rules.specs.Hash.{hashesAt};
 ghost use Rattle.rules.specs.Sizes.{sizes};
-ghost use Rattle.state.specs.Value.{heardHashes, valueOf};
+ghost use Rattle.state.specs.Value.{heardCount, heardHashes, valueOf};
 ghost use Rattle.tables.specs.Bytes.{rowsAt};
-ghost use Rattle.waiting.specs.Bytes.{waitingOf};
 ghost use Rattle.draft.specs.Make.{
-  Checked,
+  BlankMarks,
+  CountReady,
+  carriedBody,
+  Counted,
   ReadyRooms,
   GivenMade,
-  AskReady,
-  AskedMade,
+  HaveMade,
   CarryReady,
-  carriedBody,
   CarriedMade,
   QuietReady,
   quiet,
   DraftMade,
+  Long,
 };
 
-// How many hashes are asked for, whether a have is given, and the entries of its filter.
-pub struct Asked {
-    pub need: usize,
+// How many heads a table has, at most, and what the message carries.
+pub struct Counts {
+    pub heads: usize,
+    pub body: Body,
+}
+
+// Whether a have is given, and the entries of its filter.
+pub struct Given {
     pub gives: bool,
     pub entries: usize,
 }
 
-// What a message carries, and how many hashes are sent then.
-pub struct Carried {
-    pub body: Body,
-    pub sent: usize,
+// Marks the heads, and the needs and rows that the message carries.
+pub fn count_plan(
+    session: Session,
+    table: &[u8],
+    index: &[u8],
+    n: usize,
+    their_heads: &[u8],
+    their_need: &[u8],
+    haves: &[u64],
+    bytes: &[u8],
+    sent: &[u8],
+    head_marks: &mut [bool],
+    marks: &mut [bool],
+    needs: &mut [bool],
+) -> Counts
+    requires { ⌜ CountReady (now table) (now index) n session (now «their_heads») (now «their_need») (now haves) (now bytes) (now sent)
+        × BlankMarks n (heardCount (session .«their_need»)) (now «head_marks») (now marks) (now needs) ⌝ }
+    ensures { λ r. ⌜ Counted (rowsAt (now (table .entry)) 0 n) n
+        (carriedBody (rowsAt (now (table .entry)) 0 n) session (now («their_heads» .entry)) (now («their_need» .entry)) (now (haves .entry))
+        (now (bytes .entry)) (now (sent .entry)))
+        (hashesAt (now («their_need» .entry)) 0 (heardCount (session .«their_need»)))
+        (now («head_marks» .exit)) (now (marks .exit)) (now (needs .exit)) r ⌝ }
+{
+    let heard = session.their_heads;
+    let have = session.their_have;
+    let need = session.their_need;
+    mark_heads(table, n, head_marks);
+    let heads = count_marked(n, head_marks);
+    let lost = heard_as(their_heads, 0, their_heads, heard);
+    let body = mark_body(
+        table,
+        index,
+        n,
+        session.peer_read_only,
+        session.supports_v2,
+        lost,
+        bytes,
+        haves,
+        have,
+        their_need,
+        need,
+        sent,
+        session.sent_hashes,
+        marks,
+        needs,
+    );
+    Counts { heads, body }
 }
 
 // The field of the have's filter, if one is given, and how many entries it has.
@@ -74,107 +129,68 @@ fn make_have(
     make_field(bits, probes, table, index, n, shared, count, field)
 }
 
-// What is asked for, and the have that is given.
-fn make_asked(
+// The have that is given for so many hashes that are asked for.
+fn make_given(
     bits: u64,
     probes: u64,
-    session: Session,
     table: &[u8],
     index: &[u8],
     n: usize,
-    waiting: &[u8],
-    m: usize,
-    shared: &[u8],
+    ready_need: &[u8],
+    asked: usize,
     their_heads: &[u8],
-    ready_need: &mut [u8],
+    heard: Heard,
+    shared: &[u8],
+    count: usize,
     field: &mut [u8],
-) -> Asked
-    requires { ⌜ AskReady (now table) (now index) n (now waiting) m session (now shared) (now «their_heads») (length (now «ready_need»))
-        (length (now field)) × Setting bits probes ⌝ }
-    ensures { λ r. ⌜ AskedMade bits probes (rowsAt (now (table .entry)) 0 n) (waitingOf (now (waiting .entry))) (session .«read_only»)
-        (heardHashes (now («their_heads» .entry)) (session .«their_heads»)) (hashesAt (now (shared .entry)) 0 (session .«shared_heads»))
-        (now («ready_need» .exit)) (now (field .exit)) r ⌝ }
+) -> Given
+    requires { ⌜ Indexed (now table) (now index) n × (sizes .hash * asked ≤ length (now «ready_need»)) × (heardGood (now «their_heads») heard ≡ true)
+        × (sizes .hash * count ≤ length (now shared)) × Setting bits probes × (sizes .field ≤ length (now field)) ⌝ }
+    ensures { λ r. ⌜ HaveMade bits probes (rowsAt (now (table .entry)) 0 n) (hashesAt (now («ready_need» .entry)) 0 asked)
+        (heardHashes (now («their_heads» .entry)) heard) (hashesAt (now (shared .entry)) 0 count) (now (field .exit)) r ⌝ }
 {
-    let heard = session.their_heads;
-    let need = make_need(
-        table,
-        index,
-        n,
-        waiting,
-        m,
-        session.read_only,
-        their_heads,
-        heard,
-        ready_need,
-    );
-    let gives = gives_have(ready_need, need, their_heads, heard);
-    let entries = make_have(
-        gives,
-        bits,
-        probes,
-        table,
-        index,
-        n,
-        shared,
-        session.shared_heads,
-        field,
-    );
-    Asked {
-        need,
-        gives,
-        entries,
-    }
+    let gives = gives_have(ready_need, asked, their_heads, heard);
+    let entries = make_have(gives, bits, probes, table, index, n, shared, count, field);
+    Given { gives, entries }
 }
 
-// What the message carries, and the hashes that are sent then.
+// Puts what the message carries into one list, and joins it to the hashes that were sent in another: how many are sent then.
 fn make_carried(
     session: Session,
     table: &[u8],
-    index: &[u8],
     n: usize,
-    their_heads: &[u8],
+    marks: &[bool],
+    needs: &[bool],
+    body: Body,
     their_need: &[u8],
-    haves: &[u64],
-    bytes: &[u8],
     sent: &[u8],
     ready_list: &mut [u8],
     ready_sent: &mut [u8],
-) -> Carried
-    requires { ⌜ CarryReady (now table) (now index) n session (now «their_heads») (now «their_need») (now haves) (now bytes) (now sent)
-        (length (now «ready_list»)) (length (now «ready_sent»)) ⌝ }
-    ensures { λ r. ⌜ CarriedMade
-        (carriedBody (rowsAt (now (table .entry)) 0 n) session (now («their_heads» .entry)) (now («their_need» .entry)) (now (haves .entry))
-        (now (bytes .entry)) (now (sent .entry)))
+) -> usize
+    requires { ⌜ CarryReady (now table) n session (now marks) (now needs) body (now «their_need») (now sent) (length (now «ready_list»))
+        (length (now «ready_sent»)) ⌝ }
+    ensures { λ r. ⌜ CarriedMade (rowsAt (now (table .entry)) 0 n) (now (marks .entry))
+        (hashesAt (now («their_need» .entry)) 0 (heardCount (session .«their_need»))) (now (needs .entry)) body
         (hashesAt (now (sent .entry)) 0 (session .«sent_hashes»)) (now («ready_list» .exit)) (now («ready_sent» .exit)) r ⌝ }
 {
-    let heard = session.their_heads;
-    let have = session.their_have;
     let need = session.their_need;
-    let lost = heard_as(their_heads, 0, their_heads, heard);
-    let body = make_body(
+    put_chosen(
         table,
-        index,
         n,
-        session.peer_read_only,
-        session.supports_v2,
-        lost,
-        bytes,
-        haves,
-        have,
+        marks,
         their_need,
-        need,
-        sent,
-        session.sent_hashes,
+        0,
+        heard_count(need),
+        needs,
         ready_list,
     );
-    let count = make_sent(
+    make_sent(
         sent,
         session.sent_hashes,
         ready_list,
         body.hashes,
         ready_sent,
-    );
-    Carried { body, sent: count }
+    )
 }
 
 // Whether there is nothing to say with these heads, and so many hashes to send.
@@ -207,7 +223,7 @@ fn is_quiet(
     )
 }
 
-// The whole plan, and what stands ready of it.
+// The whole plan with what is asked for, and what stands ready of it.
 pub fn make_plan(
     bits: u64,
     probes: u64,
@@ -215,8 +231,12 @@ pub fn make_plan(
     table: &[u8],
     index: &[u8],
     n: usize,
-    waiting: &[u8],
-    m: usize,
+    counts: Counts,
+    head_marks: &[bool],
+    marks: &[bool],
+    needs: &[bool],
+    ready_need: &[u8],
+    asked: usize,
     shared: &[u8],
     last_sent: &[u8],
     their_heads: &[u8],
@@ -225,52 +245,58 @@ pub fn make_plan(
     bytes: &[u8],
     sent: &[u8],
     ready_heads: &mut [u8],
-    ready_need: &mut [u8],
     field: &mut [u8],
     ready_list: &mut [u8],
     ready_sent: &mut [u8],
 ) -> Draft
-    requires { ⌜ Checked (now table) (now index) n (now waiting) m session
-        (lentOf (now shared) (now «last_sent») (now «their_heads») (now «their_need») (now haves) (now bytes) (now sent))
+    requires { ⌜ Indexed (now table) (now index) n
+        × (sessionGood session (lentOf (now shared) (now «last_sent») (now «their_heads») (now «their_need») (now haves) (now bytes) (now sent)) ≡ true)
         × Setting bits probes
-        × ReadyRooms (length (now «ready_heads»)) (length (now «ready_need»)) (length (now field)) (length (now «ready_list»)) (length (now «ready_sent»)) ⌝ }
-    ensures { λ r. ⌜ DraftMade bits probes (rowsAt (now (table .entry)) 0 n) (waitingOf (now (waiting .entry)))
+        × Counted (rowsAt (now table) 0 n) n
+        (carriedBody (rowsAt (now table) 0 n) session (now «their_heads») (now «their_need») (now haves) (now bytes) (now sent))
+        (hashesAt (now «their_need») 0 (heardCount (session .«their_need»))) (now «head_marks») (now marks) (now needs) counts
+        × (sizes .hash * asked ≤ length (now «ready_need»))
+        × ReadyRooms counts (session .«sent_hashes») (length (now «ready_heads»)) (length (now field)) (length (now «ready_list»)) (length (now «ready_sent»)) ⌝ }
+    ensures { λ r. ⌜ DraftMade bits probes (rowsAt (now (table .entry)) 0 n)
         (valueOf session (lentOf (now (shared .entry)) (now («last_sent» .entry)) (now («their_heads» .entry)) (now («their_need» .entry))
-        (now (haves .entry)) (now (bytes .entry)) (now (sent .entry))))
-        (partsOf (now («ready_heads» .exit)) (now («ready_need» .exit)) (now (shared .entry)) (now (field .exit)) (now («ready_list» .exit))
-        (now («ready_sent» .exit))) r ⌝ }
+        (now (haves .entry)) (now (bytes .entry)) (now (sent .entry)))) asked
+        (partsOf (now («ready_heads» .exit)) (now («ready_need» .entry)) (now (shared .entry)) (now (field .exit)) (now («ready_list» .exit))
+        (now («ready_sent» .exit))) r
+        × Long session r
+        (partsOf (now («ready_heads» .exit)) (now («ready_need» .entry)) (now (shared .entry)) (now (field .exit)) (now («ready_list» .exit))
+        (now («ready_sent» .exit))) ⌝ }
 {
     let have = session.their_have;
-    let heads = collect_heads(table, index, n, n, ready_heads);
-    let asked = make_asked(
+    let heard = session.their_heads;
+    let body = counts.body;
+    let heads = collect_marked(table, index, n, n, head_marks, ready_heads);
+    let given = make_given(
         bits,
         probes,
-        session,
         table,
         index,
         n,
-        waiting,
-        m,
-        shared,
-        their_heads,
         ready_need,
+        asked,
+        their_heads,
+        heard,
+        shared,
+        session.shared_heads,
         field,
     );
     let unknown = unknown_sync(table, index, n, bytes, haves, have);
-    let carried = make_carried(
+    let count = make_carried(
         session,
         table,
-        index,
         n,
-        their_heads,
+        marks,
+        needs,
+        body,
         their_need,
-        haves,
-        bytes,
         sent,
         ready_list,
         ready_sent,
     );
-    let body = carried.body;
     let silent = is_quiet(
         session,
         last_sent,
@@ -281,12 +307,12 @@ pub fn make_plan(
     );
     Draft {
         heads,
-        need: asked.need,
+        need: asked,
         unknown,
-        gives: asked.gives,
-        entries: asked.entries,
+        gives: given.gives,
+        entries: given.entries,
         body,
         silent,
-        sent: carried.sent,
+        sent: count,
     }
 }

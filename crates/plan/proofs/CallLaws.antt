@@ -1,67 +1,159 @@
--- What was made for a session and tables that were checked is small and stands ready, and what is put of it is what the call promises. Assumes nothing.
-use Prim.Native.Nat.{ℕ, _≤_}
-use mathlib.Core.List.{List}
-use mathlib.Core.Path.{_≡_, _∙_}
+-- What was counted has room in the buffers for few hashes or for as many as there may be, what was made in them is small, and what is put of it is what the
+-- call promises. Assumes nothing.
+use Prim.Native.Nat.{ℕ, _+_, _*_, _/_, _≤_, _<_}
+use mathlib.Core.Bool.{Bool, true, false}
+use mathlib.Core.List.{List, []}
+use mathlib.Core.Path.{_≡_}
 use native.Mathlib.Omega.{arith}
-use lib.ListN.{length}
+use borrow.Author.Tests.{ltb-false, lt-ltb, le-ltb, not-true}
+use lib.ListN.{length, replicate, length-replicate}
 use Rattle.bloom.specs.Filter.{defaultBits, defaultProbes}
 use Rattle.bloom.proofs.Rules.{rules-default}
-use Rattle.decide.specs.Call.{Buffers, PlanCalled}
+use Rattle.decide.specs.Call.{Buffers}
 use Rattle.decide.specs.Draft.{Parts, SmallDraft}
 use Rattle.decide.specs.declared.answer.Planned.{Planned as Answer}
 use Rattle.decide.specs.declared.decide.Draft.{Draft}
-use Rattle.graph.specs.Graph.{heads}
-use Rattle.lent.proofs.GoodSessions.{session-parts}
+use Rattle.draft.specs.Make.{carriedBody, BlankMarks, Counted, ReadyRooms, DraftMade, Finished}
+use Rattle.draft.specs.declared.make.Counts.{Counts}
+use Rattle.draft.proofs.MadeLaws.{small-made, plan-called}
+use Rattle.graph.proofs.MarkLaws.{blank}
+use Rattle.graph.proofs.PickLaws.{marked-most}
+use Rattle.index.specs.Index.{Indexed}
+use Rattle.lent.specs.Good.{heardGood, lentOf, sessionGood}
+use Rattle.lent.proofs.GoodSessions.{list-parts, session-tests, session-parts, heard-within}
+use Rattle.missing.specs.Ask.{Found}
 use Rattle.planning.specs.Made.{Setting}
+use Rattle.rules.specs.Hash.{hashesAt}
 use Rattle.rules.specs.Sizes.{sizes}
-use Rattle.session.specs.Plan.{plan}
-use Rattle.state.specs.Value.{Lent, valueOf}
+use Rattle.rules.proofs.Cases.{both}
+use Rattle.session.proofs.PlanLaws.{list-few}
+use Rattle.state.specs.Value.{Lent, heardCount, valueOf}
+use Rattle.state.specs.declared.session.Heard.{Heard}
+use Rattle.state.specs.declared.session.Heard.the-variants.{Nothing, Count}
 use Rattle.state.specs.declared.session.Session.{Session}
 use Rattle.tables.specs.Bytes.{rowsAt}
 use Rattle.tables.proofs.TableLaws.{length-rows-at}
-use Rattle.waiting.specs.Waiting.{Waiting}
-use Rattle.draft.specs.Make.{Checked, ReadyRooms, DraftMade, Long, Finished}
-use Rattle.draft.proofs.MadeLaws.{small-made, plan-called}
+use Rattle.plan.specs.Asked.{few, isFew, NeedRoom, AskedCalled}
 
--- buffers keep their lengths
-pub rooms-kept : {h h′ n n′ f f′ l l′ s s′ : ℕ} → h ≡ h′ → n ≡ n′ → f ≡ f′ → l ≡ l′ → s ≡ s′ → ReadyRooms h′ n′ f′ l′ s′ → ReadyRooms h n f l s
-rooms-kept h n f l s r =
-    record {
-      headsRoom = h ∙ r .headsRoom;
-      needRoom = n ∙ r .needRoom;
-      fieldRoom = f ∙ r .fieldRoom;
-      listRoom = l ∙ r .listRoom;
-      sentRoom = s ∙ r .sentRoom;
-    }
+-- ---- what is asked for
 
-module _ {table index : List ℕ} {n : ℕ} {waiting : List ℕ} {m : ℕ} {s : Session} {l : Lent} (k : Checked table index n waiting m s l) where
-  pub small-checked : {bits probes : ℕ} {w : List Waiting} {ready : Parts} {d : Draft} → Setting bits probes
-      → DraftMade bits probes (rowsAt table 0 n) w (valueOf s l) ready d
-      → SmallDraft s d bits
-  small-checked setting made =
-      let rows : length (rowsAt table 0 n) ≤ sizes .rows = rw (length-rows-at table 0 n) (k .rows .rows .few) in
-      small-made _ _ _ _ s l _ _ made rows (k .session) setting
+-- Few hashes that are asked for are all of them.
+pub few-found : {l after : List ℕ} {count : ℕ} (most : ℕ) → Found l most after count → most ≡ few + 1 → count ≤ few → Found l (sizes .hashes + 1) after count
+few-found most f e h =
+    record { within = omega arith; all = λ _. f .all (omega arith); full = λ q. absurd (omega arith) }
 
-  pub long-ready : (ready : Parts) → ready .shared ≡ l .shared
-      → ReadyRooms (length (ready .heads)) (length (ready .need)) (length (ready .field)) (length (ready .list)) (length (ready .sent))
-      → Long s ready
-  long-ready ready e r =
+pub need-room : {l : List ℕ} {count : ℕ} (after : List ℕ) (room : ℕ) → Found l (room / sizes .hash) after count → length after ≡ room
+    → room / sizes .hash ≤ sizes .hashes + 1
+    → NeedRoom count (length after)
+need-room after room f e h = record { within = omega (arith, f .within); there = omega (arith, f .within) }
+
+-- ---- what is counted
+
+module _ (k : Counts) (before : ℕ) where
+  pub many-heads : few < k .heads → false ≡ isFew k before
+  unfolding isFew
+  many-heads h = rw (lt-ltb _ _ h)
+
+  pub many-sent : k .heads ≤ few → few < before + k .body .hashes → false ≡ isFew k before
+  unfolding isFew
+  many-sent h m = rw (le-ltb _ _ h, lt-ltb _ _ m)
+
+  pub few-all : k .heads ≤ few → before + k .body .hashes ≤ few → true ≡ isFew k before
+  unfolding isFew
+  few-all h m = rw (le-ltb _ _ h, le-ltb _ _ m)
+
+  few-parts : isFew k before ≡ true → (k .heads ≤ few) × (before + k .body .hashes ≤ few)
+  unfolding isFew
+  few-parts e =
+      let p = both _ _ e in
+      (ltb-false _ _ (not-true _ (p .0)), ltb-false _ _ (not-true _ (p .1)))
+
+heard-most : (s : List ℕ) (h : Heard) → heardGood s h ≡ true → heardCount h ≤ sizes .hashes
+unfolding heardGood
+heard-most s Nothing g = omega arith
+heard-most s (Count n) g = list-parts s n g .few
+
+module _ {table index : List ℕ} {n : ℕ} (s : Session) (l : Lent) (rows : Indexed table index n) (good : sessionGood s l ≡ true) where
+  pub blank-marks : BlankMarks n (heardCount (s .«their_need»)) (replicate (sizes .rows) false) (replicate (sizes .rows) false) (replicate (sizes .hashes) false)
+  blank-marks =
+      let rows-few : n ≤ sizes .rows = rows .rows .few in
+      let needs-few : heardCount (s .«their_need») ≤ sizes .hashes = heard-most (l .theirNeed) (s .«their_need») (session-tests s l good .theirNeed) in
       record {
-        heads = omega (arith, r .headsRoom);
-        need = omega (arith, r .needRoom);
-        shared = rw e (session-parts s l (k .session) .shared .there);
-        field = omega (arith, r .fieldRoom);
-        list = omega (arith, r .listRoom);
-        sent = omega (arith, r .sentRoom);
+        headRoom = omega (arith, length-replicate (sizes .rows) false);
+        noHead = blank _ _ rows-few;
+        body =
+            record {
+              rowMarks = omega (arith, length-replicate (sizes .rows) false);
+              noRow = blank _ _ rows-few;
+              needMarks = omega (arith, length-replicate (sizes .hashes) false);
+              noNeed = blank _ _ needs-few;
+            };
       }
 
+  module _ {headMarks marks needs : List Bool} {k : Counts}
+      (c : Counted (rowsAt table 0 n) n
+      (carriedBody (rowsAt table 0 n) s (l .theirHeads) (l .theirNeed) (l .haves) (l .bytes) (l .sent))
+      (hashesAt (l .theirNeed) 0 (heardCount (s .«their_need»))) headMarks marks needs k) where
+    pub carried-few : k .body .hashes ≤ sizes .hashesToSend
+    carried-few =
+        let t = rowsAt table 0 n in
+        let v = valueOf s (lentOf [] [] (l .theirHeads) (l .theirNeed) (l .haves) (l .bytes) (l .sent)) in
+        let there : length t ≤ sizes .rows = rw (length-rows-at table 0 n) (rows .rows .few) in
+        omega (
+          arith,
+          c .body .hashes .many,
+          list-few t v there (heard-within (l .theirNeed) (s .«their_need») (session-tests s l good .theirNeed)),
+        )
+
+    pub sent-few : s .«sent_hashes» ≤ sizes .sentHashes
+    sent-few = session-parts s l good .sent .few
+
+    -- buffers for few
+    pub few-rooms : (heads list sent : ℕ) → heads ≡ sizes .hash * (few + 1) → list ≡ sizes .hash * (few + 1) → sent ≡ sizes .hash * (few + 1)
+        → isFew k (s .«sent_hashes») ≡ true
+        → ReadyRooms k (s .«sent_hashes») heads (sizes .field) list sent
+    few-rooms heads list sent a b d e =
+        let f = few-parts k (s .«sent_hashes») e in
+        record {
+          headsRoom = omega (arith, f .0);
+          fieldRoom = omega arith;
+          listRoom = omega (arith, f .1);
+          sentThere = omega (arith, f .1);
+          sentMost = omega arith;
+          sentRoom = λ _. omega (arith, f .1);
+        }
+
+    -- buffers for as many as there may be
+    pub many-rooms : (heads list sent : ℕ) → heads ≡ sizes .hash * sizes .rows → list ≡ sizes .hash * sizes .hashesToSend
+        → sent ≡ sizes .hash * (sizes .sentHashes + 1)
+        → ReadyRooms k (s .«sent_hashes») heads (sizes .field) list sent
+    many-rooms heads list sent a b d =
+        record {
+          headsRoom = omega (arith, c .heads, marked-most n headMarks, rows .rows .few);
+          fieldRoom = omega arith;
+          listRoom = omega (arith, carried-few);
+          sentThere = omega (arith, sent-few);
+          sentMost = omega arith;
+          sentRoom = λ h. absurd (omega arith);
+        }
+
+-- ---- what is made
+
+module _ {table index : List ℕ} {n : ℕ} (s : Session) (l : Lent) (rows : Indexed table index n) (good : sessionGood s l ≡ true) where
+  pub small-asked : {bits probes asked room : ℕ} {ready : Parts} {d : Draft} → Setting bits probes → NeedRoom asked room
+      → DraftMade bits probes (rowsAt table 0 n) (valueOf s l) asked ready d
+      → SmallDraft s d bits
+  small-asked setting need made =
+      let there : length (rowsAt table 0 n) ≤ sizes .rows = rw (length-rows-at table 0 n) (rows .rows .few) in
+      small-made _ _ _ s l _ _ _ made (need .within) there good setting
+
   -- What was made, decided and put is what the call promises.
-  pub checked-called : {bits probes : ℕ} {w : List Waiting} {ready : Parts} {d : Draft} {before after : Buffers} {a : Answer}
-      → DraftMade bits probes (rowsAt table 0 n) w (valueOf s l) ready d
+  pub asked-called : {bits probes asked : ℕ} {ready : Parts} {d : Draft} {before after : Buffers} {a : Answer}
+      → DraftMade bits probes (rowsAt table 0 n) (valueOf s l) asked ready d
       → ready .shared ≡ l .shared
       → Finished s d bits probes ready before after a
-      → PlanCalled s (plan bits probes (rowsAt table 0 n) w (valueOf s l)) before after a
-  checked-called m e f = plan-called _ _ _ _ s l _ _ m e _ _ _ f
+      → AskedCalled bits probes s (rowsAt table 0 n) l (ready .need) asked before after a
+  asked-called m e f = record { called = λ w found. plan-called _ _ _ w s l _ _ _ m (rw (m .need) found) e _ _ _ f }
 
 -- The filter rules hold with the default's bits and probes over any rows.
 pub default-setting : Setting defaultBits defaultProbes

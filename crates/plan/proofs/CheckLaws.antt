@@ -6,7 +6,7 @@ use mathlib.Core.Path.{_≡_, refl, sym, _∙_}
 use native.Mathlib.Omega.{arith}
 use Rattle.decide.specs.Call.{Buffers, afterTables, planWith, answerOf, roomed, putInto, PlanCalled}
 use Rattle.decide.specs.declared.answer.Planned.the-variants as answer
-use Rattle.draft.specs.Make.{Checked}
+use Rattle.plan.specs.Asked.{Checked}
 use Rattle.index.specs.Index.{Indexed, indexChecked}
 use Rattle.index.proofs.CheckLaws.{checked-table, checked-indexed}
 use Rattle.lent.specs.Good.{sessionGood}

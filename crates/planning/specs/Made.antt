@@ -1,17 +1,19 @@
 -- What internal contracts speak of: parts of a plan that were computed into buffers. No rule of 01 stands here.
 use Prim.Native.Nat.{ℕ, _/_, _≤_}
-use mathlib.Core.Bool.{true}
+use mathlib.Core.Bool.{Bool, true}
 use mathlib.Core.List.{List, _++_}
 use mathlib.Core.Path.{_≡_}
 use lib.ListN.{length, take}
 use Rattle.bloom.specs.Filter.{fieldSize, filterRules}
+use Rattle.graph.specs.Marks.{Marks, Blank}
 use Rattle.lists.specs.Lists.{UpTo}
 use Rattle.probe.specs.Build.{filterOf}
 use Rattle.rules.specs.Hash.{hashesAt}
 use Rattle.rules.specs.Order.{ascend}
-use Rattle.rules.specs.Output.{Gathered}
 use Rattle.rules.specs.Sizes.{sizes}
+use Rattle.selection.specs.Chosen.{Chosen}
 use Rattle.session.specs.Plan.{Body}
+use Rattle.tables.specs.Table.{Row}
 use Rattle.planning.specs.declared.body.Body.{Body as Counted}
 
 -- Bits and probes with which a filter over any rows of a table keeps the filter rules.
@@ -23,10 +25,23 @@ pub record FieldMade (bits probes : ℕ) (hs field : List ℕ) (entries : ℕ) :
   pub many : entries ≡ length hs
   pub is : take (fieldSize entries bits) field ≡ filterOf bits probes hs .field
 
--- A body: its hashes at the start of a list, and whether they go as the document.
-pub record BodyMade (b : Body) (list : List ℕ) (r : Counted) : Type 0 where
+-- A body that isn't chosen yet: no mark of the rows and of so many needs is set.
+pub record BlankBody (n count : ℕ) (marks needs : List Bool) : Type 0 where
+  pub rowMarks : n ≤ length marks
+  pub noRow : Blank n marks
+  pub needMarks : count ≤ length needs
+  pub noNeed : Blank count needs
+
+-- The document: every row is marked and no need.
+pub record DocumentMarked (n count : ℕ) (marks needs : List Bool) (r : Counted) : Type 0 where
+  pub all : Marks n marks (λ i. true)
+  pub none : Blank count needs
+  pub is : r ≡ record { document = true; hashes = n }
+
+-- A body: its hashes are those of the needs and rows that are marked, and whether they go as the document.
+pub record BodyChosen (b : Body) (t : List Row) (marks : List Bool) (need : List ℕ) (needs : List Bool) (r : Counted) : Type 0 where
   pub document : r .document ≡ b .document
-  pub hashes : Gathered (b .hashes) list (r .hashes)
+  pub hashes : Chosen (b .hashes) t marks need needs (r .hashes)
 
 -- Hashes joined to those that were sent, as many as a buffer of so many bytes holds.
 pub record SentMade (hs sent : List ℕ) (room : ℕ) (after : List ℕ) (count : ℕ) : Type 0 where

@@ -1,22 +1,26 @@
--- `draft::make::make_carried` meets its contract: the hashes of any body fit, and they join those that were sent. Assumes nothing.
+-- `draft::make::make_carried` meets its contract: what was chosen fits, and it joins the hashes that were sent. Assumes nothing.
+use mathlib.Core.Path.{refl}
 use native.Mathlib.Omega.{arith}
-use Rattle.draft.proofs.MakeLaws.{body-made, body-there, carried-made}
+use Rattle.planning.proofs.HeardLaws.{heard-there}
+use Rattle.draft.proofs.MakeLaws.{chosen-room, chosen-marks, carried-list, carried-made}
 use borrow.Author.Needs.{needs}
 use Rattle.draft.proofs.make.make_carried.Statement.{statement}
 use Rattle.draft.proofs.make.make_carried.Tie as tie
 
-heard-as-requires : tie.Need-heard-as-requires
-heard-as-requires c κs = search needs
+heard-count-requires : tie.Need-heard-count-requires
+heard-count-requires c κs = search needs
 
-make-body-requires : tie.Need-make-body-requires
-make-body-requires c κs = search needs
+put-chosen-requires : tie.Need-put-chosen-requires
+put-chosen-requires c κs =
+    let start = c .before .before .before .before .before .before .before .before .before in
+    let e = c .before .heard-count .ensures in
+    (start .pre .rows, start .pre .rowMarks, heard-there _ _ _ e (start .pre .need), chosen-marks (start .pre) _ e, chosen-room (start .pre) _ e)
 
 make-sent-requires : tie.Need-make-sent-requires
 make-sent-requires c κs =
-    let body = c .before .before .before .before in
-    let start = body .before .before .before .before .before .before .before .before .before .before .before .before in
-    let few = body-there (start .pre) _ _ (body-made (start .pre) _ _ _ (body .before .before .heard-as .ensures) (body .make-body .ensures)) in
-    (start .pre .there, start .pre .ascending, omega (arith, few), omega (arith, start .pre .sentRoom, start .pre .few))
+    let put = c .before .before .before .before in
+    let start = put .before .before .before .before .before .before .before .before .before .before in
+    (start .pre .there, start .pre .ascending, omega (arith, start .pre .listRoom, put .put-chosen .kept .1 .1 .1 .1 .1 .1 .1 .0), start .pre .sentThere)
 
 same-length : tie.Need-same-length
 same-length c = search needs
@@ -27,17 +31,17 @@ same-length-2 c = search needs
 returns : tie.Need-returns
 returns c =
     let sent = c .before .before in
-    let body = sent .before .before .before .before .before in
-    let start = body .before .before .before .before .before .before .before .before .before .before .before .before in
-    carried-made (start .pre) _ _ _ (body-made (start .pre) _ _ _ (body .before .before .heard-as .ensures) (body .make-body .ensures))
-    (sent .make-sent .ensures)
+    let put = sent .before .before .before .before .before in
+    let start = put .before .before .before .before .before .before .before .before .before .before in
+    let list = carried-list (start .pre) _ (put .before .before .heard-count .ensures) _ _ refl (put .put-chosen .ensures) in
+    carried-made (start .pre) _ _ _ list (sent .make-sent .kept .1 .1 .1 .1 .0) (sent .make-sent .ensures)
 
 pub make-carried-spec : {M : Type 1} → statement M
 make-carried-spec =
     tie.close
     (tie.spec
-    heard-as-requires
-    make-body-requires
+    heard-count-requires
+    put-chosen-requires
     make-sent-requires
     same-length
     same-length-2

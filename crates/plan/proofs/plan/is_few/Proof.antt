@@ -1,0 +1,20 @@
+-- `plan::plan::is_few` meets its contract, test by test. Assumes nothing.
+use Rattle.plan.proofs.CallLaws.{many-heads, many-sent, few-all}
+use borrow.Author.Needs.{needs}
+use Rattle.plan.proofs.plan.is_few.Statement.{statement}
+use Rattle.plan.proofs.plan.is_few.Tie as tie
+
+returns : tie.Need-returns
+returns c = many-heads _ _ (c .if1 .taken)
+
+add-if2 : tie.Need-add-if2
+add-if2 c = search needs
+
+returns-2 : tie.Need-returns-2
+returns-2 c = many-sent _ _ (c .before .before .if1 .left) (c .if2 .taken)
+
+returns-3 : tie.Need-returns-3
+returns-3 c = few-all _ _ (c .before .before .if1 .left) (c .if2 .left)
+
+pub is-few-spec : {M : Type 1} → statement M
+is-few-spec = tie.close (tie.spec returns add-if2 returns-2 returns-3)

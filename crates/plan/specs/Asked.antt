@@ -1,0 +1,46 @@
+-- What internal contracts speak of: a plan once it is known what is asked for. No rule of 01 stands here.
+use Prim.Native.Nat.{ℕ, _+_, _*_, _≤_}
+use mathlib.Core.Bool.{Bool, true, not, _&&_}
+use mathlib.Core.List.{List}
+use mathlib.Core.Path.{_≡_}
+use lib.Dec.{ltb}
+use Rattle.decide.specs.Call.{Buffers, PlanCalled}
+use Rattle.decide.specs.declared.answer.Planned.{Planned as Answer}
+use Rattle.draft.specs.declared.make.Counts.{Counts}
+use Rattle.index.specs.Index.{Indexed}
+use Rattle.lent.specs.Good.{sessionGood}
+use Rattle.missing.specs.Ask.{Found}
+use Rattle.rules.specs.Sizes.{sizes}
+use Rattle.session.specs.Plan.{heard, needOf, plan}
+use Rattle.state.specs.Value.{Lent, valueOf}
+use Rattle.state.specs.declared.session.Session.{Session}
+use Rattle.tables.specs.Bytes.{rowsAt}
+use Rattle.tables.specs.Table.{Row}
+use Rattle.tables.specs.declared.check.Checked.the-variants.{Good}
+use Rattle.waiting.specs.Bytes.{waitingChecked}
+use Rattle.waiting.specs.Waiting.{Waiting}
+
+-- So many hashes are few.
+abbrev pub few : ℕ
+few = 64
+
+-- Few heads, and few sent hashes with what the message carries.
+unfoldable pub isFew : Counts → ℕ → Bool
+isFew k before = not (ltb few (k .heads)) && not (ltb few (before + k .body .hashes))
+
+-- What was checked: tables of so many rows and waiting rows, an index that fits, beside a session that is good.
+pub record Checked (table index : List ℕ) (n : ℕ) (waiting : List ℕ) (m : ℕ) (s : Session) (l : Lent) : Type 0 where
+  pub rows : Indexed table index n
+  pub waitingRows : waitingChecked (rowsAt table 0 n) waiting ≡ Good m
+  pub session : sessionGood s l ≡ true
+
+-- What is asked for stands in its buffer, and is no more than there may be and one.
+pub record NeedRoom (asked room : ℕ) : Type 0 where
+  pub within : asked ≤ sizes .hashes + 1
+  pub there : sizes .hash * asked ≤ room
+
+-- What the call ensures, whatever waits, if this is what is asked for then.
+pub record AskedCalled (bits probes : ℕ) (s : Session) (t : List Row) (l : Lent) (ready : List ℕ) (asked : ℕ) (before after : Buffers) (r : Answer) : Type 0
+  where
+    pub called : (w : List Waiting) → Found (needOf t w (s .«read_only») (heard (valueOf s l .theirHeads))) (sizes .hashes + 1) ready asked
+        → PlanCalled s (plan bits probes t w (valueOf s l)) before after r
