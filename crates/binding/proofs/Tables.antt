@@ -11,6 +11,7 @@ tables-bind =
       check-indexed = λ κs a x y u v p q. (once p q, refl);
       check-sound = λ κs a x y u v p q. (once p q, refl);
       check-unfit = λ κs a x y u v p q. (once p q, refl);
+      check-alone = λ κs a x y u v p q. (once p q, refl);
       build-index = λ κs a x y u v p q. (once (p .answer) (q .answer), skip (joined (once (p .content) (q .content)) refl));
       extend-index = λ κs a x y u v p q. (once (p .answer) (q .answer), skip (skip (joined (once (p .content) (q .content)) refl)));
       beyond = λ κs a x y u v p q. (once (p .answer) (q .answer), skip (skip (skip (joined (once (p .content) (q .content)) refl))));

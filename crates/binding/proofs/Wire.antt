@@ -30,6 +30,7 @@ wire-bind =
       build-rules = λ κs a x y u v p q. (once p q, refl);
       filter-size = λ κs a x y u v p q. (once p q, refl);
       to-bytes = λ κs a x y u v p q. (once (p .answer) (q .answer), joined (once (p .content) (q .content)) refl);
+      clear = λ κs a x y u v p q. (refl, joined (once p q) refl);
       from-hashes = λ κs a x y u v p q. (once (p .answer) (q .answer), joined (once (p .content) (q .content)) refl);
       filters-contain = λ κs a x y u v p q. (once p q, refl);
       count = λ κs a x y u v p q. (once p q, refl);

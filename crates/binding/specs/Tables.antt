@@ -4,6 +4,7 @@ use Rattle.tables.proofs.check.check_table as of-check-table
 use Rattle.index.proofs.check.check_indexed as of-check-indexed
 use Rattle.index.proofs.check.check_sound as of-check-sound
 use Rattle.index.proofs.check.check_unfit as of-check-unfit
+use Rattle.indexing.proofs.check.check_alone as of-check-alone
 use Rattle.indexing.proofs.build.build_index as of-build-index
 use Rattle.indexing.proofs.build.extend_index as of-extend-index
 use Rattle.waiting.proofs.check.check_tables as of-check-tables
@@ -21,6 +22,7 @@ pub record TablesBind : Type 0 where
   pub check-sound : Binds of-check-sound.ended of-check-sound.Reads.Post
   pub check-unfit : Binds of-check-unfit.ended of-check-unfit.Reads.Post
   -- the crate indexing
+  pub check-alone : Binds of-check-alone.ended of-check-alone.Reads.Post
   pub build-index : Binds of-build-index.ended of-build-index.Reads.Post
   pub extend-index : Binds of-extend-index.ended of-extend-index.Reads.Post
   -- the crate waiting

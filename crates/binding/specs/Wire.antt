@@ -24,6 +24,7 @@ use Rattle.bloom.proofs.rule.filter_rules as of-filter-rules
 use Rattle.bloom.proofs.rule.build_rules as of-build-rules
 use Rattle.bloom.proofs.to_bytes.filter_size as of-filter-size
 use Rattle.bloom.proofs.to_bytes.to_bytes as of-to-bytes
+use Rattle.probe.proofs.build.clear as of-clear
 use Rattle.probe.proofs.build.from_hashes as of-from-hashes
 use Rattle.probe.proofs.contains.filters_contain as of-filters-contain
 use Rattle.probe.proofs.probes.count as of-count
@@ -59,6 +60,7 @@ pub record WireBind : Type 0 where
   pub filter-size : Binds of-filter-size.ended of-filter-size.Reads.Post
   pub to-bytes : Binds of-to-bytes.ended of-to-bytes.Reads.Post
   -- the crate probe
+  pub clear : Binds of-clear.ended of-clear.Reads.Post
   pub from-hashes : Binds of-from-hashes.ended of-from-hashes.Reads.Post
   pub filters-contain : Binds of-filters-contain.ended of-filters-contain.Reads.Post
   pub count : Binds of-count.ended of-count.Reads.Post

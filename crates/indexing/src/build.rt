@@ -1,8 +1,8 @@
 // The index of a change table written: made of all its rows, or of the index of all but the last.
+use crate::check::INDEX_SIZE;
+use crate::check::check_fitted;
 use crate::extend::build_by_rows;
 use crate::extend::extend;
-use index::check::check_sound;
-use index::fit::entries_fit;
 use index::fit::index_fits;
 use rules::output::Write;
 use rules::put::copy_into;
@@ -17,23 +17,9 @@ ghost use Prim.Native.Nat.{_*_, _/_, _≤_};
 ghost use lib.ListN.{length};
 ghost use Rattle.rules.specs.Output.{Written, Output};
 ghost use Rattle.rules.specs.Sizes.{sizes};
-ghost use Rattle.tables.specs.Bytes.{rowSize, rowsAt, u16sAt, tableChecked};
+ghost use Rattle.tables.specs.Bytes.{rowSize, rowsAt, u16sAt};
 ghost use Rattle.index.specs.Index.{indexOf};
 ghost use Rattle.indexing.specs.Indexing.{indexBytes, builtOutput, fitsButLast, extendedOutput};
-
-// Bytes of the longest index.
-pub const INDEX_SIZE: usize = 2 * ROWS;
-
-// The table's check beside entries of its n whole rows: rows are compared in pairs only where the entries don't fit.
-fn check_fitted(table: &[u8], index: &[u8], n: usize) -> Checked
-    requires { ⌜ (n ≡ length (now table) / rowSize) × (2 * n ≤ length (now index)) ⌝ }
-    ensures { λ r. ⌜ r ≡ tableChecked (now (table .entry)) ⌝ }
-{
-    if !entries_fit(table, index, n) {
-        return check_table(table);
-    }
-    check_sound(table)
-}
 
 // Writes the first n entries of an index.
 fn put_index(index: &[u8], n: usize, out: &mut [u8]) -> Write

@@ -4,5 +4,7 @@
 //   row 3         b          index   1 3 0 2      behind as many as have a lower hash
 //
 // Either is made in memory of the call's own, and then shows that no hash stands twice: the table is checked without comparing its rows in pairs.
+// So is a table that is lent alone.
 pub mod build;
+pub mod check;
 pub mod extend;

@@ -12,7 +12,7 @@ use rules::sizes::HASHES;
 use rules::sizes::WAITING_ROWS;
 use tables::check::Checked;
 use waiting::check::asks_count;
-use waiting::check::check_waiting;
+use waiting::check::check_in_order;
 use waiting::find::ORDER_SIZE;
 use waiting::find::find_waiting;
 use waiting::find::order_waiting;
@@ -27,7 +27,7 @@ ghost use Rattle.rules.specs.Output.{Written};
 ghost use Rattle.rules.specs.Sizes.{sizes};
 ghost use Rattle.tables.specs.Bytes.{rowsAt};
 ghost use Rattle.tables.specs.declared.check.Checked.the-variants.{Good};
-ghost use Rattle.waiting.specs.Bytes.{waitingOf, waitingChecked};
+ghost use Rattle.waiting.specs.Bytes.{waitingOf, waitingChecked, Sorted};
 ghost use Rattle.missing.specs.Ask.{Request, Askable, Asked, Found};
 ghost use Rattle.missing.specs.Calls.{missingFrom, missingBeside, missingOutput};
 ghost use Rattle.missing.specs.Missing.{missing};
@@ -123,8 +123,43 @@ fn ask_list(
     found
 }
 
-// What is missing from some hashes, for callers that have checked both tables: puts it into the list and returns how much it is, or fills the
-// list.
+// What is missing from some hashes, for callers that have checked both tables and put the waiting rows in order: puts it into the list and returns
+// how much it is, or fills the list.
+fn find_in_order(
+    table: &[u8],
+    index: &[u8],
+    n: usize,
+    waiting: &[u8],
+    order: &[u8],
+    m: usize,
+    bytes: &[u8],
+    place: usize,
+    entries: usize,
+    list: &mut [u8],
+) -> usize
+    requires { ⌜ Indexed (now table) (now index) n × (waitingChecked (rowsAt (now table) 0 n) (now waiting) ≡ Good m)
+        × Sorted (now waiting) (now order) m × (place + sizes .hash * entries ≤ length (now bytes)) ⌝ }
+    ensures { λ r. ⌜ Found (missing (rowsAt (now (table .entry)) 0 n) (waitingOf (now (waiting .entry))) (hashesAt (now (bytes .entry)) place entries))
+        (length (now (list .entry)) / sizes .hash) (now (list .exit)) r ⌝ }
+{
+    let mut marks = [false; WAITING_ROWS];
+    ask_list(
+        table,
+        index,
+        n,
+        waiting,
+        order,
+        m,
+        &mut marks,
+        list,
+        0,
+        bytes,
+        place,
+        entries,
+    )
+}
+
+// The same for callers that have only checked both tables.
 pub fn find_missing(
     table: &[u8],
     index: &[u8],
@@ -143,20 +178,17 @@ pub fn find_missing(
 {
     let mut order = [0u8; ORDER_SIZE];
     order_waiting(waiting, m, &mut order);
-    let mut marks = [false; WAITING_ROWS];
-    ask_list(
+    find_in_order(
         table,
         index,
         n,
         waiting,
         &order,
         m,
-        &mut marks,
-        list,
-        0,
         bytes,
         place,
         entries,
+        list,
     )
 }
 
@@ -166,11 +198,13 @@ fn missing_from(
     index: &[u8],
     n: usize,
     waiting: &[u8],
+    order: &[u8],
     m: usize,
     l: &[u8],
     out: &mut [u8],
 ) -> Write
-    requires { ⌜ Indexed (now table) (now index) n × (waitingChecked (rowsAt (now table) 0 n) (now waiting) ≡ Good m) ⌝ }
+    requires { ⌜ Indexed (now table) (now index) n × (waitingChecked (rowsAt (now table) 0 n) (now waiting) ≡ Good m)
+        × Sorted (now waiting) (now order) m ⌝ }
     ensures { λ r. ⌜ Written (missingFrom (rowsAt (now (table .entry)) 0 n) (waitingOf (now (waiting .entry))) (now (l .entry)))
         (now (out .entry)) (now (out .exit)) r ⌝ }
 {
@@ -178,7 +212,7 @@ fn missing_from(
         Passed::Refused(refusal) => Write::Refused(refusal),
         Passed::Hashes(entries) => {
             let mut list = [0u8; LIST_SIZE];
-            let count = find_missing(table, index, n, waiting, m, l, 0, entries, &mut list);
+            let count = find_in_order(table, index, n, waiting, order, m, l, 0, entries, &mut list);
             if HASHES < count {
                 return Write::Refused(Refusal::PastSize(0));
             }
@@ -187,7 +221,7 @@ fn missing_from(
     }
 }
 
-// The same after the waiting table's check.
+// The same after the waiting table's check, whose order serves the look-ups.
 fn missing_beside(
     table: &[u8],
     index: &[u8],
@@ -200,9 +234,10 @@ fn missing_beside(
     ensures { λ r. ⌜ Written (missingBeside (rowsAt (now (table .entry)) 0 n) (now (waiting .entry)) (now (l .entry)))
         (now (out .entry)) (now (out .exit)) r ⌝ }
 {
-    match check_waiting(table, index, n, waiting) {
+    let mut order = [0u8; ORDER_SIZE];
+    match check_in_order(table, index, n, waiting, &mut order) {
         Checked::Refused(refusal) => Write::Refused(refusal),
-        Checked::Good(m) => missing_from(table, index, n, waiting, m, l, out),
+        Checked::Good(m) => missing_from(table, index, n, waiting, &order, m, l, out),
     }
 }
 

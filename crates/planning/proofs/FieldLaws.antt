@@ -1,29 +1,23 @@
--- The filter of the rows beyond a list: the rows that are marked when the marks are turned, gathered in a list, with a field that is long enough by
--- the filter rules.
-use Prim.Native.Nat.{ℕ, _+_, _*_, _≤_}
+-- The filter of the rows beyond a list: the rows that are marked when the marks are turned, with a field that is long enough by the filter rules.
+use Prim.Native.Nat.{ℕ, _*_, _≤_}
 use mathlib.Core.Bool.{Bool, false, not}
 use mathlib.Core.List.{List, _++_}
 use mathlib.Core.Path.{_≡_, sym, ap, _∙_}
 use native.Mathlib.Omega.{arith}
 use lib.ListN.{length, getD, take, drop, replicate, length-replicate}
-use lib.Seq.{sets, length-take-le, take-at}
+use lib.Seq.{length-take-le, take-at}
 use Rattle.bloom.specs.Filter.{fieldSize}
 use Rattle.graph.specs.Graph.{belowRow, beyond}
 use Rattle.graph.specs.Marks.{Marks, marked, picked}
-use Rattle.graph.proofs.BelowLaws.{beyond-hashes}
 use Rattle.graph.proofs.GraphMarks.{many-rows, picked-beyond}
-use Rattle.graph.proofs.PickLaws.{picked-count, marked-most}
+use Rattle.graph.proofs.PickLaws.{picked-count}
 use Rattle.numbers.specs.Number.{mostFilter}
 use Rattle.probe.specs.Build.{addHashes, filterOf}
 use Rattle.probe.proofs.BuildLaws.{rules-numbers, rules-field}
 use Rattle.probe.proofs.FieldLaws.{length-add-hashes}
-use Rattle.rules.specs.Hash.{Bytes, hashesAt, hashesBytes}
-use Rattle.rules.specs.Output.{Gathered}
 use Rattle.rules.specs.Sizes.{sizes}
-use Rattle.rules.proofs.Outputs.{written-gathered}
 use Rattle.tables.specs.Bytes.{rowsAt}
 use Rattle.tables.specs.Table.{Row, rows}
-use Rattle.tables.proofs.GoodLaws.{rows-hashes}
 use Rattle.planning.specs.Made.{Setting, FieldMade}
 
 -- ---- the rows beyond
@@ -33,17 +27,12 @@ module _ (table : List ℕ) (n : ℕ) (l : List ℕ) (known marks : List Bool)
   abbrev t : List Row
   t = rowsAt table 0 n
 
-  beyond-many : (count : ℕ) → count ≡ marked n marks → count ≡ length (beyond t l)
+  pub beyond-many : (count : ℕ) → count ≡ marked n marks → count ≡ length (beyond t l)
   beyond-many count e =
       e ∙ sym (picked-count (rows t) marks n (many-rows table n)) ∙ ap length (picked-beyond table n l known marks below turned)
 
-  pub beyond-gathered : (count : ℕ) → count ≡ marked n marks → Bytes table → (list after : List ℕ) → sizes .hash * n ≤ length list
-      → after ≡ sets list 0 (hashesBytes (picked (rows t) marks))
-      → Gathered (beyond t l) after count
-  beyond-gathered count e b list after room put =
-      let many : count ≡ length (beyond t l) = beyond-many count e in
-      let put′ : after ≡ sets list 0 (hashesBytes (beyond t l)) = rw (picked-beyond table n l known marks below turned) at put in
-      rw (put′, many) (written-gathered (beyond t l) list (beyond-hashes t l (rows-hashes table 0 n b)) (omega (arith, marked-most n marks)))
+  pub beyond-added : (p : ℕ) (field out : List ℕ) → out ≡ addHashes p field (picked (rows t) marks) → out ≡ addHashes p field (beyond t l)
+  beyond-added p field out e = rw (picked-beyond table n l known marks below turned) at e
 
 -- ---- the field
 
@@ -60,16 +49,16 @@ module _ (bits probes entries : ℕ) (setting : Setting bits probes) (few : entr
       part-long : length (take size field) ≡ size
       part-long = length-take-le size field inside
 
-      pub field-enough : (entries ≤ 8 * length (take size field)) × (length (take size field) ≤ sizes .field)
-      field-enough =
+      pub field-enough : (n : ℕ) (marks : List Bool) → entries ≡ marked n marks
+          → (marked n marks ≤ 8 * length (take size field)) × (length (take size field) ≤ sizes .field)
+      field-enough n marks e =
           let r = rules-field _ _ _ (setting .each entries few) in
           (omega (arith, part-long), omega (arith, part-long))
 
-      pub field-made : (hs list out : List ℕ) → Gathered hs list entries
-          → out ≡ addHashes probes (replicate (length (take size field)) 0) (hashesAt list 0 entries)
+      pub field-made : (hs out : List ℕ) → entries ≡ length hs → out ≡ addHashes probes (replicate (length (take size field)) 0) hs
           → FieldMade bits probes hs (out ++ drop size field) entries
       unfolding filterOf
-      field-made hs list out so e =
-          let same : out ≡ addHashes probes (replicate (fieldSize entries bits) 0) hs = e ∙ rw (part-long, is, so .list) in
+      field-made hs out many e =
+          let same : out ≡ addHashes probes (replicate (fieldSize entries bits) 0) hs = e ∙ rw (part-long, is) in
           let long : length out ≡ fieldSize entries bits = ap length same ∙ length-add-hashes _ _ _ ∙ length-replicate _ _ in
-          record { many = so .many; is = take-at out (drop size field) (fieldSize entries bits) long ∙ same ∙ rw (so .many) }
+          record { many = many; is = take-at out (drop size field) (fieldSize entries bits) long ∙ same ∙ rw many }

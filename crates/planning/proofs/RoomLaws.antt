@@ -18,11 +18,5 @@ module _ (n : ℕ) (marks : List Bool) where
   marked-few count e h = omega (arith, marked-most n marks)
 
 module _ (n : ℕ) where
-  pub rows-room : n ≤ sizes .rows → sizes .hash * n ≤ length (replicate {A = ℕ} (sizes .hash * sizes .rows) 0)
-  rows-room h = omega (arith, length-replicate {A = ℕ} (sizes .hash * sizes .rows) 0)
-
-  pub same-room : (room same : ℕ) → sizes .hash * n ≤ room → same ≡ room → sizes .hash * n ≤ same
-  same-room room same h e = omega arith
-
   pub marks-room : (known turned : ℕ) → n ≤ sizes .rows → known ≡ length (replicate (sizes .rows) false) → turned ≡ known → n ≤ turned
   marks-room known turned h e k = omega (arith, length-replicate (sizes .rows) false)

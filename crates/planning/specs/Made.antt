@@ -1,9 +1,9 @@
 -- What internal contracts speak of: parts of a plan that were computed into buffers. No rule of 01 stands here.
-use Prim.Native.Nat.{ℕ, _/_, _≤_}
-use mathlib.Core.Bool.{Bool, true}
+use Prim.Native.Nat.{ℕ, _/_, _≤_, _<_}
+use mathlib.Core.Bool.{Bool, true, false}
 use mathlib.Core.List.{List, _++_}
 use mathlib.Core.Path.{_≡_}
-use lib.ListN.{length, take}
+use lib.ListN.{length, getD, take}
 use Rattle.bloom.specs.Filter.{fieldSize, filterRules}
 use Rattle.graph.specs.Marks.{Marks, Blank}
 use Rattle.lists.specs.Lists.{UpTo}
@@ -19,6 +19,13 @@ use Rattle.planning.specs.declared.body.Body.{Body as Counted}
 -- Bits and probes with which a filter over any rows of a table keeps the filter rules.
 pub record Setting (bits probes : ℕ) : Type 0 where
   pub each : (n : ℕ) → n ≤ sizes .rows → filterRules n bits probes (fieldSize n bits) ≡ true
+
+-- The first mark of n from place i on that is set stands at r; r is n if there is none.
+pub record NextMarked (n : ℕ) (marks : List Bool) (i r : ℕ) : Type 0 where
+  pub from : i ≤ r
+  pub upto : r ≤ n
+  pub passed : (k : ℕ) → i ≤ k → k < r → getD marks k false ≡ false
+  pub is : r < n → getD marks r false ≡ true
 
 -- The filter of some hashes: how many they are, and its field at the start of a buffer.
 pub record FieldMade (bits probes : ℕ) (hs field : List ℕ) (entries : ℕ) : Type 0 where

@@ -1,15 +1,13 @@
 // The have that a unit gives, and whether the peer's first have is one that can be answered.
+use crate::field::fill_marked;
 use bloom::have::sync_count;
 use bloom::have::sync_place;
 use bloom::rule::bits_capacity;
 use graph::beyond::mark_at_or_below;
-use graph::heads::LIST_SIZE;
 use graph::marked::count_marked;
-use graph::marked::put_marked;
 use graph::marks::flip;
 use lists::compare::all_held;
 use lists::compare::all_in;
-use probe::build::fill;
 use rules::sizes::ROWS;
 use state::session::Heard;
 use state::session::heard_count;
@@ -55,11 +53,9 @@ pub fn make_field(
     let mut marks = [false; ROWS];
     mark_at_or_below(table, index, n, shared, 0, count, &mut marks);
     flip(n, &mut marks);
-    let mut list = [0u8; LIST_SIZE];
-    put_marked(table, n, &marks, &mut list, 0);
     let entries = count_marked(n, &marks);
     let size = bits_capacity(entries as u64, bits) as usize;
-    fill(&mut field[..size], probes, &list, entries);
+    fill_marked(&mut field[..size], probes, table, n, &marks);
     entries
 }
 

@@ -5,3 +5,4 @@ pub mod InsideLaws
 pub mod ProbeLaws
 pub mod Promises
 pub mod Search
+pub mod StartLaws

@@ -11,10 +11,11 @@ use rules::refusal::Refusal;
 use rules::sizes::HASH_SIZE;
 ghost use mathlib.Core.Bool.{true};
 ghost use mathlib.Core.Path.{_≡_};
-ghost use Prim.Native.Nat.{_+_, _*_, _%_, _≤_, _<_};
+ghost use Prim.Native.Nat.{_+_, _*_, _≤_, _<_};
 ghost use lib.ListN.{length, replicate};
 ghost use Rattle.probe.specs.Build.{setBit, setBits, addHashes, filterOf, buildOutput};
-ghost use Rattle.probe.specs.Probes.{u32At, probesFrom};
+ghost use Rattle.probe.specs.Probes.{probesFrom};
+ghost use Rattle.probe.specs.Start.{startAt};
 ghost use Rattle.bloom.specs.Filter.{fieldSize, filterRules};
 ghost use Rattle.rules.specs.Hash.{hashesAt};
 ghost use Rattle.rules.specs.Output.{Written, Output};
@@ -31,16 +32,16 @@ fn set_bit(field: &mut [u8], probe: usize)
 }
 
 // Where the probes of a hash start, and by what they are stepped: its first three words, reduced by the field's bits.
-struct Start {
-    x: u32,
-    y: u32,
-    z: u32,
+pub struct Start {
+    pub x: u32,
+    pub y: u32,
+    pub z: u32,
 }
 
 // The start of the hash at a place.
-fn start_of(hashes: &[u8], at: usize, m: u32) -> Start
+pub fn start_of(hashes: &[u8], at: usize, m: u32) -> Start
     requires { ⌜ (at + sizes .hash ≤ length (now hashes)) × (0 < m) ⌝ }
-    ensures { λ r. ⌜ r ≡ record { x = u32At (now (hashes .entry)) at % m; y = u32At (now (hashes .entry)) (at + 4) % m; z = u32At (now (hashes .entry)) (at + 8) % m } ⌝ }
+    ensures { λ r. ⌜ r ≡ startAt (now (hashes .entry)) at m ⌝ }
 {
     let x = u32_at(hashes, at) % m;
     let y = u32_at(hashes, at + 4) % m;
@@ -51,7 +52,7 @@ fn start_of(hashes: &[u8], at: usize, m: u32) -> Start
 // The start of hash i of a list of n; past its end nothing is claimed of it.
 fn start_in(hashes: &[u8], i: usize, n: usize, m: u32) -> Start
     requires { ⌜ (sizes .hash * n ≤ length (now hashes)) × (n ≤ m) ⌝ }
-    ensures { λ r. ⌜ (i < n → r ≡ record { x = u32At (now (hashes .entry)) (sizes .hash * i) % m; y = u32At (now (hashes .entry)) (sizes .hash * i + 4) % m; z = u32At (now (hashes .entry)) (sizes .hash * i + 8) % m }) ⌝ }
+    ensures { λ r. ⌜ (i < n → r ≡ startAt (now (hashes .entry)) (sizes .hash * i) m) ⌝ }
 {
     if i < n {
         return start_of(hashes, HASH_SIZE * i, m);
@@ -60,7 +61,7 @@ fn start_in(hashes: &[u8], i: usize, n: usize, m: u32) -> Start
 }
 
 // Sets the bits of the probes from a start.
-fn set_probes(field: &mut [u8], rounds: u64, start: Start, m: u32)
+pub fn set_probes(field: &mut [u8], rounds: u64, start: Start, m: u32)
     requires { ⌜ (start .x < m) × (start .y < m) × (start .z < m) × (m ≤ 8 * sizes .field) × (m ≤ 8 * length (now field)) ⌝ }
     ensures { λ _. ⌜ now (field .exit) ≡ setBits (now (field .entry)) (probesFrom rounds m (start .x) (start .y) (start .z)) ⌝ }
 {
@@ -78,7 +79,7 @@ fn set_probes(field: &mut [u8], rounds: u64, start: Start, m: u32)
 }
 
 // Clears a field.
-fn clear(field: &mut [u8])
+pub fn clear(field: &mut [u8])
     ensures { λ _. ⌜ now (field .exit) ≡ replicate (length (now (field .entry))) 0 ⌝ }
 {
     let mut i = 0;
@@ -107,7 +108,7 @@ fn add_hashes(field: &mut [u8], probes: u64, hashes: &[u8], n: usize)
 }
 
 // Clears a field and adds the hashes of a list to it.
-pub fn fill(field: &mut [u8], probes: u64, hashes: &[u8], n: usize)
+fn fill(field: &mut [u8], probes: u64, hashes: &[u8], n: usize)
     requires { ⌜ (n ≤ 8 * length (now field)) × (length (now field) ≤ sizes .field) × (sizes .hash * n ≤ length (now hashes)) ⌝ }
     ensures { λ _. ⌜ now (field .exit) ≡ addHashes probes (replicate (length (now (field .entry))) 0) (hashesAt (now (hashes .entry)) 0 n) ⌝ }
 {

@@ -15,7 +15,7 @@ ghost use Rattle.missing.specs.Calls.{missingOutput};
 pub extern "C" fn bt_check_table(table: &[u8], answer: &mut [u64; 4])
     ensures { λ _. ⌜ now (answer .exit) ≡ checkedWords (tableChecked (now (table .entry))) ⌝ }
 {
-    *answer = checked_words(tables::check::check_table(table));
+    *answer = checked_words(indexing::check::check_alone(table));
 }
 
 // Checks a change table beside its index, and a waiting table beside both: 0, waiting rows.

@@ -12,10 +12,10 @@ use Rattle.rules.specs.Hash.{hashAt, hashesAt}
 use Rattle.rules.specs.Order.{member}
 use Rattle.rules.specs.Sizes.{sizes}
 use Rattle.rules.specs.declared.refusal.Refusal.the-variants.{BadWaitingRow}
-use Rattle.tables.specs.Bytes.{u16sAt, zeros, checkedWith}
+use Rattle.tables.specs.Bytes.{u16sAt, zeros, firstBad, checkedWith}
 use Rattle.tables.specs.Table.{Row, held}
 use Rattle.tables.specs.declared.check.Checked.{Checked}
-use Rattle.tables.specs.declared.check.Checked.the-variants.{Refused}
+use Rattle.tables.specs.declared.check.Checked.the-variants.{Good, Refused}
 use Rattle.waiting.specs.Waiting.{Waiting, waiting}
 
 -- Waiting row: hash, count byte and zeros up to the size of a hash, and d hashes.
@@ -92,3 +92,13 @@ pub record Sorted (w o : List ℕ) (m : ℕ) : Type 0 where
   pub inside : m * waitingSize ≤ length w
   pub entries : 2 * m ≤ length o
   pub fit : fitsBy (recordHash w waitingSize) m (u16sAt o 0 m) ≡ true
+
+-- The first bad one of the first m waiting rows; where there is none, they stand in order.
+pub record FirstBad (t : List Row) (w : List ℕ) (m : ℕ) (o : List ℕ) (r : ℕ) : Type 0 where
+  pub is : r ≡ firstBad (waitingGoodOf (sizes .dependencies) t w) 0 m
+  pub sorted : m ≤ r → Sorted w o m
+
+-- A waiting table's check; where it is good, its rows stand in order.
+pub record InOrder (t : List Row) (w o : List ℕ) (r : Checked) : Type 0 where
+  pub answer : r ≡ waitingChecked t w
+  pub sorted : (m : ℕ) → r ≡ Good m → Sorted w o m

@@ -16,8 +16,8 @@ ghost use Prim.Native.Nat.{_+_, _*_, _≤_};
 ghost use lib.ListN.{length};
 ghost use Rattle.index.specs.Index.{Indexed};
 ghost use Rattle.rules.specs.Sizes.{sizes};
-ghost use Rattle.tables.specs.Bytes.{rowsAt, zeros, firstBad};
-ghost use Rattle.waiting.specs.Bytes.{waitingSize, asksCount, bytesAt, waitingGoodOf, waitingChecked, Sorted};
+ghost use Rattle.tables.specs.Bytes.{rowsAt, zeros};
+ghost use Rattle.waiting.specs.Bytes.{waitingSize, asksCount, bytesAt, waitingGoodOf, waitingChecked, Sorted, FirstBad, InOrder};
 ghost use Rattle.waiting.specs.Calls.{tablesChecked};
 
 // How many hashes waiting row i says that it asks for.
@@ -77,33 +77,46 @@ fn waiting_good(
     look_up(table, index, n, waiting, start) == n
 }
 
-// The first of the first m waiting rows that isn't good, or m. The good ones are kept in order of their hashes, so that a repeated one shows.
-fn first_bad_waiting(table: &[u8], index: &[u8], n: usize, waiting: &[u8], m: usize) -> usize
-    requires { ⌜ Indexed (now table) (now index) n × (m * waitingSize ≤ length (now waiting)) × (m ≤ sizes .waitingRows) ⌝ }
-    ensures { λ r. ⌜ r ≡ firstBad (waitingGoodOf (sizes .dependencies) (rowsAt (now (table .entry)) 0 n) (now (waiting .entry))) 0 m ⌝ }
+// The first of the first m waiting rows that isn't good, or m. The good ones are put in order of their hashes, so that a repeated one shows.
+fn first_bad_waiting(
+    table: &[u8],
+    index: &[u8],
+    n: usize,
+    waiting: &[u8],
+    m: usize,
+    order: &mut [u8],
+) -> usize
+    requires { ⌜ Indexed (now table) (now index) n × (m * waitingSize ≤ length (now waiting)) × (m ≤ sizes .waitingRows) × (2 * m ≤ length (now order)) ⌝ }
+    ensures { λ r. ⌜ FirstBad (rowsAt (now (table .entry)) 0 n) (now (waiting .entry)) m (now (order .exit)) r ⌝ }
 {
-    let mut order = [0u8; ORDER_SIZE];
     let mut i = 0;
     while i < m {
-        if !waiting_good(table, index, n, waiting, &order, i) {
+        if !waiting_good(table, index, n, waiting, order, i) {
             return i;
         }
-        extend(waiting, WAITING_SIZE, &mut order, i);
+        extend(waiting, WAITING_SIZE, order, i);
         i += 1;
     }
     m
 }
 
-// The number of rows of a waiting table, if it is good beside the first n rows of a change table. A partial row at its end is a bad one.
-pub fn check_waiting(table: &[u8], index: &[u8], n: usize, waiting: &[u8]) -> Checked
-    requires { ⌜ Indexed (now table) (now index) n ⌝ }
-    ensures { λ r. ⌜ r ≡ waitingChecked (rowsAt (now (table .entry)) 0 n) (now (waiting .entry)) ⌝ }
+// The number of rows of a waiting table, if it is good beside the first n rows of a change table, and then their order for who looks them up. A
+// partial row at its end is a bad one.
+pub fn check_in_order(
+    table: &[u8],
+    index: &[u8],
+    n: usize,
+    waiting: &[u8],
+    order: &mut [u8],
+) -> Checked
+    requires { ⌜ Indexed (now table) (now index) n × (2 * sizes .waitingRows ≤ length (now order)) ⌝ }
+    ensures { λ r. ⌜ InOrder (rowsAt (now (table .entry)) 0 n) (now (waiting .entry)) (now (order .exit)) r ⌝ }
 {
     if WAITING_ROWS * WAITING_SIZE < waiting.len() {
         return Checked::Refused(Refusal::PastSize(0));
     }
     let m = waiting.len() / WAITING_SIZE;
-    let bad = first_bad_waiting(table, index, n, waiting, m);
+    let bad = first_bad_waiting(table, index, n, waiting, m, order);
     if bad < m {
         return Checked::Refused(Refusal::BadWaitingRow(bad));
     }
@@ -111,6 +124,15 @@ pub fn check_waiting(table: &[u8], index: &[u8], n: usize, waiting: &[u8]) -> Ch
         return Checked::Refused(Refusal::BadWaitingRow(m));
     }
     Checked::Good(m)
+}
+
+// The same for who looks none up.
+pub fn check_waiting(table: &[u8], index: &[u8], n: usize, waiting: &[u8]) -> Checked
+    requires { ⌜ Indexed (now table) (now index) n ⌝ }
+    ensures { λ r. ⌜ r ≡ waitingChecked (rowsAt (now (table .entry)) 0 n) (now (waiting .entry)) ⌝ }
+{
+    let mut order = [0u8; ORDER_SIZE];
+    check_in_order(table, index, n, waiting, &mut order)
 }
 
 // Checks a change table beside its index, and a waiting table beside both.

@@ -1,12 +1,16 @@
--- `missing::missing::missing_beside` meets its contract: the waiting table's refusal, or what follows a good one. Assumes nothing.
+-- `missing::missing::missing_beside` meets its contract: the waiting table's refusal, or what follows a good one, whose rows the check put in
+-- order. Assumes nothing.
 use mathlib.Core.Path.{sym, _∙_}
 use Rattle.missing.proofs.MissingCalls.{beside-refused, beside-good}
 use borrow.Author.Needs.{needs}
 use Rattle.missing.proofs.missing.missing_beside.Statement.{statement}
 use Rattle.missing.proofs.missing.missing_beside.Tie as tie
 
-check-waiting-requires : tie.Need-check-waiting-requires
-check-waiting-requires c κs = search needs
+slice-aggregate-check-in-order : tie.Need-slice-aggregate-check-in-order
+slice-aggregate-check-in-order c = search needs
+
+check-in-order-requires : tie.Need-check-in-order-requires
+check-in-order-requires c κs = search needs
 
 enum-known-refusal : tie.Need-enum-known-refusal
 enum-known-refusal c = search needs
@@ -14,16 +18,21 @@ enum-known-refusal c = search needs
 enum-known-m : tie.Need-enum-known-m
 enum-known-m c = search needs
 
+slice-aggregate-missing-from : tie.Need-slice-aggregate-missing-from
+slice-aggregate-missing-from c = search needs
+
 missing-from-requires : tie.Need-missing-from-requires
 missing-from-requires c κs =
-    let m = c .before .before in
-    let a = m .before .before .before .before .before .before .before .before in
-    (a .pre, sym (m .before .before .check-waiting .ensures) ∙ m .m .given .1)
+    let m = c .before .before .before in
+    let k = m .before .before .before in
+    let a = k .before .before .before .before .before .before .before in
+    let checked = k .check-in-order .ensures in
+    (a .pre, sym (checked .answer) ∙ m .m .given .1, checked .sorted _ (m .m .given .1))
 
 returns : tie.Need-returns
 returns c =
     let m = c .before in
-    beside-refused _ _ _ _ _ (sym (m .before .before .check-waiting .ensures) ∙ m .refusal .given .1)
+    beside-refused _ _ _ _ _ (sym (m .before .before .before .check-in-order .ensures .answer) ∙ m .refusal .given .1)
 
 same-length : tie.Need-same-length
 same-length c = search needs
@@ -31,16 +40,18 @@ same-length c = search needs
 returns-2 : tie.Need-returns-2
 returns-2 c =
     let d = c .before .before in
-    let m = d .before .before .before in
-    beside-good _ _ _ _ _ (sym (m .before .before .check-waiting .ensures) ∙ m .m .given .1) (d .missing-from .ensures)
+    let m = d .before .before .before .before in
+    beside-good _ _ _ _ _ (sym (m .before .before .before .check-in-order .ensures .answer) ∙ m .m .given .1) (d .missing-from .ensures)
 
 pub missing-beside-spec : {M : Type 1} → statement M
 missing-beside-spec =
     tie.close
     (tie.spec
-    check-waiting-requires
+    slice-aggregate-check-in-order
+    check-in-order-requires
     enum-known-refusal
     enum-known-m
+    slice-aggregate-missing-from
     missing-from-requires
     returns
     same-length

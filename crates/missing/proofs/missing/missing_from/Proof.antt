@@ -12,7 +12,7 @@ use Rattle.missing.proofs.missing.missing_from.Tie as tie
 
 -- the list that was accepted
 listed : (c : tie.After-entries)
-    → passedHashes (c .before .before .before .before .before .before .before .before .args .l .now) ≡ Hashes (c .entries .given .0 .0)
+    → passedHashes (c .before .before .before .before .before .before .before .before .before .args .l .now) ≡ Hashes (c .entries .given .0 .0)
 listed c = sym (c .before .before .passed-hashes .ensures) ∙ c .entries .given .1
 
 passed-hashes-requires : tie.Need-passed-hashes-requires
@@ -24,19 +24,19 @@ enum-known-refusal c = search needs
 enum-known-entries : tie.Need-enum-known-entries
 enum-known-entries c = search needs
 
-slice-aggregate-find-missing : tie.Need-slice-aggregate-find-missing
-slice-aggregate-find-missing c = search needs
+slice-aggregate-find-in-order : tie.Need-slice-aggregate-find-in-order
+slice-aggregate-find-in-order c = search needs
 
-find-missing-requires : tie.Need-find-missing-requires
-find-missing-requires c κs =
+find-in-order-requires : tie.Need-find-in-order-requires
+find-in-order-requires c κs =
     let e = c .before .before in
-    let start = e .before .before .before .before .before .before .before .before in
-    (start .pre .0, (start .pre .1, omega (arith, passed-is _ _ (listed e) .whole)))
+    let start = e .before .before .before .before .before .before .before .before .before in
+    (start .pre .0, start .pre .1, start .pre .2, omega (arith, passed-is _ _ (listed e) .whole))
 
 returns : tie.Need-returns
 returns c =
     let f = c .before .before in
-    too-many _ _ _ _ (listed (f .before .before .before)) one-more (f .find-missing .ensures) (c .if1 .taken)
+    too-many _ _ _ _ (listed (f .before .before .before)) one-more (f .find-in-order .ensures) (c .if1 .taken)
 
 slice-aggregate-put-list : tie.Need-slice-aggregate-put-list
 slice-aggregate-put-list c = search needs
@@ -44,7 +44,7 @@ slice-aggregate-put-list c = search needs
 put-list-requires : tie.Need-put-list-requires
 put-list-requires c κs =
     let g = c .before .before in
-    list-fits _ _ (g .before .before .find-missing .kept .1 .1 .1 .1 .1 .1 .1 .1 .0) (g .if1 .left)
+    list-fits _ _ (g .before .before .find-in-order .kept .1 .1 .1 .1 .1 .1 .1 .1 .1 .0) (g .if1 .left)
 
 returns-2 : tie.Need-returns-2
 returns-2 c =
@@ -59,7 +59,7 @@ returns-3 c =
     let p = c .before .before in
     let g = p .before .before .before in
     let f = g .before .before in
-    few-enough _ _ _ _ (listed (f .before .before .before)) one-more (f .find-missing .ensures) (g .if1 .left) (p .put-list .ensures)
+    few-enough _ _ _ _ (listed (f .before .before .before)) one-more (f .find-in-order .ensures) (g .if1 .left) (p .put-list .ensures)
 
 pub missing-from-spec : {M : Type 1} → statement M
 missing-from-spec =
@@ -68,8 +68,8 @@ missing-from-spec =
     passed-hashes-requires
     enum-known-refusal
     enum-known-entries
-    slice-aggregate-find-missing
-    find-missing-requires
+    slice-aggregate-find-in-order
+    find-in-order-requires
     returns
     slice-aggregate-put-list
     put-list-requires

@@ -1,25 +1,21 @@
 -- `probe::build::add_hashes` meets its contract: adding the hashes that are left to the field as it is gives what adding all of them to the
 -- field as it was gives, and the start that is held is that of the first of them. Assumes nothing.
-use Prim.Native.Nat.{ℕ, suc, _+_, _-_, _*_, _%_, _≤_, _<_, max}
+use Prim.Native.Nat.{ℕ, suc, _+_, _-_, _*_, _≤_, _<_}
 use mathlib.Core.List.{List}
 use mathlib.Core.Path.{_≡_, refl, sym, ap, _∙_}
-use native.Mathlib.Nat.{sub-zero, mod-lt}
+use native.Mathlib.Nat.{sub-zero}
 use native.Mathlib.Omega.{arith}
 use borrow.Author.Needs.{needs}
 use lib.ListN.{length}
-use Rattle.rules.specs.Hash.{Bytes, hashAt, hashesAt}
+use Rattle.rules.specs.Hash.{hashAt, hashesAt}
 use Rattle.rules.specs.Sizes.{sizes}
 use Rattle.probe.specs.Build.{setBits, addHash, addHashes}
-use Rattle.probe.specs.Probes.{u32At, probesFrom}
-use Rattle.probe.specs.declared.build.Start.{Start}
+use Rattle.probe.specs.Probes.{probesFrom}
+use Rattle.probe.specs.Start.{startAt}
 use Rattle.probe.proofs.FieldLaws.{length-add-hash}
-use Rattle.probe.proofs.ProbeLaws.{probes-at}
+use Rattle.probe.proofs.StartLaws.{starts-below, of-start}
 use Rattle.probe.proofs.build.add_hashes.Statement.{statement}
 use Rattle.probe.proofs.build.add_hashes.Tie as tie
-
--- the start of the hash at a place
-abbrev startAt : List ℕ → ℕ → ℕ → Start
-startAt s at m = record { x = u32At s at % m; y = u32At s (at + 4) % m; z = u32At s (at + 8) % m }
 
 abbrev Inv-loop : tie.InvT-loop
 Inv-loop field₀ probes hashes n m rounds next₀ i₀ field next i =
@@ -47,18 +43,6 @@ added-more p field next s n i h e =
 added-all : (p : ℕ) (field s : List ℕ) (n i : ℕ) → n ≤ i → field ≡ addHashes p field (hashesAt s (sizes .hash * i) (n - i))
 unfolding addHashes hashesAt
 added-all p field s n i h = let left : n - i ≡ 0 = omega arith in rw left
-
--- the numbers of a start are remainders
-starts-below : (s : List ℕ) (at m : ℕ) (start : Start) → 0 < m → start ≡ startAt s at m → (start .x < m) × (start .y < m) × (start .z < m)
-starts-below s at m start h e = rw e (mod-lt _ h, mod-lt _ h, mod-lt _ h)
-
--- the bits of the probes from a hash's start are what adding the hash sets
-of-start : (field next : List ℕ) (p : ℕ) (s : List ℕ) (at m rounds : ℕ) (start : Start) → Bytes s → at + sizes .hash ≤ length s
-    → m ≡ 8 * length field → rounds ≡ max 1 p → start ≡ startAt s at m
-    → next ≡ setBits field (probesFrom rounds m (start .x) (start .y) (start .z)) → next ≡ addHash p field (hashAt s at)
-unfolding addHash
-of-start field next p s at m rounds start bytes h em er es e =
-    e ∙ rw (es, er, em) (sym (ap (setBits field) (probes-at (8 * length field) p s at bytes h)))
 
 -- setting the bits from the start that is held adds the hash
 held-added : (t : tie.In-loop Inv-loop μ-loop) (next : List ℕ)

@@ -1,9 +1,6 @@
 -- `probe::build::fill` meets its contract: the field that hashes are added to is the cleared one. Assumes nothing.
-use Prim.Native.Nat.{ℕ}
-use mathlib.Core.List.{List}
-use mathlib.Core.Path.{_≡_, ap, _∙_}
-use Rattle.probe.specs.Build.{addHashes}
 use borrow.Author.Needs.{needs}
+use Rattle.probe.proofs.StartLaws.{added-to}
 use Rattle.probe.proofs.build.fill.Statement.{statement}
 use Rattle.probe.proofs.build.fill.Tie as tie
 
@@ -15,9 +12,6 @@ add-hashes-requires c κs = search needs
 
 same-length : tie.Need-same-length
 same-length c = search needs
-
-added-to : (p : ℕ) (out field clear hs : List ℕ) → out ≡ addHashes p field hs → field ≡ clear → out ≡ addHashes p clear hs
-added-to p out field clear hs e q = e ∙ ap (λ (f : List ℕ). addHashes p f hs) q
 
 returns : tie.Need-returns
 returns c = added-to _ _ _ _ _ (c .before .before .add-hashes .ensures) (c .before .before .before .before .before .before .clear .ensures)

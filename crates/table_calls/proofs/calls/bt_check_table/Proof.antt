@@ -5,14 +5,14 @@ use borrow.Author.Needs.{needs}
 use Rattle.table_calls.proofs.calls.bt_check_table.Statement.{statement}
 use Rattle.table_calls.proofs.calls.bt_check_table.Tie as tie
 
-check-table-requires : tie.Need-check-table-requires
-check-table-requires c κs = search needs
+check-alone-requires : tie.Need-check-alone-requires
+check-alone-requires c κs = search needs
 
 checked-words-requires : tie.Need-checked-words-requires
 checked-words-requires c κs = search needs
 
 returns : tie.Need-returns
-returns c = c .checked-words .ensures ∙ ap checkedWords (c .before .check-table .ensures)
+returns c = c .checked-words .ensures ∙ ap checkedWords (c .before .check-alone .ensures)
 
 pub bt-check-table-spec : {M : Type 1} → statement M
-bt-check-table-spec = tie.close (tie.spec check-table-requires checked-words-requires returns)
+bt-check-table-spec = tie.close (tie.spec check-alone-requires checked-words-requires returns)

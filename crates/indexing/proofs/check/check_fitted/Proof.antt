@@ -1,10 +1,10 @@
--- `indexing::build::check_fitted` meets its contract: beside entries that fit the rows' own bytes decide (BuildLaws). Assumes nothing.
+-- `indexing::check::check_fitted` meets its contract: beside entries that fit the rows' own bytes decide (BuildLaws). Assumes nothing.
 use mathlib.Core.Path.{sym, _∙_}
 use borrow.Author.Tests.{not-false}
 use Rattle.indexing.proofs.BuildLaws.{fitted-decides}
 use borrow.Author.Needs.{needs}
-use Rattle.indexing.proofs.build.check_fitted.Statement.{statement}
-use Rattle.indexing.proofs.build.check_fitted.Tie as tie
+use Rattle.indexing.proofs.check.check_fitted.Statement.{statement}
+use Rattle.indexing.proofs.check.check_fitted.Tie as tie
 
 entries-fit-requires : tie.Need-entries-fit-requires
 entries-fit-requires c κs = search needs
