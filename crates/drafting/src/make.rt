@@ -2,7 +2,7 @@
 use bloom::have::HAVE_WORDS;
 use decode::parse::Places;
 use items::haves::put_haves;
-use receiving::haves::laid_size;
+use laying::haves::laid_size;
 use receiving::left::make_left;
 use receiving::shared::heads_before;
 use receiving::shared::make_shared;

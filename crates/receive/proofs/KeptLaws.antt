@@ -31,7 +31,7 @@ use Rattle.state.specs.Value.{Lent, valueOf}
 use Rattle.state.specs.declared.session.Session.{Session}
 use Rattle.tables.specs.Bytes.{rowsAt}
 use Rattle.tables.specs.Table.{Row}
-use Rattle.receiving.specs.Made.{Layable}
+use Rattle.laying.specs.Made.{Layable}
 use Rattle.receive.specs.Call.{keptIn, roomsIn}
 use Rattle.drafting.specs.Made.{saidAt, havesWords, Long}
 use Rattle.taking.specs.Draft.{orWanted, shortWith, Parts, noDraft, putsOf, Fits, allPut}
