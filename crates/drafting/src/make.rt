@@ -140,15 +140,7 @@ pub fn make_received(
         ready_shared,
     );
     let keeps = kept_hashes(heads.count, flagged.sent_hashes);
-    let left = make_left(
-        table,
-        index,
-        n,
-        marks,
-        sent,
-        keeps,
-        ready_sent,
-    );
+    let left = make_left(table, index, n, marks, sent, keeps, ready_sent);
     let told = told_heads(
         chunks.count,
         table,

@@ -19,11 +19,12 @@ use taking::answer::Rooms;
 use taking::decide::decide;
 use taking::put::put;
 use taking::put::puts_of;
+ghost use mathlib.Core.Path.{_≡_};
 ghost use Rattle.lent.specs.Good.{lentOf};
 ghost use Rattle.drafting.specs.Checks.{Accepted};
 ghost use Rattle.drafting.specs.Made.{Prepared};
 ghost use Rattle.receive.specs.Call.{receiveWith, ReceiveCalled};
-ghost use Rattle.receive.specs.Few.{FewOf};
+ghost use Rattle.receive.specs.Few.{isFew};
 
 // Room for one hash more than a list may have, so that too many show.
 const SHARED_SIZE: usize = HASH_SIZE * (HASHES + 1);
@@ -32,13 +33,15 @@ const SENT_SIZE: usize = HASH_SIZE * SENT_HASHES;
 // Room for the records of any haves.
 const RECORDS: usize = HAVE_WORDS * HAVES;
 
-// So many hashes are few, as nearly always: what they want is cleared in no time.
+// Heads and sent hashes are nearly always few: buffers for so many are cleared in no time, while clearing those for any would be most of a call
+// over few rows.
 const FEW: usize = 64;
+
 const FEW_SIZE: usize = HASH_SIZE * FEW;
 
 // Whether few hashes have to be put: all heads of the message are held, so that they become the shared ones, and they and the hashes sent are few.
 fn is_few(all: bool, heads: usize, sent: usize) -> bool
-    ensures { λ r. ⌜ FewOf all heads sent r ⌝ }
+    ensures { λ r. ⌜ r ≡ isFew all heads sent ⌝ }
 {
     if !all {
         return false;
@@ -165,7 +168,15 @@ fn receive_sized(
 {
     let heads = places.heads;
     let mut marks = [false; ROWS];
-    let all = mark_heads(table, index, n, message, heads.start, heads.count, &mut marks);
+    let all = mark_heads(
+        table,
+        index,
+        n,
+        message,
+        heads.start,
+        heads.count,
+        &mut marks,
+    );
     if is_few(all, heads.count, session.sent_hashes) {
         let mut few_shared = [0u8; FEW_SIZE];
         let mut few_sent = [0u8; FEW_SIZE];

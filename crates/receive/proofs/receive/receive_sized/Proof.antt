@@ -1,4 +1,5 @@
 -- `receive::receive::receive_sized` meets its contract: the buffers are long enough either way (RoomLaws). Assumes nothing.
+use mathlib.Core.Path.{sym, _∙_}
 use borrow.Author.Needs.{needs}
 use Rattle.receive.proofs.RoomLaws.{can-mark, few-prepared, all-prepared}
 use Rattle.receive.proofs.receive.receive_sized.Statement.{statement}
@@ -30,7 +31,7 @@ receive-checked-requires c κs =
     let f = t .before in
     let h = f .before .before in
     let s = h .before .before .before .before .before .before .before .before .before .before .before .before .before in
-    (s .pre, few-prepared _ _ _ _ _ _ _ _ (s .pre) _ _ (h .mark-heads .kept .1 .1 .1 .1 .1 .1 .0) (h .mark-heads .ensures) _ (f .is-few .ensures) (t .if1 .taken))
+    (s .pre, few-prepared _ _ _ _ _ _ _ _ (s .pre) _ _ (h .mark-heads .kept .1 .1 .1 .1 .1 .1 .0) (h .mark-heads .ensures) (sym (f .is-few .ensures) ∙ t .if1 .taken))
 
 same-length : tie.Need-same-length
 same-length c = search needs
