@@ -1,10 +1,11 @@
 -- Numbers of parts, one law for each way out, with the code's tests as hypotheses; and room for the parts. Assumes nothing.
 use Prim.Native.Nat.{ℕ, _*_, _≤_, _<_}
-use mathlib.Core.Bool.{Bool, true, false, not, _&&_}
+use mathlib.Core.Bool.{Bool, true, false, cond, not, _&&_}
 use mathlib.Core.List.{List}
 use mathlib.Core.Path.{_≡_}
 use borrow.Author.Tests.{lt-ltb, le-ltb, eq-eqb, ne-eqb}
 use lib.Dec.{ltb, eqb}
+use lib.ListN.{length}
 use Rattle.lists.specs.Lists.{same}
 use Rattle.rules.specs.Sizes.{sizes}
 use native.Mathlib.Omega.{arith}
@@ -12,8 +13,10 @@ use Rattle.rules.specs.Hash.{hashesAt}
 use Rattle.rules.specs.Order.{keep}
 use Rattle.rules.specs.Output.{Gathered}
 use Rattle.rules.proofs.Cases.{split}
+use Rattle.rules.proofs.Hash.{length-hashes-at}
+use Rattle.rules.proofs.KeepLaws.{keep-most}
 use Rattle.receiving.specs.Made.{SharedMade}
-use Rattle.drafting.specs.Made.{toldHeads, lastSentCount, keptHashes, sharedRoom, sentRoom}
+use Rattle.drafting.specs.Made.{toldHeads, lastSentCount, keptHashes}
 
 -- ---- numbers of parts
 
@@ -67,12 +70,17 @@ kept-most heads sent = split (eqb heads 0) (λ e. rw e (omega arith)) (λ e. rw 
 pub keeps-there : (heads sent keeps room : ℕ) → keeps ≡ keptHashes heads sent → sizes .hash * sent ≤ room → sizes .hash * keeps ≤ room
 keeps-there heads sent keeps room e h = omega (arith, kept-most heads sent)
 
-pub keeps-fit : (heads sent keeps room : ℕ) → keeps ≡ keptHashes heads sent → sent ≤ sizes .sentHashes → room ≡ sentRoom → sizes .hash * keeps ≤ room
-keeps-fit heads sent keeps room e h q = omega (arith, kept-most heads sent)
-
 pub keeps-gathered : (p : ℕ → Bool) (s : List ℕ) (heads sent keeps : ℕ) (after : List ℕ) (count : ℕ) → keeps ≡ keptHashes heads sent
     → Gathered (keep p (hashesAt s 0 keeps)) after count → Gathered (keep p (hashesAt s 0 (keptHashes heads sent))) after count
 keeps-gathered p s heads sent keeps after count e g = rw (← e) g
 
-pub shared-room : (hs after : List ℕ) (room count : ℕ) → room ≡ sharedRoom → SharedMade hs room after count → SharedMade hs sharedRoom after count
-shared-room hs after room count e f = rw (← e) f
+-- those that are left are no more
+pub left-there : (p : ℕ → Bool) (s after : List ℕ) (keeps count room : ℕ) → sizes .hash * keeps ≤ room → length after ≡ room
+    → Gathered (keep p (hashesAt s 0 keeps)) after count
+    → sizes .hash * count ≤ length after
+left-there p s after keeps count room h e g = omega (arith, g .many, keep-most p (hashesAt s 0 keeps), length-hashes-at s 0 keeps)
+
+-- shared heads by whether all heads are held
+pub shared-known : (hs others after : List ℕ) (all known : Bool) (room count : ℕ) → all ≡ known → SharedMade (cond all hs others) room after count
+    → SharedMade (cond known hs others) room after count
+shared-known hs others after all known room count e made = rw e at made

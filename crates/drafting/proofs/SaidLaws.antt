@@ -24,7 +24,7 @@ use Rattle.session.specs.Receive.{someChunk, saidIn, receive, receiveRead, rece
 use Rattle.state.specs.Session.{State}
 use Rattle.state.proofs.ValueLaws.{length-haves-from}
 use Rattle.tables.specs.Table.{Row}
-use Rattle.receiving.specs.Made.{Layable}
+use Rattle.laying.specs.Made.{Layable}
 use Rattle.drafting.specs.Made.{havesWords, saidAt, wordsRoom, WordsMade}
 
 words-of-item : (i : Item) (words : List ℕ) (next : ℕ) → i ≡ Item.item words next → wordsOf i ≡ words

@@ -23,7 +23,7 @@ use Rattle.session.specs.Receive.{Said, advance, join}
 use Rattle.state.specs.declared.session.Session.{Session}
 use Rattle.tables.specs.Bytes.{rowsAt}
 use Rattle.tables.specs.Table.{held}
-use Rattle.receiving.specs.Made.{SharedMade}
+use Rattle.receiving.specs.Made.{HeadsMarked, sharedRoom, SharedFits, SharedMade}
 use Rattle.taking.specs.declared.decide.Draft.{Draft}
 use Rattle.taking.specs.Draft.{Parts}
 
@@ -45,26 +45,25 @@ saidAt s p =
 
 -- ---- what is computed
 
--- Room for one shared head more than there may be, so that too many show; for all sent hashes, and for the records of any haves.
-abbrev pub sharedRoom : ℕ
-sharedRoom = sizes .hash * (sizes .hashes + 1)
-
-abbrev pub sentRoom : ℕ
-sentRoom = sizes .hash * sizes .sentHashes
-
+-- Room for the records of any haves.
 abbrev pub wordsRoom : ℕ
 wordsRoom = haveWords * sizes .haves
 
-pub record Long (ready : Parts) : Type 0 where
-  pub shared : length (ready .shared) ≡ sharedRoom
-  pub sent : length (ready .sent) ≡ sentRoom
-  pub words : length (ready .words) ≡ wordsRoom
+-- What lies below a message's heads is marked, and buffers are long enough: for the shared heads after it, and for so many sent hashes.
+pub record Prepared (table : List ℕ) (n : ℕ) (message : List ℕ) (p : Places) (kept : ℕ) (marks : List Bool) (all : Bool) (readyShared readySent : List ℕ)
+    : Type 0 where
+  pub long : n ≤ length marks
+  pub marked : HeadsMarked table n (saidAt message p .heads) marks all
+  pub shared : SharedFits all (p .heads .count) (length readyShared)
+  pub sent : sizes .hash * kept ≤ length readySent
 
--- Parts that stand ready: buffers that are long enough, and bytes.
-pub record Stands (ready : Parts) : Type 0 where
-  pub long : Long ready
+-- Parts that stand ready: bytes, and as many as the draft says.
+pub record Stands (d : Draft) (ready : Parts) : Type 0 where
   pub shared : Bytes (ready .shared)
+  pub sharedThere : sizes .hash * d .shared ≤ length (ready .shared)
   pub sent : Bytes (ready .sent)
+  pub sentThere : sizes .hash * d .sent ≤ length (ready .sent)
+  pub words : length (ready .words) ≡ wordsRoom
 
 -- A message that was read, beside a table and its index that were checked, and the lists of a session that is good.
 pub record Makes (s : Session) (table index : List ℕ) (n before : ℕ) (message : List ℕ) (p : Places) (oldShared oldSent : List ℕ) : Type 0 where
@@ -73,7 +72,6 @@ pub record Makes (s : Session) (table index : List ℕ) (n before : ℕ) (messag
   pub placed : decodedOf (messageAt message) ≡ Placed p
   pub shared : sizes .hash * s .«shared_heads» ≤ length oldShared
   pub sent : sizes .hash * s .«sent_hashes» ≤ length oldSent
-  pub few : s .«sent_hashes» ≤ sizes .sentHashes
 
 -- How many of the message's heads become the ones sent last, and how many these are then.
 unfoldable pub toldHeads : ℕ → ℕ → List ℕ → List ℕ → ℕ

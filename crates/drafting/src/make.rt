@@ -2,9 +2,9 @@
 use bloom::have::HAVE_WORDS;
 use decode::parse::Places;
 use items::haves::put_haves;
-use receiving::haves::laid_size;
+use laying::haves::laid_size;
+use receiving::heads::heads_before;
 use receiving::left::make_left;
-use receiving::shared::heads_before;
 use receiving::shared::make_shared;
 use state::session::Session;
 use taking::decide::Draft;
@@ -21,7 +21,7 @@ ghost use Rattle.rules.specs.Hash.{hashesAt};
 ghost use Rattle.rules.specs.Sizes.{sizes};
 ghost use Rattle.tables.specs.Bytes.{rowsAt};
 ghost use Rattle.taking.specs.Draft.{partsOf};
-ghost use Rattle.drafting.specs.Made.{wordsRoom, toldHeads, lastSentCount, keptHashes, Long, Stands, Makes, WordsMade, DraftMade};
+ghost use Rattle.drafting.specs.Made.{wordsRoom, toldHeads, lastSentCount, keptHashes, Prepared, Stands, Makes, WordsMade, DraftMade};
 
 // Whether a message's changes are loaded: it has some, and this unit takes them.
 pub fn loads_changes(chunks: usize, read_only: bool) -> bool
@@ -94,10 +94,13 @@ fn make_words(message: &[u8], places: Places, words: &mut [u64]) -> usize
     laid_size(message, &words[..HAVE_WORDS * haves.count])
 }
 
-// Computes all parts of the session after a message, its flags being taken, each into a buffer that is long enough for any.
+// Computes all parts of the session after a message, its flags being taken and what lies below its heads marked, each into a buffer that is long
+// enough for it.
 pub fn make_received(
     flagged: Session,
     loads: bool,
+    all: bool,
+    marks: &[bool],
     table: &[u8],
     index: &[u8],
     n: usize,
@@ -111,10 +114,11 @@ pub fn make_received(
     words: &mut [u64],
 ) -> Draft
     requires { ⌜ Makes flagged (now table) (now index) n before (now message) places (now shared) (now sent)
-        × Long (partsOf (now «ready_shared») (now «ready_sent») (now words)) ⌝ }
+        × Prepared (now table) n (now message) places (flagged .«sent_hashes») (now marks) all (now «ready_shared») (now «ready_sent»)
+        × (length (now words) ≡ wordsRoom) ⌝ }
     ensures { λ d. ⌜ DraftMade loads flagged (now (table .entry)) n before (now (message .entry)) places (now (shared .entry)) (now (sent .entry))
         (partsOf (now («ready_shared» .exit)) (now («ready_sent» .exit)) (now (words .exit))) d
-        × Stands (partsOf (now («ready_shared» .exit)) (now («ready_sent» .exit)) (now (words .exit))) ⌝ }
+        × Stands d (partsOf (now («ready_shared» .exit)) (now («ready_sent» .exit)) (now (words .exit))) ⌝ }
 {
     let heads = places.heads;
     let need = places.need;
@@ -122,6 +126,7 @@ pub fn make_received(
     let chunks = places.chunks;
     let bytes = make_words(message, places, words);
     let count = make_shared(
+        all,
         loads,
         table,
         index,
@@ -135,17 +140,7 @@ pub fn make_received(
         ready_shared,
     );
     let keeps = kept_hashes(heads.count, flagged.sent_hashes);
-    let left = make_left(
-        table,
-        index,
-        n,
-        message,
-        heads.start,
-        heads.count,
-        sent,
-        keeps,
-        ready_sent,
-    );
+    let left = make_left(table, index, n, marks, sent, keeps, ready_sent);
     let told = told_heads(
         chunks.count,
         table,

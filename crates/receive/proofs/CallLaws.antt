@@ -31,7 +31,7 @@ use Rattle.tables.proofs.TableLaws.{table-good}
 use Rattle.receiving.specs.Made.{flaggedCounts}
 use Rattle.receive.specs.Call.{afterTable, receiveWith, roomed, refusalAnswer, answerOf, keptIn, roomsIn, ReceiveCalled}
 use Rattle.drafting.specs.Checks.{besideRows, afterRows, checked, Accepted}
-use Rattle.drafting.specs.Made.{saidAt, Stands, Makes, DraftMade}
+use Rattle.drafting.specs.Made.{saidAt, Prepared, Stands, Makes, DraftMade}
 use Rattle.taking.specs.Draft.{decided, SmallDraft, Parts, putsOf, Fits, allPut}
 use Rattle.taking.specs.declared.answer.Received.{Received as Answer}
 use Rattle.taking.specs.declared.answer.Received.the-variants.{Refused}
@@ -142,8 +142,15 @@ module _ (s : Session) (l : Lent) (table index : List ℕ) (n before : ℕ) (mes
         placed = ok .read;
         shared = g .shared .there;
         sent = omega (arith, g .sent .there);
-        few = omega (arith, g .sent .few);
       })
+
+  -- sent hashes that are forgotten want no room
+  pub can-prepare : (flagged : Session) → flagged ≡ flaggedCounts (p .flags) s → {marks : List Bool} {all : Bool} {readyShared readySent : List ℕ}
+      → Prepared table n message p (s .«sent_hashes») marks all readyShared readySent
+      → Prepared table n message p (flagged .«sent_hashes») marks all readyShared readySent
+  can-prepare flagged e given =
+      let least = forgets-most (told (λ f. hasFlag f syncReset) (p .flags) false) (s .«sent_hashes») in
+      rw e (record { long = given .long; marked = given .marked; shared = given .shared; sent = omega (arith, given .sent) })
 
   module _ (loads : Bool) (flagged : Session) (ready : Parts) (d : Draft)
       (flags : flagged ≡ flaggedCounts (p .flags) s)
@@ -174,10 +181,10 @@ module _ (s : Session) (l : Lent) (table index : List ℕ) (n before : ℕ) (mes
             let inside : before ≤ length (tableOf table) = omega (arith, t .long, ok .inside) in
             rw (ok .good, ok .rows, read-receives message p (ok .read) loaded before (tableOf table) (valueOf s l) inside, t .is)
 
-        module _ (stands : Stands ready) (all : Bytes message) where
+        module _ (stands : Stands d ready) (all : Bytes message) where
           -- what putting asks
           pub has-room : (puts : Draft) → puts ≡ putsOf a d → Fits puts message (p .heads .start) (p .need .start) ready l
-          has-room puts is = rw is (puts-fit s l (ok .good) table n before (ok .inside) message p (ok .read) ready d whole (stands .long) all a values together)
+          has-room puts is = rw is (puts-fit s l (ok .good) table n before (ok .inside) message p (ok .read) ready d whole stands all a values together)
 
           -- and the promise
           pub received-called : (puts : Draft) (after : Lent) → Bytes (l .lastSent) → puts ≡ putsOf a d
@@ -185,7 +192,6 @@ module _ (s : Session) (l : Lent) (table index : List ℕ) (n before : ℕ) (mes
               → ReceiveCalled s (receiveWith loaded before s l table index message) l after a
           received-called puts after last is put =
               let kept =
-              puts-kept s l (ok .good) table n before (ok .inside) message p (ok .read) ready d whole (stands .long) all a values together last
-              (stands .shared) (stands .sent)
+              puts-kept s l (ok .good) table n before (ok .inside) message p (ok .read) ready d whole stands all a values together last
               in
               rw result-is (record { answer = same-answer _ _ _ _ a values together; lists = put ∙ rw is kept })

@@ -35,9 +35,9 @@ use Rattle.state.proofs.ValueLaws.{hashes-counted, haves-counted}
 use Rattle.tables.specs.Bytes.{rowsAt}
 use Rattle.tables.specs.Table.{Row}
 use Rattle.tables.proofs.TableLaws.{take-rows-at}
-use Rattle.receiving.specs.Made.{flaggedCounts, SharedMade}
+use Rattle.receiving.specs.Made.{flaggedCounts, sharedRoom, SharedMade}
 use Rattle.receive.specs.Call.{shortFor}
-use Rattle.drafting.specs.Made.{saidAt, sharedRoom, toldHeads, lastSentCount, keptHashes, DraftMade}
+use Rattle.drafting.specs.Made.{saidAt, toldHeads, lastSentCount, keptHashes, DraftMade}
 use Rattle.taking.specs.Draft.{SmallDraft, receivedCounts, orWanted, shortWith, Parts}
 use Rattle.taking.specs.declared.answer.Rooms.{Rooms}
 use Rattle.taking.specs.declared.decide.Draft.{Draft}

@@ -31,9 +31,9 @@ use Rattle.state.specs.Value.{Lent, valueOf}
 use Rattle.state.specs.declared.session.Session.{Session}
 use Rattle.tables.specs.Bytes.{rowsAt}
 use Rattle.tables.specs.Table.{Row}
-use Rattle.receiving.specs.Made.{Layable}
+use Rattle.laying.specs.Made.{Layable}
 use Rattle.receive.specs.Call.{keptIn, roomsIn}
-use Rattle.drafting.specs.Made.{saidAt, havesWords, Long}
+use Rattle.drafting.specs.Made.{saidAt, havesWords, Stands}
 use Rattle.taking.specs.Draft.{orWanted, shortWith, Parts, noDraft, putsOf, Fits, allPut}
 use Rattle.taking.specs.declared.answer.Received.{Received as Answer}
 use Rattle.taking.specs.declared.answer.Rooms.{Rooms}
@@ -113,7 +113,7 @@ roomy d r e =
 -- ---- all parts
 
 module _ (s : Session) (l : Lent) (good : sessionGood s l ≡ true) (table : List ℕ) (n before : ℕ) (inside : before ≤ n) (message : List ℕ) (p : Places)
-    (read : decodedOf (messageAt message) ≡ Placed p) (ready : Parts) (d : Draft) (made : Drafted s l table n before message p ready d) (long : Long ready)
+    (read : decodedOf (messageAt message) ≡ Placed p) (ready : Parts) (d : Draft) (made : Drafted s l table n before message p ready d) (stands : Stands d ready)
     (all : Bytes message) (a : Answer) (q : Received) (o : Outcomes s l table n before message p d (roomsIn l) a q)
   where
     abbrev v : State
@@ -137,7 +137,7 @@ module _ (s : Session) (l : Lent) (good : sessionGood s l ≡ true) (table : Lis
         let tells = told-within s l good table n before inside message p read ready d made in
         let less = sent-within s l good table n before inside message p read ready d made in
         record {
-          shared = omega (arith, long .shared);
+          shared = stands .sharedThere;
           sharedRoom = r .shared;
           told = omega (arith, w .headsThere, told-few s l good table n before inside message p read ready d made);
           toldRoom = omega (arith, r .lastSent);
@@ -147,12 +147,12 @@ module _ (s : Session) (l : Lent) (good : sessionGood s l ≡ true) (table : Lis
           needRoom = r .need;
           haves =
               record {
-                there = omega (arith, long .words, small .haves);
+                there = omega (arith, stands .words, small .haves);
                 layable = rw words-ready (read-layable message p read all);
                 room = r .haves;
                 bytesRoom = rw (words-ready, ← made .words .bytes) (r .bytes);
               };
-          sent = omega (arith, long .sent, g .sent .few);
+          sent = stands .sentThere;
           sentRoom = omega (arith, g .sent .there);
         }
 
@@ -184,26 +184,24 @@ module _ (s : Session) (l : Lent) (good : sessionGood s l ≡ true) (table : Lis
         go (Outcome.refuses refusal left e f g) = rw f none-fits
         go (Outcome.takes few room e f g) = rw e (took-fits few room)
 
-    module _ (lastBytes : Bytes (l .lastSent)) (sharedBytes : Bytes (ready .shared)) (sentBytes : Bytes (ready .sent)) where
+    module _ (lastBytes : Bytes (l .lastSent)) where
       took-put : d .shared ≤ sizes .hashes → allPut d message (p .heads .start) (p .need .start) ready l ≡ keptIn (Received.took (received before t v m)) l
       unfolding keptIn received lastSentAfter
       took-put few =
           let g = session-parts s l good in
           let w = read-words message p read in
-          let small = draft-small s l good table n before inside message p read ready d made in
-          let less = sent-within s l good table n before inside message p read ready d made in
           let tells : Bool = not (ltb 0 (p .chunks .count)) && same (m .heads) (heads (take before t)) in
           let shared = shared-gathered s l good table n before inside message p read ready d made few in
           let sent = sent-made s l good table n before inside message p read ready d made in
           lents-same
-          (ap (sets (l .shared) 0) (sym (gathered-bytes shared sharedBytes (omega (arith, long .shared)))))
+          (ap (sets (l .shared) 0) (sym (gathered-bytes shared (stands .shared) (stands .sharedThere))))
           (rw (told-made s l good table n before inside message p read ready d made)
           (last-put message (p .heads .start) (p .heads .count) tells (l .lastSent) (s .«last_sent_heads») all (w .headsThere) lastBytes (g .lastSent .there)))
           (rw (made .heads) (ap (sets (l .theirHeads) 0) (sym (hashes-at-bytes message (p .heads .start) (p .heads .count) all (w .headsThere)))))
           (rw (made .need) (ap (sets (l .theirNeed) 0) (sym (hashes-at-bytes message (p .need .start) (p .need .count) all (w .needThere)))))
           (rw words-ready)
           (rw words-ready)
-          (ap (sets (l .sent) 0) (sym (gathered-bytes sent sentBytes (omega (arith, long .sent, g .sent .few)))))
+          (ap (sets (l .sent) 0) (sym (gathered-bytes sent (stands .sent) (stands .sentThere))))
 
       -- and is what is kept
       pub puts-kept : allPut (putsOf a d) message (p .heads .start) (p .need .start) ready l ≡ keptIn q l

@@ -6,3 +6,4 @@ pub mod Once
 pub mod OtherLaws
 pub mod Outcomes
 pub mod Promises
+pub mod RoomLaws

@@ -7,9 +7,11 @@ use drafting::make::load_failed;
 use drafting::make::loads_changes;
 use drafting::make::make_received;
 use receiving::flags::take_flags;
+use receiving::heads::mark_heads;
 use rules::sizes::HASH_SIZE;
 use rules::sizes::HASHES;
 use rules::sizes::HAVES;
+use rules::sizes::ROWS;
 use rules::sizes::SENT_HASHES;
 use state::session::Session;
 use taking::answer::Received;
@@ -17,9 +19,12 @@ use taking::answer::Rooms;
 use taking::decide::decide;
 use taking::put::put;
 use taking::put::puts_of;
+ghost use mathlib.Core.Path.{_≡_};
 ghost use Rattle.lent.specs.Good.{lentOf};
 ghost use Rattle.drafting.specs.Checks.{Accepted};
+ghost use Rattle.drafting.specs.Made.{Prepared};
 ghost use Rattle.receive.specs.Call.{receiveWith, ReceiveCalled};
+ghost use Rattle.receive.specs.Few.{isFew};
 
 // Room for one hash more than a list may have, so that too many show.
 const SHARED_SIZE: usize = HASH_SIZE * (HASHES + 1);
@@ -28,8 +33,113 @@ const SENT_SIZE: usize = HASH_SIZE * SENT_HASHES;
 // Room for the records of any haves.
 const RECORDS: usize = HAVE_WORDS * HAVES;
 
-// The message taken by a session and beside a table and its index that have been checked.
+// Heads and sent hashes are nearly always few: buffers for so many are cleared in no time, while clearing those for any would be most of a call
+// over few rows.
+const FEW: usize = 64;
+
+const FEW_SIZE: usize = HASH_SIZE * FEW;
+
+// Whether few hashes have to be put: all heads of the message are held, so that they become the shared ones, and they and the hashes sent are few.
+fn is_few(all: bool, heads: usize, sent: usize) -> bool
+    ensures { λ r. ⌜ r ≡ isFew all heads sent ⌝ }
+{
+    if !all {
+        return false;
+    }
+    if FEW < heads {
+        return false;
+    }
+    sent <= FEW
+}
+
+// The message taken by a session and beside a table and its index that have been checked, what lies below its heads being marked.
 fn receive_checked(
+    session: Session,
+    table: &[u8],
+    index: &[u8],
+    n: usize,
+    before: usize,
+    message: &[u8],
+    places: Places,
+    loaded: bool,
+    all: bool,
+    marks: &[bool],
+    ready_shared: &mut [u8],
+    ready_sent: &mut [u8],
+    shared: &mut [u8],
+    last_sent: &mut [u8],
+    their_heads: &mut [u8],
+    their_need: &mut [u8],
+    haves: &mut [u64],
+    bytes: &mut [u8],
+    sent: &mut [u8],
+) -> Received
+    requires { ⌜ Accepted session (lentOf (now shared) (now «last_sent») (now «their_heads») (now «their_need») (now haves) (now bytes) (now sent))
+        (now table) (now index) n before (now message) places
+        × Prepared (now table) n (now message) places (session .«sent_hashes») (now marks) all (now «ready_shared») (now «ready_sent») ⌝ }
+    ensures { λ r. ⌜ ReceiveCalled session (receiveWith loaded before session
+        (lentOf (now (shared .entry)) (now («last_sent» .entry)) (now («their_heads» .entry)) (now («their_need» .entry))
+        (now (haves .entry)) (now (bytes .entry)) (now (sent .entry))) (now (table .entry)) (now (index .entry)) (now (message .entry)))
+        (lentOf (now (shared .entry)) (now («last_sent» .entry)) (now («their_heads» .entry)) (now («their_need» .entry))
+        (now (haves .entry)) (now (bytes .entry)) (now (sent .entry)))
+        (lentOf (now (shared .exit)) (now («last_sent» .exit)) (now («their_heads» .exit)) (now («their_need» .exit))
+        (now (haves .exit)) (now (bytes .exit)) (now (sent .exit))) r ⌝ }
+{
+    let mut words = [0u64; RECORDS];
+    let heads = places.heads;
+    let need = places.need;
+    let chunks = places.chunks;
+    let flags = places.flags;
+    let flagged = take_flags(session, flags);
+    let loads = loads_changes(chunks.count, session.read_only);
+    let draft = make_received(
+        flagged,
+        loads,
+        all,
+        marks,
+        table,
+        index,
+        n,
+        before,
+        message,
+        places,
+        shared,
+        sent,
+        ready_shared,
+        ready_sent,
+        &mut words,
+    );
+    let rooms = Rooms {
+        shared: shared.len(),
+        last_sent: last_sent.len(),
+        their_heads: their_heads.len(),
+        their_need: their_need.len(),
+        haves: haves.len(),
+        bytes: bytes.len(),
+    };
+    let received = decide(flagged, load_failed(loads, loaded), draft, rooms);
+    let puts = puts_of(received, draft);
+    put(
+        puts,
+        message,
+        heads.start,
+        need.start,
+        &words,
+        ready_shared,
+        ready_sent,
+        shared,
+        last_sent,
+        their_heads,
+        their_need,
+        haves,
+        bytes,
+        sent,
+    );
+    received
+}
+
+// The same, in buffers of the size that it needs.
+fn receive_sized(
     session: Session,
     table: &[u8],
     index: &[u8],
@@ -56,48 +166,57 @@ fn receive_checked(
         (lentOf (now (shared .exit)) (now («last_sent» .exit)) (now («their_heads» .exit)) (now («their_need» .exit))
         (now (haves .exit)) (now (bytes .exit)) (now (sent .exit))) r ⌝ }
 {
+    let heads = places.heads;
+    let mut marks = [false; ROWS];
+    let all = mark_heads(
+        table,
+        index,
+        n,
+        message,
+        heads.start,
+        heads.count,
+        &mut marks,
+    );
+    if is_few(all, heads.count, session.sent_hashes) {
+        let mut few_shared = [0u8; FEW_SIZE];
+        let mut few_sent = [0u8; FEW_SIZE];
+        return receive_checked(
+            session,
+            table,
+            index,
+            n,
+            before,
+            message,
+            places,
+            loaded,
+            all,
+            &marks,
+            &mut few_shared,
+            &mut few_sent,
+            shared,
+            last_sent,
+            their_heads,
+            their_need,
+            haves,
+            bytes,
+            sent,
+        );
+    }
     let mut ready_shared = [0u8; SHARED_SIZE];
     let mut ready_sent = [0u8; SENT_SIZE];
-    let mut words = [0u64; RECORDS];
-    let heads = places.heads;
-    let need = places.need;
-    let chunks = places.chunks;
-    let flags = places.flags;
-    let flagged = take_flags(session, flags);
-    let loads = loads_changes(chunks.count, session.read_only);
-    let draft = make_received(
-        flagged,
-        loads,
+    receive_checked(
+        session,
         table,
         index,
         n,
         before,
         message,
         places,
-        shared,
-        sent,
+        loaded,
+        all,
+        &marks,
         &mut ready_shared,
         &mut ready_sent,
-        &mut words,
-    );
-    let rooms = Rooms {
-        shared: shared.len(),
-        last_sent: last_sent.len(),
-        their_heads: their_heads.len(),
-        their_need: their_need.len(),
-        haves: haves.len(),
-        bytes: bytes.len(),
-    };
-    let received = decide(flagged, load_failed(loads, loaded), draft, rooms);
-    let puts = puts_of(received, draft);
-    put(
-        puts,
-        message,
-        heads.start,
-        need.start,
-        &words,
-        &ready_shared,
-        &ready_sent,
         shared,
         last_sent,
         their_heads,
@@ -105,8 +224,7 @@ fn receive_checked(
         haves,
         bytes,
         sent,
-    );
-    received
+    )
 }
 
 // What a message does to a session. `before`: how many rows the table had before loading; `loaded`: whether loading the message's changes went well,
@@ -149,7 +267,7 @@ pub fn receive_sync_message(
         message,
     ) {
         Checks::Refused(refusal) => Received::Refused(refusal),
-        Checks::Good { rows, places } => receive_checked(
+        Checks::Good { rows, places } => receive_sized(
             session,
             table,
             index,

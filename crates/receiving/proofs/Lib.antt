@@ -1,4 +1,4 @@
 -- Laws that the functions' proofs cite.
-pub mod HaveLaws
+pub mod HeadLaws
 pub mod LeftLaws
 pub mod SharedLaws

@@ -12,10 +12,10 @@ use lib.ListN.{length, take, drop, replicate, length-replicate}
 use lib.Seq.{sets, slice}
 use Rattle.graph.specs.Graph.{heads}
 use Rattle.graph.proofs.HeadLaws.{heads-few}
-use Rattle.lists.specs.Lists.{same, Joined, UpTo}
+use Rattle.lists.specs.Lists.{Joined, UpTo}
 use Rattle.lists.proofs.Lists.{up-to-nothing, joined-up-to}
 use Rattle.rules.specs.Hash.{Bytes, hashesAt, hashesBytes}
-use Rattle.rules.specs.Order.{member, keep, every, ascend}
+use Rattle.rules.specs.Order.{member, keep, ascend}
 use Rattle.rules.specs.Output.{Gathered}
 use Rattle.rules.specs.Sizes.{sizes}
 use Rattle.rules.proofs.Cases.{split, both, either}
@@ -27,7 +27,7 @@ use Rattle.session.specs.Receive.{advance, join}
 use Rattle.tables.specs.Bytes.{rowsAt, GoodRows}
 use Rattle.tables.specs.Table.{Row, held}
 use Rattle.tables.proofs.TableLaws.{length-rows-at, take-rows-at}
-use Rattle.receiving.specs.Made.{SharedMade}
+use Rattle.receiving.specs.Made.{sharedRoom, SharedMade}
 
 -- ---- lists of heads
 
@@ -43,12 +43,6 @@ pub heads-fit : (s list : List ℕ) (n count : ℕ) → n ≤ sizes .rows → Ga
 heads-fit s list n count h so e =
     let long : length list ≡ sizes .hash * sizes .rows = e ∙ length-replicate {A = ℕ} (sizes .hash * sizes .rows) 0 in
     omega (arith, so .many, heads-within s n)
-
--- the same hashes as those of a list are the same as the heads that it has
-pub same-heads : (s list theirs : List ℕ) (n count : ℕ) {r : Bool} → Gathered (heads (rowsAt s 0 n)) list count
-    → r ≡ same theirs (hashesAt list 0 count)
-    → r ≡ same theirs (heads (rowsAt s 0 n))
-same-heads s list theirs n count so e = rw (so .list) at e
 
 -- ---- hashes joined twice
 
@@ -130,45 +124,51 @@ advanced-fits old shared s list n count h so e =
 
 pub join-made : (t : List Row) (theirs shared list mid after : List ℕ) (old r : ℕ) → Joined list mid 0 shared old → length mid ≡ length list
     → Joined mid after old (keep (held t) theirs) r
+    → length after ≡ length mid
     → SharedMade (join t theirs shared) (length list) after r
 unfolding join
-join-made t theirs shared list mid after old r j e k = record { many = sym (length-hashes-at after 0 r); are = two-joined j e k }
+join-made t theirs shared list mid after old r j e k f =
+    let made = two-joined j e k in
+    let long = length-hashes-at after 0 r in
+    record { there = omega (arith, made .within); many = sym long; are = made }
 
 -- all of a message's heads, copied
 pub copied-made : (s list after : List ℕ) (place many : ℕ) → Bytes s → place + sizes .hash * many ≤ length s → many ≤ sizes .hashes
-    → sizes .hash * (sizes .hashes + 1) ≤ length list
+    → sizes .hash * many ≤ length list
     → after ≡ sets list 0 (take (place + sizes .hash * many - place) (drop place s))
-    → SharedMade (hashesAt s place many) (length list) after many
-copied-made s list after place many all fits few room e =
+    → length after ≡ length list
+    → SharedMade (hashesAt s place many) sharedRoom after many
+copied-made s list after place many all fits few room e same-long =
     let hs : List ℕ = hashesAt s place many in
     let long : length hs ≡ many = length-hashes-at s place many in
     let part : take (place + sizes .hash * many - place) (drop place s) ≡ slice place (place + sizes .hash * many) s =
     rw add-sub-cancel-left (take-drop (sizes .hash * many) place s)
     in
     let is : after ≡ sets list 0 (hashesBytes hs) = e ∙ ap (sets list 0) (part ∙ sym (hashes-at-bytes s place many all fits)) in
-    let there : Gathered hs (sets list 0 (hashesBytes hs)) (length hs) =
+    let written : Gathered hs (sets list 0 (hashesBytes hs)) (length hs) =
     written-gathered hs list (hashes-are-hashes s place many all) (omega arith)
     in
-    let back : hashesAt after 0 many ≡ hs = rw is (rw long at (there .list)) in
-    let most : length hs ≤ length list / sizes .hash = omega arith in
+    let back : hashesAt after 0 many ≡ hs = rw is (rw long at (written .list)) in
+    let most : length hs ≤ sharedRoom / sizes .hash = omega arith in
     record {
+      there = omega arith;
       many = sym (length-hashes-at after 0 many);
       are = rw back (record { within = most; all = λ h. refl; full = λ h. omega arith });
     }
 
 -- one law for each way through the two tests
-module _ (t : List Row) (theirs moved shared : List ℕ) (loads : Bool) (room : ℕ) (after : List ℕ) (r : ℕ) where
+module _ (t : List Row) (theirs moved shared : List ℕ) (all loads : Bool) (after : List ℕ) (r : ℕ) where
   abbrev pub Made : Type 0
-  Made = SharedMade (cond (every (held t) theirs) theirs (join t theirs (cond loads moved shared))) room after r
+  Made = SharedMade (cond all theirs (join t theirs (cond loads moved shared))) sharedRoom after r
 
-  pub where-held : every (held t) theirs ≡ true → SharedMade theirs room after r → Made
+  pub where-held : all ≡ true → SharedMade theirs sharedRoom after r → Made
   where-held e m = rw e m
 
-  module _ (some : every (held t) theirs ≡ false) where
+  module _ (some : all ≡ false) (room : ℕ) (whole : room ≡ sharedRoom) where
     pub where-still : not loads ≡ true → SharedMade (join t theirs shared) room after r → Made
-    where-still e m = rw (some, not-true loads e) m
+    where-still e m = rw (some, not-true loads e) (rw whole at m)
 
     pub where-moved : not loads ≡ false → (list : List ℕ) (count : ℕ) → Gathered moved list count
         → SharedMade (join t theirs (hashesAt list 0 count)) room after r
         → Made
-    where-moved e list count g m = rw (some, not-false loads e) (rw (g .list) at m)
+    where-moved e list count g m = rw (some, not-false loads e) (rw (g .list, whole) at m)

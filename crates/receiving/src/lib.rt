@@ -1,6 +1,6 @@
-// What a message changes in a session (`receive_sync_message` of src/sync.rs), part by part: shared heads, sent hashes, heads sent last, flags and the
-// haves that are kept, each computed into memory that the caller has at hand.
+// What a message changes in a session (`receive_sync_message` of src/sync.rs), part by part: shared heads, sent hashes, heads sent last and flags,
+// each computed into memory that the caller has at hand.
 pub mod flags;
-pub mod haves;
+pub mod heads;
 pub mod left;
 pub mod shared;

@@ -1,8 +1,6 @@
 // The shared heads after a message.
 use graph::heads::LIST_SIZE;
 use graph::heads::collect_heads;
-use lists::compare::all_held;
-use lists::compare::same_list;
 use lists::join::join_common;
 use lists::join::join_held;
 use lists::join::join_list;
@@ -11,20 +9,16 @@ use rules::put::copy_into;
 use rules::sizes::HASH_SIZE;
 use rules::sizes::ROWS;
 ghost use mathlib.Core.Bool.{cond};
-ghost use mathlib.Core.Path.{_≡_};
 ghost use Prim.Native.Nat.{_+_, _*_, _≤_};
 ghost use lib.ListN.{length, take};
 ghost use Rattle.graph.specs.Graph.{heads};
 ghost use Rattle.index.specs.Index.{Indexed};
-ghost use Rattle.lists.specs.Lists.{same};
 ghost use Rattle.rules.specs.Hash.{hashesAt};
-ghost use Rattle.rules.specs.Order.{every};
 ghost use Rattle.rules.specs.Output.{Gathered};
 ghost use Rattle.rules.specs.Sizes.{sizes};
 ghost use Rattle.session.specs.Receive.{advance, join};
 ghost use Rattle.tables.specs.Bytes.{rowsAt};
-ghost use Rattle.tables.specs.Table.{held};
-ghost use Rattle.receiving.specs.Made.{SharedMade};
+ghost use Rattle.receiving.specs.Made.{sharedRoom, SharedFits, SharedMade};
 
 // Room for one hash more than there can be heads.
 const ADVANCED_SIZE: usize = HASH_SIZE * (ROWS + 1);
@@ -75,6 +69,7 @@ fn join_shared(
 // The shared heads after a message whose heads stand at a place of its bytes: these where all of them are held, else both joined, after the
 // advance where changes were loaded.
 pub fn make_shared(
+    all: bool,
     loads: bool,
     table: &[u8],
     index: &[u8],
@@ -88,14 +83,13 @@ pub fn make_shared(
     list: &mut [u8],
 ) -> usize
     requires { ⌜ Indexed (now table) (now index) n × (before ≤ n) × (sizes .hash * count ≤ length (now shared)) × (place + sizes .hash * many ≤ length (now s))
-        × (many ≤ sizes .hashes) × (sizes .hash * (sizes .hashes + 1) ≤ length (now list)) ⌝ }
-    ensures { λ r. ⌜ SharedMade (cond (every (held (rowsAt (now (table .entry)) 0 n)) (hashesAt (now (s .entry)) place many))
-        (hashesAt (now (s .entry)) place many)
+        × (many ≤ sizes .hashes) × SharedFits all many (length (now list)) ⌝ }
+    ensures { λ r. ⌜ SharedMade (cond all (hashesAt (now (s .entry)) place many)
         (join (rowsAt (now (table .entry)) 0 n) (hashesAt (now (s .entry)) place many)
         (cond loads (advance (heads (take before (rowsAt (now (table .entry)) 0 n))) (heads (rowsAt (now (table .entry)) 0 n))
-        (hashesAt (now (shared .entry)) 0 count)) (hashesAt (now (shared .entry)) 0 count)))) (length (now (list .entry))) (now (list .exit)) r ⌝ }
+        (hashesAt (now (shared .entry)) 0 count)) (hashesAt (now (shared .entry)) 0 count)))) sharedRoom (now (list .exit)) r ⌝ }
 {
-    if all_held(table, index, n, s, place, many) {
+    if all {
         copy_into(list, 0, &s[place..place + HASH_SIZE * many]);
         return many;
     }
@@ -105,22 +99,4 @@ pub fn make_shared(
     let mut advanced = [0u8; ADVANCED_SIZE];
     let moved = advance_heads(table, index, n, before, shared, count, &mut advanced);
     join_shared(table, index, n, &advanced, moved, s, place, many, list)
-}
-
-// Whether a message's heads are those of a table's first rows.
-pub fn heads_before(
-    table: &[u8],
-    index: &[u8],
-    n: usize,
-    before: usize,
-    s: &[u8],
-    place: usize,
-    many: usize,
-) -> bool
-    requires { ⌜ Indexed (now table) (now index) n × (before ≤ n) × (place + sizes .hash * many ≤ length (now s)) ⌝ }
-    ensures { λ r. ⌜ r ≡ same (hashesAt (now (s .entry)) place many) (heads (rowsAt (now (table .entry)) 0 before)) ⌝ }
-{
-    let mut old = [0u8; LIST_SIZE];
-    let olds = collect_heads(table, index, n, before, &mut old);
-    same_list(s, place, many, &old, 0, olds)
 }

@@ -12,7 +12,7 @@ use Rattle.state.specs.Value.{Lent, keptHaves}
 use native.Mathlib.Omega.{arith}
 use Rattle.lent.specs.Good.{lentOf}
 use Rattle.session.specs.Laid.{laidBytes}
-use Rattle.receiving.specs.Made.{Layable, LaidPut}
+use Rattle.laying.specs.Made.{Layable, LaidPut}
 use Rattle.taking.specs.declared.decide.Draft.{Draft}
 use Rattle.taking.specs.Draft.{Parts, LaidFit, allPut}
 

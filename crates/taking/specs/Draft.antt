@@ -13,7 +13,7 @@ use Rattle.session.specs.Laid.{laidBytes, laidWords}
 use Rattle.state.specs.Value.{Lent, keptHaves}
 use Rattle.state.specs.declared.session.Heard.the-variants.{Count}
 use Rattle.state.specs.declared.session.Session.{Session}
-use Rattle.receiving.specs.Made.{Layable}
+use Rattle.laying.specs.Made.{Layable}
 use Rattle.taking.specs.declared.answer.Received.{Received as Answer}
 use Rattle.taking.specs.declared.answer.Received.the-variants.{Took, Failed, Refused}
 use Rattle.taking.specs.declared.answer.Rooms.{Rooms}

@@ -2,7 +2,7 @@
 use crate::answer::Received;
 use crate::decide::Draft;
 use bloom::have::HAVE_WORDS;
-use receiving::haves::lay_haves;
+use laying::haves::lay_haves;
 use rules::put::copy_into;
 use rules::sizes::HASH_SIZE;
 ghost use mathlib.Core.Path.{_≡_};
@@ -11,7 +11,7 @@ ghost use lib.ListN.{length};
 ghost use lib.Seq.{sets, slice};
 ghost use Rattle.bloom.specs.Have.{havesOf};
 ghost use Rattle.lent.specs.Good.{lentOf};
-ghost use Rattle.receiving.specs.Made.{LaidPut};
+ghost use Rattle.laying.specs.Made.{LaidPut};
 ghost use Rattle.rules.specs.Sizes.{sizes};
 ghost use Rattle.state.specs.Value.{keptHaves};
 ghost use Rattle.taking.specs.Draft.{putsOf, partsOf, LaidFit, Fits, allPut};

@@ -1,7 +1,8 @@
 -- `drafting::make::make_received` meets its contract: one part after the other. Assumes nothing.
 use mathlib.Core.Path.{refl}
 use native.Mathlib.Omega.{arith}
-use Rattle.drafting.proofs.MakeLaws.{keeps-there, keeps-fit, keeps-gathered, shared-room}
+use Rattle.receiving.proofs.LeftLaws.{left-below}
+use Rattle.drafting.proofs.MakeLaws.{keeps-there, keeps-gathered, left-there, shared-known}
 use Rattle.drafting.proofs.SaidLaws.{read-words}
 use borrow.Author.Needs.{needs}
 use Rattle.drafting.proofs.make.make_received.Statement.{statement}
@@ -13,10 +14,10 @@ make-words-requires c κs = search needs
 make-shared-requires : tie.Need-make-shared-requires
 make-shared-requires c κs =
     let m = c .before .before .before in
-    let s = m .before .before .before .before .before .before .before .before .before .before .before .before .before .before in
+    let s = m .before .before .before .before .before .before .before .before .before .before .before .before .before .before .before in
     let r = s .pre .0 in
     let w = read-words _ _ (r .placed) in
-    (r .rows, r .upTo, r .shared, w .headsThere, w .fewHeads, omega (arith, s .pre .1 .shared))
+    (r .rows, r .upTo, r .shared, w .headsThere, w .fewHeads, s .pre .1 .shared)
 
 kept-hashes-requires : tie.Need-kept-hashes-requires
 kept-hashes-requires c κs = search needs
@@ -26,13 +27,12 @@ make-left-requires c κs =
     let k = c .before in
     let h = k .before .before .before in
     let m = h .before .before .before .before in
-    let s = m .before .before .before .before .before .before .before .before .before .before .before .before .before .before in
-    let r = s .pre .0 in
-    let w = read-words _ _ (r .placed) in (
+    let s = m .before .before .before .before .before .before .before .before .before .before .before .before .before .before .before in
+    let r = s .pre .0 in (
       r .rows,
-      w .headsThere,
+      s .pre .1 .long,
       keeps-there _ _ _ _ (k .kept-hashes .ensures) (r .sent),
-      keeps-fit _ _ _ _ (k .kept-hashes .ensures) (r .few) (s .pre .1 .sent),
+      keeps-there _ _ _ _ (k .kept-hashes .ensures) (s .pre .1 .sent),
     )
 
 told-heads-requires : tie.Need-told-heads-requires
@@ -40,7 +40,7 @@ told-heads-requires c κs =
     let k = c .before .before .before .before in
     let h = k .before .before .before in
     let m = h .before .before .before .before in
-    let r = m .before .before .before .before .before .before .before .before .before .before .before .before .before .before .pre .0 in
+    let r = m .before .before .before .before .before .before .before .before .before .before .before .before .before .before .before .pre .0 in
     (r .rows, r .upTo, read-words _ _ (r .placed) .headsThere)
 
 last-sent-after-requires : tie.Need-last-sent-after-requires
@@ -64,11 +64,11 @@ returns c =
     let k5 = k .before in
     let h = k5 .before .before in
     let m = h .before .before .before .before in
-    let s = m .before .before .before .before .before .before .before .before .before .before .before .before .before .before in
-    let long = s .pre .1 in (
+    let s = m .before .before .before .before .before .before .before .before .before .before .before .before .before .before .before in
+    let given = s .pre .1 in (
       record {
-        shared = shared-room _ _ _ _ (long .shared) (h .make-shared .ensures);
-        sent = keeps-gathered _ _ _ _ _ _ _ (k .kept-hashes .ensures) (f .make-left .ensures);
+        shared = shared-known _ _ _ _ _ _ _ (given .marked .known) (h .make-shared .ensures);
+        sent = keeps-gathered _ _ _ _ _ _ _ (k .kept-hashes .ensures) (left-below _ _ _ _ (given .marked .rows) _ _ _ (f .make-left .ensures));
         told = t .told-heads .ensures;
         lastSent = c .last-sent-after .ensures;
         heads = refl;
@@ -77,14 +77,12 @@ returns c =
         words = m .make-words .ensures;
       },
       record {
-        long =
-            record {
-              shared = omega (arith, h .make-shared .kept .1 .1 .1 .1 .1 .1 .1 .1 .1 .1 .0, long .shared);
-              sent = omega (arith, f .make-left .kept .1 .1 .1 .1 .1 .1 .1 .1 .0, long .sent);
-              words = omega (arith, m .make-words .kept .1 .1 .0, long .words);
-            };
         shared = λ i. k5 .slice-known5 .given i .fits;
+        sharedThere = h .make-shared .ensures .there;
         sent = λ i. k6 .slice-known6 .given i .fits;
+        sentThere =
+            left-there _ _ _ _ _ _ (keeps-there _ _ _ _ (k .kept-hashes .ensures) (given .sent)) (f .make-left .kept .1 .1 .1 .1 .1 .1 .0) (f .make-left .ensures);
+        words = omega (arith, m .make-words .kept .1 .1 .0, s .pre .2);
       },
     )
 

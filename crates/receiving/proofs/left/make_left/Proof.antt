@@ -1,44 +1,104 @@
--- `receiving::left::make_left` meets its contract: the rows that are marked are those below the message's heads. Assumes nothing.
-use mathlib.Core.Bool.{false}
+-- `receiving::left::make_left` meets its contract: what has been put and what is left make the whole (LeftLaws). Assumes nothing.
+use Prim.Native.Nat.{_-_}
+use mathlib.Core.Bool.{not}
+use mathlib.Core.Path.{sym, ap, _∙_}
 use native.Mathlib.Omega.{arith}
 use borrow.Author.Needs.{needs}
-use lib.ListN.{length-replicate}
-use Rattle.graph.proofs.MarkLaws.{blank}
-use Rattle.rules.specs.Sizes.{sizes}
-use Rattle.receiving.proofs.LeftLaws.{left-below}
+use Rattle.tables.specs.Bytes.{rowsAt}
+use Rattle.receiving.specs.Made.{heldMarked}
+use Rattle.receiving.proofs.LeftLaws.{Leaving, leaving-starts, leaving-passed, leaving-taken, leaving-ends}
 use Rattle.receiving.proofs.left.make_left.Statement.{statement}
 use Rattle.receiving.proofs.left.make_left.Tie as tie
 
-slice-aggregate-mark-at-or-below : tie.Need-slice-aggregate-mark-at-or-below
-slice-aggregate-mark-at-or-below c = search needs
+abbrev Inv-loop : tie.InvT-loop
+Inv-loop table index n marks sent count list₀ left₀ k₀ list left k = Leaving (λ h. not (heldMarked (rowsAt table 0 n) marks h)) sent count list₀ list left k
 
-mark-at-or-below-requires : tie.Need-mark-at-or-below-requires
-mark-at-or-below-requires c κs =
-    let start = c .before .before .before .before .before .before in
-    (start .pre .0, start .pre .1, omega (arith, length-replicate (sizes .rows) false, start .pre .0 .rows .few), blank _ _ (start .pre .0 .rows .few))
+abbrev μ-loop : tie.MeasureT-loop
+μ-loop table index n marks sent count list₀ left₀ k₀ list left k = count - k
 
-slice-aggregate-put-unmarked : tie.Need-slice-aggregate-put-unmarked
-slice-aggregate-put-unmarked c = search needs
+loop-holds : tie.Need-loop-holds Inv-loop μ-loop
+loop-holds c = leaving-starts _ _ _ _
 
-put-unmarked-requires : tie.Need-put-unmarked-requires
-put-unmarked-requires c κs = search needs
+mul-at : tie.Need-mul-at Inv-loop μ-loop
+mul-at c = search needs
 
-same-length : tie.Need-same-length
-same-length c = search needs
+add-k : tie.Need-add-k Inv-loop μ-loop
+add-k c = search needs
 
-returns : tie.Need-returns
+held-marked-requires : tie.Need-held-marked-requires Inv-loop μ-loop
+held-marked-requires c κs = search needs
+
+loop-less : tie.Need-loop-less Inv-loop μ-loop
+loop-less c = search needs
+
+loop-again : tie.Need-loop-again Inv-loop μ-loop
+loop-again c =
+    let t = c .before in
+    let l = t .before in
+    leaving-passed _ _ _ _ _ _ _ (l .before .loop .inv) (l .loop-test .taken) (ap not (sym (t .held-marked .ensures) ∙ c .if1 .taken))
+
+mul-put-hash : tie.Need-mul-put-hash Inv-loop μ-loop
+mul-put-hash c =
+    let l = c .before .before .before in
+    let start = l .before .before .before .before .before .before .before in
+    omega (arith, l .loop-test .taken, l .before .loop .inv .few, start .pre .3)
+
+put-hash-requires : tie.Need-put-hash-requires Inv-loop μ-loop
+put-hash-requires c κs =
+    let l = c .before .before .before in
+    let inv = l .before .loop .inv in
+    let start = l .before .before .before .before .before .before .before in
+    (omega (arith, l .loop-test .taken, inv .few, inv .long, start .pre .3), omega (arith, l .loop-test .taken, start .pre .2))
+
+add-left : tie.Need-add-left Inv-loop μ-loop
+add-left c =
+    let l = c .before .before .before .before .before .before in
+    let start = l .before .before .before .before .before .before .before in
+    omega (arith, l .loop-test .taken, l .before .loop .inv .few, start .pre .3)
+
+loop-less-2 : tie.Need-loop-less-2 Inv-loop μ-loop
+loop-less-2 c = search needs
+
+loop-again-2 : tie.Need-loop-again-2 Inv-loop μ-loop
+loop-again-2 c =
+    let put = c .before .before in
+    let e = put .before .before in
+    let t = e .before in
+    let l = t .before in
+    let b = l .before in
+    let known = b .before .before in
+    let start = known .before .before .before .before in
+    leaving-taken _ _ _ _ _ _ _ (b .loop .inv) _ (l .loop-test .taken) (ap not (sym (t .held-marked .ensures) ∙ e .if1 .left))
+    (λ i. known .shared-slice-known4 .given i .fits)
+    (start .pre .2)
+    (put .put-hash .kept .0)
+    (put .put-hash .ensures)
+
+same-length : tie.Need-same-length Inv-loop μ-loop
+same-length c = c .before .loop .inv .long
+
+returns : tie.Need-returns Inv-loop μ-loop
 returns c =
-    let p = c .before .before in
-    let m = p .before .before .before .before in
-    left-below _ _ _ _ (m .mark-at-or-below .ensures) _ _ _ (p .put-unmarked .ensures)
+    let b = c .before in
+    let known = b .before .before in
+    leaving-ends _ _ _ _ _ _ _ (b .loop .inv) (c .loop-test .left) (λ i. known .shared-slice-known4 .given i .fits) (known .before .before .before .before .pre .3)
 
 pub make-left-spec : {M : Type 1} → statement M
 make-left-spec =
     tie.close
     (tie.spec
-    slice-aggregate-mark-at-or-below
-    mark-at-or-below-requires
-    slice-aggregate-put-unmarked
-    put-unmarked-requires
+    Inv-loop
+    μ-loop
+    loop-holds
+    mul-at
+    add-k
+    held-marked-requires
+    loop-less
+    loop-again
+    mul-put-hash
+    put-hash-requires
+    add-left
+    loop-less-2
+    loop-again-2
     same-length
     returns)

@@ -23,6 +23,7 @@ returns c =
     let h = c .before .before in
     let j = h .before .before .before .before in
     join-made _ _ _ _ _ _ _ _ (j .join-list .ensures) (j .join-list .kept .0) (h .join-held .ensures)
+    (h .join-held .kept .1 .1 .1 .0)
 
 pub join-shared-spec : {M : Type 1} → statement M
 join-shared-spec = tie.close (tie.spec join-list-requires join-held-requires same-length returns)

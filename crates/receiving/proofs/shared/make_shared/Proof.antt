@@ -1,12 +1,8 @@
 -- `receiving::shared::make_shared` meets its contract: one law for each way through the two tests (SharedLaws). Assumes nothing.
-use mathlib.Core.Path.{sym, _∙_}
 use borrow.Author.Needs.{needs}
 use Rattle.receiving.proofs.SharedLaws.{advanced-room, advanced-fits, copied-made, where-held, where-still, where-moved}
 use Rattle.receiving.proofs.shared.make_shared.Statement.{statement}
 use Rattle.receiving.proofs.shared.make_shared.Tie as tie
-
-all-held-requires : tie.Need-all-held-requires
-all-held-requires c κs = search needs
 
 mul-copy-into : tie.Need-mul-copy-into
 mul-copy-into c = search needs
@@ -24,7 +20,11 @@ part-copy-into-end : tie.Need-part-copy-into-end
 part-copy-into-end c = search needs
 
 copy-into-requires : tie.Need-copy-into-requires
-copy-into-requires c κs = search needs
+copy-into-requires c κs =
+    let t = c .before .before in
+    let start = t .before .before .before .before .before .before in
+    let room = start .pre .5 .held (t .if1 .taken) in
+    search needs
 
 same-length : tie.Need-same-length
 same-length c = search needs
@@ -33,11 +33,12 @@ returns : tie.Need-returns
 returns c =
     let p = c .before .before in
     let t = p .before .before .before in
-    let a = t .before in
-    let known = a .before .before in
+    let known = t .before .before in
     let start = known .before .before .before .before in
-    where-held _ _ _ _ (start .args .loads) _ _ _ (sym (a .all-held .ensures) ∙ t .if1 .taken)
-    (copied-made _ _ _ _ _ (λ k. known .shared-slice-known4 .given k .fits) (start .pre .3) (start .pre .4) (start .pre .5) (p .copy-into .ensures))
+    where-held _ _ _ _ _ (start .args .loads) _ _ (t .if1 .taken)
+    (copied-made _ _ _ _ _ (λ k. known .shared-slice-known4 .given k .fits) (start .pre .3) (start .pre .4) (start .pre .5 .held (t .if1 .taken))
+    (p .copy-into .ensures)
+    (p .copy-into .kept .0))
 
 join-shared-requires : tie.Need-join-shared-requires
 join-shared-requires c κs = search needs
@@ -49,16 +50,16 @@ returns-2 : tie.Need-returns-2
 returns-2 c =
     let j = c .before .before in
     let e = j .before .before in
-    let a = e .before .before in
-    let start = a .before .before .before .before .before .before in
-    where-still _ _ _ _ (start .args .loads) _ _ _ (sym (a .all-held .ensures) ∙ e .before .if1 .left) (e .if2 .taken) (j .join-shared .ensures)
+    let some = e .before .if1 .left in
+    let start = e .before .before .before .before .before .before .before in
+    where-still _ _ _ _ _ (start .args .loads) _ _ some _ (start .pre .5 .joined some) (e .if2 .taken) (j .join-shared .ensures)
 
 slice-aggregate-advance-heads : tie.Need-slice-aggregate-advance-heads
 slice-aggregate-advance-heads c = search needs
 
 advance-heads-requires : tie.Need-advance-heads-requires
 advance-heads-requires c κs =
-    let start = c .before .before .before .before .before .before .before .before .before in
+    let start = c .before .before .before .before .before .before .before .before in
     (start .pre .0, start .pre .1, start .pre .2, advanced-room)
 
 slice-aggregate-join-shared : tie.Need-slice-aggregate-join-shared
@@ -67,7 +68,7 @@ slice-aggregate-join-shared c = search needs
 join-shared-requires-2 : tie.Need-join-shared-requires-2
 join-shared-requires-2 c κs =
     let h = c .before .before .before in
-    let start = h .before .before .before .before .before .before .before .before .before .before in (
+    let start = h .before .before .before .before .before .before .before .before .before in (
       start .pre .0,
       advanced-fits _ _ _ _ _ _ (start .pre .0 .rows .few) (h .advance-heads .ensures) (h .advance-heads .kept .1 .1 .1 .1 .1 .1 .0),
       start .pre .3,
@@ -81,16 +82,15 @@ returns-3 c =
     let j = c .before .before in
     let h = j .before .before .before .before in
     let e = h .before .before in
-    let a = e .before .before in
-    let start = a .before .before .before .before .before .before in
-    where-moved _ _ _ _ (start .args .loads) _ _ _ (sym (a .all-held .ensures) ∙ e .before .if1 .left) (e .if2 .left) _ _ (h .advance-heads .ensures)
+    let some = e .before .if1 .left in
+    let start = e .before .before .before .before .before .before .before in
+    where-moved _ _ _ _ _ (start .args .loads) _ _ some _ (start .pre .5 .joined some) (e .if2 .left) _ _ (h .advance-heads .ensures)
     (j .join-shared2 .ensures)
 
 pub make-shared-spec : {M : Type 1} → statement M
 make-shared-spec =
     tie.close
     (tie.spec
-    all-held-requires
     mul-copy-into
     add-copy-into
     sub-copy-into

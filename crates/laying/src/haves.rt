@@ -13,7 +13,7 @@ ghost use Rattle.bloom.specs.Have.{haveWords, haveCount, syncCount, haveIn, hav
 ghost use Rattle.numbers.specs.Number.{Put};
 ghost use Rattle.rules.specs.Sizes.{sizes};
 ghost use Rattle.session.specs.Laid.{laidBytes};
-ghost use Rattle.receiving.specs.Made.{Layable, LaidPut, mostLaid, recordFrom, laidHave};
+ghost use Rattle.laying.specs.Made.{Layable, LaidPut, mostLaid, recordFrom, laidHave};
 
 // How many bytes the haves of these records take.
 pub fn laid_size(s: &[u8], words: &[u64]) -> usize

@@ -22,7 +22,7 @@ use Rattle.rules.proofs.Cases.{split, both}
 use Rattle.rules.proofs.Hash.{take-drop, length-slice-of, length-hashes-at, length-hashes-bytes, hashes-at-bytes}
 use Rattle.rules.proofs.Outputs.{sets-append}
 use Rattle.session.specs.Laid.{laidBytes, laidFrom, laidWords}
-use Rattle.receiving.specs.Made.{LaidPut, Layable, mostHave, mostLaid, laidHave, recordFrom}
+use Rattle.laying.specs.Made.{LaidPut, Layable, mostHave, mostLaid, laidHave, recordFrom}
 
 -- seven words one after the other
 seven-put : (out : List ℕ) (i a b c d e f g : ℕ)

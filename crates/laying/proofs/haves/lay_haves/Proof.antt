@@ -1,11 +1,11 @@
--- `receiving::haves::lay_haves` meets its contract: what has been laid out and what is left make the whole (HaveLaws). Assumes nothing.
+-- `laying::haves::lay_haves` meets its contract: what has been laid out and what is left make the whole (HaveLaws). Assumes nothing.
 use Prim.Native.Nat.{_-_}
 use native.Mathlib.Omega.{arith}
 use borrow.Author.Needs.{needs}
 use Rattle.bloom.specs.Have.{haveCount}
-use Rattle.receiving.proofs.HaveLaws.{Laying, laying-starts, record-room, have-room, laying-on, laying-ends}
-use Rattle.receiving.proofs.haves.lay_haves.Statement.{statement}
-use Rattle.receiving.proofs.haves.lay_haves.Tie as tie
+use Rattle.laying.proofs.HaveLaws.{Laying, laying-starts, record-room, have-room, laying-on, laying-ends}
+use Rattle.laying.proofs.haves.lay_haves.Statement.{statement}
+use Rattle.laying.proofs.haves.lay_haves.Tie as tie
 
 abbrev Inv-loop : tie.InvT-loop
 Inv-loop s words records₀ bytes₀ total at₀ i₀ records bytes at i = Laying s words records₀ bytes₀ records bytes at i

@@ -1,4 +1,4 @@
--- `receiving::haves::lay_have` meets its contract: hashes and a field that stand in bytes are just these bytes, and the two parts put one after the other are
+-- `laying::haves::lay_have` meets its contract: hashes and a field that stand in bytes are just these bytes, and the two parts put one after the other are
 -- the have put at once (HaveLaws). Assumes nothing.
 use Prim.Native.Nat.{_+_, _*_, _≤_}
 use native.Mathlib.Omega.{arith}
@@ -6,9 +6,9 @@ use borrow.Author.Needs.{needs}
 use denote.Ref.{now}
 use lib.ListN.{length}
 use Rattle.rules.specs.Sizes.{sizes}
-use Rattle.receiving.proofs.HaveLaws.{Fits, have-fits, have-ends, have-laid}
-use Rattle.receiving.proofs.haves.lay_have.Statement.{statement}
-use Rattle.receiving.proofs.haves.lay_have.Tie as tie
+use Rattle.laying.proofs.HaveLaws.{Fits, have-fits, have-ends, have-laid}
+use Rattle.laying.proofs.haves.lay_have.Statement.{statement}
+use Rattle.laying.proofs.haves.lay_have.Tie as tie
 
 sync-place-requires : tie.Need-sync-place-requires
 sync-place-requires c κs = search needs

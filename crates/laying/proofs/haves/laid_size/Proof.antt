@@ -1,4 +1,4 @@
--- `receiving::haves::laid_size` meets its contract: the sizes that are added and those still to come make the whole (HaveLaws). Assumes nothing.
+-- `laying::haves::laid_size` meets its contract: the sizes that are added and those still to come make the whole (HaveLaws). Assumes nothing.
 use Prim.Native.Nat.{_+_, _-_, _≤_}
 use mathlib.Core.Path.{_≡_}
 use native.Mathlib.Omega.{arith}
@@ -7,9 +7,9 @@ use denote.Ref.{now}
 use lib.ListN.{length}
 use Rattle.bloom.specs.Have.{haveCount, havesOf}
 use Rattle.session.specs.Laid.{laidBytes}
-use Rattle.receiving.proofs.HaveLaws.{Fits, have-fits, leftFrom, size-starts, size-on, size-ends, laid-small}
-use Rattle.receiving.proofs.haves.laid_size.Statement.{statement}
-use Rattle.receiving.proofs.haves.laid_size.Tie as tie
+use Rattle.laying.proofs.HaveLaws.{Fits, have-fits, leftFrom, size-starts, size-on, size-ends, laid-small}
+use Rattle.laying.proofs.haves.laid_size.Statement.{statement}
+use Rattle.laying.proofs.haves.laid_size.Tie as tie
 
 abbrev Inv-loop : tie.InvT-loop
 Inv-loop s words total size₀ i₀ size i =

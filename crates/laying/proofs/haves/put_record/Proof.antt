@@ -1,10 +1,10 @@
--- `receiving::haves::put_record` meets its contract: seven words one after the other. Assumes nothing.
+-- `laying::haves::put_record` meets its contract: seven words one after the other. Assumes nothing.
 use native.Mathlib.Omega.{arith}
 use borrow.Author.Needs.{needs}
 use lib.ListN.{length-set}
-use Rattle.receiving.proofs.HaveLaws.{record-put}
-use Rattle.receiving.proofs.haves.put_record.Statement.{statement}
-use Rattle.receiving.proofs.haves.put_record.Tie as tie
+use Rattle.laying.proofs.HaveLaws.{record-put}
+use Rattle.laying.proofs.haves.put_record.Statement.{statement}
+use Rattle.laying.proofs.haves.put_record.Tie as tie
 
 sync-count-requires : tie.Need-sync-count-requires
 sync-count-requires c κs = search needs

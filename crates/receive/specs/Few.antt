@@ -1,0 +1,12 @@
+-- What internal contracts speak of: when smaller buffers will do. No rule of 01 stands here.
+use Prim.Native.Nat.{ℕ}
+use mathlib.Core.Bool.{Bool, _&&_}
+use lib.Dec.{leb}
+
+-- So many hashes are few.
+abbrev pub fewHashes : ℕ
+fewHashes = 64
+
+-- All of a message's heads are held, and they and the sent hashes are few.
+unfoldable pub isFew : Bool → ℕ → ℕ → Bool
+isFew all heads sent = all && leb heads fewHashes && leb sent fewHashes

@@ -1,0 +1,108 @@
+// A message's heads beside a table: which rows they are, and whether they are the heads that the table had before.
+use graph::marks::flip;
+use graph::marks::mark_below;
+use graph::marks::mark_needed;
+use index::look::look_up;
+use rules::hashes::same_hash;
+use rules::sizes::HASH_SIZE;
+use rules::sizes::ROWS;
+use tables::row::ROW_SIZE;
+use tables::row::u16_at;
+ghost use mathlib.Core.Bool.{false};
+ghost use mathlib.Core.Path.{_≡_};
+ghost use Prim.Native.Nat.{_+_, _*_, _≤_};
+ghost use lib.ListN.{length, getD};
+ghost use Rattle.graph.specs.Graph.{heads};
+ghost use Rattle.graph.specs.Marks.{Blank};
+ghost use Rattle.index.specs.Index.{Indexed};
+ghost use Rattle.lists.specs.Lists.{same};
+ghost use Rattle.rules.specs.Hash.{hashesAt};
+ghost use Rattle.rules.specs.Order.{ascend};
+ghost use Rattle.rules.specs.Sizes.{sizes};
+ghost use Rattle.tables.specs.Bytes.{rowsAt};
+ghost use Rattle.tables.specs.Table.{rowsWhere};
+ghost use Rattle.receiving.specs.Made.{HeadsMarked};
+
+// Marks the rows of a message's heads and all below them, and says whether all heads are held: one look-up a head tells both.
+pub fn mark_heads(
+    table: &[u8],
+    index: &[u8],
+    n: usize,
+    s: &[u8],
+    place: usize,
+    many: usize,
+    marks: &mut [bool],
+) -> bool
+    requires { ⌜ Indexed (now table) (now index) n × (place + sizes .hash * many ≤ length (now s)) × (n ≤ length (now marks)) × Blank n (now marks) ⌝ }
+    ensures { λ r. ⌜ HeadsMarked (now (table .entry)) n (hashesAt (now (s .entry)) place many) (now (marks .exit)) r ⌝ }
+{
+    let mut all = true;
+    let mut k = 0;
+    while k < many {
+        let row = look_up(table, index, n, s, place + HASH_SIZE * k);
+        k += 1;
+        if n <= row {
+            all = false;
+            continue;
+        }
+        marks[row] = true;
+    }
+    mark_below(table, n, marks);
+    all
+}
+
+// Whether a message's hashes are those of the first rows that are marked, ascending: the index has the rows in this order.
+fn same_marked(
+    table: &[u8],
+    index: &[u8],
+    n: usize,
+    before: usize,
+    marks: &[bool],
+    s: &[u8],
+    place: usize,
+    many: usize,
+) -> bool
+    requires { ⌜ Indexed (now table) (now index) n × (before ≤ n) × (before ≤ length (now marks)) × (place + sizes .hash * many ≤ length (now s)) ⌝ }
+    ensures { λ r. ⌜ r ≡ same (hashesAt (now (s .entry)) place many)
+        (ascend (rowsWhere (rowsAt (now (table .entry)) 0 before) (λ i. getD (now (marks .entry)) i false))) ⌝ }
+{
+    let mut count = 0;
+    let mut k = 0;
+    while k < n {
+        let row = u16_at(index, 2 * k);
+        k += 1;
+        if before <= row {
+            continue;
+        }
+        if !marks[row] {
+            continue;
+        }
+        if many <= count {
+            return false;
+        }
+        if !same_hash(s, place + HASH_SIZE * count, table, row * ROW_SIZE) {
+            return false;
+        }
+        count += 1;
+    }
+    count == many
+}
+
+// Whether a message's heads are those of a table's first rows.
+pub fn heads_before(
+    table: &[u8],
+    index: &[u8],
+    n: usize,
+    before: usize,
+    s: &[u8],
+    place: usize,
+    many: usize,
+) -> bool
+    requires { ⌜ Indexed (now table) (now index) n × (before ≤ n) × (place + sizes .hash * many ≤ length (now s)) ⌝ }
+    ensures { λ r. ⌜ r ≡ same (hashesAt (now (s .entry)) place many) (heads (rowsAt (now (table .entry)) 0 before)) ⌝ }
+{
+    let mut marks = [false; ROWS];
+    mark_needed(table, before, &mut marks);
+    flip(before, &mut marks);
+    same_marked(table, index, n, before, &marks, s, place, many)
+}
