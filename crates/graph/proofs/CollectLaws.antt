@@ -102,7 +102,7 @@ module _ (s x : List ℕ) (n before : ℕ) (m : List Bool) where
     unfolding collectFrom keep
     collect-passed e = rw (u16s-next x n k r inside read, e)
 
-  collect-none : (k : ℕ) → n ≤ k → collectFrom k ≡ []
+  pub collect-none : (k : ℕ) → n ≤ k → collectFrom k ≡ []
   unfolding collectFrom keep
   collect-none k h = rw (u16s-none x n k h)
 

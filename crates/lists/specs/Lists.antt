@@ -19,6 +19,10 @@ same (x ∷ xs) (y ∷ ys) = eqb x y && same xs ys
 
 -- ---- what internal contracts speak of; no rule of 01 stands here
 
+-- So many hashes are few.
+abbrev pub few : ℕ
+few = 64
+
 -- Hashes put into an ascending list that holds no more than `most`, the last one first.
 unfoldable pub insertAll : ℕ → List ℕ → List ℕ → List ℕ
 insertAll most [] l = l

@@ -21,6 +21,7 @@ use Rattle.graph.proofs.PickLaws.{marked-most}
 use Rattle.index.specs.Index.{Indexed}
 use Rattle.lent.specs.Good.{heardGood, lentOf, sessionGood}
 use Rattle.lent.proofs.GoodSessions.{list-parts, session-tests, session-parts, heard-within}
+use Rattle.lists.specs.Lists.{few}
 use Rattle.missing.specs.Ask.{Found}
 use Rattle.planning.specs.Made.{Setting}
 use Rattle.rules.specs.Hash.{hashesAt}
@@ -33,7 +34,7 @@ use Rattle.state.specs.declared.session.Heard.the-variants.{Nothing, Count}
 use Rattle.state.specs.declared.session.Session.{Session}
 use Rattle.tables.specs.Bytes.{rowsAt}
 use Rattle.tables.proofs.TableLaws.{length-rows-at}
-use Rattle.plan.specs.Asked.{few, isFew, NeedRoom, AskedCalled}
+use Rattle.plan.specs.Asked.{isFew, NeedRoom, AskedCalled}
 
 -- ---- what is asked for
 

@@ -9,6 +9,7 @@ use Rattle.decide.specs.declared.answer.Planned.{Planned as Answer}
 use Rattle.draft.specs.declared.make.Counts.{Counts}
 use Rattle.index.specs.Index.{Indexed}
 use Rattle.lent.specs.Good.{sessionGood}
+use Rattle.lists.specs.Lists.{few}
 use Rattle.missing.specs.Ask.{Found}
 use Rattle.rules.specs.Sizes.{sizes}
 use Rattle.session.specs.Plan.{heard, needOf, plan}
@@ -19,10 +20,6 @@ use Rattle.tables.specs.Table.{Row}
 use Rattle.tables.specs.declared.check.Checked.the-variants.{Good}
 use Rattle.waiting.specs.Bytes.{waitingChecked}
 use Rattle.waiting.specs.Waiting.{Waiting}
-
--- So many hashes are few.
-abbrev pub few : ℕ
-few = 64
 
 -- Few heads, and few sent hashes with what the message carries.
 unfoldable pub isFew : Counts → ℕ → Bool

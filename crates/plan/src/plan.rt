@@ -9,6 +9,7 @@ use draft::make::Counts;
 use draft::make::count_plan;
 use draft::make::make_plan;
 use graph::heads::LIST_SIZE;
+use lists::few::FEW;
 use planning::need::make_need;
 use rules::sizes::FIELD_SIZE;
 use rules::sizes::HASH_SIZE;
@@ -35,10 +36,7 @@ ghost use Rattle.tables.specs.Bytes.{rowsAt};
 ghost use Rattle.waiting.specs.Bytes.{waitingOf};
 ghost use Rattle.plan.specs.Asked.{Checked, isFew, NeedRoom, AskedCalled};
 
-// Lists of so few hashes are made in memory of their own size, as what is cleared for long ones would be most of a short plan.
-const FEW: usize = 64;
-
-// Room for one hash more, so that too many show.
+// Room for one hash more than are few, or than a list may have, so that too many show.
 const FEW_SIZE: usize = HASH_SIZE * (FEW + 1);
 
 const NEED_SIZE: usize = HASH_SIZE * (HASHES + 1);

@@ -22,7 +22,8 @@ use Rattle.receiving.specs.Made.{HeadsMarked, sharedRoom}
 use Rattle.drafting.specs.Checks.{Accepted}
 use Rattle.drafting.specs.Made.{saidAt, Prepared}
 use Rattle.drafting.proofs.SaidLaws.{read-words}
-use Rattle.receive.specs.Few.{fewHashes, isFew}
+use Rattle.lists.specs.Lists.{few}
+use Rattle.receive.specs.Few.{isFew}
 
 -- ---- whether they are few
 
@@ -32,20 +33,20 @@ module _ (all : Bool) (heads sent : ℕ) where
   not-held e = rw e
 
   module _ (known : all ≡ true) where
-    pub many-heads : fewHashes < heads → false ≡ isFew all heads sent
+    pub many-heads : few < heads → false ≡ isFew all heads sent
     unfolding isFew
-    many-heads h = rw (known, lt-leb heads fewHashes h)
+    many-heads h = rw (known, lt-leb heads few h)
 
-    pub few-heads : heads ≤ fewHashes → leb sent fewHashes ≡ isFew all heads sent
+    pub few-heads : heads ≤ few → leb sent few ≡ isFew all heads sent
     unfolding isFew
-    few-heads h = rw (known, le-leb heads fewHashes h)
+    few-heads h = rw (known, le-leb heads few h)
 
-  few-each : isFew all heads sent ≡ true → (all ≡ true) × (heads ≤ fewHashes) × (sent ≤ fewHashes)
+  few-each : isFew all heads sent ≡ true → (all ≡ true) × (heads ≤ few) × (sent ≤ few)
   unfolding isFew
   few-each e =
-      let a = both (all && leb heads fewHashes) (leb sent fewHashes) e in
-      let b = both all (leb heads fewHashes) (a .0) in
-      (b .0, leb-true heads fewHashes (b .1), leb-true sent fewHashes (a .1))
+      let a = both (all && leb heads few) (leb sent few) e in
+      let b = both all (leb heads few) (a .0) in
+      (b .0, leb-true heads few (b .1), leb-true sent few (a .1))
 
 -- ---- what is asked of marks and buffers
 
@@ -67,9 +68,9 @@ module _ (s : Session) (l : Lent) (table index : List ℕ) (n before : ℕ) (mes
     inside = omega (arith, can-mark .2)
 
     pub few-prepared : isFew all (p .heads .count) (s .«sent_hashes») ≡ true
-        → Prepared table n message p (s .«sent_hashes») marks all (replicate (sizes .hash * fewHashes) 0) (replicate (sizes .hash * fewHashes) 0)
+        → Prepared table n message p (s .«sent_hashes») marks all (replicate (sizes .hash * few) 0) (replicate (sizes .hash * few) 0)
     few-prepared e =
-        let size = length-replicate {A = ℕ} (sizes .hash * fewHashes) 0 in
+        let size = length-replicate {A = ℕ} (sizes .hash * few) 0 in
         let few = few-each all (p .heads .count) (s .«sent_hashes») e in
         record {
           long = inside;

@@ -2,11 +2,8 @@
 use Prim.Native.Nat.{ℕ}
 use mathlib.Core.Bool.{Bool, _&&_}
 use lib.Dec.{leb}
-
--- So many hashes are few.
-abbrev pub fewHashes : ℕ
-fewHashes = 64
+use Rattle.lists.specs.Lists.{few}
 
 -- All of a message's heads are held, and they and the sent hashes are few.
 unfoldable pub isFew : Bool → ℕ → ℕ → Bool
-isFew all heads sent = all && leb heads fewHashes && leb sent fewHashes
+isFew all heads sent = all && leb heads few && leb sent few

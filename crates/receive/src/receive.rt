@@ -6,8 +6,9 @@ use drafting::check::check_receive;
 use drafting::make::load_failed;
 use drafting::make::loads_changes;
 use drafting::make::make_received;
+use lists::few::FEW;
 use receiving::flags::take_flags;
-use receiving::heads::mark_heads;
+use receiving::heads::mark_known;
 use rules::sizes::HASH_SIZE;
 use rules::sizes::HASHES;
 use rules::sizes::HAVES;
@@ -32,10 +33,6 @@ const SHARED_SIZE: usize = HASH_SIZE * (HASHES + 1);
 const SENT_SIZE: usize = HASH_SIZE * SENT_HASHES;
 // Room for the records of any haves.
 const RECORDS: usize = HAVE_WORDS * HAVES;
-
-// Heads and sent hashes are nearly always few: buffers for so many are cleared in no time, while clearing those for any would be most of a call
-// over few rows.
-const FEW: usize = 64;
 
 const FEW_SIZE: usize = HASH_SIZE * FEW;
 
@@ -168,7 +165,7 @@ fn receive_sized(
 {
     let heads = places.heads;
     let mut marks = [false; ROWS];
-    let all = mark_heads(
+    let all = mark_known(
         table,
         index,
         n,

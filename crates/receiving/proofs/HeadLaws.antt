@@ -1,21 +1,20 @@
 -- A message's heads beside a table. Each law is one turn of a loop, with its tests as hypotheses: what the heads from number k on decide and mark is
 -- what all of them do; and an index has the marked ones of the first rows in ascending order of hash, so the rest of both lists decides whether they
 -- are the same.
-use Prim.Native.Nat.{ℕ, zero, suc, _+_, _-_, _*_, _≤_, _<_}
+use Prim.Native.Nat.{ℕ, _+_, _-_, _*_, _≤_, _<_}
 use mathlib.Core.Bool.{Bool, true, false, not, _&&_, _||_}
-use mathlib.Core.List.{List, [], _∷_, map}
+use mathlib.Core.List.{List, [], _∷_}
 use mathlib.Core.Path.{_≡_, refl, sym, ap, _∙_}
 use native.Mathlib.Omega.{arith}
 use borrow.Author.Tests.{lt-ltb, le-ltb, ltb-true, ltb-false, eq-eqb, ne-eqb}
 use lib.Dec.{ltb, eqb}
-use lib.ListN.{length, getD, set, take, replicate, length-set}
+use lib.ListN.{length, getD, set, take, length-set}
 use Rattle.graph.specs.Graph.{needed, heads}
-use Rattle.graph.specs.Marks.{Marks, Blank}
-use Rattle.graph.proofs.GraphMarks.{below-blank, marked-rows}
-use Rattle.graph.proofs.MarkLaws.{markList, blank, blank-or, hash-held, hash-unknown, list-start, list-on, list-done, list-marked}
+use Rattle.graph.specs.Marks.{Marks, Blank, picked}
+use Rattle.graph.proofs.CollectLaws.{collects, collectFrom, collect-is, collect-taken, collect-passed, collect-none}
+use Rattle.graph.proofs.GraphMarks.{below-blank, picked-heads}
+use Rattle.graph.proofs.MarkLaws.{markList, hash-held, hash-unknown, list-start, list-on, list-done, list-marked}
 use Rattle.index.specs.Index.{fits}
-use Rattle.index.proofs.AscendLaws.{ascend-by-index}
-use Rattle.index.proofs.ByteLaws.{u16s-next, u16s-none}
 use Rattle.lists.specs.Lists.{same}
 use Rattle.lists.proofs.CompareLaws.{onward, onward-starts, onward-first, onward-ends, test-starts, test-fails, test-on, test-ends, found-held, found-unknown}
 use Rattle.rules.specs.Hash.{hashAt, hashesAt}
@@ -87,108 +86,43 @@ module _ (table : List ℕ) (n : ℕ) (s : List ℕ) (place many : ℕ) where
         let listed : Marks n marks (λ i. getD marks₀ i false || member (hashOf t i) hs) = list-marked table n s place many good marks₀ marks room is in
         record { rows = below-blank table n hs marks₀ marks after none listed below; known = all-known all (so .known) }
 
--- ---- some of the first rows
-
-from-none : (t : List Row) (p : ℕ → Bool) (i k : ℕ) → k ≤ i → rowsFrom i t (λ j. ltb j k && p j) ≡ []
-unfolding rowsFrom
-from-none [] p i k h = refl
-from-none (r ∷ t) p i k h = rw (le-ltb i k h) (from-none t p (suc i) k (omega arith))
-
-from-first : (t : List Row) (p : ℕ → Bool) (i k : ℕ) → rowsFrom i t (λ j. ltb j (i + k) && p j) ≡ rowsFrom i (take k t) p
-unfolding rowsFrom
-from-first [] p i zero = refl
-from-first [] p i (suc k) = refl
-from-first (r ∷ t) p i zero = from-none (r ∷ t) p i (i + 0) (omega arith)
-from-first (r ∷ t) p i (suc k) =
-    let e : i + suc k ≡ suc i + k = omega arith in
-    rw (lt-ltb i (i + suc k) (omega arith), e, from-first t p (suc i) k)
-
-first-rows : (t : List Row) (p : ℕ → Bool) (k : ℕ) → rowsWhere t (λ j. ltb j k && p j) ≡ rowsWhere (take k t) p
-unfolding rowsWhere
-first-rows t p k =
-    let e : 0 + k ≡ k = omega arith in
-    rw e at (from-first t p 0 k)
-
--- the marked ones of the first rows
-abbrev pub markedRows : List ℕ → ℕ → List Bool → List ℕ
-markedRows table before m = rowsWhere (rowsAt table 0 before) (λ i. getD m i false)
+-- ---- the marked ones of the first rows, ascending, compared with a message's hashes
 
 module _ (table x : List ℕ) (n before : ℕ) (m : List Bool) where
-  pub among : ℕ → Bool
-  among r = ltb r before && getD m r false
-
-  -- a row past the first ones, and one of these by its mark
-  pub past-first : (r : ℕ) → before ≤ r → among r ≡ false
-  unfolding among
-  past-first r h = rw (le-ltb r before h)
-
-  pub by-mark : (r : ℕ) (b : Bool) → r < before → getD m r false ≡ b → among r ≡ b
-  unfolding among
-  by-mark r b h e = rw (lt-ltb r before h) e
-
-  -- their hashes from entry k on
-  pub amongFrom : ℕ → List ℕ
-  amongFrom k = map (hashOf (rowsAt table 0 n)) (keep among (u16sAt x (2 * k) (n - k)))
-
-  among-all : fits (rowsAt table 0 n) (u16sAt x 0 n) ≡ true → before ≤ n → amongFrom 0 ≡ ascend (markedRows table before m)
-  unfolding amongFrom among
-  among-all ok h =
-      let d : n - 0 ≡ n = omega arith in
-      rw d
-      (sym (ascend-by-index (rowsAt table 0 n) (u16sAt x 0 n) ok (λ j. ltb j before && getD m j false))
-      ∙ ap ascend
-      (first-rows (rowsAt table 0 n) (λ j. getD m j false) before
-      ∙ ap (λ (t : List Row). rowsWhere t (λ j. getD m j false)) (take-rows-at table 0 before n h)))
-
-  module _ (k r : ℕ) (inside : k < n) (read : r ≡ u16At x (2 * k)) where
-    among-next : r < n → among r ≡ true → amongFrom k ≡ hashAt table (r * rowSize) ∷ amongFrom (k + 1)
-    unfolding amongFrom keep
-    among-next low e = rw (u16s-next x n k r inside read, e, hash-of-row table n r low)
-
-    among-passed : among r ≡ false → amongFrom k ≡ amongFrom (k + 1)
-    unfolding amongFrom keep
-    among-passed e = rw (u16s-next x n k r inside read, e)
-
-  among-none : (k : ℕ) → n ≤ k → amongFrom k ≡ []
-  unfolding amongFrom keep
-  among-none k h = rw (u16s-none x n k h)
-
-  -- ---- compared with a message's hashes
-
   module _ (s : List ℕ) (place many : ℕ) where
     -- the first `count` hashes are those of the rows before entry k
     pub record Comparing (count k : ℕ) : Type 0 where
       pub upto : k ≤ n
       pub few : count ≤ many
-      pub rest : same (onward s place many count) (amongFrom k) ≡ same (hashesAt s place many) (amongFrom 0)
+      pub rest : same (onward s place many count) (collectFrom table x n before m k) ≡ same (hashesAt s place many) (collectFrom table x n before m 0)
 
     pub comparing-starts : Comparing 0 0
     comparing-starts = record { upto = omega arith; few = omega arith; rest = rw (onward-starts s place many) }
 
     abbrev Decided : Bool → Type 0
-    Decided b = b ≡ same (hashesAt s place many) (ascend (markedRows table before m))
+    Decided b = b ≡ same (hashesAt s place many) (ascend (picked (rows (rowsAt table 0 before)) m))
 
     module _ (count k : ℕ) (so : Comparing count k) where
-      decides : fits (rowsAt table 0 n) (u16sAt x 0 n) ≡ true → before ≤ n → (b : Bool) → same (onward s place many count) (amongFrom k) ≡ b → Decided b
-      decides ok h b e = rw (among-all ok h) at (sym e ∙ so .rest)
+      decides : fits (rowsAt table 0 n) (u16sAt x 0 n) ≡ true → before ≤ n → (b : Bool) → same (onward s place many count) (collectFrom table x n before m k) ≡ b → Decided b
+      decides ok h b e = rw (collect-is table x n before m ok h) at (sym e ∙ so .rest)
 
       module _ (r : ℕ) (inside : k < n) (read : r ≡ u16At x (2 * k)) where
-        pub comparing-passed : among r ≡ false → Comparing count (k + 1)
+        pub comparing-passed : collects table x n before m r ≡ false → Comparing count (k + 1)
         comparing-passed e =
-            record { upto = omega arith; few = so .few; rest = rw (among-passed k r inside read e) at (so .rest) }
+            record { upto = omega arith; few = so .few; rest = rw (collect-passed table x n before m k r inside read e) at (so .rest) }
 
-        module _ (low : r < n) (e : among r ≡ true) where
+        module _ (low : r < n) (e : collects table x n before m r ≡ true) where
           -- a row more than there are hashes
           pub comparing-more : fits (rowsAt table 0 n) (u16sAt x 0 n) ≡ true → before ≤ n → many ≤ count → Decided false
           unfolding same
-          comparing-more ok h l = decides ok h false (rw (onward-ends s place many count l, among-next k r inside read low e))
+          comparing-more ok h l = decides ok h false (rw (onward-ends s place many count l, collect-taken table x n before m k r inside read low e))
 
           module _ (there : count < many) where
             pub comparing-fails : fits (rowsAt table 0 n) (u16sAt x 0 n) ≡ true → before ≤ n
                 → eqb (hashAt s (place + sizes .hash * count)) (hashAt table (r * rowSize)) ≡ false
                 → Decided false
             unfolding same
-            comparing-fails ok h d = decides ok h false (rw (onward-first s place many count there, among-next k r inside read low e, d))
+            comparing-fails ok h d = decides ok h false (rw (onward-first s place many count there, collect-taken table x n before m k r inside read low e, d))
 
             pub comparing-taken : eqb (hashAt s (place + sizes .hash * count)) (hashAt table (r * rowSize)) ≡ true → Comparing (count + 1) (k + 1)
             unfolding same
@@ -196,7 +130,7 @@ module _ (table x : List ℕ) (n before : ℕ) (m : List Bool) where
                 record {
                   upto = omega arith;
                   few = omega arith;
-                  rest = rw (onward-first s place many count there, among-next k r inside read low e, d) at (so .rest);
+                  rest = rw (onward-first s place many count there, collect-taken table x n before m k r inside read low e, d) at (so .rest);
                 }
 
       pub comparing-ends : fits (rowsAt table 0 n) (u16sAt x 0 n) ≡ true → before ≤ n → n ≤ k → Decided (eqb count many)
@@ -206,24 +140,14 @@ module _ (table x : List ℕ) (n before : ℕ) (m : List Bool) where
           (λ e.
           let less : count < many = ltb-true count many e in
           rw (ne-eqb count many (λ q. omega arith))
-          (decides ok h false (rw (onward-first s place many count less, among-none k l))))
+          (decides ok h false (rw (onward-first s place many count less, collect-none table x n before m k l))))
           (λ e.
           let is : count ≡ many = omega (arith, so .few, ltb-false count many e) in
           rw (eq-eqb count many is)
-          (decides ok h true (rw (onward-ends s place many count (omega arith), among-none k l))))
+          (decides ok h true (rw (onward-ends s place many count (omega arith), collect-none table x n before m k l))))
 
 -- the rows that none needs are the heads
-pub decided-heads : (table theirs : List ℕ) (n : ℕ) (m r : List Bool) {b : Bool} → n ≤ sizes .rows
-    → Marks n m (λ i. getD (replicate (sizes .rows) false) i false || needed (rowsAt table 0 n) i)
-    → Marks n r (λ i. not (getD m i false))
-    → b ≡ same theirs (ascend (markedRows table n r))
+pub decided-heads : (table theirs : List ℕ) (n : ℕ) {r : List Bool} {b : Bool} → Marks n r (λ i. not (needed (rowsAt table 0 n) i))
+    → b ≡ same theirs (ascend (picked (rows (rowsAt table 0 n)) r))
     → b ≡ same theirs (heads (rowsAt table 0 n))
-unfolding heads
-decided-heads table theirs n m r few a c e =
-    let t : List Row = rowsAt table 0 n in
-    let those : Marks n m (needed t) = blank-or n (replicate (sizes .rows) false) m (needed t) (blank n (sizes .rows) few) a in
-    let others : Marks n r (λ i. not (needed t i)) = record { each = λ i h. c .each i h ∙ ap not (those .each i h) } in
-    let is : markedRows table n r ≡ rowsWhere t (λ i. not (needed t i)) =
-    sym (marked-rows table n r (λ i. getD r i false) (record { each = λ i h. refl })) ∙ marked-rows table n r (λ i. not (needed t i)) others
-    in
-    rw is at e
+decided-heads table theirs n {r} {b} those e = rw (picked-heads table n r those) at e

@@ -1,30 +1,28 @@
 // A message's heads beside a table: which rows they are, and whether they are the heads that the table had before.
-use graph::marks::flip;
+use graph::heads::mark_heads;
 use graph::marks::mark_below;
-use graph::marks::mark_needed;
 use index::look::look_up;
 use rules::hashes::same_hash;
 use rules::sizes::HASH_SIZE;
 use rules::sizes::ROWS;
 use tables::row::ROW_SIZE;
 use tables::row::u16_at;
-ghost use mathlib.Core.Bool.{false};
 ghost use mathlib.Core.Path.{_≡_};
 ghost use Prim.Native.Nat.{_+_, _*_, _≤_};
-ghost use lib.ListN.{length, getD};
+ghost use lib.ListN.{length};
 ghost use Rattle.graph.specs.Graph.{heads};
-ghost use Rattle.graph.specs.Marks.{Blank};
+ghost use Rattle.graph.specs.Marks.{Blank, picked};
 ghost use Rattle.index.specs.Index.{Indexed};
 ghost use Rattle.lists.specs.Lists.{same};
 ghost use Rattle.rules.specs.Hash.{hashesAt};
 ghost use Rattle.rules.specs.Order.{ascend};
 ghost use Rattle.rules.specs.Sizes.{sizes};
 ghost use Rattle.tables.specs.Bytes.{rowsAt};
-ghost use Rattle.tables.specs.Table.{rowsWhere};
+ghost use Rattle.tables.specs.Table.{rows};
 ghost use Rattle.receiving.specs.Made.{HeadsMarked};
 
 // Marks the rows of a message's heads and all below them, and says whether all heads are held: one look-up a head tells both.
-pub fn mark_heads(
+pub fn mark_known(
     table: &[u8],
     index: &[u8],
     n: usize,
@@ -64,7 +62,7 @@ fn same_marked(
 ) -> bool
     requires { ⌜ Indexed (now table) (now index) n × (before ≤ n) × (before ≤ length (now marks)) × (place + sizes .hash * many ≤ length (now s)) ⌝ }
     ensures { λ r. ⌜ r ≡ same (hashesAt (now (s .entry)) place many)
-        (ascend (rowsWhere (rowsAt (now (table .entry)) 0 before) (λ i. getD (now (marks .entry)) i false))) ⌝ }
+        (ascend (picked (rows (rowsAt (now (table .entry)) 0 before)) (now (marks .entry)))) ⌝ }
 {
     let mut count = 0;
     let mut k = 0;
@@ -102,7 +100,6 @@ pub fn heads_before(
     ensures { λ r. ⌜ r ≡ same (hashesAt (now (s .entry)) place many) (heads (rowsAt (now (table .entry)) 0 before)) ⌝ }
 {
     let mut marks = [false; ROWS];
-    mark_needed(table, before, &mut marks);
-    flip(before, &mut marks);
+    mark_heads(table, before, &mut marks);
     same_marked(table, index, n, before, &marks, s, place, many)
 }

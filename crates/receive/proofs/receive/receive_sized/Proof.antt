@@ -5,11 +5,11 @@ use Rattle.receive.proofs.RoomLaws.{can-mark, few-prepared, all-prepare
 use Rattle.receive.proofs.receive.receive_sized.Statement.{statement}
 use Rattle.receive.proofs.receive.receive_sized.Tie as tie
 
-slice-aggregate-mark-heads : tie.Need-slice-aggregate-mark-heads
-slice-aggregate-mark-heads c = search needs
+slice-aggregate-mark-known : tie.Need-slice-aggregate-mark-known
+slice-aggregate-mark-known c = search needs
 
-mark-heads-requires : tie.Need-mark-heads-requires
-mark-heads-requires c κs =
+mark-known-requires : tie.Need-mark-known-requires
+mark-known-requires c κs =
     let s = c .before .before .before .before .before .before .before .before .before .before .before .before in
     can-mark _ _ _ _ _ _ _ _ (s .pre)
 
@@ -31,7 +31,7 @@ receive-checked-requires c κs =
     let f = t .before in
     let h = f .before .before in
     let s = h .before .before .before .before .before .before .before .before .before .before .before .before .before in
-    (s .pre, few-prepared _ _ _ _ _ _ _ _ (s .pre) _ _ (h .mark-heads .kept .1 .1 .1 .1 .1 .1 .0) (h .mark-heads .ensures) (sym (f .is-few .ensures) ∙ t .if1 .taken))
+    (s .pre, few-prepared _ _ _ _ _ _ _ _ (s .pre) _ _ (h .mark-known .kept .1 .1 .1 .1 .1 .1 .0) (h .mark-known .ensures) (sym (f .is-few .ensures) ∙ t .if1 .taken))
 
 same-length : tie.Need-same-length
 same-length c = search needs
@@ -73,7 +73,7 @@ receive-checked-requires-2 c κs =
     let e = c .before .before .before .before .before .before .before .before .before .before in
     let h = e .before .before .before in
     let s = h .before .before .before .before .before .before .before .before .before .before .before .before .before in
-    (s .pre, all-prepared _ _ _ _ _ _ _ _ (s .pre) _ _ (h .mark-heads .kept .1 .1 .1 .1 .1 .1 .0) (h .mark-heads .ensures))
+    (s .pre, all-prepared _ _ _ _ _ _ _ _ (s .pre) _ _ (h .mark-known .kept .1 .1 .1 .1 .1 .1 .0) (h .mark-known .ensures))
 
 same-length-8 : tie.Need-same-length-8
 same-length-8 c = search needs
@@ -105,8 +105,8 @@ pub receive-sized-spec : {M : Type 1} → statement M
 receive-sized-spec =
     tie.close
     (tie.spec
-    slice-aggregate-mark-heads
-    mark-heads-requires
+    slice-aggregate-mark-known
+    mark-known-requires
     is-few-requires
     slice-aggregate-receive-checked
     slice-aggregate-receive-checked-2

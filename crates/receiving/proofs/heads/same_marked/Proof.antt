@@ -7,7 +7,8 @@ use native.Mathlib.Omega.{arith}
 use borrow.Author.Needs.{needs}
 use borrow.Author.Tests.{not-true, not-false}
 use Rattle.index.proofs.HalveLaws.{entry-below, look-ordered, fit-records}
-use Rattle.receiving.proofs.HeadLaws.{Comparing, comparing-starts, comparing-passed, comparing-more, comparing-fails, comparing-taken, comparing-ends, past-first, by-mark}
+use Rattle.graph.proofs.CollectLaws.{past-first, by-mark}
+use Rattle.receiving.proofs.HeadLaws.{Comparing, comparing-starts, comparing-passed, comparing-more, comparing-fails, comparing-taken, comparing-ends}
 use Rattle.receiving.proofs.heads.same_marked.Statement.{statement}
 use Rattle.receiving.proofs.heads.same_marked.Tie as tie
 

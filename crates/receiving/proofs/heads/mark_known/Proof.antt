@@ -1,12 +1,12 @@
--- `receiving::heads::mark_heads` meets its contract: the row that is found for a head tells both its mark and whether it is held, and what the heads that
+-- `receiving::heads::mark_known` meets its contract: the row that is found for a head tells both its mark and whether it is held, and what the heads that
 -- are left decide and mark is what all of them do (HeadLaws). Assumes nothing.
 use Prim.Native.Nat.{_-_}
 use mathlib.Core.Path.{refl, _∙_}
 use native.Mathlib.Omega.{arith}
 use borrow.Author.Needs.{needs}
 use Rattle.receiving.proofs.HeadLaws.{Marking, marking-starts, marking-unknown, marking-held, marking-ends}
-use Rattle.receiving.proofs.heads.mark_heads.Statement.{statement}
-use Rattle.receiving.proofs.heads.mark_heads.Tie as tie
+use Rattle.receiving.proofs.heads.mark_known.Statement.{statement}
+use Rattle.receiving.proofs.heads.mark_known.Tie as tie
 
 abbrev Inv-loop : tie.InvT-loop
 Inv-loop table index n s place many marks₀ all₀ k₀ marks all k = Marking table n s place many marks₀ marks all k
@@ -72,8 +72,8 @@ returns c =
     let start = b .before .before .before .before .before in
     marking-ends _ _ _ _ _ _ _ _ _ (b .loop .inv) (l .loop-test .left) (start .pre .0 .rows) (start .pre .2) (start .pre .3) _ (m .mark-below .ensures)
 
-pub mark-heads-spec : {M : Type 1} → statement M
-mark-heads-spec =
+pub mark-known-spec : {M : Type 1} → statement M
+mark-known-spec =
     tie.close
     (tie.spec
     Inv-loop
