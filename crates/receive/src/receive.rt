@@ -33,8 +33,7 @@ const SENT_SIZE: usize = HASH_SIZE * SENT_HASHES;
 // Room for the records of any haves.
 const RECORDS: usize = HAVE_WORDS * HAVES;
 
-// Heads and sent hashes are nearly always few: buffers for so many are cleared in no time, while clearing those for any would be most of a call
-// over few rows.
+// So many heads and sent hashes are few, and buffers for them do: clearing those for any would be most of a call over few rows.
 const FEW: usize = 64;
 
 const FEW_SIZE: usize = HASH_SIZE * FEW;
