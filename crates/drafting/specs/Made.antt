@@ -1,6 +1,6 @@
 -- What internal contracts speak of: what a message says by its places, and a session after it as numbers and parts that stand ready. No rule of 01
 -- stands here.
-use Prim.Native.Nat.{ℕ, _+_, _*_, _≤_}
+use Prim.Native.Nat.{ℕ, _*_, _≤_}
 use mathlib.Core.Bool.{Bool, cond, not, _&&_}
 use mathlib.Core.List.{List}
 use mathlib.Core.Path.{_≡_}

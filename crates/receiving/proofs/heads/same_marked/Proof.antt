@@ -1,8 +1,7 @@
 -- `receiving::heads::same_marked` meets its contract: the rest of both lists decides what the whole ones do, and the index has the rows in ascending
 -- order of hash (HeadLaws). Assumes nothing.
 use Prim.Native.Nat.{_-_, _<_}
-use mathlib.Core.Bool.{true}
-use mathlib.Core.Path.{_≡_, sym, _∙_}
+use mathlib.Core.Path.{sym, _∙_}
 use native.Mathlib.Omega.{arith}
 use borrow.Author.Needs.{needs}
 use borrow.Author.Tests.{not-true, not-false}
