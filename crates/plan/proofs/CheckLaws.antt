@@ -4,12 +4,15 @@ use mathlib.Core.Bool.{Bool, true, false, cond, not}
 use mathlib.Core.List.{List}
 use mathlib.Core.Path.{_≡_, refl, sym, _∙_}
 use native.Mathlib.Omega.{arith}
+use Rattle.bloom.proofs.Rules.{rules-default}
+use Rattle.bloom.specs.Filter.{defaultBits, defaultProbes}
 use Rattle.decide.specs.Call.{Buffers, afterTables, planWith, answerOf, roomed, putInto, PlanCalled}
 use Rattle.decide.specs.declared.answer.Planned.the-variants as answer
-use Rattle.plan.specs.Asked.{Checked}
+use Rattle.asked.specs.Asked.{Checked}
 use Rattle.index.specs.Index.{Indexed, indexChecked}
 use Rattle.index.proofs.CheckLaws.{checked-table, checked-indexed}
 use Rattle.lent.specs.Good.{sessionGood}
+use Rattle.planning.specs.Made.{Setting}
 use Rattle.rules.specs.Hash.{hashesBytes}
 use Rattle.rules.specs.declared.refusal.Refusal.{Refusal}
 use Rattle.rules.specs.declared.refusal.Refusal.the-variants.{BadNumbers}
@@ -142,3 +145,7 @@ module _ (bits probes : ℕ) (s : Session) (l : Lent) (table index waiting : Lis
       → PlanCalled s (planWith bits probes s l table index waiting) b b (answer.Refused r)
   unfolding checkedPlan planWith answerOf roomed putInto hashesBytes laidBytes
   refused-called b r is e = rw (refused-plans (sessionGood s l) r (sym is ∙ e)) (record { answer = refl; buffers = refl })
+
+-- The filter rules hold with the default's bits and probes over any rows.
+pub default-setting : Setting defaultBits defaultProbes
+default-setting = record { each = rules-default }

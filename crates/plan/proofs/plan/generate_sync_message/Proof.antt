@@ -1,5 +1,5 @@
 -- `plan::plan::generate_sync_message` meets its contract: the default's bits and probes keep the filter rules over any rows. Assumes nothing.
-use Rattle.plan.proofs.CallLaws.{default-setting}
+use Rattle.plan.proofs.CheckLaws.{default-setting}
 use Rattle.plan.proofs.plan.generate_sync_message.Statement.{statement}
 use Rattle.plan.proofs.plan.generate_sync_message.Tie as tie
 

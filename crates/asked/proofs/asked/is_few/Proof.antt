@@ -1,8 +1,8 @@
--- `plan::plan::is_few` meets its contract, test by test. Assumes nothing.
-use Rattle.plan.proofs.CallLaws.{many-heads, many-sent, few-all}
+-- `asked::asked::is_few` meets its contract, test by test. Assumes nothing.
+use Rattle.asked.proofs.AskedLaws.{many-heads, many-sent, few-all}
 use borrow.Author.Needs.{needs}
-use Rattle.plan.proofs.plan.is_few.Statement.{statement}
-use Rattle.plan.proofs.plan.is_few.Tie as tie
+use Rattle.asked.proofs.asked.is_few.Statement.{statement}
+use Rattle.asked.proofs.asked.is_few.Tie as tie
 
 returns : tie.Need-returns
 returns c = many-heads _ _ (c .if1 .taken)

@@ -1,10 +1,10 @@
--- `plan::plan::plan_asked` meets its contract: what was counted has room in the buffers for few, or in those for as many as there may be. Assumes nothing.
+-- `asked::asked::plan_asked` meets its contract: what was counted has room in the buffers for few, or in those for as many as there may be. Assumes nothing.
 use mathlib.Core.Path.{refl, sym, _∙_}
 use Rattle.draft.proofs.MakeLaws.{count-ready}
-use Rattle.plan.proofs.CallLaws.{blank-marks, carried-few, sent-few, few-rooms, many-rooms}
+use Rattle.asked.proofs.AskedLaws.{blank-marks, carried-few, sent-few, few-rooms, many-rooms}
 use borrow.Author.Needs.{needs}
-use Rattle.plan.proofs.plan.plan_asked.Statement.{statement}
-use Rattle.plan.proofs.plan.plan_asked.Tie as tie
+use Rattle.asked.proofs.asked.plan_asked.Statement.{statement}
+use Rattle.asked.proofs.asked.plan_asked.Tie as tie
 
 slice-aggregate-count-plan : tie.Need-slice-aggregate-count-plan
 slice-aggregate-count-plan c = refl

@@ -1,11 +1,11 @@
--- `plan::plan::plan_checked` meets its contract: few hashes that are asked for are all of them, and more are looked for again. Assumes nothing.
+-- `asked::asked::plan_checked` meets its contract: few hashes that are asked for are all of them, and more are looked for again. Assumes nothing.
 use mathlib.Core.Path.{refl, sym}
 use native.Mathlib.Omega.{arith}
 use Rattle.draft.proofs.MakeLaws.{heads-good}
-use Rattle.plan.proofs.CallLaws.{need-room, few-found}
+use Rattle.asked.proofs.AskedLaws.{need-room, few-found}
 use borrow.Author.Needs.{needs}
-use Rattle.plan.proofs.plan.plan_checked.Statement.{statement}
-use Rattle.plan.proofs.plan.plan_checked.Tie as tie
+use Rattle.asked.proofs.asked.plan_checked.Statement.{statement}
+use Rattle.asked.proofs.asked.plan_checked.Tie as tie
 
 slice-aggregate-make-need : tie.Need-slice-aggregate-make-need
 slice-aggregate-make-need c = refl

@@ -1,10 +1,10 @@
--- `plan::plan::plan_in` meets its contract: what was made is small and stands ready, and once it is finished it is what the call promises.
+-- `asked::asked::plan_in` meets its contract: what was made is small and stands ready, and once it is finished it is what the call promises.
 -- Assumes nothing.
 use mathlib.Core.Path.{refl, sym}
-use Rattle.plan.proofs.CallLaws.{small-asked, asked-called}
+use Rattle.asked.proofs.AskedLaws.{small-asked, asked-called}
 use borrow.Author.Needs.{needs}
-use Rattle.plan.proofs.plan.plan_in.Statement.{statement}
-use Rattle.plan.proofs.plan.plan_in.Tie as tie
+use Rattle.asked.proofs.asked.plan_in.Statement.{statement}
+use Rattle.asked.proofs.asked.plan_in.Tie as tie
 
 slice-aggregate-make-plan : tie.Need-slice-aggregate-make-plan
 slice-aggregate-make-plan c = refl

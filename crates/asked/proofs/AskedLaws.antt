@@ -7,8 +7,6 @@ use mathlib.Core.Path.{_≡_}
 use native.Mathlib.Omega.{arith}
 use borrow.Author.Tests.{ltb-false, lt-ltb, le-ltb, not-true}
 use lib.ListN.{length, replicate, length-replicate}
-use Rattle.bloom.specs.Filter.{defaultBits, defaultProbes}
-use Rattle.bloom.proofs.Rules.{rules-default}
 use Rattle.decide.specs.Call.{Buffers}
 use Rattle.decide.specs.Draft.{Parts, SmallDraft}
 use Rattle.decide.specs.declared.answer.Planned.{Planned as Answer}
@@ -34,7 +32,7 @@ use Rattle.state.specs.declared.session.Heard.the-variants.{Nothing, Count}
 use Rattle.state.specs.declared.session.Session.{Session}
 use Rattle.tables.specs.Bytes.{rowsAt}
 use Rattle.tables.proofs.TableLaws.{length-rows-at}
-use Rattle.plan.specs.Asked.{isFew, NeedRoom, AskedCalled}
+use Rattle.asked.specs.Asked.{isFew, NeedRoom, AskedCalled}
 
 -- ---- what is asked for
 
@@ -155,7 +153,3 @@ module _ {table index : List ℕ} {n : ℕ} (s : Session) (l : Lent) (rows : Ind
       → Finished s d bits probes ready before after a
       → AskedCalled bits probes s (rowsAt table 0 n) l (ready .need) asked before after a
   asked-called m e f = record { called = λ w found. plan-called _ _ _ w s l _ _ _ m (rw (m .need) found) e _ _ _ f }
-
--- The filter rules hold with the default's bits and probes over any rows.
-pub default-setting : Setting defaultBits defaultProbes
-default-setting = record { each = rules-default }

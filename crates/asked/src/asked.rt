@@ -1,0 +1,366 @@
+// What was counted is made, decided and put: in buffers for few hashes where they are few.
+use decide::answer::Planned;
+use draft::finish::finish;
+use draft::make::Counts;
+use draft::make::count_plan;
+use draft::make::make_plan;
+use graph::heads::LIST_SIZE;
+use lists::few::FEW;
+use planning::need::make_need;
+use rules::sizes::FIELD_SIZE;
+use rules::sizes::HASH_SIZE;
+use rules::sizes::HASHES;
+use rules::sizes::HASHES_TO_SEND;
+use rules::sizes::ROWS;
+use rules::sizes::SENT_HASHES;
+use state::session::Session;
+ghost use mathlib.Core.Bool.{true};
+ghost use mathlib.Core.Path.{_≡_};
+ghost use Prim.Native.Nat.{_≤_};
+ghost use lib.ListN.{length};
+ghost use Rattle.decide.specs.Call.{buffersOf, PlanCalled};
+ghost use Rattle.draft.specs.Make.{carriedBody, Counted, ReadyRooms};
+ghost use Rattle.index.specs.Index.{Indexed};
+ghost use Rattle.lent.specs.Good.{lentOf, sessionGood};
+ghost use Rattle.planning.specs.Made.{Setting};
+ghost use Rattle.rules.specs.Hash.{hashesAt};
+ghost use Rattle.rules.specs.Sizes.{sizes};
+ghost use Rattle.session.specs.Plan.{plan as planFor};
+ghost use Rattle.state.specs.Value.{heardCount, valueOf};
+ghost use Rattle.tables.specs.Bytes.{rowsAt};
+ghost use Rattle.waiting.specs.Bytes.{waitingOf};
+ghost use Rattle.asked.specs.Asked.{Checked, isFew, NeedRoom, AskedCalled};
+
+// Room for one hash more than are few, or than a list may have, so that too many show.
+const FEW_SIZE: usize = HASH_SIZE * (FEW + 1);
+
+const NEED_SIZE: usize = HASH_SIZE * (HASHES + 1);
+
+const SENT_SIZE: usize = HASH_SIZE * (SENT_HASHES + 1);
+// Room for any hashes to send.
+const SEND_SIZE: usize = HASH_SIZE * HASHES_TO_SEND;
+
+// Whether the heads and what the message carries, joined to the hashes that were sent, are few.
+fn is_few(counts: Counts, before: usize) -> bool
+    requires { ⌜ (counts .body .hashes ≤ sizes .hashesToSend) × (before ≤ sizes .sentHashes) ⌝ }
+    ensures { λ r. ⌜ r ≡ isFew counts before ⌝ }
+{
+    let body = counts.body;
+    if FEW < counts.heads {
+        return false;
+    }
+    if FEW < before + body.hashes {
+        return false;
+    }
+    true
+}
+
+// The plan with what was counted and is asked for, made in buffers that are long enough.
+fn plan_in(
+    bits: u64,
+    probes: u64,
+    session: Session,
+    table: &[u8],
+    index: &[u8],
+    n: usize,
+    counts: Counts,
+    head_marks: &[bool],
+    marks: &[bool],
+    needs: &[bool],
+    ready_need: &[u8],
+    asked: usize,
+    ready_heads: &mut [u8],
+    ready_list: &mut [u8],
+    ready_sent: &mut [u8],
+    shared: &[u8],
+    last_sent: &mut [u8],
+    their_heads: &[u8],
+    their_need: &[u8],
+    haves: &[u64],
+    bytes: &[u8],
+    sent: &mut [u8],
+    heads: &mut [u8],
+    need: &mut [u8],
+    have: &mut [u8],
+    list: &mut [u8],
+) -> Planned
+    requires { ⌜ Indexed (now table) (now index) n
+        × (sessionGood session (lentOf (now shared) (now «last_sent») (now «their_heads») (now «their_need») (now haves) (now bytes) (now sent)) ≡ true)
+        × Setting bits probes
+        × Counted (rowsAt (now table) 0 n) n
+        (carriedBody (rowsAt (now table) 0 n) session (now «their_heads») (now «their_need») (now haves) (now bytes) (now sent))
+        (hashesAt (now «their_need») 0 (heardCount (session .«their_need»))) (now «head_marks») (now marks) (now needs) counts
+        × NeedRoom asked (length (now «ready_need»))
+        × ReadyRooms counts (session .«sent_hashes») (length (now «ready_heads»)) (sizes .field) (length (now «ready_list»)) (length (now «ready_sent»)) ⌝ }
+    ensures { λ r. ⌜ AskedCalled bits probes session (rowsAt (now (table .entry)) 0 n)
+        (lentOf (now (shared .entry)) (now («last_sent» .entry)) (now («their_heads» .entry)) (now («their_need» .entry)) (now (haves .entry))
+        (now (bytes .entry)) (now (sent .entry)))
+        (now («ready_need» .entry)) asked
+        (buffersOf (now (heads .entry)) (now (need .entry)) (now (have .entry)) (now (list .entry)) (now («last_sent» .entry)) (now (sent .entry)))
+        (buffersOf (now (heads .exit)) (now (need .exit)) (now (have .exit)) (now (list .exit)) (now («last_sent» .exit)) (now (sent .exit))) r ⌝ }
+{
+    let mut field = [0u8; FIELD_SIZE];
+    let draft = make_plan(
+        bits,
+        probes,
+        session,
+        table,
+        index,
+        n,
+        counts,
+        head_marks,
+        marks,
+        needs,
+        ready_need,
+        asked,
+        shared,
+        last_sent,
+        their_heads,
+        their_need,
+        haves,
+        bytes,
+        sent,
+        ready_heads,
+        &mut field,
+        ready_list,
+        ready_sent,
+    );
+    finish(
+        bits,
+        probes,
+        session,
+        draft,
+        shared,
+        ready_heads,
+        ready_need,
+        &field,
+        ready_list,
+        ready_sent,
+        heads,
+        need,
+        have,
+        list,
+        last_sent,
+        sent,
+    )
+}
+
+// The plan with what is asked for: its heads and its body are counted, and made in buffers for few or for as many as there may be.
+fn plan_asked(
+    bits: u64,
+    probes: u64,
+    session: Session,
+    table: &[u8],
+    index: &[u8],
+    n: usize,
+    ready_need: &[u8],
+    asked: usize,
+    shared: &[u8],
+    last_sent: &mut [u8],
+    their_heads: &[u8],
+    their_need: &[u8],
+    haves: &[u64],
+    bytes: &[u8],
+    sent: &mut [u8],
+    heads: &mut [u8],
+    need: &mut [u8],
+    have: &mut [u8],
+    list: &mut [u8],
+) -> Planned
+    requires { ⌜ Indexed (now table) (now index) n
+        × (sessionGood session (lentOf (now shared) (now «last_sent») (now «their_heads») (now «their_need») (now haves) (now bytes) (now sent)) ≡ true)
+        × Setting bits probes
+        × NeedRoom asked (length (now «ready_need»)) ⌝ }
+    ensures { λ r. ⌜ AskedCalled bits probes session (rowsAt (now (table .entry)) 0 n)
+        (lentOf (now (shared .entry)) (now («last_sent» .entry)) (now («their_heads» .entry)) (now («their_need» .entry)) (now (haves .entry))
+        (now (bytes .entry)) (now (sent .entry)))
+        (now («ready_need» .entry)) asked
+        (buffersOf (now (heads .entry)) (now (need .entry)) (now (have .entry)) (now (list .entry)) (now («last_sent» .entry)) (now (sent .entry)))
+        (buffersOf (now (heads .exit)) (now (need .exit)) (now (have .exit)) (now (list .exit)) (now («last_sent» .exit)) (now (sent .exit))) r ⌝ }
+{
+    let mut head_marks = [false; ROWS];
+    let mut marks = [false; ROWS];
+    let mut needs = [false; HASHES];
+    let counts = count_plan(
+        session,
+        table,
+        index,
+        n,
+        their_heads,
+        their_need,
+        haves,
+        bytes,
+        sent,
+        &mut head_marks,
+        &mut marks,
+        &mut needs,
+    );
+    if is_few(counts, session.sent_hashes) {
+        let mut few_heads = [0u8; FEW_SIZE];
+        let mut few_list = [0u8; FEW_SIZE];
+        let mut few_sent = [0u8; FEW_SIZE];
+        return plan_in(
+            bits,
+            probes,
+            session,
+            table,
+            index,
+            n,
+            counts,
+            &head_marks,
+            &marks,
+            &needs,
+            ready_need,
+            asked,
+            &mut few_heads,
+            &mut few_list,
+            &mut few_sent,
+            shared,
+            last_sent,
+            their_heads,
+            their_need,
+            haves,
+            bytes,
+            sent,
+            heads,
+            need,
+            have,
+            list,
+        );
+    }
+    let mut ready_heads = [0u8; LIST_SIZE];
+    let mut ready_list = [0u8; SEND_SIZE];
+    let mut ready_sent = [0u8; SENT_SIZE];
+    plan_in(
+        bits,
+        probes,
+        session,
+        table,
+        index,
+        n,
+        counts,
+        &head_marks,
+        &marks,
+        &needs,
+        ready_need,
+        asked,
+        &mut ready_heads,
+        &mut ready_list,
+        &mut ready_sent,
+        shared,
+        last_sent,
+        their_heads,
+        their_need,
+        haves,
+        bytes,
+        sent,
+        heads,
+        need,
+        have,
+        list,
+    )
+}
+
+// The plan for a session and tables that have been checked. What is asked for is looked for in a buffer for few hashes, and where they are more in one
+// for as many as there may be.
+pub fn plan_checked(
+    bits: u64,
+    probes: u64,
+    session: Session,
+    table: &[u8],
+    index: &[u8],
+    n: usize,
+    waiting: &[u8],
+    m: usize,
+    shared: &[u8],
+    last_sent: &mut [u8],
+    their_heads: &[u8],
+    their_need: &[u8],
+    haves: &[u64],
+    bytes: &[u8],
+    sent: &mut [u8],
+    heads: &mut [u8],
+    need: &mut [u8],
+    have: &mut [u8],
+    list: &mut [u8],
+) -> Planned
+    requires { ⌜ Checked (now table) (now index) n (now waiting) m session
+        (lentOf (now shared) (now «last_sent») (now «their_heads») (now «their_need») (now haves) (now bytes) (now sent))
+        × Setting bits probes ⌝ }
+    ensures { λ r. ⌜ PlanCalled session (planFor bits probes (rowsAt (now (table .entry)) 0 n) (waitingOf (now (waiting .entry)))
+        (valueOf session
+        (lentOf (now (shared .entry)) (now («last_sent» .entry)) (now («their_heads» .entry)) (now («their_need» .entry)) (now (haves .entry))
+        (now (bytes .entry)) (now (sent .entry)))))
+        (buffersOf (now (heads .entry)) (now (need .entry)) (now (have .entry)) (now (list .entry)) (now («last_sent» .entry)) (now (sent .entry)))
+        (buffersOf (now (heads .exit)) (now (need .exit)) (now (have .exit)) (now (list .exit)) (now («last_sent» .exit)) (now (sent .exit))) r ⌝ }
+{
+    let heard = session.their_heads;
+    let mut few_need = [0u8; FEW_SIZE];
+    let few = make_need(
+        table,
+        index,
+        n,
+        waiting,
+        m,
+        session.read_only,
+        their_heads,
+        heard,
+        &mut few_need,
+    );
+    if few <= FEW {
+        return plan_asked(
+            bits,
+            probes,
+            session,
+            table,
+            index,
+            n,
+            &few_need,
+            few,
+            shared,
+            last_sent,
+            their_heads,
+            their_need,
+            haves,
+            bytes,
+            sent,
+            heads,
+            need,
+            have,
+            list,
+        );
+    }
+    let mut ready_need = [0u8; NEED_SIZE];
+    let asked = make_need(
+        table,
+        index,
+        n,
+        waiting,
+        m,
+        session.read_only,
+        their_heads,
+        heard,
+        &mut ready_need,
+    );
+    plan_asked(
+        bits,
+        probes,
+        session,
+        table,
+        index,
+        n,
+        &ready_need,
+        asked,
+        shared,
+        last_sent,
+        their_heads,
+        their_need,
+        haves,
+        bytes,
+        sent,
+        heads,
+        need,
+        have,
+        list,
+    )
+}
