@@ -35,7 +35,7 @@ use Rattle.session.proofs.ReceiveLaws.{receive-taking, bytes-beyond, bytes-refu
 use Rattle.session_calls.specs.SessionCalls.{plannedWords, plannedSession, planFor, receivedWords, receivedSession, receiveFor}
 use Rattle.session_words.specs.Words.{sessionOf}
 use Rattle.size.specs.Size.{total}
-use Rattle.size.specs.Write.{partsOf, chunksFrom, messageOutput}
+use Rattle.message.specs.Write.{partsOf, chunksFrom, messageOutput}
 use Rattle.state.specs.Session.{State}
 use Rattle.state.specs.Value.{Lent}
 use Rattle.tables.specs.Bytes.{tableOf}

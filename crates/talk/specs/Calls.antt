@@ -19,7 +19,7 @@ use Rattle.session.specs.Plan.{Plan, Planned}
 use Rattle.session_calls.specs.SessionCalls.{PlanAnswered, ReceiveAnswered}
 use Rattle.session_words.specs.Words.{flagOf}
 use Rattle.size.specs.Size.{total}
-use Rattle.size.specs.Write.{partsOf, chunksFrom, messageOutput}
+use Rattle.message.specs.Write.{partsOf, chunksFrom, messageOutput}
 use Rattle.tables.specs.Bytes.{tableOf}
 use Rattle.tables.specs.Table.{Row}
 use Rattle.waiting.specs.Bytes.{waitingOf}
