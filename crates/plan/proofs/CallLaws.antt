@@ -9,9 +9,9 @@ use borrow.Author.Tests.{ltb-false, lt-ltb, le-ltb, not-true}
 use lib.ListN.{length, replicate, length-replicate}
 use Rattle.bloom.specs.Filter.{defaultBits, defaultProbes}
 use Rattle.bloom.proofs.Rules.{rules-default}
-use Rattle.decide.specs.Call.{Buffers}
+use Rattle.planned.specs.Call.{Buffers}
 use Rattle.decide.specs.Draft.{Parts, SmallDraft}
-use Rattle.decide.specs.declared.answer.Planned.{Planned as Answer}
+use Rattle.planned.specs.declared.answer.Planned.{Planned as Answer}
 use Rattle.decide.specs.declared.decide.Draft.{Draft}
 use Rattle.draft.specs.Make.{carriedBody, BlankMarks, Counted, ReadyRooms, DraftMade, Finished}
 use Rattle.draft.specs.declared.make.Counts.{Counts}

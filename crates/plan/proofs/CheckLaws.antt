@@ -4,8 +4,8 @@ use mathlib.Core.Bool.{Bool, true, false, cond, not}
 use mathlib.Core.List.{List}
 use mathlib.Core.Path.{_≡_, refl, sym, _∙_}
 use native.Mathlib.Omega.{arith}
-use Rattle.decide.specs.Call.{Buffers, afterTables, planWith, answerOf, roomed, putInto, PlanCalled}
-use Rattle.decide.specs.declared.answer.Planned.the-variants as answer
+use Rattle.planned.specs.Call.{Buffers, afterTables, planWith, answerOf, roomed, putInto, PlanCalled}
+use Rattle.planned.specs.declared.answer.Planned.the-variants as answer
 use Rattle.plan.specs.Asked.{Checked}
 use Rattle.index.specs.Index.{Indexed, indexChecked}
 use Rattle.index.proofs.CheckLaws.{checked-table, checked-indexed}

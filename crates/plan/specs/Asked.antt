@@ -4,8 +4,8 @@ use mathlib.Core.Bool.{Bool, true, not, _&&_}
 use mathlib.Core.List.{List}
 use mathlib.Core.Path.{_≡_}
 use lib.Dec.{ltb}
-use Rattle.decide.specs.Call.{Buffers, PlanCalled}
-use Rattle.decide.specs.declared.answer.Planned.{Planned as Answer}
+use Rattle.planned.specs.Call.{Buffers, PlanCalled}
+use Rattle.planned.specs.declared.answer.Planned.{Planned as Answer}
 use Rattle.draft.specs.declared.make.Counts.{Counts}
 use Rattle.index.specs.Index.{Indexed}
 use Rattle.lent.specs.Good.{sessionGood}

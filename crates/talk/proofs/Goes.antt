@@ -13,7 +13,7 @@ use lib.Seq.{slice, take-length}
 use Rattle.answers.specs.Answer.{writeWords}
 use Rattle.bloom.specs.Filter.{defaultBits, defaultProbes}
 use Rattle.bloom.specs.Have.{Have, haveCount, numbersIn, filterWith, haveIn, havesFrom, havesOf}
-use Rattle.decide.specs.Call.{Buffers, buffersOf, answerOf, putInto}
+use Rattle.planned.specs.Call.{Buffers, buffersOf, answerOf, putInto}
 use Rattle.decode.specs.Read.{Reading, messageAt, messageOf}
 use Rattle.lent.specs.Good.{lentOf}
 use Rattle.message.specs.Message.{joined}

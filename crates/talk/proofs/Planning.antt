@@ -12,7 +12,7 @@ use lib.ListN.{length}
 use lib.Seq.{sets, length-sets}
 use Rattle.bloom.specs.Filter.{defaultBits, defaultProbes}
 use Rattle.bloom.proofs.Rules.{rules-none}
-use Rattle.decide.specs.Call.{Buffers, buffersOf, afterTables, planWith, plannedCounts, answerOf, roomed, roomsIn, said, lastSentPut, sentPut, putInto}
+use Rattle.planned.specs.Call.{Buffers, buffersOf, afterTables, planWith, plannedCounts, answerOf, roomed, roomsIn, said, lastSentPut, sentPut, putInto}
 use Rattle.graph.specs.Graph.{heads}
 use Rattle.index.proofs.CheckLaws.{checked-table}
 use Rattle.kept.specs.Kept.{plannedIn}

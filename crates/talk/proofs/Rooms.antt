@@ -9,7 +9,7 @@ use lib.Dec.{eqb}
 use lib.ListN.{length}
 use Rattle.bloom.specs.Have.{Have, haveWords}
 use Rattle.bloom.proofs.Rules.{ruled, capacity-none}
-use Rattle.decide.specs.Call.{Buffers, buffersOf, syncsOf, filterNumbers, messageRoom, sessionRoom, afterRoom, roomed, roomsIn}
+use Rattle.planned.specs.Call.{Buffers, buffersOf, syncsOf, filterNumbers, messageRoom, sessionRoom, afterRoom, roomed, roomsIn}
 use Rattle.kept.specs.Kept.{PlannedRoom, ReceivedRoom}
 use Rattle.message.specs.Sound.{Each, SoundHashes, SoundHave}
 use Rattle.receive.specs.Call.{shortFor, unlessShort, roomed as roomedFor, roomsIn as roomsOf}

@@ -8,7 +8,7 @@ use borrow.Author.Tests.{ltb-true, ltb-false}
 use lib.Dec.{ltb}
 use lib.ListN.{length, getD}
 use Rattle.bloom.specs.Filter.{defaultBits, defaultProbes}
-use Rattle.decide.specs.Call.{statedOf, answerOf, said}
+use Rattle.planned.specs.Call.{statedOf, answerOf, said}
 use Rattle.decode.proofs.Messages.{message-long, message-empty}
 use Rattle.message.specs.Message.{messageBytes}
 use Rattle.rules.specs.Sizes.{sizes}

@@ -12,7 +12,7 @@ use lib.ListN.{length, getD, take}
 use lib.Seq.{sets, slice, take-length}
 use Rattle.answers.specs.Answer.{refusalWords, writeWords}
 use Rattle.bloom.specs.Have.{Have, havesOf}
-use Rattle.decide.specs.Call.{statedOf}
+use Rattle.planned.specs.Call.{statedOf}
 use Rattle.kept.specs.Kept.{StandHaves}
 use Rattle.kept.proofs.Stands.{stand-haves-sets}
 use Rattle.message.specs.Message.{messageBytes}

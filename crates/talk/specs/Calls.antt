@@ -9,7 +9,7 @@ use lib.ListN.{length, getD, take, drop}
 use Rattle.answers.specs.Answer.{Answered}
 use Rattle.bloom.specs.Filter.{defaultBits, defaultProbes}
 use Rattle.bloom.specs.Have.{haveWords, havesOf}
-use Rattle.decide.specs.Call.{buffersOf}
+use Rattle.planned.specs.Call.{buffersOf}
 use Rattle.lent.specs.Good.{lentOf}
 use Rattle.message.specs.Flags.{flagsOf}
 use Rattle.message_calls.specs.MessageWords.{versionOf, sectionOf}

@@ -24,12 +24,12 @@ use Rattle.tables.specs.declared.check.Checked.{Checked}
 use Rattle.tables.specs.declared.check.Checked.the-variants.{Good, Refused as BadTable}
 use Rattle.waiting.specs.Bytes.{waitingOf}
 use Rattle.waiting.specs.Calls.{tablesChecked}
-use Rattle.decide.specs.declared.answer.Planned.{Planned as Answer}
-use Rattle.decide.specs.declared.answer.Planned.the-variants.{Refused, Silent, Reset, Says}
-use Rattle.decide.specs.declared.answer.Room.{Room}
-use Rattle.decide.specs.declared.answer.Room.the-variants.{Enough, Short}
-use Rattle.decide.specs.declared.answer.Rooms.{Rooms}
-use Rattle.decide.specs.declared.answer.Stated.{Stated}
+use Rattle.planned.specs.declared.answer.Planned.{Planned as Answer}
+use Rattle.planned.specs.declared.answer.Planned.the-variants.{Refused, Silent, Reset, Says}
+use Rattle.planned.specs.declared.answer.Room.{Room}
+use Rattle.planned.specs.declared.answer.Room.the-variants.{Enough, Short}
+use Rattle.planned.specs.declared.answer.Rooms.{Rooms}
+use Rattle.planned.specs.declared.answer.Stated.{Stated}
 
 -- ---- what is planned, for a session as counts with its lent lists, and tables and index as bytes
 

@@ -2,8 +2,8 @@
 use mathlib.Core.Path.{_≡_, sym, _∙_}
 use Rattle.session.specs.Plan.{Planned}
 use Rattle.state.specs.declared.session.Session.{Session}
-use Rattle.decide.specs.Call.{Buffers, PlanCalled}
-use Rattle.decide.specs.declared.answer.Planned.{Planned as Answer}
+use Rattle.planned.specs.Call.{Buffers, PlanCalled}
+use Rattle.planned.specs.declared.answer.Planned.{Planned as Answer}
 
 pub plan-called-once : {s : Session} {p : Planned} {before after₁ after₂ : Buffers} {r₁ r₂ : Answer} → PlanCalled s p before after₁ r₁
     → PlanCalled s p before after₂ r₂
