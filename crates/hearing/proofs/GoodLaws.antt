@@ -38,8 +38,8 @@ use Rattle.state.specs.Session.{State, fresh, freshReadOnly, restored, setReadO
 use Rattle.state.proofs.SessionLaws.{switch-same, switch-on, switch-off}
 use Rattle.tables.specs.Table.{Row, rows, held}
 use Rattle.waiting.specs.Waiting.{Waiting}
-use Rattle.session.specs.Good.{SoundTable, SoundHaves, WhereHeard, GoodState, SoundSaid}
+use Rattle.hearing.specs.Good.{SoundTable, SoundHaves, WhereHeard, GoodState, SoundSaid}
 use Rattle.session.specs.Plan.{
   Plan,
   Planned,
   heard,
@@ -55,7 +55,7 @@ use Rattle.session.specs.Plan.{
   plan,
   after,
 }
-use Rattle.session.specs.Receive.{
+use Rattle.hearing.specs.Receive.{
   Said,
   saidIn,
   saidBy,
@@ -84,7 +84,7 @@ use Rattle.session.proofs.PlanLaws.{
   have-none,
   plan-saying,
 }
-use Rattle.session.proofs.ReceiveLaws.{
+use Rattle.hearing.proofs.ReceiveLaws.{
   join-members,
   advance-members,
   shared-taken,

@@ -24,8 +24,8 @@ use Rattle.rules.proofs.KeepLaws.{keep-member, keep-most, keep-ascends, once-as
 use Rattle.rules.proofs.OrderLaws.{ascend-ascends, ascend-members, ascending-unique, member-append, member-none}
 use Rattle.state.specs.Session.{State}
 use Rattle.tables.specs.Table.{Row, held}
 use Rattle.session.specs.Plan.{empty}
-use Rattle.session.specs.Receive.{
+use Rattle.hearing.specs.Receive.{
   Said,
   saidIn,
   Received,

@@ -13,7 +13,7 @@ use Rattle.rules.specs.Order.{ascends}
 use Rattle.rules.specs.Sizes.{sizes}
 use Rattle.state.specs.Session.{State}
 use Rattle.tables.specs.Table.{Row, GoodTable, rows}
-use Rattle.session.specs.Receive.{Said}
+use Rattle.hearing.specs.Receive.{Said}
 
 -- A good table of hashes, with no more rows than there may be.
 pub record SoundTable (t : List Row) : Type 0 where

@@ -19,12 +19,12 @@ use Rattle.rules.specs.declared.refusal.Refusal.{Refusal}
 use Rattle.rules.specs.declared.refusal.Refusal.the-variants.{LoadFailed, BadRowsBefore}
 use Rattle.rules.proofs.Cases.{split}
 use Rattle.rules.proofs.Hash.{length-hashes-at}
-use Rattle.session.specs.Good.{SoundTable, GoodState}
+use Rattle.hearing.specs.Good.{SoundTable, GoodState}
 use Rattle.session.specs.Plan.{Plan, Planned, planned, plan}
-use Rattle.session.specs.Receive.{Said, saidIn, Received, told, sentFlagged, flagged, received, receive, receiveBytes}
-use Rattle.session.proofs.GoodLaws.{planned-good, LeavesGood, bytes-good}
+use Rattle.hearing.specs.Receive.{Said, saidIn, Received, told, sentFlagged, flagged, received, receive, receiveBytes}
+use Rattle.hearing.proofs.GoodLaws.{planned-good, LeavesGood, bytes-good}
 use Rattle.session.proofs.PlanLaws.{plan-saying}
-use Rattle.session.proofs.ReceiveLaws.{left-few, receive-taking, refused-leaves, bytes-beyond, bytes-refused, bytes-read}
+use Rattle.hearing.proofs.ReceiveLaws.{left-few, receive-taking, refused-leaves, bytes-beyond, bytes-refused, bytes-read}
 use Rattle.state.specs.Session.{State}
 use Rattle.state.specs.Value.{Lent, valueOf}
 use Rattle.state.specs.declared.session.Session.{Session}

@@ -15,8 +15,8 @@ use Rattle.message.specs.Sound.{SoundHashes}
 use Rattle.rules.specs.Hash.{Bytes, hashesAt}
 use Rattle.rules.specs.Order.{ascends}
 use Rattle.rules.proofs.Hash.{length-hashes-at, hashes-are-hashes}
-use Rattle.session.specs.Good.{SoundHaves, WhereHeard, GoodState}
-use Rattle.session.proofs.GoodLaws.{sound-hashes, sound-haves}
+use Rattle.hearing.specs.Good.{SoundHaves, WhereHeard, GoodState}
+use Rattle.hearing.proofs.GoodLaws.{sound-hashes, sound-haves}
 use Rattle.state.specs.Session.{State}
 use Rattle.state.specs.Value.{Lent, heardHashes, heardHaves, valueOf, countHeard, countsOf}
 use Rattle.state.specs.declared.session.Heard.{Heard}

@@ -14,7 +14,7 @@ use Rattle.rules.specs.Hash.{Bytes, AreHashes, hashesAt, hashesBytes}
 use Rattle.rules.specs.Sizes.{sizes}
 use Rattle.rules.proofs.Hash.{length-hashes-at, hashes-at-bytes}
 use Rattle.rules.proofs.Outputs.{written-gathered}
-use Rattle.session.specs.Good.{SoundHaves, WhereHeard}
+use Rattle.hearing.specs.Good.{SoundHaves, WhereHeard}
 use Rattle.session.specs.Laid.{laidBytes, laidWords}
 use Rattle.session.specs.Plan.{heard}
 use Rattle.session.proofs.LaidLaws.{laid-read, laid-good, sound-syncs}

@@ -18,7 +18,7 @@ use Rattle.rules.specs.declared.refusal.Refusal.{Refusal}
 use Rattle.rules.specs.declared.refusal.Refusal.the-variants.{BadNumbers, LoadFailed, NoRoom}
 use Rattle.session.specs.Laid.{laidBytes, laidWords}
 use Rattle.session.specs.Plan.{heard}
-use Rattle.session.specs.Receive.{Received, receiveBytes}
+use Rattle.hearing.specs.Receive.{Received, receiveBytes}
 use Rattle.session.specs.Rooms.{orShort}
 use Rattle.state.specs.Session.{State}
 use Rattle.state.specs.Value.{Lent, valueOf, countsOf}

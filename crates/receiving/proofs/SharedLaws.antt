@@ -23,7 +23,7 @@ use Rattle.rules.proofs.Hash.{take-drop, length-hashes-at, hashes-at-bytes, has
 use Rattle.rules.proofs.KeepLaws.{keep-member, once-ascends, once-inside}
 use Rattle.rules.proofs.OrderLaws.{member-append, ascend-ascends, ascend-members}
 use Rattle.rules.proofs.Outputs.{written-gathered}
-use Rattle.session.specs.Receive.{advance, join}
+use Rattle.hearing.specs.Receive.{advance, join}
 use Rattle.tables.specs.Bytes.{rowsAt, GoodRows}
 use Rattle.tables.specs.Table.{Row, held}
 use Rattle.tables.proofs.TableLaws.{length-rows-at, take-rows-at}

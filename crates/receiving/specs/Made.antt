@@ -12,7 +12,7 @@ use Rattle.message.specs.declared.flags.Section.{Section}
 use Rattle.rules.specs.Hash.{hashesAt}
 use Rattle.rules.specs.Order.{every}
 use Rattle.rules.specs.Sizes.{sizes}
-use Rattle.session.specs.Receive.{told}
+use Rattle.hearing.specs.Receive.{told}
 use Rattle.state.specs.declared.session.Session.{Session}
 use Rattle.tables.specs.Bytes.{rowsAt}
 use Rattle.tables.specs.Table.{Row, held, rowNumber}

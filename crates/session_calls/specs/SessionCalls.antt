@@ -77,7 +77,7 @@ pub record PlanAnswered (session₀ session₁ : List ℕ) (l : Lent) (table ind
   pub session : session₁ ≡ plannedSession (answerOf (sessionOf session₀) (planFor session₀ l table index waiting before)) session₀
   pub buffers : after ≡ putInto (planFor session₀ l table index waiting before) before
 
-abbrev pub receiveFor : List ℕ → Lent → List ℕ → List ℕ → ℕ → List ℕ → Bool → Rattle.session.specs.Receive.Received
+abbrev pub receiveFor : List ℕ → Lent → List ℕ → List ℕ → ℕ → List ℕ → Bool → Rattle.hearing.specs.Receive.Received
 receiveFor words l table index before message loaded =
     roomedFor (roomsOf l) (sessionValue (sessionOf words) l) (receiveWith loaded before (sessionOf words) l table index message)
 

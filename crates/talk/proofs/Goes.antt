@@ -29,9 +29,9 @@ use Rattle.rules.proofs.Cases.{split}
 use Rattle.rules.proofs.Hash.{slice-parts, bytes-slice}
 use Rattle.session.specs.Laid.{laidBytes}
 use Rattle.session.specs.Plan.{Plan, Planned, heard, needOf, haveOf, planOf, resetOf, plan, after}
-use Rattle.session.specs.Receive.{saidIn, Received, received, receiveBytes}
+use Rattle.hearing.specs.Receive.{saidIn, Received, received, receiveBytes}
 use Rattle.session.proofs.PlanLaws.{have-one, have-none, plan-saying}
-use Rattle.session.proofs.ReceiveLaws.{receive-taking, bytes-beyond, bytes-refused, bytes-read}
+use Rattle.hearing.proofs.ReceiveLaws.{receive-taking, bytes-beyond, bytes-refused, bytes-read}
 use Rattle.session_calls.specs.SessionCalls.{plannedWords, plannedSession, planFor, receivedWords, receivedSession, receiveFor}
 use Rattle.session_words.specs.Words.{sessionOf}
 use Rattle.size.specs.Size.{total}

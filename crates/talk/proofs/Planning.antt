@@ -26,11 +26,11 @@ use Rattle.rules.specs.Hash.{AreHashes, hashesBytes}
 use Rattle.rules.specs.Sizes.{sizes}
 use Rattle.rules.specs.declared.refusal.Refusal.{Refusal}
 use Rattle.rules.proofs.Cases.{split}
-use Rattle.session.specs.Good.{SoundTable, WhereHeard, GoodState}
+use Rattle.hearing.specs.Good.{SoundTable, WhereHeard, GoodState}
 use Rattle.session.specs.Laid.{laidBytes}
 use Rattle.session.specs.Plan.{Plan, Planned, heard, needOf, unknownSync, silence, sentAfter, planOf, planned, resetOf, plan, after}
-use Rattle.session.specs.Receive.{saidBy}
-use Rattle.session.proofs.GoodLaws.{heads-sound, body-few, planned-good, said-sound}
+use Rattle.hearing.specs.Receive.{saidBy}
+use Rattle.hearing.proofs.GoodLaws.{heads-sound, body-few, planned-good, said-sound}
 use Rattle.session.proofs.PlanLaws.{body-hashes, have-or-none, said-flags, plan-need-past, plan-resets, plan-silent, plan-sent-past, plan-is, plan-saying}
 use Rattle.session_calls.specs.SessionCalls.{plannedWords, plannedSession, planFor}
 use Rattle.session_words.specs.Words.{sessionWords, sessionOf}

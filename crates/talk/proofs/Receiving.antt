@@ -18,12 +18,12 @@ use Rattle.rules.specs.Refusal.{numberOf}
 use Rattle.rules.specs.declared.refusal.Refusal.{Refusal}
 use Rattle.rules.specs.declared.refusal.Refusal.the-variants.{LoadFailed}
 use Rattle.rules.proofs.Cases.{split, true-false}
-use Rattle.session.specs.Good.{GoodState}
+use Rattle.hearing.specs.Good.{GoodState}
 use Rattle.session.specs.Laid.{laidBytes, laidWords}
 use Rattle.session.specs.Plan.{heard}
-use Rattle.session.specs.Receive.{Received, receiveBytes}
-use Rattle.session.proofs.GoodLaws.{bytes-good}
-use Rattle.session.proofs.ReceiveLaws.{bytes-beyond, bytes-refused, refused-keeps}
+use Rattle.hearing.specs.Receive.{Received, receiveBytes}
+use Rattle.hearing.proofs.GoodLaws.{bytes-good}
+use Rattle.hearing.proofs.ReceiveLaws.{bytes-beyond, bytes-refused, refused-keeps}
 use Rattle.session_calls.specs.SessionCalls.{receivedWords, receivedSession, receiveFor}
 use Rattle.session_words.specs.Words.{sessionWords, sessionOf}
 use Rattle.session_words.proofs.WordLaws.{words-back}

@@ -16,10 +16,10 @@ use Rattle.receive.specs.Call.{shortFor, unlessShort, roomed as roomedFor, room
 use Rattle.rules.specs.Hash.{AreHashes}
 use Rattle.rules.specs.Sizes.{sizes}
 use Rattle.rules.proofs.Cases.{split}
-use Rattle.session.specs.Good.{SoundHaves, WhereHeard, GoodState}
+use Rattle.hearing.specs.Good.{SoundHaves, WhereHeard, GoodState}
 use Rattle.session.specs.Laid.{laidBytes}
 use Rattle.session.specs.Plan.{Plan, Planned, heard}
-use Rattle.session.specs.Receive.{Received}
+use Rattle.hearing.specs.Receive.{Received}
 use Rattle.session.proofs.LaidLaws.{laid-length-bytes}
 use Rattle.state.specs.Session.{State}
 use Rattle.state.specs.Value.{Lent}

@@ -13,9 +13,9 @@ use Rattle.decode.proofs.Messages.{message-long, message-empty}
 use Rattle.message.specs.Message.{messageBytes}
 use Rattle.rules.specs.Sizes.{sizes}
 use Rattle.rules.proofs.Cases.{split}
-use Rattle.session.specs.Good.{GoodState}
+use Rattle.hearing.specs.Good.{GoodState}
 use Rattle.session.specs.Plan.{Plan, Planned, plan, after}
-use Rattle.session.specs.Receive.{receiveBytes}
+use Rattle.hearing.specs.Receive.{receiveBytes}
 use Rattle.session_calls.specs.SessionCalls.{statedWords, plannedWords}
 use Rattle.state.specs.Session.{State}
 use Rattle.state.specs.Value.{countsOf}

@@ -18,8 +18,8 @@ use Rattle.rules.specs.Sizes.{sizes}
 use Rattle.rules.specs.declared.refusal.Refusal.{Refusal}
 use Rattle.rules.proofs.Cases.{split}
 use Rattle.session.specs.Plan.{Plan, Planned, plan, after}
-use Rattle.session.specs.Receive.{Received, receiveBytes}
-use Rattle.session.proofs.ReceiveLaws.{bytes-beyond, bytes-refused}
+use Rattle.hearing.specs.Receive.{Received, receiveBytes}
+use Rattle.hearing.proofs.ReceiveLaws.{bytes-beyond, bytes-refused}
 use Rattle.session_words.specs.Words.{sessionOf}
 use Rattle.session_words.proofs.WordLaws.{words-back}
 use Rattle.state.specs.Counts.{freshCounts}

@@ -24,7 +24,7 @@ use Rattle.rules.proofs.Cases.{either, true-false, and-false}
 use Rattle.rules.proofs.KeepLaws.{keep-member, keep-same, every-member, every-one}
 use Rattle.rules.proofs.OrderLaws.{member-append}
 use Rattle.selection.specs.ToSend.{toSend, toSendLess}
-use Rattle.session.specs.Good.{GoodState}
+use Rattle.hearing.specs.Good.{GoodState}
 use Rattle.session.specs.Plan.{
   Body,
   Plan,
@@ -45,8 +45,8 @@ use Rattle.session.specs.Plan.{
   planned,
   plan,
 }
-use Rattle.session.specs.Receive.{Said, Received, sentFlagged, sentLeft, loads, received, receive, receiveBytes}
-use Rattle.session.proofs.GoodLaws.{planned-good, received-good}
+use Rattle.hearing.specs.Receive.{Said, Received, sentFlagged, sentLeft, loads, received, receive, receiveBytes}
+use Rattle.hearing.proofs.GoodLaws.{planned-good, received-good}
 use Rattle.session.proofs.PlanLaws.{
   planned-held,
   list-hashes,
@@ -58,7 +58,7 @@ use Rattle.session.proofs.PlanLaws.{
   speaks-apart,
   plan-is,
 }
-use Rattle.session.proofs.ReceiveLaws.{shared-taken, left-members, left-inside, receive-is}
+use Rattle.hearing.proofs.ReceiveLaws.{shared-taken, left-members, left-inside, receive-is}
 use Rattle.state.specs.Session.{State}
 use Rattle.tables.specs.Table.{Row, held}
 use Rattle.waiting.specs.Waiting.{Waiting}

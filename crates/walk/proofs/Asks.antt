@@ -23,7 +23,7 @@ use Rattle.rules.proofs.KeepLaws.{every-one}
 use Rattle.rules.proofs.OrderLaws.{member-none}
 use Rattle.selection.specs.ToSend.{toSendLess}
 use Rattle.selection.proofs.SelectLaws.{sent-empty, less-none}
-use Rattle.session.specs.Good.{GoodState}
+use Rattle.hearing.specs.Good.{GoodState}
 use Rattle.session.specs.Plan.{
   Plan,
   Planned,
@@ -44,8 +44,8 @@ use Rattle.session.specs.Plan.{
   planned,
   plan,
 }
-use Rattle.session.specs.Receive.{receive, receiveBytes}
-use Rattle.session.proofs.GoodLaws.{planned-good}
+use Rattle.hearing.specs.Receive.{receive, receiveBytes}
+use Rattle.hearing.proofs.GoodLaws.{planned-good}
 use Rattle.session.proofs.PlanLaws.{need-missing, have-one, have-none, speaks-first, speaks-apart, plan-is}
 use Rattle.state.specs.Session.{State}
 use Rattle.tables.specs.Table.{Row, held}

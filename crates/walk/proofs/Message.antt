@@ -26,8 +26,8 @@ use Rattle.rules.specs.Sizes.{sizes}
 use Rattle.rules.proofs.Cases.{split}
 use Rattle.selection.specs.ToSend.{toSend, toSendLess}
 use Rattle.session.specs.Plan.{Plan, listOf, empty}
-use Rattle.session.specs.Receive.{Said, someChunk, saidIn, carries, receive, receiveBytes}
-use Rattle.session.proofs.ReceiveLaws.{bytes-read}
+use Rattle.hearing.specs.Receive.{Said, someChunk, saidIn, carries, receive, receiveBytes}
+use Rattle.hearing.proofs.ReceiveLaws.{bytes-read}
 use Rattle.state.specs.Session.{State}
 use Rattle.tables.specs.Table.{Row, hashOf, depsOf, rowsWhere}
 use Rattle.walk.specs.Talk.{Host, listChunks, chunksFor, messageFor}

@@ -18,11 +18,11 @@ use Rattle.rules.specs.Sizes.{sizes}
 use Rattle.rules.proofs.Cases.{split, both, either, true-false, and-false}
 use Rattle.rules.proofs.KeepLaws.{no-members, every-member}
 use Rattle.rules.proofs.OrderLaws.{member-none}
-use Rattle.session.specs.Good.{GoodState}
+use Rattle.hearing.specs.Good.{GoodState}
 use Rattle.session.specs.Plan.{haveOf, sentAfter, planned}
-use Rattle.session.specs.Receive.{Said, Received, sharedLoaded, sharedAfter, sentLeft, join, loads, received, receive}
-use Rattle.session.proofs.GoodLaws.{received-good}
-use Rattle.session.proofs.ReceiveLaws.{join-members, join-ascends, advance-members, shared-taken, shared-joined, left-inside, receive-is}
+use Rattle.hearing.specs.Receive.{Said, Received, sharedLoaded, sharedAfter, sentLeft, join, loads, received, receive}
+use Rattle.hearing.proofs.GoodLaws.{received-good}
+use Rattle.hearing.proofs.ReceiveLaws.{join-members, join-ascends, advance-members, shared-taken, shared-joined, left-inside, receive-is}
 use Rattle.state.specs.Session.{State}
 use Rattle.tables.specs.Table.{Row, held}
 use Rattle.waiting.specs.Waiting.{Waiting}

@@ -13,7 +13,7 @@ use Rattle.lists.proofs.Lists.{same-equal}
 use Rattle.rules.specs.Order.{member}
 use Rattle.rules.proofs.Cases.{split, true-false}
 use Rattle.rules.proofs.KeepLaws.{every-one}
-use Rattle.session.specs.Good.{SoundTable, GoodState}
+use Rattle.hearing.specs.Good.{SoundTable, GoodState}
 use Rattle.state.specs.Session.{State}
 use Rattle.tables.specs.Table.{Row, GoodTable, rows, held}
 use Rattle.waiting.specs.Waiting.{Waiting}

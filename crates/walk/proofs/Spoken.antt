@@ -20,10 +20,10 @@ use Rattle.probe.proofs.FieldLaws.{length-add-hashes}
 use Rattle.rules.specs.Order.{member, every}
 use Rattle.rules.specs.Sizes.{sizes}
 use Rattle.rules.proofs.Cases.{split}
-use Rattle.session.specs.Good.{SoundTable, SoundHaves, GoodState, SoundSaid}
+use Rattle.hearing.specs.Good.{SoundTable, SoundHaves, GoodState, SoundSaid}
 use Rattle.session.specs.Plan.{Plan, heard, haveOf, havesFor, listOf, bodyOf, headsFor, flagsFor, needOf, planOf}
-use Rattle.session.specs.Receive.{Said, receive, receiveBytes}
-use Rattle.session.proofs.GoodLaws.{heads-sound, body-few}
+use Rattle.hearing.specs.Receive.{Said, receive, receiveBytes}
+use Rattle.hearing.proofs.GoodLaws.{heads-sound, body-few}
 use Rattle.session.proofs.PlanLaws.{have-one, have-none, have-or-none, said-flags}
 use Rattle.state.specs.Session.{State}
 use Rattle.tables.specs.Table.{Row}

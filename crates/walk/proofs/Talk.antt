@@ -19,8 +19,8 @@ use Rattle.rules.specs.Sizes.{sizes}
 use Rattle.rules.proofs.OrderLaws.{member-none}
 use Rattle.selection.specs.ToSend.{toSendLess}
 use Rattle.session.specs.Plan.{Body, Plan, Planned, documentPart, empty, havesFor, bodyOf, planOf, planned, plan, after}
-use Rattle.session.specs.Receive.{Said, Received, sharedAfter, received, receiveBytes}
-use Rattle.session.proofs.GoodLaws.{fresh-good}
+use Rattle.hearing.specs.Receive.{Said, Received, sharedAfter, received, receiveBytes}
+use Rattle.hearing.proofs.GoodLaws.{fresh-good}
 use Rattle.state.specs.Session.{State}
 use Rattle.tables.specs.Table.{Row}
 use Rattle.waiting.specs.Waiting.{Waiting}

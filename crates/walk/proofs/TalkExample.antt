@@ -24,8 +24,8 @@ use Rattle.rules.proofs.KeepLaws.{no-members, every-member}
 use Rattle.rules.proofs.OrderLaws.{member-none}
 use Rattle.selection.specs.ToSend.{toSendLess}
 use Rattle.session.specs.Plan.{empty, havesFor, planned}
-use Rattle.session.specs.Receive.{Said, sharedLoaded, sharedAfter, loads}
-use Rattle.session.proofs.ReceiveLaws.{join-members, advance-members, shared-taken, shared-joined}
+use Rattle.hearing.specs.Receive.{Said, sharedLoaded, sharedAfter, loads}
+use Rattle.hearing.proofs.ReceiveLaws.{join-members, advance-members, shared-taken, shared-joined}
 use Rattle.state.specs.Session.{State}
 use Rattle.tables.specs.Table.{Row, rows, depsOf, held, rowsFrom, rowsWhere}
 use Rattle.waiting.specs.Waiting.{Waiting}

@@ -15,7 +15,7 @@ use Rattle.rules.specs.Sizes.{sizes}
 use Rattle.rules.proofs.KeepLaws.{once-ascends, once-inside, hashes-inside}
 use Rattle.rules.proofs.OrderLaws.{member-none}
 use Rattle.graph.proofs.BelowLaws.{deps-held}
-use Rattle.session.specs.Good.{SoundTable}
+use Rattle.hearing.specs.Good.{SoundTable}
 use Rattle.tables.specs.Table.{Row, rows, held}
 use Rattle.tables.proofs.TableLaws.{length-rows}
 use Rattle.waiting.specs.Waiting.{Waiting, waiting}

@@ -17,7 +17,7 @@ use Rattle.rules.specs.Hash.{AreHashes}
 use Rattle.rules.specs.Order.{member}
 use Rattle.rules.specs.Sizes.{sizes}
 use Rattle.session.specs.Plan.{Plan, Planned, listOf, plan, after, havesFor}
-use Rattle.session.specs.Receive.{Received, receiveBytes}
+use Rattle.hearing.specs.Receive.{Received, receiveBytes}
 use Rattle.state.specs.Session.{State, fresh}
 use Rattle.selection.specs.ToSend.{toSendLess}
 use Rattle.tables.specs.Table.{Row, GoodTable, rows, held}
