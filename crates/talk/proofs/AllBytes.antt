@@ -25,7 +25,7 @@ use Rattle.rules.specs.Sizes.{sizes}
 use Rattle.rules.proofs.Cases.{split}
 use Rattle.rules.proofs.Hash.{bytes-head, bytes-tail, big-endian-bytes-bytes}
 use Rattle.session.specs.Laid.{laidBytes}
-use Rattle.walk.specs.Talk.{Host, listChunks, chunksFor, messageFor}
+use Rattle.turns.specs.Talk.{Host, listChunks, chunksFor, messageFor}
 use Rattle.session.specs.Plan.{Plan}
 use Rattle.wire.specs.Item.{prefixedBytes, hashListBytes}
 use Rattle.talk.specs.Memory.{HostBytes}

@@ -46,9 +46,9 @@ use Rattle.waiting.specs.Bytes.{
 }
 use Rattle.waiting.specs.Waiting.{Waiting, waiting}
 use Rattle.walk.specs.Round.{Part}
-use Rattle.walk.specs.Talk.{Reached, Granted}
+use Rattle.turns.specs.Talk.{Reached, Granted}
 use Rattle.walk.proofs.Example.{a, b, c, one, three, cWaits, part-one}
-use Rattle.walk.proofs.TalkExample.{held-by-b, waiting-at-b, waiting-at-a, lent, all-granted}
+use Rattle.turns.proofs.TalkExample.{held-by-b, waiting-at-b, waiting-at-a, lent, all-granted}
 use Rattle.talk.specs.Calls.{Both, TalkOfCalls, AllGranted, CallsEnd, Lends}
 use Rattle.talk.specs.Memory.{Fresh, Out, RoomyOut, Tabled, Beside}
 use Rattle.talk.proofs.AllBytes.{bytes-none, bytes-cons, bytes-append, zeros-bytes}

@@ -42,7 +42,7 @@ use Rattle.tables.specs.Bytes.{tableOf}
 use Rattle.tables.specs.Table.{Row}
 use Rattle.waiting.specs.Bytes.{waitingOf}
 use Rattle.waiting.specs.Waiting.{Waiting}
-use Rattle.walk.specs.Talk.{Host, chunksFor, bytesFor, left, pairAt}
+use Rattle.turns.specs.Talk.{Host, chunksFor, bytesFor, left, pairAt}
 use Rattle.talk.specs.Calls.{speaks, recordsIn, planIn, PlanMade, Speaks, Hears, Both, Round, TalkOfCalls, AreSessions, Lends, CallsGo}
 use Rattle.talk.specs.Memory.{Memory, OfBytes, Holds, Fresh, Out, RoomyOut, Tabled, Beside, HostBytes}
 use Rattle.talk.proofs.AllBytes.{bytes-none, bytes-sets, hashes-bytes, field-bytes, FieldBytes, laid-bytes, plan-bytes}

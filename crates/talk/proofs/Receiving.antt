@@ -32,7 +32,7 @@ use Rattle.state.specs.Value.{Lent, valueOf, countsOf}
 use Rattle.state.specs.declared.session.Session.{Session}
 use Rattle.tables.specs.Bytes.{tableOf}
 use Rattle.tables.specs.Table.{Row, rows}
-use Rattle.walk.specs.Talk.{left}
+use Rattle.turns.specs.Talk.{left}
 use Rattle.talk.specs.Calls.{Hears}
 use Rattle.talk.specs.Memory.{Memory, Roomy, Holds, Tabled}
 use Rattle.talk.proofs.Planning.{table-sound, of-bytes, held-good}

@@ -23,7 +23,7 @@ use Rattle.hearing.specs.Receive.{Received}
 use Rattle.session.proofs.LaidLaws.{laid-length-bytes}
 use Rattle.state.specs.Session.{State}
 use Rattle.state.specs.Value.{Lent}
-use Rattle.walk.proofs.Message.{some-entries}
+use Rattle.turns.proofs.Message.{some-entries}
 use Rattle.talk.specs.Memory.{haveRoom, Roomy, Out, RoomyOut}
 
 -- A message that planning may state: what every stage above relies on.

@@ -22,7 +22,7 @@ use Rattle.state.specs.Value.{countsOf}
 use Rattle.tables.specs.Bytes.{tableOf}
 use Rattle.tables.specs.Table.{Row}
 use Rattle.waiting.specs.Bytes.{waitingOf}
-use Rattle.walk.specs.Talk.{Host, messageFor, bytesFor, left}
+use Rattle.turns.specs.Talk.{Host, messageFor, bytesFor, left}
 use Rattle.talk.specs.Calls.{Speaks, speaks, planIn}
 use Rattle.talk.specs.Memory.{Memory, Holds, Tabled, Beside}
 use Rattle.talk.proofs.Planning.{Put, held-good, reset-is, reset-fine, says-fine, plan-answer, plan-holds, plan-put}

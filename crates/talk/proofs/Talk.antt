@@ -30,10 +30,10 @@ use Rattle.tables.specs.Table.{Row}
 use Rattle.waiting.specs.Bytes.{waitingOf}
 use Rattle.waiting.specs.Waiting.{Waiting}
 use Rattle.walk.specs.Round.{Part}
-use Rattle.walk.specs.Talk.{Host, Pair, messageFor, bytesFor, goes, left, asked, toA, answered, toB, pairAt, Reached, Granted, Tables, Ended}
+use Rattle.turns.specs.Talk.{Host, Pair, messageFor, bytesFor, goes, left, asked, toA, answered, toB, pairAt, Reached, Granted, Tables, Ended}
 use Rattle.walk.specs.Walk.{lacking}
-use Rattle.walk.proofs.Corollary.{corollary}
-use Rattle.walk.proofs.Talk.{default-setting}
+use Rattle.turns.proofs.Corollary.{corollary}
+use Rattle.turns.proofs.Talk.{default-setting}
 use Rattle.talk.specs.Calls.{
   Hears,
   Speaks,

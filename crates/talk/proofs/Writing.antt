@@ -55,8 +55,8 @@ use Rattle.message.specs.Write.{Parts, partsOf, hashesOf, chunksFrom, messageOf
 use Rattle.size.proofs.WriteLaws.{message-written, accepted-written}
 use Rattle.size.proofs.SizeLaws.{chunks-long}
 use Rattle.state.specs.Value.{keptHaves}
-use Rattle.walk.specs.Talk.{Host, chunksFor, messageFor}
-use Rattle.walk.proofs.Message.{chunks-few}
+use Rattle.turns.specs.Talk.{Host, chunksFor, messageFor}
+use Rattle.turns.proofs.Message.{chunks-few}
 use Rattle.talk.specs.Calls.{recordsIn, planIn, WriteMade}
 use Rattle.talk.specs.Memory.{Out, RoomyOut}
 use Rattle.talk.proofs.Planning.{Put}

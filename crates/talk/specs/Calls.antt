@@ -25,7 +25,7 @@ use Rattle.tables.specs.Table.{Row}
 use Rattle.waiting.specs.Bytes.{waitingOf}
 use Rattle.waiting.specs.Waiting.{Waiting}
 use Rattle.walk.specs.Round.{Part}
-use Rattle.walk.specs.Talk.{Host, chunksFor, goes, Pair, asked, answered, pairAt, Reached, Granted, Ended}
+use Rattle.turns.specs.Talk.{Host, chunksFor, goes, Pair, asked, answered, pairAt, Reached, Granted, Ended}
 use Rattle.walk.specs.Walk.{lacking}
 use Rattle.talk.specs.Memory.{Memory, OfBytes, Holds, Fresh, Out, RoomyOut, Tabled, Beside, HostBytes}
 

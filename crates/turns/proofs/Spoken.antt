@@ -29,10 +29,10 @@ use Rattle.state.specs.Session.{State}
 use Rattle.tables.specs.Table.{Row}
 use Rattle.waiting.specs.Waiting.{Waiting}
 use Rattle.wire.specs.Item.{prefixedBytes}
-use Rattle.walk.specs.Talk.{Host, chunksFor, messageFor}
-use Rattle.walk.proofs.Message.{heardHaves, all-sound, length-heard, chunks-few, no-chunks, heardSaid, crosses}
-use Rattle.walk.proofs.Sides.{Fixed}
-use Rattle.walk.proofs.Small.{mostWords, message-fits, no-chunk-small}
+use Rattle.turns.specs.Talk.{Host, chunksFor, messageFor}
+use Rattle.turns.proofs.Message.{heardHaves, all-sound, length-heard, chunks-few, no-chunks, heardSaid, crosses}
+use Rattle.turns.proofs.Sides.{Fixed}
+use Rattle.turns.proofs.Small.{mostWords, message-fits, no-chunk-small}
 
 -- Flags that say neither read-only nor reset.
 abbrev pub plainFlags : MessageFlags

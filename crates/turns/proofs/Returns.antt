@@ -26,12 +26,12 @@ use Rattle.hearing.proofs.ReceiveLaws.{join-members, join-ascends, advance-memb
 use Rattle.state.specs.Session.{State}
 use Rattle.tables.specs.Table.{Row, held}
 use Rattle.waiting.specs.Waiting.{Waiting}
 use Rattle.walk.specs.Round.{Part, Covers}
-use Rattle.walk.proofs.Message.{heardHave, heardHaves, heard-contains}
+use Rattle.turns.proofs.Message.{heardHave, heardHaves, heard-contains}
 use Rattle.walk.proofs.Parts.{part-itself, below-heads, below-there}
-use Rattle.walk.proofs.Sides.{Fixed, said, SideB}
-use Rattle.walk.proofs.Spoken.{plain-writes, Hears}
-use Rattle.walk.proofs.Waits.{Waits, rows-few, part-sound}
+use Rattle.turns.proofs.Sides.{Fixed, said, SideB}
+use Rattle.turns.proofs.Spoken.{plain-writes, Hears}
+use Rattle.turns.proofs.Waits.{Waits, rows-few, part-sound}
 
 -- B's table b and what waits there become b′ and w′; s is its session before the round, and m is what it hears of A
 module _ (A b : List Row) (w : List Waiting) (b′ : List Row) (w′ : List Waiting) (k : ℕ) (s : State) (m : Said) where

@@ -50,13 +50,13 @@ use Rattle.session.proofs.PlanLaws.{need-missing, have-one, have-none, speaks-f
 use Rattle.state.specs.Session.{State}
 use Rattle.tables.specs.Table.{Row, held}
 use Rattle.waiting.specs.Waiting.{Waiting}
 use Rattle.walk.specs.Round.{Covers}
-use Rattle.walk.specs.Talk.{Host, messageFor}
+use Rattle.turns.specs.Talk.{Host, messageFor}
 use Rattle.walk.specs.Walk.{heardIn}
-use Rattle.walk.proofs.Message.{heardHave, heardHaves, heardSaid}
-use Rattle.walk.proofs.Sides.{Fixed, Heard, nothing, said, SideB, Going, not-same, heads-apart}
-use Rattle.walk.proofs.Spoken.{Hears, Spoken, spoken}
-use Rattle.walk.proofs.Waits.{part-sound, part-few, missing-sound}
+use Rattle.turns.proofs.Message.{heardHave, heardHaves, heardSaid}
+use Rattle.turns.proofs.Sides.{Fixed, Heard, nothing, said, SideB, Going, not-same, heads-apart}
+use Rattle.turns.proofs.Spoken.{Hears, Spoken, spoken}
+use Rattle.turns.proofs.Waits.{part-sound, part-few, missing-sound}
 
 -- ---- pieces of a plan
 

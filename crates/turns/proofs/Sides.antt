@@ -17,10 +17,10 @@ use Rattle.hearing.specs.Good.{SoundTable, GoodState}
 use Rattle.state.specs.Session.{State}
 use Rattle.tables.specs.Table.{Row, GoodTable, rows, held}
 use Rattle.waiting.specs.Waiting.{Waiting}
 use Rattle.walk.specs.Round.{Part, Covers}
 use Rattle.walk.specs.Walk.{holdsAll}
 use Rattle.walk.proofs.Parts.{part-itself, heads-all}
-use Rattle.walk.proofs.Waits.{Waits}
+use Rattle.turns.proofs.Waits.{Waits}
 
 -- What never changes: a sound table A, and bits and probes with which filters over no more rows than A's keep the rules.
 pub record Fixed (bits probes : ℕ) (A : List Row) : Type 0 where

@@ -1,6 +1,6 @@
 -- Two fresh sessions beside the walk. 01, The catch-up walk, its last rule: over these tables, B speaking first, the sessions state the walk's heads, needs,
--- haves and replies until B holds A. The steps are those that the calls are proved equal to (crate session), and bytes pass between them: what is heard
--- is the reading of what was written.
+-- haves and replies until B holds A. The steps are those that the calls are proved equal to (crates session and hearing), and bytes pass between them:
+-- what is heard is the reading of what was written.
 use Prim.Native.Nat.{ℕ, zero, suc, _≤_, _<_}
 use mathlib.Core.Bool.{true, false, cond, not, _&&_}
 use mathlib.Core.List.{List, [], _∷_, _++_, map}

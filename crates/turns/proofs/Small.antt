@@ -21,7 +21,7 @@ use Rattle.rules.specs.Sizes.{sizes}
 use Rattle.rules.proofs.Cases.{split}
 use Rattle.rules.proofs.Hash.{length-hashes-bytes}
 use Rattle.wire.specs.Item.{prefixedBytes, hashListBytes}
-use Rattle.walk.proofs.Message.{some-entries}
+use Rattle.turns.proofs.Message.{some-entries}
 
 -- bytes of a count, of a hash list, of a filter and of a have, at the most
 abbrev mostCount : ℕ

@@ -25,8 +25,8 @@ use Rattle.state.specs.Session.{State}
 use Rattle.tables.specs.Table.{Row}
 use Rattle.waiting.specs.Waiting.{Waiting}
 use Rattle.wire.specs.Item.{prefixedBytes}
 use Rattle.walk.specs.Round.{Part, Loads, trim}
-use Rattle.walk.specs.Talk.{
+use Rattle.turns.specs.Talk.{
   Host,
   listChunks,
   chunksFor,
@@ -49,17 +49,17 @@ use Rattle.walk.specs.Talk.{
   Statement2,
   Theorem2,
 }
 use Rattle.walk.specs.Walk.{At, accepted, Walk01, heardIn}
-use Rattle.walk.proofs.Answers.{Answers, answers}
-use Rattle.walk.proofs.Asks.{Asks, asks}
+use Rattle.turns.proofs.Answers.{Answers, answers}
+use Rattle.turns.proofs.Asks.{Asks, asks}
 use Rattle.walk.proofs.Loaded.{loads-more}
-use Rattle.walk.proofs.Message.{heardSaid}
-use Rattle.walk.proofs.Returns.{Returns, returns}
-use Rattle.walk.proofs.Sides.{Fixed, nothing, SideA, SideB, Going}
-use Rattle.walk.proofs.Small.{mostWords}
+use Rattle.turns.proofs.Message.{heardSaid}
+use Rattle.turns.proofs.Returns.{Returns, returns}
+use Rattle.turns.proofs.Sides.{Fixed, nothing, SideA, SideB, Going}
+use Rattle.turns.proofs.Small.{mostWords}
 use Rattle.walk.proofs.Theorem1.{theorem-1}
-use Rattle.walk.proofs.Waits.{waits-none, loads-longer, loads-waits, part-few}
+use Rattle.turns.proofs.Waits.{waits-none, loads-longer, loads-waits, part-few}
 use Rattle.walk.proofs.Walk01.{walk01-walks}
 
 -- 10 bits and 7 probes may be set
 pub default-setting : (A : List Row) → length A ≤ sizes .rows

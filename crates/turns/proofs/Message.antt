@@ -30,7 +30,7 @@ use Rattle.hearing.specs.Receive.{Said, someChunk, saidIn, carries, receive, re
 use Rattle.hearing.proofs.ReceiveLaws.{bytes-read}
 use Rattle.state.specs.Session.{State}
 use Rattle.tables.specs.Table.{Row, hashOf, depsOf, rowsWhere}
-use Rattle.walk.specs.Talk.{Host, listChunks, chunksFor, messageFor}
+use Rattle.turns.specs.Talk.{Host, listChunks, chunksFor, messageFor}
 
 -- ---- filters over no rows
 

@@ -62,15 +62,15 @@ use Rattle.hearing.proofs.ReceiveLaws.{shared-taken, left-members, left-inside,
 use Rattle.state.specs.Session.{State}
 use Rattle.tables.specs.Table.{Row, held}
 use Rattle.waiting.specs.Waiting.{Waiting}
 use Rattle.walk.specs.Round.{Part, trim}
 use Rattle.wire.specs.Item.{prefixedBytes}
-use Rattle.walk.specs.Talk.{Host, chunksFor, messageFor}
-use Rattle.walk.proofs.Asks.{body-heard}
-use Rattle.walk.proofs.Message.{heardHaves, heardSaid, heard-selects}
-use Rattle.walk.proofs.Sides.{Fixed, SideA, Going, not-same, heads-apart}
-use Rattle.walk.proofs.Small.{mostWords}
-use Rattle.walk.proofs.Spoken.{plain-writes, plain-keeps, Hears, hears-as, Spoken, spoken}
-use Rattle.walk.proofs.Waits.{rows-few}
+use Rattle.turns.specs.Talk.{Host, chunksFor, messageFor}
+use Rattle.turns.proofs.Asks.{body-heard}
+use Rattle.turns.proofs.Message.{heardHaves, heardSaid, heard-selects}
+use Rattle.turns.proofs.Sides.{Fixed, SideA, Going, not-same, heads-apart}
+use Rattle.turns.proofs.Small.{mostWords}
+use Rattle.turns.proofs.Spoken.{plain-writes, plain-keeps, Hears, hears-as, Spoken, spoken}
+use Rattle.turns.proofs.Waits.{rows-few}
 
 or-swap : (x y : Bool) → (x || y) ≡ (y || x)
 or-swap true true = refl

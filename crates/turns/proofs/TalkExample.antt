@@ -30,14 +30,14 @@ use Rattle.state.specs.Session.{State}
 use Rattle.tables.specs.Table.{Row, rows, depsOf, held, rowsFrom, rowsWhere}
 use Rattle.waiting.specs.Waiting.{Waiting}
 use Rattle.wire.specs.Item.{prefixedBytes}
 use Rattle.walk.specs.Round.{Loads, trim}
-use Rattle.walk.specs.Talk.{Host, listChunks, pairAt, Reached, Granted, Tables, Ended}
+use Rattle.turns.specs.Talk.{Host, listChunks, pairAt, Reached, Granted, Tables, Ended}
 use Rattle.walk.specs.Walk.{heardIn, holdsAll, lacking}
-use Rattle.walk.proofs.Corollary.{corollary}
+use Rattle.turns.proofs.Corollary.{corollary}
 use Rattle.walk.proofs.Example.{a, b, c, one, three, cWaits, only, good-three, part-one, load-none, load-c, load-both, computed}
-use Rattle.walk.proofs.Sides.{Going}
-use Rattle.walk.proofs.Small.{mostWords}
-use Rattle.walk.proofs.Talk.{default-setting, Standing, start, start-sent, next, next-sent, next-shared, reply-heads, round-granted}
+use Rattle.turns.proofs.Sides.{Going}
+use Rattle.turns.proofs.Small.{mostWords}
+use Rattle.turns.proofs.Talk.{default-setting, Standing, start, start-sent, next, next-sent, next-shared, reply-heads, round-granted}
 
 -- ---- what the hosts have
 
