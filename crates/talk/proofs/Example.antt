@@ -50,8 +50,8 @@ use Rattle.turns.specs.Talk.{Reached, Granted}
 use Rattle.walk.proofs.Example.{a, b, c, one, three, cWaits, part-one}
 use Rattle.turns.proofs.TalkExample.{held-by-b, waiting-at-b, waiting-at-a, lent, all-granted}
 use Rattle.talk.specs.Calls.{Both, TalkOfCalls, AllGranted, CallsEnd, Lends}
-use Rattle.talk.specs.Memory.{Fresh, Out, RoomyOut, Tabled, Beside}
-use Rattle.talk.proofs.AllBytes.{bytes-none, bytes-cons, bytes-append, zeros-bytes}
+use Rattle.memory.specs.Memory.{Fresh, Out, RoomyOut, Tabled, Beside}
+use Rattle.memory.proofs.AllBytes.{bytes-none, bytes-cons, bytes-append, zeros-bytes}
 use Rattle.talk.proofs.Goes.{calls-go}
 use Rattle.talk.proofs.Talk.{calls-corollary}
 

@@ -44,8 +44,8 @@ use Rattle.waiting.specs.Bytes.{waitingOf}
 use Rattle.waiting.specs.Waiting.{Waiting}
 use Rattle.turns.specs.Talk.{Host, chunksFor, bytesFor, left, pairAt}
 use Rattle.talk.specs.Calls.{speaks, recordsIn, planIn, PlanMade, Speaks, Hears, Both, Round, TalkOfCalls, AreSessions, Lends, CallsGo}
-use Rattle.talk.specs.Memory.{Memory, OfBytes, Holds, Fresh, Out, RoomyOut, Tabled, Beside, HostBytes}
-use Rattle.talk.proofs.AllBytes.{bytes-none, bytes-sets, hashes-bytes, field-bytes, FieldBytes, laid-bytes, plan-bytes}
+use Rattle.memory.specs.Memory.{Memory, OfBytes, Holds, Fresh, Out, RoomyOut, Tabled, Beside, HostBytes}
+use Rattle.memory.proofs.AllBytes.{bytes-none, bytes-sets, hashes-bytes, field-bytes, FieldBytes, laid-bytes, plan-bytes}
 use Rattle.talk.proofs.Planning.{held-good, reset-is}
 use Rattle.talk.proofs.Receiving.{receive-for, receive-holds}
 use Rattle.talk.proofs.Speaking.{speaking-holds, crossing}

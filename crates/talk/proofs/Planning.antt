@@ -47,8 +47,8 @@ use Rattle.tables.specs.Calls.{passedOn}
 use Rattle.waiting.specs.Calls.{tablesChecked}
 use Rattle.waiting.specs.Waiting.{Waiting}
 use Rattle.talk.specs.Calls.{PlanMade}
-use Rattle.talk.specs.Memory.{Memory, Roomy, OfBytes, Holds, Out, RoomyOut, Tabled, Beside}
-use Rattle.talk.proofs.Rooms.{Fine, planned-room, reset-roomed, says-roomed}
+use Rattle.memory.specs.Memory.{Memory, Roomy, OfBytes, Holds, Out, RoomyOut, Tabled, Beside}
+use Rattle.memory.proofs.Rooms.{Fine, planned-room, reset-roomed, says-roomed}
 
 -- ---- tables and memory as the laws below want them
 

@@ -34,9 +34,9 @@ use Rattle.tables.specs.Bytes.{tableOf}
 use Rattle.tables.specs.Table.{Row, rows}
 use Rattle.turns.specs.Talk.{left}
 use Rattle.talk.specs.Calls.{Hears}
-use Rattle.talk.specs.Memory.{Memory, Roomy, Holds, Tabled}
+use Rattle.memory.specs.Memory.{Memory, Roomy, Holds, Tabled}
 use Rattle.talk.proofs.Planning.{table-sound, of-bytes, held-good}
-use Rattle.talk.proofs.Rooms.{received-room, took-roomed}
+use Rattle.memory.proofs.Rooms.{received-room, took-roomed}
 
 still-roomy : (s : State) (l : Lent) → Roomy l → Roomy (receivedIn s l)
 still-roomy s l r =

@@ -24,10 +24,10 @@ use Rattle.tables.specs.Table.{Row}
 use Rattle.waiting.specs.Bytes.{waitingOf}
 use Rattle.turns.specs.Talk.{Host, messageFor, bytesFor, left}
 use Rattle.talk.specs.Calls.{Speaks, speaks, planIn}
-use Rattle.talk.specs.Memory.{Memory, Holds, Tabled, Beside}
+use Rattle.memory.specs.Memory.{Memory, Holds, Tabled, Beside}
 use Rattle.talk.proofs.Planning.{Put, held-good, reset-is, reset-fine, says-fine, plan-answer, plan-holds, plan-put}
 use Rattle.talk.proofs.Receiving.{unread-leaves}
-use Rattle.talk.proofs.Rooms.{Fine}
+use Rattle.memory.proofs.Rooms.{Fine}
 use Rattle.talk.proofs.Writing.{number-some, plan-read, write-small, write-long}
 
 -- What crosses is what the step's plan says, where that is within a message's size.

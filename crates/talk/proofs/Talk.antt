@@ -50,7 +50,7 @@ use Rattle.talk.specs.Calls.{
   CallsAreSteps,
   CallsCorollary,
 }
-use Rattle.talk.specs.Memory.{Memory, Holds, Tabled, Beside, Fresh}
+use Rattle.memory.specs.Memory.{Memory, Holds, Tabled, Beside, Fresh}
 use Rattle.talk.proofs.Planning.{table-sound}
 use Rattle.talk.proofs.Receiving.{receive-answer, receive-holds}
 use Rattle.talk.proofs.Speaking.{speaking-holds, heard-so, speaking-said}

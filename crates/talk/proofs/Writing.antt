@@ -58,9 +58,9 @@ use Rattle.state.specs.Value.{keptHaves}
 use Rattle.turns.specs.Talk.{Host, chunksFor, messageFor}
 use Rattle.turns.proofs.Message.{chunks-few}
 use Rattle.talk.specs.Calls.{recordsIn, planIn, WriteMade}
-use Rattle.talk.specs.Memory.{Out, RoomyOut}
+use Rattle.memory.specs.Memory.{Out, RoomyOut}
 use Rattle.talk.proofs.Planning.{Put}
-use Rattle.talk.proofs.Rooms.{Fine, laid-small}
+use Rattle.memory.proofs.Rooms.{Fine, laid-small}
 
 -- ---- words
 

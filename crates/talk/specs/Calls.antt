@@ -27,7 +27,7 @@ use Rattle.waiting.specs.Waiting.{Waiting}
 use Rattle.walk.specs.Round.{Part}
 use Rattle.turns.specs.Talk.{Host, chunksFor, goes, Pair, asked, answered, pairAt, Reached, Granted, Ended}
 use Rattle.walk.specs.Walk.{lacking}
-use Rattle.talk.specs.Memory.{Memory, OfBytes, Holds, Fresh, Out, RoomyOut, Tabled, Beside, HostBytes}
+use Rattle.memory.specs.Memory.{Memory, OfBytes, Holds, Fresh, Out, RoomyOut, Tabled, Beside, HostBytes}
 
 -- ---- what a host reads of an answer to planning
 

@@ -24,7 +24,7 @@ use Rattle.session.proofs.LaidLaws.{laid-length-bytes}
 use Rattle.state.specs.Session.{State}
 use Rattle.state.specs.Value.{Lent}
 use Rattle.turns.proofs.Message.{some-entries}
-use Rattle.talk.specs.Memory.{haveRoom, Roomy, Out, RoomyOut}
+use Rattle.memory.specs.Memory.{haveRoom, Roomy, Out, RoomyOut}
 
 -- A message that planning may state: what every stage above relies on.
 pub record Fine (q : Plan) : Type 0 where

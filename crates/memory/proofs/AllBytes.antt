@@ -28,7 +28,7 @@ use Rattle.session.specs.Laid.{laidBytes}
 use Rattle.turns.specs.Talk.{Host, listChunks, chunksFor, messageFor}
 use Rattle.session.specs.Plan.{Plan}
 use Rattle.wire.specs.Item.{prefixedBytes, hashListBytes}
-use Rattle.talk.specs.Memory.{HostBytes}
+use Rattle.memory.specs.Memory.{HostBytes}
 
 -- ---- lists
 
