@@ -34,11 +34,6 @@ use Rattle.rules.specs.declared.refusal.Refusal.the-variants.{LoadFailed, BadRo
 use Rattle.rules.proofs.Cases.{split, both, either}
 use Rattle.rules.proofs.Hash.{length-hashes-at, hashes-are-hashes, length-slice-of}
 use Rattle.rules.proofs.KeepLaws.{hashes-member, hashes-each, hashes-inside}
-use Rattle.state.specs.Session.{State, fresh, freshReadOnly, restored, setReadOnly}
-use Rattle.state.proofs.SessionLaws.{switch-same, switch-on, switch-off}
-use Rattle.tables.specs.Table.{Row, rows, held}
-use Rattle.waiting.specs.Waiting.{Waiting}
-use Rattle.hearing.specs.Good.{SoundTable, SoundHaves, WhereHeard, GoodState, SoundSaid}
 use Rattle.session.specs.Plan.{
   Plan,
   Planned,
@@ -55,6 +50,22 @@ use Rattle.session.specs.Plan.{
   plan,
   after,
 }
+use Rattle.session.proofs.PlanLaws.{
+  list-few,
+  body-hashes,
+  sent-ascends,
+  sent-members,
+  need-none-read-only,
+  need-missing,
+  have-one,
+  have-none,
+  plan-saying,
+}
+use Rattle.state.specs.Session.{State, fresh, freshReadOnly, restored, setReadOnly}
+use Rattle.state.proofs.SessionLaws.{switch-same, switch-on, switch-off}
+use Rattle.tables.specs.Table.{Row, rows, held}
+use Rattle.waiting.specs.Waiting.{Waiting}
+use Rattle.hearing.specs.Good.{SoundTable, SoundHaves, WhereHeard, GoodState, SoundSaid}
 use Rattle.hearing.specs.Receive.{
   Said,
   saidIn,
@@ -72,17 +83,6 @@ use Rattle.hearing.specs.Receive.{
   received,
   receive,
   receiveBytes,
-}
-use Rattle.session.proofs.PlanLaws.{
-  list-few,
-  body-hashes,
-  sent-ascends,
-  sent-members,
-  need-none-read-only,
-  need-missing,
-  have-one,
-  have-none,
-  plan-saying,
 }
 use Rattle.hearing.proofs.ReceiveLaws.{
   join-members,

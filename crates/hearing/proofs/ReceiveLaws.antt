@@ -22,9 +22,9 @@ use Rattle.rules.specs.declared.refusal.Refusal.the-variants.{PastSize, LoadFai
 use Rattle.rules.proofs.Cases.{split, both}
 use Rattle.rules.proofs.KeepLaws.{keep-member, keep-most, keep-ascends, once-ascends}
 use Rattle.rules.proofs.OrderLaws.{ascend-ascends, ascend-members, ascending-unique, member-append, member-none}
+use Rattle.session.specs.Plan.{empty}
 use Rattle.state.specs.Session.{State}
 use Rattle.tables.specs.Table.{Row, held}
-use Rattle.session.specs.Plan.{empty}
 use Rattle.hearing.specs.Receive.{
   Said,
   saidIn,

@@ -19,9 +19,9 @@ use Rattle.rules.specs.Order.{member, keep, every, ascend}
 use Rattle.rules.specs.Sizes.{sizes}
 use Rattle.rules.specs.declared.refusal.Refusal.{Refusal}
 use Rattle.rules.specs.declared.refusal.Refusal.the-variants.{PastSize, LoadFailed, BadRowsBefore}
+use Rattle.session.specs.Plan.{Plan, Body, empty}
 use Rattle.state.specs.Session.{State}
 use Rattle.tables.specs.Table.{Row, held}
-use Rattle.session.specs.Plan.{Plan, Body, empty}
 
 -- What a session takes from a message: its words, and whether it carries changes. What these are is the host's.
 pub record Said : Type 0 where

@@ -9,17 +9,17 @@ use lib.Dec.{eqb}
 use lib.ListN.{length}
 use Rattle.bloom.specs.Have.{Have, haveWords}
 use Rattle.bloom.proofs.Rules.{ruled, capacity-none}
-use Rattle.planned.specs.Call.{Buffers, buffersOf, syncsOf, filterNumbers, messageRoom, sessionRoom, afterRoom, roomed, roomsIn}
+use Rattle.hearing.specs.Good.{SoundHaves, WhereHeard, GoodState}
+use Rattle.hearing.specs.Receive.{Received}
 use Rattle.kept.specs.Kept.{PlannedRoom, ReceivedRoom}
 use Rattle.message.specs.Sound.{Each, SoundHashes, SoundHave}
+use Rattle.planned.specs.Call.{Buffers, buffersOf, syncsOf, filterNumbers, messageRoom, sessionRoom, afterRoom, roomed, roomsIn}
 use Rattle.receive.specs.Call.{shortFor, unlessShort, roomed as roomedFor, roomsIn as roomsOf}
 use Rattle.rules.specs.Hash.{AreHashes}
 use Rattle.rules.specs.Sizes.{sizes}
 use Rattle.rules.proofs.Cases.{split}
-use Rattle.hearing.specs.Good.{SoundHaves, WhereHeard, GoodState}
 use Rattle.session.specs.Laid.{laidBytes}
 use Rattle.session.specs.Plan.{Plan, Planned, heard}
-use Rattle.hearing.specs.Receive.{Received}
 use Rattle.session.proofs.LaidLaws.{laid-length-bytes}
 use Rattle.state.specs.Session.{State}
 use Rattle.state.specs.Value.{Lent}

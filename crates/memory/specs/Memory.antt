@@ -14,8 +14,8 @@ use Rattle.state.specs.Session.{State}
 use Rattle.state.specs.Value.{Lent, countsOf}
 use Rattle.tables.specs.Table.{Row}
 use Rattle.tables.specs.declared.check.Checked.the-variants.{Good}
-use Rattle.waiting.specs.Bytes.{waitingChecked}
 use Rattle.turns.specs.Talk.{Host}
+use Rattle.waiting.specs.Bytes.{waitingChecked}
 
 -- A session as a host keeps it: its sixteen words, and the seven lists that are lent beside them.
 pub record Memory : Type 0 where

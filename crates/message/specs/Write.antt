@@ -7,14 +7,14 @@ use lib.Dec.{ltb}
 use lib.ListN.{length}
 use lib.Seq.{slice}
 use Rattle.bloom.specs.Have.{havesOf, passedGood, passedFew}
-use Rattle.message.specs.Message.{Message, messageBytes}
-use Rattle.message.specs.declared.flags.Section.{Section}
-use Rattle.message.specs.declared.version.MessageVersion.{MessageVersion}
 use Rattle.rules.specs.Hash.{hashesAt}
 use Rattle.rules.specs.Output.{Output}
 use Rattle.rules.specs.Passed.{passedHashes, afterPassed}
 use Rattle.rules.specs.Sizes.{sizes}
 use Rattle.rules.specs.declared.refusal.Refusal.the-variants.{Cut, PastSize, BadNumbers}
+use Rattle.message.specs.Message.{Message, messageBytes}
+use Rattle.message.specs.declared.flags.Section.{Section}
+use Rattle.message.specs.declared.version.MessageVersion.{MessageVersion}
 
 -- What is passed: hash lists as bytes, haves as records over bytes, chunks as bytes one after the other and their lengths.
 pub record Parts : Type 0 where

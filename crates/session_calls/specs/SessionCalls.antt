@@ -5,12 +5,12 @@ use mathlib.Core.List.{List, [], _∷_}
 use mathlib.Core.Path.{_≡_}
 use Rattle.answers.specs.Answer.{refusalWords}
 use Rattle.bloom.specs.Filter.{defaultBits, defaultProbes}
+use Rattle.message.specs.declared.version.MessageVersion.{MessageVersion}
+use Rattle.message.specs.declared.version.MessageVersion.the-variants.{V1, V2}
 use Rattle.planned.specs.Call.{Buffers, planWith, roomed, roomsIn, answerOf, putInto}
 use Rattle.planned.specs.declared.answer.Planned.{Planned}
 use Rattle.planned.specs.declared.answer.Planned.the-variants.{Refused, Silent, Reset, Says}
 use Rattle.planned.specs.declared.answer.Stated.{Stated}
-use Rattle.message.specs.declared.version.MessageVersion.{MessageVersion}
-use Rattle.message.specs.declared.version.MessageVersion.the-variants.{V1, V2}
 use Rattle.receive.specs.Call.{receiveWith, roomed as roomedFor, roomsIn as roomsOf, answerOf as answerFor, keptIn}
 use Rattle.rules.specs.Refusal.{numberOf, valueOf}
 use Rattle.rules.specs.declared.refusal.Refusal.the-variants.{LoadFailed}

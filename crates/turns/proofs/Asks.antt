@@ -12,6 +12,9 @@ use Rattle.bloom.specs.Have.{Have}
 use Rattle.graph.specs.Graph.{heads}
 use Rattle.graph.proofs.BelowLaws.{not-below-beyond}
 use Rattle.graph.proofs.HeadLaws.{head-held}
+use Rattle.hearing.specs.Good.{GoodState}
+use Rattle.hearing.specs.Receive.{receive, receiveBytes}
+use Rattle.hearing.proofs.GoodLaws.{planned-good}
 use Rattle.members.proofs.SLaws.{last-syncs-one, filters-one}
 use Rattle.message.specs.Message.{messageBytes}
 use Rattle.message.specs.Sound.{SoundHashes}
@@ -23,7 +26,6 @@ use Rattle.rules.proofs.KeepLaws.{every-one}
 use Rattle.rules.proofs.OrderLaws.{member-none}
 use Rattle.selection.specs.ToSend.{toSendLess}
 use Rattle.selection.proofs.SelectLaws.{sent-empty, less-none}
-use Rattle.hearing.specs.Good.{GoodState}
 use Rattle.session.specs.Plan.{
   Plan,
   Planned,
@@ -44,15 +46,13 @@ use Rattle.session.specs.Plan.{
   planned,
   plan,
 }
-use Rattle.hearing.specs.Receive.{receive, receiveBytes}
-use Rattle.hearing.proofs.GoodLaws.{planned-good}
 use Rattle.session.proofs.PlanLaws.{need-missing, have-one, have-none, speaks-first, speaks-apart, plan-is}
 use Rattle.state.specs.Session.{State}
 use Rattle.tables.specs.Table.{Row, held}
 use Rattle.waiting.specs.Waiting.{Waiting}
 use Rattle.walk.specs.Round.{Covers}
-use Rattle.turns.specs.Talk.{Host, messageFor}
 use Rattle.walk.specs.Walk.{heardIn}
+use Rattle.turns.specs.Talk.{Host, messageFor}
 use Rattle.turns.proofs.Message.{heardHave, heardHaves, heardSaid}
 use Rattle.turns.proofs.Sides.{Fixed, Heard, nothing, said, SideB, Going, not-same, heads-apart}
 use Rattle.turns.proofs.Spoken.{Hears, Spoken, spoken}

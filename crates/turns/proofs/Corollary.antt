@@ -12,10 +12,10 @@ use Rattle.rules.proofs.Cases.{split, true-false}
 use Rattle.rules.proofs.ReachLaws.{below-suc}
 use Rattle.tables.specs.Table.{Row}
 use Rattle.waiting.specs.Waiting.{Waiting}
-use Rattle.turns.specs.Talk.{Host, pairAt, Reached, Granted, Inside, Tables, Ended, Corollary}
 use Rattle.walk.specs.Walk.{Demand3, Walk, holdsAll, lacking}
 use Rattle.walk.proofs.Theorem1.{theorem-1}
 use Rattle.walk.proofs.Walk01.{walk01-walks}
+use Rattle.turns.specs.Talk.{Host, pairAt, Reached, Granted, Inside, Tables, Ended, Corollary}
 use Rattle.turns.proofs.Talk.{Standing, reached-going, inside-standing, next, statement-2}
 
 module _ (bits probes : ℕ) (A : List Row) (B : ℕ → List Row) (W U : ℕ → List Waiting) (hosts : ℕ → Host) (tables : Tables bits probes A B W U hosts)

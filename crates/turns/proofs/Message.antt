@@ -13,6 +13,8 @@ use Rattle.bloom.specs.Have.{Have}
 use Rattle.bloom.proofs.Rules.{rules-none}
 use Rattle.decode.proofs.RoundTrip.{message-there-and-back}
 use Rattle.graph.specs.Graph.{belowRow}
+use Rattle.hearing.specs.Receive.{Said, someChunk, saidIn, carries, receive, receiveBytes}
+use Rattle.hearing.proofs.ReceiveLaws.{bytes-read}
 use Rattle.members.specs.Members.{lastSyncs, filters, candidate, missed, inTheS, theS}
 use Rattle.message.specs.Message.{Message, joined, counted, haveBytes, messageBytes}
 use Rattle.message.specs.Sound.{Each, SoundHave, SoundMessage, SaidFilter, SaidHave}
@@ -26,8 +28,6 @@ use Rattle.rules.specs.Sizes.{sizes}
 use Rattle.rules.proofs.Cases.{split}
 use Rattle.selection.specs.ToSend.{toSend, toSendLess}
 use Rattle.session.specs.Plan.{Plan, listOf, empty}
-use Rattle.hearing.specs.Receive.{Said, someChunk, saidIn, carries, receive, receiveBytes}
-use Rattle.hearing.proofs.ReceiveLaws.{bytes-read}
 use Rattle.state.specs.Session.{State}
 use Rattle.tables.specs.Table.{Row, hashOf, depsOf, rowsWhere}
 use Rattle.turns.specs.Talk.{Host, listChunks, chunksFor, messageFor}

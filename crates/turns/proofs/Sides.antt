@@ -8,12 +8,12 @@ use lib.ListN.{length}
 use Rattle.bloom.specs.Filter.{fieldSize, filterRules}
 use Rattle.bloom.specs.Have.{Have}
 use Rattle.graph.specs.Graph.{heads}
+use Rattle.hearing.specs.Good.{SoundTable, GoodState}
 use Rattle.lists.specs.Lists.{same}
 use Rattle.lists.proofs.Lists.{same-equal}
 use Rattle.rules.specs.Order.{member}
 use Rattle.rules.proofs.Cases.{split, true-false}
 use Rattle.rules.proofs.KeepLaws.{every-one}
-use Rattle.hearing.specs.Good.{SoundTable, GoodState}
 use Rattle.state.specs.Session.{State}
 use Rattle.tables.specs.Table.{Row, GoodTable, rows, held}
 use Rattle.waiting.specs.Waiting.{Waiting}

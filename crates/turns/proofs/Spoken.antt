@@ -9,6 +9,9 @@ use lib.ListN.{length, length-replicate}
 use Rattle.bloom.specs.Have.{Have}
 use Rattle.graph.specs.Graph.{heads, beyond}
 use Rattle.graph.proofs.BelowLaws.{beyond-few}
+use Rattle.hearing.specs.Good.{SoundTable, SoundHaves, GoodState, SoundSaid}
+use Rattle.hearing.specs.Receive.{Said, receive, receiveBytes}
+use Rattle.hearing.proofs.GoodLaws.{heads-sound, body-few}
 use Rattle.message.specs.Flags.{syncReset, readOnly, hasFlag}
 use Rattle.message.specs.Message.{counted, messageBytes}
 use Rattle.message.specs.Sound.{Each, SoundHashes, SoundHave, SoundMessage}
@@ -20,10 +23,7 @@ use Rattle.probe.proofs.FieldLaws.{length-add-hashes}
 use Rattle.rules.specs.Order.{member, every}
 use Rattle.rules.specs.Sizes.{sizes}
 use Rattle.rules.proofs.Cases.{split}
-use Rattle.hearing.specs.Good.{SoundTable, SoundHaves, GoodState, SoundSaid}
 use Rattle.session.specs.Plan.{Plan, heard, haveOf, havesFor, listOf, bodyOf, headsFor, flagsFor, needOf, planOf}
-use Rattle.hearing.specs.Receive.{Said, receive, receiveBytes}
-use Rattle.hearing.proofs.GoodLaws.{heads-sound, body-few}
 use Rattle.session.proofs.PlanLaws.{have-one, have-none, have-or-none, said-flags}
 use Rattle.state.specs.Session.{State}
 use Rattle.tables.specs.Table.{Row}

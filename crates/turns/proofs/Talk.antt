@@ -12,6 +12,8 @@ use Rattle.bloom.specs.Have.{Have}
 use Rattle.bloom.proofs.Rules.{rules-default}
 use Rattle.graph.specs.Graph.{heads, beyond}
 use Rattle.graph.proofs.BelowLaws.{beyond-few}
+use Rattle.hearing.specs.Receive.{Said, Received, sharedAfter, received, receiveBytes}
+use Rattle.hearing.proofs.GoodLaws.{fresh-good}
 use Rattle.message.specs.Message.{counted, messageBytes}
 use Rattle.message.specs.declared.version.MessageVersion.{MessageVersion}
 use Rattle.missing.specs.Missing.{missing}
@@ -19,13 +21,15 @@ use Rattle.rules.specs.Sizes.{sizes}
 use Rattle.rules.proofs.OrderLaws.{member-none}
 use Rattle.selection.specs.ToSend.{toSendLess}
 use Rattle.session.specs.Plan.{Body, Plan, Planned, documentPart, empty, havesFor, bodyOf, planOf, planned, plan, after}
-use Rattle.hearing.specs.Receive.{Said, Received, sharedAfter, received, receiveBytes}
-use Rattle.hearing.proofs.GoodLaws.{fresh-good}
 use Rattle.state.specs.Session.{State}
 use Rattle.tables.specs.Table.{Row}
 use Rattle.waiting.specs.Waiting.{Waiting}
-use Rattle.wire.specs.Item.{prefixedBytes}
 use Rattle.walk.specs.Round.{Part, Loads, trim}
+use Rattle.walk.specs.Walk.{At, accepted, Walk01, heardIn}
+use Rattle.walk.proofs.Loaded.{loads-more}
+use Rattle.walk.proofs.Theorem1.{theorem-1}
+use Rattle.walk.proofs.Walk01.{walk01-walks}
+use Rattle.wire.specs.Item.{prefixedBytes}
 use Rattle.turns.specs.Talk.{
   Host,
   listChunks,
@@ -49,17 +53,13 @@ use Rattle.turns.specs.Talk.{
   Statement2,
   Theorem2,
 }
-use Rattle.walk.specs.Walk.{At, accepted, Walk01, heardIn}
 use Rattle.turns.proofs.Answers.{Answers, answers}
 use Rattle.turns.proofs.Asks.{Asks, asks}
-use Rattle.walk.proofs.Loaded.{loads-more}
 use Rattle.turns.proofs.Message.{heardSaid}
 use Rattle.turns.proofs.Returns.{Returns, returns}
 use Rattle.turns.proofs.Sides.{Fixed, nothing, SideA, SideB, Going}
 use Rattle.turns.proofs.Small.{mostWords}
-use Rattle.walk.proofs.Theorem1.{theorem-1}
 use Rattle.turns.proofs.Waits.{waits-none, loads-longer, loads-waits, part-few}
-use Rattle.walk.proofs.Walk01.{walk01-walks}
 
 -- 10 bits and 7 probes may be set
 pub default-setting : (A : List Row) → length A ≤ sizes .rows

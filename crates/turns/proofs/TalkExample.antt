@@ -9,6 +9,8 @@ use borrow.Author.Tests.{ltb-true}
 use lib.ListN.{length, take, length-append}
 use Rattle.bloom.specs.Filter.{defaultBits, defaultProbes}
 use Rattle.graph.specs.Graph.{needed, heads}
+use Rattle.hearing.specs.Receive.{Said, sharedLoaded, sharedAfter, loads}
+use Rattle.hearing.proofs.ReceiveLaws.{join-members, advance-members, shared-taken, shared-joined}
 use Rattle.message.specs.Message.{joined, counted}
 use Rattle.message.specs.declared.version.MessageVersion.{MessageVersion}
 use Rattle.message.specs.declared.version.MessageVersion.the-variants.{V1, V2}
@@ -24,17 +26,15 @@ use Rattle.rules.proofs.KeepLaws.{no-members, every-member}
 use Rattle.rules.proofs.OrderLaws.{member-none}
 use Rattle.selection.specs.ToSend.{toSendLess}
 use Rattle.session.specs.Plan.{empty, havesFor, planned}
-use Rattle.hearing.specs.Receive.{Said, sharedLoaded, sharedAfter, loads}
-use Rattle.hearing.proofs.ReceiveLaws.{join-members, advance-members, shared-taken, shared-joined}
 use Rattle.state.specs.Session.{State}
 use Rattle.tables.specs.Table.{Row, rows, depsOf, held, rowsFrom, rowsWhere}
 use Rattle.waiting.specs.Waiting.{Waiting}
-use Rattle.wire.specs.Item.{prefixedBytes}
 use Rattle.walk.specs.Round.{Loads, trim}
-use Rattle.turns.specs.Talk.{Host, listChunks, pairAt, Reached, Granted, Tables, Ended}
 use Rattle.walk.specs.Walk.{heardIn, holdsAll, lacking}
-use Rattle.turns.proofs.Corollary.{corollary}
 use Rattle.walk.proofs.Example.{a, b, c, one, three, cWaits, only, good-three, part-one, load-none, load-c, load-both, computed}
+use Rattle.wire.specs.Item.{prefixedBytes}
+use Rattle.turns.specs.Talk.{Host, listChunks, pairAt, Reached, Granted, Tables, Ended}
+use Rattle.turns.proofs.Corollary.{corollary}
 use Rattle.turns.proofs.Sides.{Going}
 use Rattle.turns.proofs.Small.{mostWords}
 use Rattle.turns.proofs.Talk.{default-setting, Standing, start, start-sent, next, next-sent, next-shared, reply-heads, round-granted}
