@@ -7,9 +7,7 @@ use mathlib.Core.Path.{_≡_}
 use native.Mathlib.Omega.{arith}
 use borrow.Author.Tests.{ltb-false, lt-ltb, le-ltb, not-true}
 use lib.ListN.{length, replicate, length-replicate}
-use Rattle.decide.specs.Call.{Buffers}
 use Rattle.decide.specs.Draft.{Parts, SmallDraft}
-use Rattle.decide.specs.declared.answer.Planned.{Planned as Answer}
 use Rattle.decide.specs.declared.decide.Draft.{Draft}
 use Rattle.draft.specs.Make.{carriedBody, BlankMarks, Counted, ReadyRooms, DraftMade, Finished}
 use Rattle.draft.specs.declared.make.Counts.{Counts}
@@ -21,6 +19,8 @@ use Rattle.lent.specs.Good.{heardGood, lentOf, sessionGood}
 use Rattle.lent.proofs.GoodSessions.{list-parts, session-tests, session-parts, heard-within}
 use Rattle.lists.specs.Lists.{few}
 use Rattle.missing.specs.Ask.{Found}
+use Rattle.planned.specs.Call.{Buffers}
+use Rattle.planned.specs.declared.answer.Planned.{Planned as Answer}
 use Rattle.planning.specs.Made.{Setting}
 use Rattle.rules.specs.Hash.{hashesAt}
 use Rattle.rules.specs.Sizes.{sizes}

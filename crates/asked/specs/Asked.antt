@@ -4,13 +4,13 @@ use mathlib.Core.Bool.{Bool, true, not, _&&_}
 use mathlib.Core.List.{List}
 use mathlib.Core.Path.{_≡_}
 use lib.Dec.{ltb}
-use Rattle.decide.specs.Call.{Buffers, PlanCalled}
-use Rattle.decide.specs.declared.answer.Planned.{Planned as Answer}
 use Rattle.draft.specs.declared.make.Counts.{Counts}
 use Rattle.index.specs.Index.{Indexed}
 use Rattle.lent.specs.Good.{sessionGood}
 use Rattle.lists.specs.Lists.{few}
 use Rattle.missing.specs.Ask.{Found}
+use Rattle.planned.specs.Call.{Buffers, PlanCalled}
+use Rattle.planned.specs.declared.answer.Planned.{Planned as Answer}
 use Rattle.rules.specs.Sizes.{sizes}
 use Rattle.session.specs.Plan.{heard, needOf, plan}
 use Rattle.state.specs.Value.{Lent, valueOf}

@@ -1,6 +1,6 @@
 -- The exported calls, and what makes their words. Each contract is an equation, or one for each thing that it speaks of. Assumes nothing.
 use mathlib.Core.Path.{refl, ap}
-use Rattle.decide.specs.Call.{Buffers}
+use Rattle.planned.specs.Call.{Buffers}
 use Rattle.state.specs.Value.{Lent}
 use Rattle.binding.specs.Exported.{ExportedBind}
 use Rattle.binding.proofs.Once.{once, joined, skip}

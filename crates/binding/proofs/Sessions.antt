@@ -1,6 +1,6 @@
 -- Calls of sessions: saved, planning, receiving. Each contract is an equation, or one for each thing that it speaks of. Assumes nothing.
 use mathlib.Core.Path.{refl, ap}
-use Rattle.decide.specs.Call.{Buffers}
+use Rattle.planned.specs.Call.{Buffers}
 use Rattle.state.specs.Value.{Lent}
 use Rattle.binding.specs.Sessions.{SessionsBind}
 use Rattle.binding.proofs.Once.{once, joined, skip}

@@ -13,21 +13,21 @@ use Rattle.message.specs.Flags.{flagsOf, supportsSyncReset, readOnly, syncReset
 use Rattle.message.specs.declared.flags.MessageFlags.{MessageFlags}
 use Rattle.message.specs.declared.version.MessageVersion.{MessageVersion}
 use Rattle.message.specs.declared.version.MessageVersion.the-variants.{V1}
+use Rattle.planned.specs.Call.{messageRoom, sessionRoom, plannedCounts}
+use Rattle.planned.specs.declared.answer.Planned.{Planned}
+use Rattle.planned.specs.declared.answer.Planned.the-variants.{Refused, Silent, Reset, Says}
+use Rattle.planned.specs.declared.answer.Room.{Room}
+use Rattle.planned.specs.declared.answer.Room.the-variants.{Enough, Short}
+use Rattle.planned.specs.declared.answer.Rooms.{Rooms}
+use Rattle.planned.specs.declared.answer.Stated.{Stated}
 use Rattle.rules.specs.Sizes.{sizes}
 use Rattle.rules.specs.declared.refusal.Refusal.{Refusal}
 use Rattle.rules.specs.declared.refusal.Refusal.the-variants.{PastSize, NoRoom}
 use Rattle.rules.proofs.Cases.{split}
 use Rattle.session.specs.Plan.{versionFor, flagsFor}
 use Rattle.state.specs.declared.session.Session.{Session}
-use Rattle.decide.specs.Call.{messageRoom, sessionRoom, plannedCounts}
 use Rattle.decide.specs.Draft.{SmallStated, SmallDraft, headsCount, countIf, filterIf, drafted, resetStated, ifRoom, saysWith, decided, noPuts}
 use Rattle.decide.specs.Draft.{putsFor, putsOf}
-use Rattle.decide.specs.declared.answer.Planned.{Planned}
-use Rattle.decide.specs.declared.answer.Planned.the-variants.{Refused, Silent, Reset, Says}
-use Rattle.decide.specs.declared.answer.Room.{Room}
-use Rattle.decide.specs.declared.answer.Room.the-variants.{Enough, Short}
-use Rattle.decide.specs.declared.answer.Rooms.{Rooms}
-use Rattle.decide.specs.declared.answer.Stated.{Stated}
 use Rattle.decide.specs.declared.decide.Draft.{Draft}
 use Rattle.decide.specs.declared.put.Puts.{Puts}
 

@@ -1,5 +1,3 @@
 -- Laws that the crates above cite.
 pub mod DecideLaws
-pub mod Once
-pub mod Promises
 pub mod PutLaws

@@ -6,6 +6,11 @@ use mathlib.Core.Path.{_≡_, refl, sym, ap, _∙_}
 use native.Mathlib.Nat.{zero-add}
 use lib.ListN.{length, take}
 use lib.Seq.{sets}
+use Rattle.planned.specs.Call.{Buffers, syncsOf, filterNumbers, answerOf, afterRoom, roomed}
+use Rattle.planned.specs.Call.{said, lastSentPut, sentPut, putInto}
+use Rattle.planned.specs.declared.answer.Room.{Room}
+use Rattle.planned.specs.declared.answer.Room.the-variants.{Enough, Short}
+use Rattle.planned.specs.declared.answer.Rooms.{Rooms}
 use Rattle.rules.specs.Hash.{Bytes, hashesAt, hashesBytes}
 use Rattle.rules.specs.Output.{Gathered}
 use Rattle.rules.specs.Sizes.{sizes}
@@ -15,13 +20,8 @@ use Rattle.rules.proofs.Outputs.{sets-append, gathered-bytes}
 use Rattle.session.specs.Laid.{laidBytes}
 use Rattle.session.specs.Plan.{Planned}
 use Rattle.state.specs.declared.session.Session.{Session}
-use Rattle.decide.specs.Call.{Buffers, syncsOf, filterNumbers, answerOf, afterRoom, roomed}
-use Rattle.decide.specs.Call.{said, lastSentPut, sentPut, putInto}
 use Rattle.decide.specs.Draft.{Parts, putsOf}
 use Rattle.decide.specs.Draft.{startPut, havePut, allPut}
-use Rattle.decide.specs.declared.answer.Room.{Room}
-use Rattle.decide.specs.declared.answer.Room.the-variants.{Enough, Short}
-use Rattle.decide.specs.declared.answer.Rooms.{Rooms}
 
 -- ---- bytes at the start of what stands ready
 

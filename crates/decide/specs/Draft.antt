@@ -11,18 +11,18 @@ use Rattle.bloom.specs.declared.have.FilterNumbers.{FilterNumbers}
 use Rattle.message.specs.Flags.{flagsOf, supportsSyncReset}
 use Rattle.message.specs.declared.version.MessageVersion.the-variants.{V1}
 use Rattle.numbers.specs.Number.{mostFilter}
+use Rattle.planned.specs.Call.{Buffers, messageRoom, sessionRoom, plannedCounts}
+use Rattle.planned.specs.declared.answer.Planned.{Planned as Answer}
+use Rattle.planned.specs.declared.answer.Planned.the-variants.{Refused, Silent, Reset, Says}
+use Rattle.planned.specs.declared.answer.Room.{Room}
+use Rattle.planned.specs.declared.answer.Room.the-variants.{Enough, Short}
+use Rattle.planned.specs.declared.answer.Rooms.{Rooms}
+use Rattle.planned.specs.declared.answer.Stated.{Stated}
 use Rattle.rules.specs.Hash.{hashesAt, hashesBytes}
 use Rattle.rules.specs.Sizes.{sizes}
 use Rattle.rules.specs.declared.refusal.Refusal.the-variants.{PastSize, NoRoom}
 use Rattle.session.specs.Plan.{versionFor, flagsFor}
 use Rattle.state.specs.declared.session.Session.{Session}
-use Rattle.decide.specs.Call.{Buffers, messageRoom, sessionRoom, plannedCounts}
-use Rattle.decide.specs.declared.answer.Planned.{Planned as Answer}
-use Rattle.decide.specs.declared.answer.Planned.the-variants.{Refused, Silent, Reset, Says}
-use Rattle.decide.specs.declared.answer.Room.{Room}
-use Rattle.decide.specs.declared.answer.Room.the-variants.{Enough, Short}
-use Rattle.decide.specs.declared.answer.Rooms.{Rooms}
-use Rattle.decide.specs.declared.answer.Stated.{Stated}
 use Rattle.decide.specs.declared.decide.Draft.{Draft}
 use Rattle.decide.specs.declared.put.Puts.{Puts}
 

@@ -1,14 +1,14 @@
 // What is decided once everything is computed: nothing is written before all of it is known.
-use crate::answer::Planned;
-use crate::answer::Room;
-use crate::answer::Rooms;
-use crate::answer::Stated;
 use bloom::have::FilterNumbers;
 use bloom::parse::BITS_PER_ENTRY;
 use bloom::parse::NUM_PROBES;
 use bloom::rule::bits_capacity;
 use message::flags::MessageFlags;
 use message::version::MessageVersion;
+use planned::answer::Planned;
+use planned::answer::Room;
+use planned::answer::Rooms;
+use planned::answer::Stated;
 use planning::body::Body;
 use rules::refusal::Refusal;
 use rules::sizes::HASH_SIZE;
@@ -21,11 +21,11 @@ ghost use Prim.Native.Nat.{_+_, _*_, _≤_};
 ghost use lib.Bits.{bitOr};
 ghost use Rattle.message.specs.Flags.{flagsOf};
 ghost use Rattle.numbers.specs.Number.{mostFilter};
+ghost use Rattle.planned.specs.Call.{messageRoom, sessionRoom, plannedCounts};
+ghost use Rattle.planned.specs.declared.answer.Planned.the-variants.{Reset};
 ghost use Rattle.rules.specs.Sizes.{sizes};
 ghost use Rattle.session.specs.Plan.{flagsFor, versionFor};
-ghost use Rattle.decide.specs.Call.{messageRoom, sessionRoom, plannedCounts};
 ghost use Rattle.decide.specs.Draft.{SmallStated, SmallDraft, headsCount, countIf, filterIf, drafted, resetStated, ifRoom, saysWith, decided};
-ghost use Rattle.decide.specs.declared.answer.Planned.the-variants.{Reset};
 
 // The numbers of a plan: how many heads there are and hashes are asked for, whether the peer's first have is unknown, whether a have is given and the
 // entries of its filter, the body, whether there is nothing to say, and how many hashes are sent then.

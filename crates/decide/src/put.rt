@@ -1,10 +1,10 @@
 // What was decided, put into the lent buffers: copies, and no test.
-use crate::answer::Planned;
-use crate::answer::Stated;
+use planned::answer::Planned;
+use planned::answer::Stated;
 use rules::put::copy_into;
 use rules::sizes::HASH_SIZE;
 ghost use mathlib.Core.Path.{_≡_};
-ghost use Rattle.decide.specs.Call.{buffersOf};
+ghost use Rattle.planned.specs.Call.{buffersOf};
 ghost use Rattle.decide.specs.Draft.{partsOf, putsFor, putsOf, HashesFit, HaveFits, Fits, startPut, havePut, allPut};
 
 // How many hashes go into each list, and how many bytes the field has.

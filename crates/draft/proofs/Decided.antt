@@ -29,14 +29,14 @@ use Rattle.state.specs.declared.session.Session.{Session}
 use Rattle.tables.specs.Table.{Row}
 use Rattle.waiting.specs.Waiting.{Waiting}
 use Rattle.planning.specs.Made.{FieldMade}
-use Rattle.decide.specs.Call.{syncsOf, filterNumbers, statedOf, answerOf, messageRoom, sessionRoom, afterRoom, roomed}
+use Rattle.planned.specs.Call.{syncsOf, filterNumbers, statedOf, answerOf, messageRoom, sessionRoom, afterRoom, roomed}
 use Rattle.decide.specs.Draft.{Parts, headsCount, countIf, filterIf, drafted, resetStated, ifRoom, saysWith, decided}
-use Rattle.decide.specs.declared.answer.Planned.{Planned as Answer}
-use Rattle.decide.specs.declared.answer.Planned.the-variants.{Refused, Reset}
-use Rattle.decide.specs.declared.answer.Room.{Room}
-use Rattle.decide.specs.declared.answer.Room.the-variants.{Enough, Short}
-use Rattle.decide.specs.declared.answer.Rooms.{Rooms}
-use Rattle.decide.specs.declared.answer.Stated.{Stated}
+use Rattle.planned.specs.declared.answer.Planned.{Planned as Answer}
+use Rattle.planned.specs.declared.answer.Planned.the-variants.{Refused, Reset}
+use Rattle.planned.specs.declared.answer.Room.{Room}
+use Rattle.planned.specs.declared.answer.Room.the-variants.{Enough, Short}
+use Rattle.planned.specs.declared.answer.Rooms.{Rooms}
+use Rattle.planned.specs.declared.answer.Stated.{Stated}
 use Rattle.decide.specs.declared.decide.Draft.{Draft}
 use Rattle.draft.specs.Make.{DraftMade}
 

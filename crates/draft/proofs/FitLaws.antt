@@ -9,17 +9,17 @@ use Rattle.rules.specs.Sizes.{sizes}
 use Rattle.rules.proofs.Cases.{split}
 use Rattle.session.specs.Rooms.{orShort}
 use Rattle.state.specs.declared.session.Session.{Session}
-use Rattle.decide.specs.Call.{Buffers, plannedCounts, messageRoom, sessionRoom}
-use Rattle.decide.specs.Call.{said, roomsIn}
+use Rattle.planned.specs.Call.{Buffers, plannedCounts, messageRoom, sessionRoom}
+use Rattle.planned.specs.Call.{said, roomsIn}
 use Rattle.decide.specs.Draft.{Parts, SmallDraft, headsCount, countIf, drafted, resetStated, ifRoom, saysWith, decided, noPuts, putsOf, Fits}
 use Rattle.decide.specs.Draft.{allPut}
 use Rattle.decide.proofs.DecideLaws.{small-drafted}
-use Rattle.decide.specs.declared.answer.Planned.{Planned as Answer}
-use Rattle.decide.specs.declared.answer.Planned.the-variants.{Reset, Says}
-use Rattle.decide.specs.declared.answer.Room.{Room}
-use Rattle.decide.specs.declared.answer.Room.the-variants.{Enough, Short}
-use Rattle.decide.specs.declared.answer.Rooms.{Rooms}
-use Rattle.decide.specs.declared.answer.Stated.{Stated}
+use Rattle.planned.specs.declared.answer.Planned.{Planned as Answer}
+use Rattle.planned.specs.declared.answer.Planned.the-variants.{Reset, Says}
+use Rattle.planned.specs.declared.answer.Room.{Room}
+use Rattle.planned.specs.declared.answer.Room.the-variants.{Enough, Short}
+use Rattle.planned.specs.declared.answer.Rooms.{Rooms}
+use Rattle.planned.specs.declared.answer.Stated.{Stated}
 use Rattle.decide.specs.declared.decide.Draft.{Draft}
 use Rattle.decide.specs.declared.put.Puts.{Puts}
 use Rattle.draft.specs.Make.{Long, Finished}

@@ -31,9 +31,9 @@ use Rattle.waiting.specs.Waiting.{Waiting}
 use Rattle.bloom.specs.Have.{Have}
 use mathlib.Core.Option.{none}
 use Rattle.planning.specs.Made.{Setting}
-use Rattle.decide.specs.Call.{Buffers, syncsOf, filterNumbers, answerOf, roomed, roomsIn, PlanCalled}
+use Rattle.planned.specs.Call.{Buffers, syncsOf, filterNumbers, answerOf, roomed, roomsIn, PlanCalled}
 use Rattle.decide.specs.Draft.{Parts, SmallDraft, putsOf, allPut}
-use Rattle.decide.specs.declared.answer.Planned.{Planned as Answer}
+use Rattle.planned.specs.declared.answer.Planned.{Planned as Answer}
 use Rattle.decide.specs.declared.decide.Draft.{Draft}
 use Rattle.session.proofs.PlanLaws.{list-few}
 use Rattle.draft.specs.Make.{DraftMade, Finished}

@@ -6,15 +6,15 @@ use mathlib.Core.Option.{Option}
 use mathlib.Core.Path.{_≡_}
 use lib.Dec.{eqb}
 use lib.ListN.{length}
-use Rattle.decide.specs.Call.{Buffers, roomsIn}
 use Rattle.decide.specs.Draft.{Parts, decided, putsOf, allPut}
-use Rattle.decide.specs.declared.answer.Planned.{Planned as Answer}
 use Rattle.decide.specs.declared.decide.Draft.{Draft}
 use Rattle.graph.specs.Graph.{needed, heads, beyond}
 use Rattle.graph.specs.Marks.{Marks, Blank, marked}
 use Rattle.index.specs.Index.{Indexed}
 use Rattle.lent.specs.Good.{heardGood, havesGood, lentOf}
 use Rattle.lists.specs.Lists.{same}
+use Rattle.planned.specs.Call.{Buffers, roomsIn}
+use Rattle.planned.specs.declared.answer.Planned.{Planned as Answer}
 use Rattle.planning.specs.Made.{FieldMade, BlankBody, BodyChosen}
 use Rattle.planning.specs.declared.body.Body.{Body as Carried}
 use Rattle.rules.specs.Hash.{AreHashes, hashesAt}

@@ -1,13 +1,13 @@
 // What was made is decided and put.
-use decide::answer::Planned;
-use decide::answer::Rooms;
 use decide::decide::Draft;
 use decide::decide::decide;
 use decide::put::put;
 use decide::put::puts_of;
+use planned::answer::Planned;
+use planned::answer::Rooms;
 use state::session::Session;
-ghost use Rattle.decide.specs.Call.{buffersOf};
 ghost use Rattle.decide.specs.Draft.{SmallDraft, partsOf};
+ghost use Rattle.planned.specs.Call.{buffersOf};
 ghost use Rattle.draft.specs.Make.{Long, Finished};
 
 // Decides over the lengths of the lent buffers, and puts what was decided.

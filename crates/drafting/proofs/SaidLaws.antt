@@ -20,7 +20,7 @@ use Rattle.items.proofs.ItemLaws.{haves-behind}
 use Rattle.rules.specs.Hash.{Bytes}
 use Rattle.rules.proofs.Outputs.{take-sets}
 use Rattle.session.specs.Laid.{laidBytes}
-use Rattle.session.specs.Receive.{someChunk, saidIn, receive, receiveRead, receiveBytes}
+use Rattle.hearing.specs.Receive.{someChunk, saidIn, receive, receiveRead, receiveBytes}
 use Rattle.state.specs.Session.{State}
 use Rattle.state.proofs.ValueLaws.{length-haves-from}
 use Rattle.tables.specs.Table.{Row}

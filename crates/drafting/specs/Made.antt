@@ -19,7 +19,7 @@ use Rattle.rules.specs.Order.{keep, every}
 use Rattle.rules.specs.Output.{Gathered}
 use Rattle.rules.specs.Sizes.{sizes}
 use Rattle.session.specs.Laid.{laidBytes}
-use Rattle.session.specs.Receive.{Said, advance, join}
+use Rattle.hearing.specs.Receive.{Said, advance, join}
 use Rattle.state.specs.declared.session.Session.{Session}
 use Rattle.tables.specs.Bytes.{rowsAt}
 use Rattle.tables.specs.Table.{held}

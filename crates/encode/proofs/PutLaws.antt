@@ -21,7 +21,7 @@ use Rattle.wire.specs.Item.{prefixedBytes, hashListBytes}
 use Rattle.numbers.specs.Number.{shortest, Put}
 use Rattle.numbers.proofs.Number.{put-then, put-joined}
 use Rattle.size.specs.Size.{total}
-use Rattle.size.specs.Write.{chunksFrom}
+use Rattle.message.specs.Write.{chunksFrom}
 use Rattle.size.proofs.SizeLaws.{part-is, part-long, hash-list-is, have-is, haves-next, haves-end, haves-long, chunks-long, counted-is}
 
 -- ---- one part after the other

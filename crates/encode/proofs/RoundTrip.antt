@@ -7,7 +7,7 @@ use Rattle.decode.proofs.RoundTrip.{ReadBack, message-there-and-back}
 use Rattle.message.specs.Sound.{SaidMessage}
 use Rattle.rules.specs.Hash.{Bytes}
 use Rattle.rules.specs.Output.{Output}
-use Rattle.size.specs.Write.{Parts, messageOf, messageOutput}
+use Rattle.message.specs.Write.{Parts, messageOf, messageOutput}
 use Rattle.encode.proofs.SoundLaws.{written-sound}
 use Rattle.size.proofs.WriteLaws.{message-written}
 

@@ -12,7 +12,7 @@ use Rattle.rules.proofs.PassedLaws.{passed-is}
 use Rattle.bloom.specs.Have.{haveCount, haveIn, havesFrom, havesOf, syncPlace, syncCount, numbersIn, filterWith}
 use Rattle.message.specs.Sound.{Each, SoundHashes, SoundHave, SoundMessage}
 use Rattle.size.specs.Size.{GoodHaves}
-use Rattle.size.specs.Write.{Parts, messageOf, messageOutput}
+use Rattle.message.specs.Write.{Parts, messageOf, messageOutput}
 use Rattle.size.proofs.SizeLaws.{part-long, have-fits, haves-long, haves-few, chunks-long}
 use Rattle.size.proofs.WriteLaws.{message-written}
 

@@ -6,7 +6,7 @@ use rules::output::Write;
 use rules::refusal::Refusal;
 use size::size::Size;
 use size::size::message_size;
-ghost use Rattle.size.specs.Write.{partsOf, messageOutput};
+ghost use Rattle.message.specs.Write.{partsOf, messageOutput};
 ghost use Rattle.rules.specs.Output.{Written};
 
 // Writes a message from its parts; order and repeats are kept.

@@ -19,7 +19,7 @@ ghost use lib.Seq.{sets};
 ghost use Rattle.bloom.specs.Filter.{filterBytes, filterOf4};
 ghost use Rattle.bloom.specs.Have.{haveCount, haveIn, havesOf};
 ghost use Rattle.size.specs.Size.{GoodHaves, Placed, total};
-ghost use Rattle.size.specs.Write.{partsOf, messageOf, chunksFrom};
+ghost use Rattle.message.specs.Write.{partsOf, messageOf, chunksFrom};
 ghost use Rattle.message.specs.Flags.{sectionBytes};
 ghost use Rattle.message.specs.Message.{haveBytes, counted, messageBytes};
 ghost use Rattle.rules.specs.Hash.{hashesAt};

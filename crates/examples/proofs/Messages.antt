@@ -41,7 +41,7 @@ use Rattle.session.specs.Plan.{
 }
 use Rattle.state.specs.Session.{fresh, freshReadOnly, setReadOnly}
 use Rattle.tables.specs.Table.{rowsFrom, rowsWhere}
-use Rattle.walk.specs.Talk.{listChunks, chunksFor, messageFor}
+use Rattle.turns.specs.Talk.{listChunks, chunksFor, messageFor}
 use Rattle.wire.specs.Item.{run, leftAt, afterNumber, afterPart, afterListed, countAt, prefixedAt, hashListAt, prefixedBytes, hashListBytes}
 use Rattle.examples.specs.Examples.{Reads, Writes, emptyMessage}
 

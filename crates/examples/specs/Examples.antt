@@ -31,7 +31,7 @@ use Rattle.selection.specs.ToSend.{toSend}
 use Rattle.session.specs.Plan.{Plan, Planned, plan}
 use Rattle.state.specs.Session.{State, fresh, freshReadOnly, setReadOnly}
 use Rattle.tables.specs.Table.{Row}
-use Rattle.walk.specs.Talk.{Host, messageFor}
+use Rattle.turns.specs.Talk.{Host, messageFor}
 
 -- P1 to P3, reading: bytes are read as a message.
 pub record Reads (s : List ℕ) (m : Message) : Type 0 where

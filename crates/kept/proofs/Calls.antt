@@ -9,6 +9,10 @@ use borrow.Author.Tests.{ltb-true, ltb-false}
 use lib.Dec.{ltb}
 use lib.ListN.{length}
 use Rattle.decode.specs.Read.{Reading, messageAt, messageOf}
+use Rattle.hearing.specs.Good.{SoundTable, GoodState}
+use Rattle.hearing.specs.Receive.{Said, saidIn, Received, told, sentFlagged, flagged, received, receive, receiveBytes}
+use Rattle.hearing.proofs.GoodLaws.{planned-good, LeavesGood, bytes-good}
+use Rattle.hearing.proofs.ReceiveLaws.{left-few, receive-taking, refused-leaves, bytes-beyond, bytes-refused, bytes-read}
 use Rattle.lent.specs.Good.{sessionGood}
 use Rattle.lent.proofs.GoodSessions.{session-parts, LentBytes}
 use Rattle.message.specs.Flags.{syncReset, hasFlag}
@@ -19,12 +23,8 @@ use Rattle.rules.specs.declared.refusal.Refusal.{Refusal}
 use Rattle.rules.specs.declared.refusal.Refusal.the-variants.{LoadFailed, BadRowsBefore}
 use Rattle.rules.proofs.Cases.{split}
 use Rattle.rules.proofs.Hash.{length-hashes-at}
-use Rattle.session.specs.Good.{SoundTable, GoodState}
 use Rattle.session.specs.Plan.{Plan, Planned, planned, plan}
-use Rattle.session.specs.Receive.{Said, saidIn, Received, told, sentFlagged, flagged, received, receive, receiveBytes}
-use Rattle.session.proofs.GoodLaws.{planned-good, LeavesGood, bytes-good}
 use Rattle.session.proofs.PlanLaws.{plan-saying}
-use Rattle.session.proofs.ReceiveLaws.{left-few, receive-taking, refused-leaves, bytes-beyond, bytes-refused, bytes-read}
 use Rattle.state.specs.Session.{State}
 use Rattle.state.specs.Value.{Lent, valueOf}
 use Rattle.state.specs.declared.session.Session.{Session}

@@ -8,6 +8,8 @@ use mathlib.Core.Path.{_≡_, refl, ap, _∙_}
 use borrow.Author.Tests.{le-leb}
 use lib.ListN.{length}
 use Rattle.bloom.specs.Have.{Have}
+use Rattle.hearing.specs.Good.{SoundHaves, WhereHeard, GoodState}
+use Rattle.hearing.proofs.GoodLaws.{sound-hashes, sound-haves}
 use Rattle.lent.specs.Good.{listGood, heardGood, havesGood, sessionGood}
 use Rattle.lent.proofs.GoodLaws.{list-where, heard-nothing, heard-count, haves-nothing, syncs-decide, sent-there, all-good}
 use Rattle.lent.proofs.GoodSessions.{ListParts, HavesParts, session-parts, LentBytes}
@@ -15,8 +17,6 @@ use Rattle.message.specs.Sound.{SoundHashes}
 use Rattle.rules.specs.Hash.{Bytes, hashesAt}
 use Rattle.rules.specs.Order.{ascends}
 use Rattle.rules.proofs.Hash.{length-hashes-at, hashes-are-hashes}
-use Rattle.session.specs.Good.{SoundHaves, WhereHeard, GoodState}
-use Rattle.session.proofs.GoodLaws.{sound-hashes, sound-haves}
 use Rattle.state.specs.Session.{State}
 use Rattle.state.specs.Value.{Lent, heardHashes, heardHaves, valueOf, countHeard, countsOf}
 use Rattle.state.specs.declared.session.Heard.{Heard}

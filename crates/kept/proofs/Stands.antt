@@ -8,13 +8,13 @@ use native.Mathlib.Omega.{arith}
 use lib.ListN.{length, take, take-append-drop}
 use lib.Seq.{sets, sets-eq, length-sets, length-take-le}
 use Rattle.bloom.specs.Have.{Have, haveWords, havesOf}
+use Rattle.hearing.specs.Good.{SoundHaves, WhereHeard}
 use Rattle.lent.proofs.GoodSessions.{ListParts, HavesParts}
 use Rattle.message.specs.Sound.{SoundHashes}
 use Rattle.rules.specs.Hash.{Bytes, AreHashes, hashesAt, hashesBytes}
 use Rattle.rules.specs.Sizes.{sizes}
 use Rattle.rules.proofs.Hash.{length-hashes-at, hashes-at-bytes}
 use Rattle.rules.proofs.Outputs.{written-gathered}
-use Rattle.session.specs.Good.{SoundHaves, WhereHeard}
 use Rattle.session.specs.Laid.{laidBytes, laidWords}
 use Rattle.session.specs.Plan.{heard}
 use Rattle.session.proofs.LaidLaws.{laid-read, laid-good, sound-syncs}

@@ -1,3 +1,4 @@
 pub mod Flags
 pub mod Message
 pub mod Sound
+pub mod Write

@@ -6,7 +6,7 @@ use mathlib.Core.Path.{_≡_, refl, sym, ap, ap₂, subst, _∙_}
 use borrow.Author.Tests.{eq-eqb, ne-eqb, lt-ltb, le-ltb}
 use Rattle.decode.specs.Ignored.{DecodedInto}
 use Rattle.decode.specs.declared.decode.Counted.{Counted}
-use Rattle.size.specs.Write.{partsOf, messageOutput}
+use Rattle.message.specs.Write.{partsOf, messageOutput}
 use Rattle.message.specs.Flags.{flagsOf}
 use Rattle.message.specs.declared.flags.Section.{Section}
 use Rattle.message.specs.declared.flags.Section.the-variants.{Absent, Present}

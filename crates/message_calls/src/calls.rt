@@ -4,7 +4,7 @@ use crate::message_words::peeked_words;
 use crate::message_words::section_of;
 use crate::message_words::version_of;
 use answers::answer::write_words;
-ghost use Rattle.size.specs.Write.{partsOf, messageOutput};
+ghost use Rattle.message.specs.Write.{partsOf, messageOutput};
 ghost use Rattle.answers.specs.Answer.{Answered};
 ghost use Rattle.message_calls.specs.MessageWords.{versionOf, sectionOf, MessageAnswered, PeekAnswered};
 

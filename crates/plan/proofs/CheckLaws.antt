@@ -4,14 +4,14 @@ use mathlib.Core.Bool.{Bool, true, false, cond, not}
 use mathlib.Core.List.{List}
 use mathlib.Core.Path.{_≡_, refl, sym, _∙_}
 use native.Mathlib.Omega.{arith}
-use Rattle.bloom.proofs.Rules.{rules-default}
-use Rattle.bloom.specs.Filter.{defaultBits, defaultProbes}
-use Rattle.decide.specs.Call.{Buffers, afterTables, planWith, answerOf, roomed, putInto, PlanCalled}
-use Rattle.decide.specs.declared.answer.Planned.the-variants as answer
 use Rattle.asked.specs.Asked.{Checked}
+use Rattle.bloom.specs.Filter.{defaultBits, defaultProbes}
+use Rattle.bloom.proofs.Rules.{rules-default}
 use Rattle.index.specs.Index.{Indexed, indexChecked}
 use Rattle.index.proofs.CheckLaws.{checked-table, checked-indexed}
 use Rattle.lent.specs.Good.{sessionGood}
+use Rattle.planned.specs.Call.{Buffers, afterTables, planWith, answerOf, roomed, putInto, PlanCalled}
+use Rattle.planned.specs.declared.answer.Planned.the-variants as answer
 use Rattle.planning.specs.Made.{Setting}
 use Rattle.rules.specs.Hash.{hashesBytes}
 use Rattle.rules.specs.declared.refusal.Refusal.{Refusal}

@@ -4,11 +4,11 @@ use crate::check::check_plan;
 use asked::asked::plan_checked;
 use bloom::parse::BITS_PER_ENTRY;
 use bloom::parse::NUM_PROBES;
-use decide::answer::Planned;
+use planned::answer::Planned;
 use state::session::Session;
 ghost use Rattle.bloom.specs.Filter.{defaultBits, defaultProbes};
-ghost use Rattle.decide.specs.Call.{planWith, buffersOf, PlanCalled};
 ghost use Rattle.lent.specs.Good.{lentOf};
+ghost use Rattle.planned.specs.Call.{planWith, buffersOf, PlanCalled};
 ghost use Rattle.planning.specs.Made.{Setting};
 
 // The plan with a filter of these bits and probes.

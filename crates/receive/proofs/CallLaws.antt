@@ -21,7 +21,7 @@ use Rattle.rules.specs.Hash.{Bytes}
 use Rattle.rules.specs.declared.refusal.Refusal.{Refusal}
 use Rattle.rules.specs.declared.refusal.Refusal.the-variants.{BadNumbers, BadRowsBefore}
 use Rattle.rules.proofs.Cases.{split}
-use Rattle.session.specs.Receive.{Received, told, receive, receiveRead, receiveBytes}
+use Rattle.hearing.specs.Receive.{Received, told, receive, receiveRead, receiveBytes}
 use Rattle.state.specs.Value.{Lent, valueOf}
 use Rattle.state.specs.declared.session.Session.{Session}
 use Rattle.tables.specs.Bytes.{rowsAt, tableOf}

@@ -27,7 +27,7 @@ use Rattle.rules.proofs.Hash.{length-hashes-at}
 use Rattle.rules.proofs.KeepLaws.{keep-most}
 use Rattle.session.specs.Plan.{empty}
 use Rattle.session.specs.Rooms.{orShort}
-use Rattle.session.specs.Receive.{Said, told, sentFlagged, flagged, loads, sharedLoaded, sharedAfter, sentLeft, lastSentAfter, received}
+use Rattle.hearing.specs.Receive.{Said, told, sentFlagged, flagged, loads, sharedLoaded, sharedAfter, sentLeft, lastSentAfter, received}
 use Rattle.state.specs.Session.{State}
 use Rattle.state.specs.Value.{Lent, valueOf, countsOf}
 use Rattle.state.specs.declared.session.Session.{Session}

@@ -25,7 +25,7 @@ use Rattle.rules.proofs.Hash.{hashes-at-bytes}
 use Rattle.rules.proofs.Outputs.{gathered-bytes}
 use Rattle.session.specs.Laid.{laidBytes, laidFrom, laidWords}
 use Rattle.session.specs.Plan.{empty}
-use Rattle.session.specs.Receive.{Said, Received, lastSentAfter, received}
+use Rattle.hearing.specs.Receive.{Said, Received, lastSentAfter, received}
 use Rattle.state.specs.Session.{State}
 use Rattle.state.specs.Value.{Lent, valueOf}
 use Rattle.state.specs.declared.session.Session.{Session}

@@ -1,6 +1,6 @@
 -- A call of receiving has one answer and leaves one content of each list: both are equal to what was received. Assumes nothing.
 use mathlib.Core.Path.{_≡_, sym, _∙_}
-use Rattle.session.specs.Receive.{Received}
+use Rattle.hearing.specs.Receive.{Received}
 use Rattle.state.specs.Value.{Lent}
 use Rattle.state.specs.declared.session.Session.{Session}
 use Rattle.taking.specs.declared.answer.Received.{Received as Answer}

@@ -16,7 +16,7 @@ use Rattle.rules.specs.Sizes.{sizes}
 use Rattle.rules.specs.declared.refusal.Refusal.{Refusal}
 use Rattle.rules.specs.declared.refusal.Refusal.the-variants.{PastSize, NoRoom, LoadFailed}
 use Rattle.rules.proofs.Cases.{split}
-use Rattle.session.specs.Receive.{Said, Received, flagged, loads, sharedAfter, received, receiveJoined, receive}
+use Rattle.hearing.specs.Receive.{Said, Received, flagged, loads, sharedAfter, received, receiveJoined, receive}
 use Rattle.state.specs.Session.{State}
 use Rattle.state.specs.Value.{Lent, valueOf, countsOf}
 use Rattle.state.specs.declared.session.Session.{Session}

@@ -9,6 +9,7 @@ use lib.Dec.{eqb}
 use lib.ListN.{length}
 use lib.Seq.{sets}
 use Rattle.bloom.specs.Have.{haveWords}
+use Rattle.hearing.specs.Receive.{Received, receiveBytes}
 use Rattle.index.specs.Index.{indexChecked}
 use Rattle.lent.specs.Good.{sessionGood}
 use Rattle.rules.specs.Hash.{hashesBytes}
@@ -18,7 +19,6 @@ use Rattle.rules.specs.declared.refusal.Refusal.{Refusal}
 use Rattle.rules.specs.declared.refusal.Refusal.the-variants.{BadNumbers, LoadFailed, NoRoom}
 use Rattle.session.specs.Laid.{laidBytes, laidWords}
 use Rattle.session.specs.Plan.{heard}
-use Rattle.session.specs.Receive.{Received, receiveBytes}
 use Rattle.session.specs.Rooms.{orShort}
 use Rattle.state.specs.Session.{State}
 use Rattle.state.specs.Value.{Lent, valueOf, countsOf}

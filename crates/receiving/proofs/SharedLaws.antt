@@ -12,6 +12,7 @@ use lib.ListN.{length, take, drop, replicate, length-replicate}
 use lib.Seq.{sets, slice}
 use Rattle.graph.specs.Graph.{heads}
 use Rattle.graph.proofs.HeadLaws.{heads-few}
+use Rattle.hearing.specs.Receive.{advance, join}
 use Rattle.lists.specs.Lists.{Joined, UpTo}
 use Rattle.lists.proofs.Lists.{up-to-nothing, joined-up-to}
 use Rattle.rules.specs.Hash.{Bytes, hashesAt, hashesBytes}
@@ -23,7 +24,6 @@ use Rattle.rules.proofs.Hash.{take-drop, length-hashes-at, hashes-at-bytes, has
 use Rattle.rules.proofs.KeepLaws.{keep-member, once-ascends, once-inside}
 use Rattle.rules.proofs.OrderLaws.{member-append, ascend-ascends, ascend-members}
 use Rattle.rules.proofs.Outputs.{written-gathered}
-use Rattle.session.specs.Receive.{advance, join}
 use Rattle.tables.specs.Bytes.{rowsAt, GoodRows}
 use Rattle.tables.specs.Table.{Row, held}
 use Rattle.tables.proofs.TableLaws.{length-rows-at, take-rows-at}

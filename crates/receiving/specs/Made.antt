@@ -6,13 +6,13 @@ use mathlib.Core.Path.{_≡_}
 use lib.ListN.{length, getD}
 use Rattle.graph.specs.Graph.{belowRow}
 use Rattle.graph.specs.Marks.{Marks}
+use Rattle.hearing.specs.Receive.{told}
 use Rattle.lists.specs.Lists.{UpTo}
 use Rattle.message.specs.Flags.{syncReset, readOnly, supportsSyncReset, hasFlag}
 use Rattle.message.specs.declared.flags.Section.{Section}
 use Rattle.rules.specs.Hash.{hashesAt}
 use Rattle.rules.specs.Order.{every}
 use Rattle.rules.specs.Sizes.{sizes}
-use Rattle.session.specs.Receive.{told}
 use Rattle.state.specs.declared.session.Session.{Session}
 use Rattle.tables.specs.Bytes.{rowsAt}
 use Rattle.tables.specs.Table.{Row, held, rowNumber}

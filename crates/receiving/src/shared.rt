@@ -12,11 +12,11 @@ ghost use mathlib.Core.Bool.{cond};
 ghost use Prim.Native.Nat.{_+_, _*_, _≤_};
 ghost use lib.ListN.{length, take};
 ghost use Rattle.graph.specs.Graph.{heads};
+ghost use Rattle.hearing.specs.Receive.{advance, join};
 ghost use Rattle.index.specs.Index.{Indexed};
 ghost use Rattle.rules.specs.Hash.{hashesAt};
 ghost use Rattle.rules.specs.Output.{Gathered};
 ghost use Rattle.rules.specs.Sizes.{sizes};
-ghost use Rattle.session.specs.Receive.{advance, join};
 ghost use Rattle.tables.specs.Bytes.{rowsAt};
 ghost use Rattle.receiving.specs.Made.{sharedRoom, SharedFits, SharedMade};
 

@@ -1,5 +1,4 @@
 -- What is promised of this crate and cited nowhere in it or above: a law that stands here can't be taken out or renamed unseen.
-pub use Rattle.session.proofs.GoodLaws.{body-few, restored-good, fresh-read-only-good, set-read-only-good, after-good, said-sound, said-back}
 pub use Rattle.session.proofs.LaidLaws.{laid-haves}
 pub use Rattle.session.proofs.PlanLaws.{
   planned-held,
@@ -15,17 +14,4 @@ pub use Rattle.session.proofs.PlanLaws.{
   speaks-apart,
   plan-says,
   own-filters,
-}
-pub use Rattle.session.proofs.ReceiveLaws.{
-  joined-heads,
-  join-again,
-  advance-ascends,
-  shared-few,
-  flagged-keeps,
-  flagged-lands,
-  flagged-sent,
-  flagged-forgets,
-  receive-took,
-  load-failed,
-  refused-keeps,
 }

@@ -5,9 +5,9 @@ use mathlib.Core.List.{List, [], _∷_}
 use mathlib.Core.Path.{_≡_, sym, ap, _∙_}
 use mir.Val.{boolByte}
 use Rattle.bloom.specs.Filter.{defaultBits, defaultProbes}
-use Rattle.decide.specs.Call.{Buffers, PlanCalled, planWith}
-use Rattle.decide.specs.declared.answer.Planned.{Planned}
-use Rattle.decide.specs.declared.answer.Stated.{Stated}
+use Rattle.planned.specs.Call.{Buffers, PlanCalled, planWith}
+use Rattle.planned.specs.declared.answer.Planned.{Planned}
+use Rattle.planned.specs.declared.answer.Stated.{Stated}
 use Rattle.receive.specs.Call.{ReceiveCalled, receiveWith}
 use Rattle.session_words.proofs.WordLaws.{flag-byte}
 use Rattle.session_words.specs.Words.{sessionOf}

@@ -5,12 +5,12 @@ use mathlib.Core.List.{List, [], _∷_}
 use mathlib.Core.Path.{_≡_}
 use Rattle.answers.specs.Answer.{refusalWords}
 use Rattle.bloom.specs.Filter.{defaultBits, defaultProbes}
-use Rattle.decide.specs.Call.{Buffers, planWith, roomed, roomsIn, answerOf, putInto}
-use Rattle.decide.specs.declared.answer.Planned.{Planned}
-use Rattle.decide.specs.declared.answer.Planned.the-variants.{Refused, Silent, Reset, Says}
-use Rattle.decide.specs.declared.answer.Stated.{Stated}
 use Rattle.message.specs.declared.version.MessageVersion.{MessageVersion}
 use Rattle.message.specs.declared.version.MessageVersion.the-variants.{V1, V2}
+use Rattle.planned.specs.Call.{Buffers, planWith, roomed, roomsIn, answerOf, putInto}
+use Rattle.planned.specs.declared.answer.Planned.{Planned}
+use Rattle.planned.specs.declared.answer.Planned.the-variants.{Refused, Silent, Reset, Says}
+use Rattle.planned.specs.declared.answer.Stated.{Stated}
 use Rattle.receive.specs.Call.{receiveWith, roomed as roomedFor, roomsIn as roomsOf, answerOf as answerFor, keptIn}
 use Rattle.rules.specs.Refusal.{numberOf, valueOf}
 use Rattle.rules.specs.declared.refusal.Refusal.the-variants.{LoadFailed}
@@ -77,7 +77,7 @@ pub record PlanAnswered (session₀ session₁ : List ℕ) (l : Lent) (table ind
   pub session : session₁ ≡ plannedSession (answerOf (sessionOf session₀) (planFor session₀ l table index waiting before)) session₀
   pub buffers : after ≡ putInto (planFor session₀ l table index waiting before) before
 
-abbrev pub receiveFor : List ℕ → Lent → List ℕ → List ℕ → ℕ → List ℕ → Bool → Rattle.session.specs.Receive.Received
+abbrev pub receiveFor : List ℕ → Lent → List ℕ → List ℕ → ℕ → List ℕ → Bool → Rattle.hearing.specs.Receive.Received
 receiveFor words l table index before message loaded =
     roomedFor (roomsOf l) (sessionValue (sessionOf words) l) (receiveWith loaded before (sessionOf words) l table index message)
 

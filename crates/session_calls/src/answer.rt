@@ -1,8 +1,8 @@
 // Answers of planning and receiving as words, and the session's words that they leave.
 use answers::answer::refusal_words;
-use decide::answer::Planned;
-use decide::answer::Stated;
 use message::version::MessageVersion;
+use planned::answer::Planned;
+use planned::answer::Stated;
 use rules::refusal::Refusal;
 use session_words::words::session_words;
 use taking::answer::Received;

@@ -4,8 +4,8 @@ use crate::answer::planned_words;
 use crate::answer::received_session;
 use crate::answer::received_words;
 use session_words::words::session_of;
-ghost use Rattle.decide.specs.Call.{buffersOf};
 ghost use Rattle.lent.specs.Good.{lentOf};
+ghost use Rattle.planned.specs.Call.{buffersOf};
 ghost use Rattle.session_words.specs.Words.{flagOf};
 ghost use Rattle.session_calls.specs.SessionCalls.{PlanAnswered, ReceiveAnswered};
 

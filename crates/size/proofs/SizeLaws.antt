@@ -25,7 +25,7 @@ use Rattle.bloom.proofs.HaveLaws.{passed-haves}
 use Rattle.bloom.proofs.Rules.{ruled, capacity-none}
 use Rattle.message.specs.Message.{joined, counted, haveBytes}
 use Rattle.size.specs.Size.{GoodHaves, total, chunksCut}
-use Rattle.size.specs.Write.{chunksFrom}
+use Rattle.message.specs.Write.{chunksFrom}
 use Rattle.size.specs.declared.size.Chunks.the-variants.{Whole, Short}
 
 -- ---- how long the parts can be, where a number has at most ten bytes

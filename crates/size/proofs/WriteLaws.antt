@@ -27,7 +27,7 @@ use Rattle.rules.proofs.PassedLaws.{passed-is}
 use Rattle.wire.specs.Item.{prefixedBytes, hashListBytes}
 use Rattle.numbers.specs.Number.{shortest}
 use Rattle.size.specs.Size.{sizeOf, SizedAs, GoodHaves, total, chunksCut, listsOutput, chunksWithin, chunksOutput, Accepted}
-use Rattle.size.specs.Write.{Parts, partsOf, hashesOf, chunksFrom, messageOf, testHaves, testHashes, testFew, testChunks, withinSize, messageOutput}
+use Rattle.message.specs.Write.{Parts, partsOf, hashesOf, chunksFrom, messageOf, testHaves, testHashes, testFew, testChunks, withinSize, messageOutput}
 use Rattle.size.specs.declared.size.Chunks.the-variants.{Whole, Short}
 use Rattle.size.specs.declared.size.Size.the-variants.{Bytes, Refused}
 use Rattle.size.proofs.SizeLaws.{

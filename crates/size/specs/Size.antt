@@ -16,7 +16,7 @@ use Rattle.rules.specs.declared.passed.Passed.the-variants.{Hashes}
 use Rattle.rules.specs.declared.refusal.Refusal.the-variants.{PastSize}
 use Rattle.wire.specs.Item.{prefixedBytes, hashListBytes}
 use Rattle.numbers.specs.Number.{shortest}
-use Rattle.size.specs.Write.{Parts, hashesOf, chunksFrom, messageOf, testHaves, testHashes, testFew, testChunks}
+use Rattle.message.specs.Write.{Parts, hashesOf, chunksFrom, messageOf, testHaves, testHashes, testFew, testChunks}
 use Rattle.size.specs.declared.size.Chunks.{Chunks}
 use Rattle.size.specs.declared.size.Chunks.the-variants.{Whole, Short}
 use Rattle.size.specs.declared.size.Size.{Size}

@@ -19,7 +19,7 @@ ghost use lib.ListN.{length};
 ghost use Rattle.bloom.specs.Filter.{filterBytes, filterOf4};
 ghost use Rattle.bloom.specs.Have.{haveCount, haveIn, havesOf};
 ghost use Rattle.size.specs.Size.{SizedAs, GoodHaves, sizeOf, chunksCut, listsOutput, chunksOutput};
-ghost use Rattle.size.specs.Write.{partsOf, messageOutput};
+ghost use Rattle.message.specs.Write.{partsOf, messageOutput};
 ghost use Rattle.message.specs.Flags.{sectionBytes};
 ghost use Rattle.message.specs.Message.{haveBytes, counted};
 ghost use Rattle.rules.specs.Sizes.{sizes};

@@ -1,6 +1,6 @@
 -- Demand 3 holds. Assumes nothing.
-use Rattle.walk.proofs.Corollary.{corollary}
-use Rattle.walk.proofs.Talk.{theorem-2}
+use Rattle.turns.proofs.Corollary.{corollary}
+use Rattle.turns.proofs.Talk.{theorem-2}
 use Rattle.walk.proofs.Theorem1.{theorem-1}
 use Rattle.walk.proofs.Walk01.{walk01-walks}
 use Rattle.talk.specs.Demand.{Demand}

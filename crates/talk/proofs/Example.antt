@@ -7,6 +7,8 @@ use native.Mathlib.Omega.{arith}
 use lib.ListN.{length, replicate}
 use Rattle.bloom.specs.Filter.{defaultBits, defaultProbes}
 use Rattle.index.specs.Index.{fitsBy, fits, indexFits, indexChecked}
+use Rattle.memory.specs.Memory.{Fresh, Out, RoomyOut, Tabled, Beside}
+use Rattle.memory.proofs.AllBytes.{bytes-none, bytes-cons, bytes-append, zeros-bytes}
 use Rattle.rules.specs.Hash.{Bytes, bigEndian, bigEndianBytes, hashAt, hashesAt, hashBytes}
 use Rattle.rules.specs.Order.{member, every, ascends}
 use Rattle.rules.specs.Sizes.{sizes}
@@ -31,6 +33,8 @@ use Rattle.tables.specs.Bytes.{
 use Rattle.tables.specs.Calls.{passedOn}
 use Rattle.tables.specs.Table.{Row, rows, hashOf, held}
 use Rattle.tables.specs.declared.check.Checked.the-variants.{Good}
+use Rattle.turns.specs.Talk.{Reached, Granted}
+use Rattle.turns.proofs.TalkExample.{held-by-b, waiting-at-b, waiting-at-a, lent, all-granted}
 use Rattle.waiting.specs.Bytes.{
   asksCountOf,
   waitingRowOf,
@@ -46,12 +50,8 @@ use Rattle.waiting.specs.Bytes.{
 }
 use Rattle.waiting.specs.Waiting.{Waiting, waiting}
 use Rattle.walk.specs.Round.{Part}
-use Rattle.walk.specs.Talk.{Reached, Granted}
 use Rattle.walk.proofs.Example.{a, b, c, one, three, cWaits, part-one}
-use Rattle.walk.proofs.TalkExample.{held-by-b, waiting-at-b, waiting-at-a, lent, all-granted}
 use Rattle.talk.specs.Calls.{Both, TalkOfCalls, AllGranted, CallsEnd, Lends}
-use Rattle.talk.specs.Memory.{Fresh, Out, RoomyOut, Tabled, Beside}
-use Rattle.talk.proofs.AllBytes.{bytes-none, bytes-cons, bytes-append, zeros-bytes}
 use Rattle.talk.proofs.Goes.{calls-go}
 use Rattle.talk.proofs.Talk.{calls-corollary}
 

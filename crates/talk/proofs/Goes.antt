@@ -13,12 +13,17 @@ use lib.Seq.{slice, take-length}
 use Rattle.answers.specs.Answer.{writeWords}
 use Rattle.bloom.specs.Filter.{defaultBits, defaultProbes}
 use Rattle.bloom.specs.Have.{Have, haveCount, numbersIn, filterWith, haveIn, havesFrom, havesOf}
-use Rattle.decide.specs.Call.{Buffers, buffersOf, answerOf, putInto}
 use Rattle.decode.specs.Read.{Reading, messageAt, messageOf}
+use Rattle.hearing.specs.Receive.{saidIn, Received, received, receiveBytes}
+use Rattle.hearing.proofs.ReceiveLaws.{receive-taking, bytes-beyond, bytes-refused, bytes-read}
 use Rattle.lent.specs.Good.{lentOf}
+use Rattle.memory.specs.Memory.{Memory, OfBytes, Holds, Fresh, Out, RoomyOut, Tabled, Beside, HostBytes}
+use Rattle.memory.proofs.AllBytes.{bytes-none, bytes-sets, hashes-bytes, field-bytes, FieldBytes, laid-bytes, plan-bytes}
 use Rattle.message.specs.Message.{joined}
 use Rattle.message.specs.Sound.{Each}
+use Rattle.message.specs.Write.{partsOf, chunksFrom, messageOutput}
 use Rattle.message_calls.specs.MessageWords.{versionOf, sectionOf}
+use Rattle.planned.specs.Call.{Buffers, buffersOf, answerOf, putInto}
 use Rattle.receive.specs.Call.{answerOf as answerFor, keptIn}
 use Rattle.rules.specs.Hash.{Bytes, hashesBytes}
 use Rattle.rules.specs.Order.{member, every}
@@ -29,23 +34,18 @@ use Rattle.rules.proofs.Cases.{split}
 use Rattle.rules.proofs.Hash.{slice-parts, bytes-slice}
 use Rattle.session.specs.Laid.{laidBytes}
 use Rattle.session.specs.Plan.{Plan, Planned, heard, needOf, haveOf, planOf, resetOf, plan, after}
-use Rattle.session.specs.Receive.{saidIn, Received, received, receiveBytes}
 use Rattle.session.proofs.PlanLaws.{have-one, have-none, plan-saying}
-use Rattle.session.proofs.ReceiveLaws.{receive-taking, bytes-beyond, bytes-refused, bytes-read}
 use Rattle.session_calls.specs.SessionCalls.{plannedWords, plannedSession, planFor, receivedWords, receivedSession, receiveFor}
 use Rattle.session_words.specs.Words.{sessionOf}
 use Rattle.size.specs.Size.{total}
-use Rattle.size.specs.Write.{partsOf, chunksFrom, messageOutput}
 use Rattle.state.specs.Session.{State}
 use Rattle.state.specs.Value.{Lent}
 use Rattle.tables.specs.Bytes.{tableOf}
 use Rattle.tables.specs.Table.{Row}
+use Rattle.turns.specs.Talk.{Host, chunksFor, bytesFor, left, pairAt}
 use Rattle.waiting.specs.Bytes.{waitingOf}
 use Rattle.waiting.specs.Waiting.{Waiting}
-use Rattle.walk.specs.Talk.{Host, chunksFor, bytesFor, left, pairAt}
 use Rattle.talk.specs.Calls.{speaks, recordsIn, planIn, PlanMade, Speaks, Hears, Both, Round, TalkOfCalls, AreSessions, Lends, CallsGo}
-use Rattle.talk.specs.Memory.{Memory, OfBytes, Holds, Fresh, Out, RoomyOut, Tabled, Beside, HostBytes}
-use Rattle.talk.proofs.AllBytes.{bytes-none, bytes-sets, hashes-bytes, field-bytes, FieldBytes, laid-bytes, plan-bytes}
 use Rattle.talk.proofs.Planning.{held-good, reset-is}
 use Rattle.talk.proofs.Receiving.{receive-for, receive-holds}
 use Rattle.talk.proofs.Speaking.{speaking-holds, crossing}

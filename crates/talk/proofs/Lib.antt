@@ -1,11 +1,9 @@
-pub mod AllBytes
 pub mod Demand
 pub mod Example
 pub mod Goes
 pub mod Planning
 pub mod Promises
 pub mod Receiving
-pub mod Rooms
 pub mod Speaking
 pub mod Talk
 pub mod Writing

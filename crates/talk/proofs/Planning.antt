@@ -12,7 +12,7 @@ use lib.ListN.{length}
 use lib.Seq.{sets, length-sets}
 use Rattle.bloom.specs.Filter.{defaultBits, defaultProbes}
 use Rattle.bloom.proofs.Rules.{rules-none}
-use Rattle.decide.specs.Call.{Buffers, buffersOf, afterTables, planWith, plannedCounts, answerOf, roomed, roomsIn, said, lastSentPut, sentPut, putInto}
+use Rattle.planned.specs.Call.{Buffers, buffersOf, afterTables, planWith, plannedCounts, answerOf, roomed, roomsIn, said, lastSentPut, sentPut, putInto}
 use Rattle.graph.specs.Graph.{heads}
 use Rattle.index.proofs.CheckLaws.{checked-table}
 use Rattle.kept.specs.Kept.{plannedIn}
@@ -26,11 +26,11 @@ use Rattle.rules.specs.Hash.{AreHashes, hashesBytes}
 use Rattle.rules.specs.Sizes.{sizes}
 use Rattle.rules.specs.declared.refusal.Refusal.{Refusal}
 use Rattle.rules.proofs.Cases.{split}
-use Rattle.session.specs.Good.{SoundTable, WhereHeard, GoodState}
+use Rattle.hearing.specs.Good.{SoundTable, WhereHeard, GoodState}
 use Rattle.session.specs.Laid.{laidBytes}
 use Rattle.session.specs.Plan.{Plan, Planned, heard, needOf, unknownSync, silence, sentAfter, planOf, planned, resetOf, plan, after}
-use Rattle.session.specs.Receive.{saidBy}
-use Rattle.session.proofs.GoodLaws.{heads-sound, body-few, planned-good, said-sound}
+use Rattle.hearing.specs.Receive.{saidBy}
+use Rattle.hearing.proofs.GoodLaws.{heads-sound, body-few, planned-good, said-sound}
 use Rattle.session.proofs.PlanLaws.{body-hashes, have-or-none, said-flags, plan-need-past, plan-resets, plan-silent, plan-sent-past, plan-is, plan-saying}
 use Rattle.session_calls.specs.SessionCalls.{plannedWords, plannedSession, planFor}
 use Rattle.session_words.specs.Words.{sessionWords, sessionOf}
@@ -47,8 +47,8 @@ use Rattle.tables.specs.Calls.{passedOn}
 use Rattle.waiting.specs.Calls.{tablesChecked}
 use Rattle.waiting.specs.Waiting.{Waiting}
 use Rattle.talk.specs.Calls.{PlanMade}
-use Rattle.talk.specs.Memory.{Memory, Roomy, OfBytes, Holds, Out, RoomyOut, Tabled, Beside}
-use Rattle.talk.proofs.Rooms.{Fine, planned-room, reset-roomed, says-roomed}
+use Rattle.memory.specs.Memory.{Memory, Roomy, OfBytes, Holds, Out, RoomyOut, Tabled, Beside}
+use Rattle.memory.proofs.Rooms.{Fine, planned-room, reset-roomed, says-roomed}
 
 -- ---- tables and memory as the laws below want them
 

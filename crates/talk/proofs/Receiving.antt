@@ -10,20 +10,22 @@ use lib.Dec.{ltb, eqb}
 use lib.ListN.{length}
 use lib.Seq.{length-sets}
 use Rattle.decode.specs.Read.{Reading, messageAt}
+use Rattle.hearing.specs.Good.{GoodState}
+use Rattle.hearing.specs.Receive.{Received, receiveBytes}
+use Rattle.hearing.proofs.GoodLaws.{bytes-good}
+use Rattle.hearing.proofs.ReceiveLaws.{bytes-beyond, bytes-refused, refused-keeps}
 use Rattle.kept.specs.Kept.{receivedIn}
 use Rattle.kept.proofs.Calls.{receive-stays-good, refuse-stays-good}
+use Rattle.memory.specs.Memory.{Memory, Roomy, Holds, Tabled}
+use Rattle.memory.proofs.Rooms.{received-room, took-roomed}
 use Rattle.receive.specs.Call.{afterTable, receiveWith, roomed, roomsIn, refusalAnswer, answerOf, keptIn}
 use Rattle.rules.specs.Hash.{Bytes, AreHashes, hashesBytes}
 use Rattle.rules.specs.Refusal.{numberOf}
 use Rattle.rules.specs.declared.refusal.Refusal.{Refusal}
 use Rattle.rules.specs.declared.refusal.Refusal.the-variants.{LoadFailed}
 use Rattle.rules.proofs.Cases.{split, true-false}
-use Rattle.session.specs.Good.{GoodState}
 use Rattle.session.specs.Laid.{laidBytes, laidWords}
 use Rattle.session.specs.Plan.{heard}
-use Rattle.session.specs.Receive.{Received, receiveBytes}
-use Rattle.session.proofs.GoodLaws.{bytes-good}
-use Rattle.session.proofs.ReceiveLaws.{bytes-beyond, bytes-refused, refused-keeps}
 use Rattle.session_calls.specs.SessionCalls.{receivedWords, receivedSession, receiveFor}
 use Rattle.session_words.specs.Words.{sessionWords, sessionOf}
 use Rattle.session_words.proofs.WordLaws.{words-back}
@@ -32,11 +34,9 @@ use Rattle.state.specs.Value.{Lent, valueOf, countsOf}
 use Rattle.state.specs.declared.session.Session.{Session}
 use Rattle.tables.specs.Bytes.{tableOf}
 use Rattle.tables.specs.Table.{Row, rows}
-use Rattle.walk.specs.Talk.{left}
+use Rattle.turns.specs.Talk.{left}
 use Rattle.talk.specs.Calls.{Hears}
-use Rattle.talk.specs.Memory.{Memory, Roomy, Holds, Tabled}
 use Rattle.talk.proofs.Planning.{table-sound, of-bytes, held-good}
-use Rattle.talk.proofs.Rooms.{received-room, took-roomed}
 
 still-roomy : (s : State) (l : Lent) → Roomy l → Roomy (receivedIn s l)
 still-roomy s l r =

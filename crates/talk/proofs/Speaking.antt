@@ -8,26 +8,26 @@ use borrow.Author.Tests.{ltb-true, ltb-false}
 use lib.Dec.{ltb}
 use lib.ListN.{length, getD}
 use Rattle.bloom.specs.Filter.{defaultBits, defaultProbes}
-use Rattle.decide.specs.Call.{statedOf, answerOf, said}
 use Rattle.decode.proofs.Messages.{message-long, message-empty}
+use Rattle.hearing.specs.Good.{GoodState}
+use Rattle.hearing.specs.Receive.{receiveBytes}
+use Rattle.memory.specs.Memory.{Memory, Holds, Tabled, Beside}
+use Rattle.memory.proofs.Rooms.{Fine}
 use Rattle.message.specs.Message.{messageBytes}
+use Rattle.planned.specs.Call.{statedOf, answerOf, said}
 use Rattle.rules.specs.Sizes.{sizes}
 use Rattle.rules.proofs.Cases.{split}
-use Rattle.session.specs.Good.{GoodState}
 use Rattle.session.specs.Plan.{Plan, Planned, plan, after}
-use Rattle.session.specs.Receive.{receiveBytes}
 use Rattle.session_calls.specs.SessionCalls.{statedWords, plannedWords}
 use Rattle.state.specs.Session.{State}
 use Rattle.state.specs.Value.{countsOf}
 use Rattle.tables.specs.Bytes.{tableOf}
 use Rattle.tables.specs.Table.{Row}
+use Rattle.turns.specs.Talk.{Host, messageFor, bytesFor, left}
 use Rattle.waiting.specs.Bytes.{waitingOf}
-use Rattle.walk.specs.Talk.{Host, messageFor, bytesFor, left}
 use Rattle.talk.specs.Calls.{Speaks, speaks, planIn}
-use Rattle.talk.specs.Memory.{Memory, Holds, Tabled, Beside}
 use Rattle.talk.proofs.Planning.{Put, held-good, reset-is, reset-fine, says-fine, plan-answer, plan-holds, plan-put}
 use Rattle.talk.proofs.Receiving.{unread-leaves}
-use Rattle.talk.proofs.Rooms.{Fine}
 use Rattle.talk.proofs.Writing.{number-some, plan-read, write-small, write-long}
 
 -- What crosses is what the step's plan says, where that is within a message's size.

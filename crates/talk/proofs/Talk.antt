@@ -10,7 +10,10 @@ use lib.Dec.{ltb}
 use lib.ListN.{length, getD}
 use Rattle.bloom.specs.Filter.{defaultBits, defaultProbes}
 use Rattle.decode.proofs.Messages.{message-long}
+use Rattle.hearing.specs.Receive.{Received, receiveBytes}
+use Rattle.hearing.proofs.ReceiveLaws.{bytes-beyond, bytes-refused}
 use Rattle.lent.proofs.GoodSessions.{fresh-good}
+use Rattle.memory.specs.Memory.{Memory, Holds, Tabled, Beside, Fresh}
 use Rattle.message.specs.Message.{messageBytes}
 use Rattle.receive.specs.Call.{answerOf}
 use Rattle.rules.specs.Hash.{hashesAt}
@@ -18,8 +21,6 @@ use Rattle.rules.specs.Sizes.{sizes}
 use Rattle.rules.specs.declared.refusal.Refusal.{Refusal}
 use Rattle.rules.proofs.Cases.{split}
 use Rattle.session.specs.Plan.{Plan, Planned, plan, after}
-use Rattle.session.specs.Receive.{Received, receiveBytes}
-use Rattle.session.proofs.ReceiveLaws.{bytes-beyond, bytes-refused}
 use Rattle.session_words.specs.Words.{sessionOf}
 use Rattle.session_words.proofs.WordLaws.{words-back}
 use Rattle.state.specs.Counts.{freshCounts}
@@ -27,13 +28,13 @@ use Rattle.state.specs.Session.{State, fresh}
 use Rattle.state.specs.Value.{heardHashes, heardHaves}
 use Rattle.tables.specs.Bytes.{tableOf}
 use Rattle.tables.specs.Table.{Row}
+use Rattle.turns.specs.Talk.{Host, Pair, messageFor, bytesFor, goes, left, asked, toA, answered, toB, pairAt, Reached, Granted, Tables, Ended}
+use Rattle.turns.proofs.Corollary.{corollary}
+use Rattle.turns.proofs.Talk.{default-setting}
 use Rattle.waiting.specs.Bytes.{waitingOf}
 use Rattle.waiting.specs.Waiting.{Waiting}
 use Rattle.walk.specs.Round.{Part}
-use Rattle.walk.specs.Talk.{Host, Pair, messageFor, bytesFor, goes, left, asked, toA, answered, toB, pairAt, Reached, Granted, Tables, Ended}
 use Rattle.walk.specs.Walk.{lacking}
-use Rattle.walk.proofs.Corollary.{corollary}
-use Rattle.walk.proofs.Talk.{default-setting}
 use Rattle.talk.specs.Calls.{
   Hears,
   Speaks,
@@ -50,7 +51,6 @@ use Rattle.talk.specs.Calls.{
   CallsAreSteps,
   CallsCorollary,
 }
-use Rattle.talk.specs.Memory.{Memory, Holds, Tabled, Beside, Fresh}
 use Rattle.talk.proofs.Planning.{table-sound}
 use Rattle.talk.proofs.Receiving.{receive-answer, receive-holds}
 use Rattle.talk.proofs.Speaking.{speaking-holds, heard-so, speaking-said}

@@ -12,15 +12,18 @@ use lib.ListN.{length, getD, take}
 use lib.Seq.{sets, slice, take-length}
 use Rattle.answers.specs.Answer.{refusalWords, writeWords}
 use Rattle.bloom.specs.Have.{Have, havesOf}
-use Rattle.decide.specs.Call.{statedOf}
 use Rattle.kept.specs.Kept.{StandHaves}
 use Rattle.kept.proofs.Stands.{stand-haves-sets}
+use Rattle.memory.specs.Memory.{Out, RoomyOut}
+use Rattle.memory.proofs.Rooms.{Fine, laid-small}
 use Rattle.message.specs.Message.{messageBytes}
 use Rattle.message.specs.declared.flags.Section.the-variants.{Present}
 use Rattle.message.specs.declared.version.MessageVersion.{MessageVersion}
 use Rattle.message.specs.declared.version.MessageVersion.the-variants.{V1, V2}
+use Rattle.message.specs.Write.{Parts, partsOf, hashesOf, chunksFrom, messageOf, messageOutput}
 use Rattle.message_calls.specs.MessageWords.{versionOf, sectionOf}
 use Rattle.message_calls.proofs.MessageLaws.{section-there}
+use Rattle.planned.specs.Call.{statedOf}
 use Rattle.rules.specs.Hash.{AreHashes, hashesAt, hashesBytes}
 use Rattle.rules.specs.Output.{Output, answerOf, contentOf}
 use Rattle.rules.specs.Passed.{passedHashes}
@@ -51,16 +54,13 @@ use Rattle.session.proofs.LaidLaws.{laid-length-words}
 use Rattle.session_calls.specs.SessionCalls.{versionNumber, statedWords}
 use Rattle.session_words.specs.Words.{flagWord, flagOf}
 use Rattle.size.specs.Size.{Accepted}
-use Rattle.size.specs.Write.{Parts, partsOf, hashesOf, chunksFrom, messageOf, messageOutput}
 use Rattle.size.proofs.WriteLaws.{message-written, accepted-written}
 use Rattle.size.proofs.SizeLaws.{chunks-long}
 use Rattle.state.specs.Value.{keptHaves}
-use Rattle.walk.specs.Talk.{Host, chunksFor, messageFor}
-use Rattle.walk.proofs.Message.{chunks-few}
+use Rattle.turns.specs.Talk.{Host, chunksFor, messageFor}
+use Rattle.turns.proofs.Message.{chunks-few}
 use Rattle.talk.specs.Calls.{recordsIn, planIn, WriteMade}
-use Rattle.talk.specs.Memory.{Out, RoomyOut}
 use Rattle.talk.proofs.Planning.{Put}
-use Rattle.talk.proofs.Rooms.{Fine, laid-small}
 
 -- ---- words
 

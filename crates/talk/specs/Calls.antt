@@ -9,25 +9,25 @@ use lib.ListN.{length, getD, take, drop}
 use Rattle.answers.specs.Answer.{Answered}
 use Rattle.bloom.specs.Filter.{defaultBits, defaultProbes}
 use Rattle.bloom.specs.Have.{haveWords, havesOf}
-use Rattle.decide.specs.Call.{buffersOf}
 use Rattle.lent.specs.Good.{lentOf}
+use Rattle.memory.specs.Memory.{Memory, OfBytes, Holds, Fresh, Out, RoomyOut, Tabled, Beside, HostBytes}
 use Rattle.message.specs.Flags.{flagsOf}
+use Rattle.message.specs.Write.{partsOf, chunksFrom, messageOutput}
 use Rattle.message_calls.specs.MessageWords.{versionOf, sectionOf}
+use Rattle.planned.specs.Call.{buffersOf}
 use Rattle.rules.specs.Hash.{Bytes, hashesAt}
 use Rattle.rules.specs.Sizes.{sizes}
 use Rattle.session.specs.Plan.{Plan, Planned}
 use Rattle.session_calls.specs.SessionCalls.{PlanAnswered, ReceiveAnswered}
 use Rattle.session_words.specs.Words.{flagOf}
 use Rattle.size.specs.Size.{total}
-use Rattle.size.specs.Write.{partsOf, chunksFrom, messageOutput}
 use Rattle.tables.specs.Bytes.{tableOf}
 use Rattle.tables.specs.Table.{Row}
+use Rattle.turns.specs.Talk.{Host, chunksFor, goes, Pair, asked, answered, pairAt, Reached, Granted, Ended}
 use Rattle.waiting.specs.Bytes.{waitingOf}
 use Rattle.waiting.specs.Waiting.{Waiting}
 use Rattle.walk.specs.Round.{Part}
-use Rattle.walk.specs.Talk.{Host, chunksFor, goes, Pair, asked, answered, pairAt, Reached, Granted, Ended}
 use Rattle.walk.specs.Walk.{lacking}
-use Rattle.talk.specs.Memory.{Memory, OfBytes, Holds, Fresh, Out, RoomyOut, Tabled, Beside, HostBytes}
 
 -- ---- what a host reads of an answer to planning
 

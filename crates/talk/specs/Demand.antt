@@ -7,7 +7,7 @@
 --
 -- What is not promised. Anything of a B without rows, or of a reply that is longer than a third of the rows and goes to a peer that knows V2: both are
 -- sent the document. Anything where changes are made meanwhile or messages get lost. How many false yeses there are.
-use Rattle.walk.specs.Talk.{Theorem2, Corollary}
+use Rattle.turns.specs.Talk.{Theorem2, Corollary}
 use Rattle.walk.specs.Walk.{Walk01Walks, Theorem1}
 use Rattle.talk.specs.Calls.{CallsAreSteps, CallsCorollary, CallsGo}
 

@@ -1,23 +1,12 @@
 -- Laws that the crates above cite.
-pub mod Answers
-pub mod Asks
 pub mod Between
-pub mod Corollary
 pub mod Example
 pub mod Loaded
 pub mod Loading
-pub mod Message
 pub mod Offers
 pub mod Parts
 pub mod Promises
-pub mod Returns
 pub mod Rounds
-pub mod Sides
-pub mod Small
-pub mod Spoken
 pub mod Tables
-pub mod Talk
-pub mod TalkExample
 pub mod Theorem1
-pub mod Waits
 pub mod Walk01

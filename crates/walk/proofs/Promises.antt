@@ -1,8 +1,5 @@
 -- What is promised of this crate: a law that stands here can't be taken out or renamed unseen.
-pub use Rattle.walk.proofs.Corollary.{corollary}
 pub use Rattle.walk.proofs.Example.{takes-one-more}
 pub use Rattle.walk.proofs.Loading.{loads-one}
-pub use Rattle.walk.proofs.Talk.{theorem-2}
-pub use Rattle.walk.proofs.TalkExample.{talk-takes-all}
 pub use Rattle.walk.proofs.Theorem1.{theorem-1}
 pub use Rattle.walk.proofs.Walk01.{walk01-walks, walk01-ends, walk01-goes}

@@ -1,3 +1,2 @@
 pub mod Round
-pub mod Talk
 pub mod Walk

@@ -28,6 +28,7 @@ const READ: &[(&str, &str)] = &[
         "`returns-2` of `make::told_heads`",
     ),
     ("encode/heads_first", "`returns-2` of `encode::encode`"),
+    ("hearing/reset_unheard", "`flagged-forgets` (ReceiveLaws)"),
     (
         "index/fits_equal_hashes",
         "`loop-again` of `fit::entries_fit`",
@@ -107,7 +108,6 @@ const READ: &[(&str, &str)] = &[
         "selection/need_twice",
         "`returns-3` of `chosen::held_unmarked`",
     ),
-    ("session/reset_unheard", "`flagged-forgets` (ReceiveLaws)"),
     (
         "tables/table_count",
         "`numbers-good-requires` of `check::row_good`",

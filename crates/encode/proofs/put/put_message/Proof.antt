@@ -2,7 +2,7 @@
 use native.Mathlib.Omega.{arith}
 use denote.Ref.{now}
 use lib.ListN.{set}
-use Rattle.size.specs.Write.{partsOf, messageOf}
+use Rattle.message.specs.Write.{partsOf, messageOf}
 use Rattle.message.specs.Flags.{sectionBytes}
 use Rattle.message.specs.Message.{Message, counted, haveBytes, messageBytes}
 use Rattle.wire.specs.Item.{hashListBytes, prefixedBytes}

@@ -1,0 +1,4 @@
+-- Laws that the crates above cite.
+pub mod GoodLaws
+pub mod Promises
+pub mod ReceiveLaws
