@@ -1,11 +1,13 @@
 -- Numbers of parts, one law for each way out, with the code's tests as hypotheses; and room for the parts. Assumes nothing.
-use Prim.Native.Nat.{ℕ, _*_, _≤_, _<_}
+use Prim.Native.Nat.{ℕ, zero, suc, _*_, _≤_, _<_}
 use mathlib.Core.Bool.{Bool, true, false, cond, not, _&&_}
 use mathlib.Core.List.{List}
 use mathlib.Core.Path.{_≡_}
 use borrow.Author.Tests.{lt-ltb, le-ltb, eq-eqb, ne-eqb}
 use lib.Dec.{ltb, eqb}
 use lib.ListN.{length}
+use Rattle.graph.specs.Graph.{belowRow, below}
+use Rattle.graph.specs.Marks.{Marks}
 use Rattle.lists.specs.Lists.{same}
 use Rattle.rules.specs.Sizes.{sizes}
 use native.Mathlib.Omega.{arith}
@@ -15,7 +17,9 @@ use Rattle.rules.specs.Output.{Gathered}
 use Rattle.rules.proofs.Cases.{split}
 use Rattle.rules.proofs.Hash.{length-hashes-at}
 use Rattle.rules.proofs.KeepLaws.{keep-most}
-use Rattle.receiving.specs.Made.{SharedMade}
+use Rattle.receiving.specs.Made.{heldMarked, SharedMade}
+use Rattle.receiving.proofs.LeftLaws.{left-below}
+use Rattle.tables.specs.Bytes.{rowsAt}
 use Rattle.drafting.specs.Made.{toldHeads, lastSentCount, keptHashes}
 
 -- ---- numbers of parts
@@ -73,6 +77,18 @@ keeps-there heads sent keeps room e h = omega (arith, kept-most heads sent)
 pub keeps-gathered : (p : ℕ → Bool) (s : List ℕ) (heads sent keeps : ℕ) (after : List ℕ) (count : ℕ) → keeps ≡ keptHashes heads sent
     → Gathered (keep p (hashesAt s 0 keeps)) after count → Gathered (keep p (hashesAt s 0 (keptHashes heads sent))) after count
 keeps-gathered p s heads sent keeps after count e g = rw (← e) g
+
+-- marks are asked for where hashes were sent, and where none were none are left
+pub left-marked : (table : List ℕ) (n : ℕ) (marks : List Bool) (l s : List ℕ) (heads sent keeps : ℕ) (after : List ℕ) (count : ℕ)
+    → (0 < sent → Marks n marks (belowRow (rowsAt table 0 n) l))
+    → keeps ≡ keptHashes heads sent
+    → Gathered (keep (λ h. not (heldMarked (rowsAt table 0 n) marks h)) (hashesAt s 0 keeps)) after count
+    → Gathered (keep (λ h. not (below (rowsAt table 0 n) l h)) (hashesAt s 0 keeps)) after count
+unfolding hashesAt keep keptHashes
+left-marked table n marks l s heads zero keeps after count rows e g =
+    let none : keeps ≡ 0 = split (eqb heads 0) (λ q. rw q at e) (λ q. rw q at e) in
+    rw none (rw none at g)
+left-marked table n marks l s heads (suc k) keeps after count rows e g = left-below table n marks l (rows (omega arith)) (hashesAt s 0 keeps) after count g
 
 -- those that are left are no more
 pub left-there : (p : ℕ → Bool) (s after : List ℕ) (keeps count room : ℕ) → sizes .hash * keeps ≤ room → length after ≡ room

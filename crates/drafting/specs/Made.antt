@@ -53,7 +53,7 @@ wordsRoom = haveWords * sizes .haves
 pub record Prepared (table : List ℕ) (n : ℕ) (message : List ℕ) (p : Places) (kept : ℕ) (marks : List Bool) (all : Bool) (readyShared readySent : List ℕ)
     : Type 0 where
   pub long : n ≤ length marks
-  pub marked : HeadsMarked table n (saidAt message p .heads) marks all
+  pub marked : HeadsMarked table n (saidAt message p .heads) kept marks all
   pub shared : SharedFits all (p .heads .count) (length readyShared)
   pub sent : sizes .hash * kept ≤ length readySent
 

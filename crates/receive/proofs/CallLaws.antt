@@ -150,7 +150,13 @@ module _ (s : Session) (l : Lent) (table index : List ℕ) (n before : ℕ) (mes
       → Prepared table n message p (flagged .«sent_hashes») marks all readyShared readySent
   can-prepare flagged e given =
       let least = forgets-most (told (λ f. hasFlag f syncReset) (p .flags) false) (s .«sent_hashes») in
-      rw e (record { long = given .long; marked = given .marked; shared = given .shared; sent = omega (arith, given .sent) })
+      rw e
+      (record {
+        long = given .long;
+        marked = record { rows = λ h. given .marked .rows (omega (arith, least)); known = given .marked .known };
+        shared = given .shared;
+        sent = omega (arith, given .sent);
+      })
 
   module _ (loads : Bool) (flagged : Session) (ready : Parts) (d : Draft)
       (flags : flagged ≡ flaggedCounts (p .flags) s)

@@ -63,7 +63,7 @@ module _ (s : Session) (l : Lent) (table index : List ℕ) (n before : ℕ) (mes
         blank n (sizes .rows) (rows .rows .few),
       )
 
-  module _ (marks : List Bool) (all : Bool) (long : length marks ≡ length unmarked) (marked : HeadsMarked table n (saidAt message p .heads) marks all) where
+  module _ (marks : List Bool) (all : Bool) (long : length marks ≡ length unmarked) (marked : HeadsMarked table n (saidAt message p .heads) (s .«sent_hashes») marks all) where
     inside : n ≤ length marks
     inside = omega (arith, can-mark .2)
 

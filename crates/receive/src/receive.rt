@@ -172,6 +172,7 @@ fn receive_sized(
         message,
         heads.start,
         heads.count,
+        session.sent_hashes,
         &mut marks,
     );
     if is_few(all, heads.count, session.sent_hashes) {

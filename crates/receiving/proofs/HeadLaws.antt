@@ -1,7 +1,7 @@
 -- A message's heads beside a table. Each law is one turn of a loop, with its tests as hypotheses: what the heads from number k on decide and mark is
 -- what all of them do; and an index has the marked ones of the first rows in ascending order of hash, so the rest of both lists decides whether they
 -- are the same.
-use Prim.Native.Nat.{ℕ, _+_, _-_, _*_, _≤_, _<_}
+use Prim.Native.Nat.{ℕ, suc, _+_, _-_, _*_, _≤_, _<_}
 use mathlib.Core.Bool.{Bool, true, false, not, _&&_, _||_}
 use mathlib.Core.List.{List, [], _∷_}
 use mathlib.Core.Path.{_≡_, refl, sym, ap, _∙_}
@@ -13,18 +13,21 @@ use Rattle.graph.specs.Graph.{needed, heads}
 use Rattle.graph.specs.Marks.{Marks, Blank, picked}
 use Rattle.graph.proofs.CollectLaws.{collects, collectFrom, collect-is, collect-taken, collect-passed, collect-none}
 use Rattle.graph.proofs.GraphMarks.{below-blank, picked-heads}
+use Rattle.graph.proofs.HeadLaws.{head-is}
 use Rattle.graph.proofs.MarkLaws.{markList, hash-held, hash-unknown, list-start, list-on, list-done, list-marked}
 use Rattle.index.specs.Index.{fits}
 use Rattle.lists.specs.Lists.{same}
+use Rattle.lists.proofs.Lists.{same-equal}
 use Rattle.lists.proofs.CompareLaws.{onward, onward-starts, onward-first, onward-ends, test-starts, test-fails, test-on, test-ends, found-held, found-unknown}
 use Rattle.rules.specs.Hash.{hashAt, hashesAt}
 use Rattle.rules.specs.Order.{keep, every, member, ascend}
-use Rattle.rules.specs.Reach.{reach}
+use Rattle.rules.specs.Reach.{someBelow, reach}
 use Rattle.rules.specs.Sizes.{sizes}
-use Rattle.rules.proofs.Cases.{split, and-false}
+use Rattle.rules.proofs.Cases.{split, and-false, true-false}
+use Rattle.rules.proofs.ReachLaws.{some-witness}
 use Rattle.tables.specs.Bytes.{u16At, u16sAt, rowSize, rowsAt, GoodRows}
-use Rattle.tables.specs.Table.{Row, rows, hashOf, depsOf, indexIn, held, rowsFrom, rowsWhere}
-use Rattle.tables.proofs.TableLaws.{take-rows-at, hash-of-row}
+use Rattle.tables.specs.Table.{Row, rows, hashOf, depsOf, GoodTable, indexIn, held}
+use Rattle.tables.proofs.TableLaws.{length-rows-at, held-row, number-of-row, hash-of-row}
 use Rattle.receiving.specs.Made.{HeadsMarked}
 
 -- ---- heads marked, and whether all are held
@@ -78,13 +81,17 @@ module _ (table : List ℕ) (n : ℕ) (s : List ℕ) (place many : ℕ) where
     all-known true e = sym (test-ends (held t) s place many k out) ∙ e
     all-known false e = e
 
-    pub marking-ends : GoodRows table n → n ≤ length marks₀ → Blank n marks₀ → (after : List Bool)
+    -- nothing was sent, so no mark is asked for
+    pub marking-alone : (sent : ℕ) → sent ≡ 0 → HeadsMarked table n hs sent marks all
+    marking-alone sent e = record { rows = λ h. absurd (omega arith); known = all-known all (so .known) }
+
+    pub marking-ends : GoodRows table n → n ≤ length marks₀ → Blank n marks₀ → (sent : ℕ) (after : List Bool)
         → Marks n after (reach n (λ i. getD marks i false) (λ i j. member j (depsOf t i)))
-        → HeadsMarked table n hs after all
-    marking-ends good room none after below =
+        → HeadsMarked table n hs sent after all
+    marking-ends good room none sent after below =
         let is : marks ≡ markList (rows t) marks₀ hs = sym (list-done table n s place many marks k out) ∙ so .rest in
         let listed : Marks n marks (λ i. getD marks₀ i false || member (hashOf t i) hs) = list-marked table n s place many good marks₀ marks room is in
-        record { rows = below-blank table n hs marks₀ marks after none listed below; known = all-known all (so .known) }
+        record { rows = λ _. below-blank table n hs marks₀ marks after none listed below; known = all-known all (so .known) }
 
 -- ---- the marked ones of the first rows, ascending, compared with a message's hashes
 
@@ -151,3 +158,33 @@ pub decided-heads : (table theirs : List ℕ) (n : ℕ) {r : List Bool} {b : Boo
     → b ≡ same theirs (ascend (picked (rows (rowsAt table 0 n)) r))
     → b ≡ same theirs (heads (rowsAt table 0 n))
 decided-heads table theirs n {r} {b} those e = rw (picked-heads table n r those) at e
+
+-- the last row is a head, so lists without it aren't the heads
+module _ (t : List Row) (good : GoodTable t) (i : ℕ) (last : suc i ≡ length t) where
+  last-unneeded : needed t i ≡ false
+  unfolding needed
+  last-unneeded =
+      split (someBelow (length t) (λ k. member i (depsOf t k)))
+      (λ e.
+      let w = some-witness (length t) (λ k. member i (depsOf t k)) e in
+      absurd (omega (arith, w .less, good .down (w .k) i (w .less) (w .is))))
+      (λ e. e)
+
+  last-head : member (hashOf t i) (heads t) ≡ true
+  last-head =
+      let inside : i < length t = omega arith in
+      head-is t good (hashOf t i) ∙ rw (held-row t i inside, number-of-row t good i inside, last-unneeded)
+
+  pub without-last : (hs : List ℕ) → member (hashOf t i) hs ≡ false → same hs (heads t) ≡ false
+  without-last hs e =
+      split (same hs (heads t))
+      (λ f.
+      let is : hs ≡ heads t = same-equal hs (heads t) f in
+      absurd (true-false _ (rw is last-head) e))
+      (λ f. f)
+
+pub lacks-last : (table : List ℕ) (n : ℕ) → GoodRows table n → 0 < n → (hs : List ℕ) → member (hashAt table ((n - 1) * rowSize)) hs ≡ false
+    → same hs (heads (rowsAt table 0 n)) ≡ false
+lacks-last table n good h hs e =
+    let is : hashOf (rowsAt table 0 n) (n - 1) ≡ hashAt table ((n - 1) * rowSize) = hash-of-row table n (n - 1) (omega arith) in
+    without-last (rowsAt table 0 n) (good .good) (n - 1) (omega (arith, length-rows-at table 0 n)) hs (rw is e)

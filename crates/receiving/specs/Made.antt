@@ -1,5 +1,5 @@
 -- What internal contracts speak of: parts of a session that were computed into buffers. No rule of 01 stands here.
-use Prim.Native.Nat.{ℕ, _+_, _*_, _/_, _≤_}
+use Prim.Native.Nat.{ℕ, _+_, _*_, _/_, _≤_, _<_}
 use mathlib.Core.Bool.{Bool, true, false, cond, _&&_}
 use mathlib.Core.List.{List}
 use mathlib.Core.Path.{_≡_}
@@ -40,9 +40,9 @@ flaggedCounts flags s =
 unfoldable pub heldMarked : List Row → List Bool → ℕ → Bool
 heldMarked t marks h = held t h && getD marks (rowNumber t h) false
 
--- The rows of some hashes marked with all below them, and whether all of the hashes are held.
-pub record HeadsMarked (table : List ℕ) (n : ℕ) (hs : List ℕ) (marks : List Bool) (all : Bool) : Type 0 where
-  pub rows : Marks n marks (belowRow (rowsAt table 0 n) hs)
+-- Whether all of some hashes are held; and their rows marked with all below them, where that is asked: of so many sent hashes those are left that aren't.
+pub record HeadsMarked (table : List ℕ) (n : ℕ) (hs : List ℕ) (sent : ℕ) (marks : List Bool) (all : Bool) : Type 0 where
+  pub rows : 0 < sent → Marks n marks (belowRow (rowsAt table 0 n) hs)
   pub known : all ≡ every (held (rowsAt table 0 n)) hs
 
 -- Room for one shared head more than there may be, so that too many show.

@@ -2,11 +2,13 @@
 use graph::heads::mark_heads;
 use graph::marks::mark_below;
 use index::look::look_up;
+use lists::compare::is_in;
 use rules::hashes::same_hash;
 use rules::sizes::HASH_SIZE;
 use rules::sizes::ROWS;
 use tables::row::ROW_SIZE;
 use tables::row::u16_at;
+ghost use mathlib.Core.Bool.{false};
 ghost use mathlib.Core.Path.{_≡_};
 ghost use Prim.Native.Nat.{_+_, _*_, _≤_};
 ghost use lib.ListN.{length};
@@ -17,11 +19,11 @@ ghost use Rattle.lists.specs.Lists.{same};
 ghost use Rattle.rules.specs.Hash.{hashesAt};
 ghost use Rattle.rules.specs.Order.{ascend};
 ghost use Rattle.rules.specs.Sizes.{sizes};
-ghost use Rattle.tables.specs.Bytes.{rowsAt};
+ghost use Rattle.tables.specs.Bytes.{rowsAt, GoodRows};
 ghost use Rattle.tables.specs.Table.{rows};
 ghost use Rattle.receiving.specs.Made.{HeadsMarked};
 
-// Marks the rows of a message's heads and all below them, and says whether all heads are held: one look-up a head tells both.
+// Says whether all of a message's heads are held and, where hashes were sent, marks their rows and all below them: one look-up a head tells both.
 pub fn mark_known(
     table: &[u8],
     index: &[u8],
@@ -29,10 +31,11 @@ pub fn mark_known(
     s: &[u8],
     place: usize,
     many: usize,
+    sent: usize,
     marks: &mut [bool],
 ) -> bool
     requires { ⌜ Indexed (now table) (now index) n × (place + sizes .hash * many ≤ length (now s)) × (n ≤ length (now marks)) × Blank n (now marks) ⌝ }
-    ensures { λ r. ⌜ HeadsMarked (now (table .entry)) n (hashesAt (now (s .entry)) place many) (now (marks .exit)) r ⌝ }
+    ensures { λ r. ⌜ HeadsMarked (now (table .entry)) n (hashesAt (now (s .entry)) place many) sent (now (marks .exit)) r ⌝ }
 {
     let mut all = true;
     let mut k = 0;
@@ -44,6 +47,9 @@ pub fn mark_known(
             continue;
         }
         marks[row] = true;
+    }
+    if sent == 0 {
+        return all;
     }
     mark_below(table, n, marks);
     all
@@ -86,6 +92,18 @@ fn same_marked(
     count == many
 }
 
+// Whether a message's heads have the last of a table's first rows, if there is one. It is always a head, as rows depend on rows before them: one look
+// tells most other heads apart.
+fn has_last(table: &[u8], before: usize, s: &[u8], place: usize, many: usize) -> bool
+    requires { ⌜ GoodRows (now table) before × (place + sizes .hash * many ≤ length (now s)) ⌝ }
+    ensures { λ r. ⌜ (r ≡ false → same (hashesAt (now (s .entry)) place many) (heads (rowsAt (now (table .entry)) 0 before)) ≡ false) ⌝ }
+{
+    if before == 0 {
+        return true;
+    }
+    is_in(table, (before - 1) * ROW_SIZE, s, place, many)
+}
+
 // Whether a message's heads are those of a table's first rows.
 pub fn heads_before(
     table: &[u8],
@@ -99,6 +117,9 @@ pub fn heads_before(
     requires { ⌜ Indexed (now table) (now index) n × (before ≤ n) × (place + sizes .hash * many ≤ length (now s)) ⌝ }
     ensures { λ r. ⌜ r ≡ same (hashesAt (now (s .entry)) place many) (heads (rowsAt (now (table .entry)) 0 before)) ⌝ }
 {
+    if !has_last(table, before, s, place, many) {
+        return false;
+    }
     let mut marks = [false; ROWS];
     mark_heads(table, before, &mut marks);
     same_marked(table, index, n, before, &marks, s, place, many)

@@ -1,8 +1,7 @@
 -- `drafting::make::make_received` meets its contract: one part after the other. Assumes nothing.
 use mathlib.Core.Path.{refl}
 use native.Mathlib.Omega.{arith}
-use Rattle.receiving.proofs.LeftLaws.{left-below}
-use Rattle.drafting.proofs.MakeLaws.{keeps-there, keeps-gathered, left-there, shared-known}
+use Rattle.drafting.proofs.MakeLaws.{left-marked, keeps-there, keeps-gathered, left-there, shared-known}
 use Rattle.drafting.proofs.SaidLaws.{read-words}
 use borrow.Author.Needs.{needs}
 use Rattle.drafting.proofs.make.make_received.Statement.{statement}
@@ -68,7 +67,7 @@ returns c =
     let given = s .pre .1 in (
       record {
         shared = shared-known _ _ _ _ _ _ _ (given .marked .known) (h .make-shared .ensures);
-        sent = keeps-gathered _ _ _ _ _ _ _ (k .kept-hashes .ensures) (left-below _ _ _ _ (given .marked .rows) _ _ _ (f .make-left .ensures));
+        sent = keeps-gathered _ _ _ _ _ _ _ (k .kept-hashes .ensures) (left-marked _ _ _ _ _ _ _ _ _ _ (given .marked .rows) (k .kept-hashes .ensures) (f .make-left .ensures));
         told = t .told-heads .ensures;
         lastSent = c .last-sent-after .ensures;
         heads = refl;

@@ -31,7 +31,7 @@ receive-checked-requires c κs =
     let f = t .before in
     let h = f .before .before in
     let s = h .before .before .before .before .before .before .before .before .before .before .before .before .before in
-    (s .pre, few-prepared _ _ _ _ _ _ _ _ (s .pre) _ _ (h .mark-known .kept .1 .1 .1 .1 .1 .1 .0) (h .mark-known .ensures) (sym (f .is-few .ensures) ∙ t .if1 .taken))
+    (s .pre, few-prepared _ _ _ _ _ _ _ _ (s .pre) _ _ (h .mark-known .kept .1 .1 .1 .1 .1 .1 .1 .0) (h .mark-known .ensures) (sym (f .is-few .ensures) ∙ t .if1 .taken))
 
 same-length : tie.Need-same-length
 same-length c = search needs
@@ -73,7 +73,7 @@ receive-checked-requires-2 c κs =
     let e = c .before .before .before .before .before .before .before .before .before .before in
     let h = e .before .before .before in
     let s = h .before .before .before .before .before .before .before .before .before .before .before .before .before in
-    (s .pre, all-prepared _ _ _ _ _ _ _ _ (s .pre) _ _ (h .mark-known .kept .1 .1 .1 .1 .1 .1 .0) (h .mark-known .ensures))
+    (s .pre, all-prepared _ _ _ _ _ _ _ _ (s .pre) _ _ (h .mark-known .kept .1 .1 .1 .1 .1 .1 .1 .0) (h .mark-known .ensures))
 
 same-length-8 : tie.Need-same-length-8
 same-length-8 c = search needs

@@ -4,15 +4,15 @@ use Prim.Native.Nat.{_-_}
 use mathlib.Core.Path.{refl, _∙_}
 use native.Mathlib.Omega.{arith}
 use borrow.Author.Needs.{needs}
-use Rattle.receiving.proofs.HeadLaws.{Marking, marking-starts, marking-unknown, marking-held, marking-ends}
+use Rattle.receiving.proofs.HeadLaws.{Marking, marking-starts, marking-unknown, marking-held, marking-alone, marking-ends}
 use Rattle.receiving.proofs.heads.mark_known.Statement.{statement}
 use Rattle.receiving.proofs.heads.mark_known.Tie as tie
 
 abbrev Inv-loop : tie.InvT-loop
-Inv-loop table index n s place many marks₀ all₀ k₀ marks all k = Marking table n s place many marks₀ marks all k
+Inv-loop table index n s place many sent marks₀ all₀ k₀ marks all k = Marking table n s place many marks₀ marks all k
 
 abbrev μ-loop : tie.MeasureT-loop
-μ-loop table index n s place many marks₀ all₀ k₀ marks all k = many - k
+μ-loop table index n s place many sent marks₀ all₀ k₀ marks all k = many - k
 
 loop-holds : tie.Need-loop-holds Inv-loop μ-loop
 loop-holds c = marking-starts _ _ _ _ _ _
@@ -53,24 +53,30 @@ loop-again-2 c =
     let l = u .before in
     marking-held _ _ _ _ _ _ _ _ _ _ (l .before .loop .inv) (l .loop-test .taken) (u .look-up .ensures) (c .if1 .left) _ refl
 
+same-length : tie.Need-same-length Inv-loop μ-loop
+same-length c = c .before .before .loop .inv .long
+
+returns : tie.Need-returns Inv-loop μ-loop
+returns c = marking-alone _ _ _ _ _ _ _ _ _ (c .before .before .loop .inv) (c .before .loop-test .left) _ (c .if2 .taken)
+
 mark-below-requires : tie.Need-mark-below-requires Inv-loop μ-loop
 mark-below-requires c κs =
-    let b = c .before .before in
+    let b = c .before .before .before in
     let start = b .before .before .before .before .before in
     (start .pre .0 .rows, omega (arith, b .loop .inv .long, start .pre .2))
 
-same-length : tie.Need-same-length Inv-loop μ-loop
-same-length c =
+same-length-2 : tie.Need-same-length-2 Inv-loop μ-loop
+same-length-2 c =
     let m = c .before .before in
-    m .mark-below .kept .1 .1 .0 ∙ m .before .before .before .loop .inv .long
+    m .mark-below .kept .1 .1 .0 ∙ m .before .before .before .before .loop .inv .long
 
-returns : tie.Need-returns Inv-loop μ-loop
-returns c =
+returns-2 : tie.Need-returns-2 Inv-loop μ-loop
+returns-2 c =
     let m = c .before .before in
-    let l = m .before .before in
+    let l = m .before .before .before in
     let b = l .before in
     let start = b .before .before .before .before .before in
-    marking-ends _ _ _ _ _ _ _ _ _ (b .loop .inv) (l .loop-test .left) (start .pre .0 .rows) (start .pre .2) (start .pre .3) _ (m .mark-below .ensures)
+    marking-ends _ _ _ _ _ _ _ _ _ (b .loop .inv) (l .loop-test .left) (start .pre .0 .rows) (start .pre .2) (start .pre .3) _ _ (m .mark-below .ensures)
 
 pub mark-known-spec : {M : Type 1} → statement M
 mark-known-spec =
@@ -88,6 +94,8 @@ mark-known-spec =
     slice-write-marks
     loop-less-2
     loop-again-2
-    mark-below-requires
     same-length
-    returns)
+    returns
+    mark-below-requires
+    same-length-2
+    returns-2)
