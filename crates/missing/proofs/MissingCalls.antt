@@ -1,7 +1,7 @@
 -- What the call for missing hashes writes: one law for each way out, with the code's tests as hypotheses.
 use Prim.Native.Nat.{ℕ, suc, _+_, _*_, _/_, _≤_, _<_}
 use mathlib.Core.List.{List}
-use mathlib.Core.Path.{_≡_, ap, _∙_}
+use mathlib.Core.Path.{_≡_, refl, ap, _∙_}
 use native.Mathlib.Omega.{arith}
 use borrow.Author.Tests.{lt-ltb, le-ltb}
 use lib.ListN.{length, replicate, length-replicate}
@@ -30,6 +30,7 @@ use Rattle.waiting.specs.Waiting.{Waiting}
 use Rattle.missing.specs.Ask.{Found}
 use Rattle.missing.specs.Calls.{missingOf, missingFrom, missingBeside, missingOutput}
 use Rattle.missing.specs.Missing.{missing}
+use Rattle.missing.proofs.MissingLaws.{missing-of-nothing}
 
 -- ---- a list that was found
 
@@ -92,3 +93,11 @@ module _ (s x w l out : List ℕ) where
       → Written (missingOutput s x w l) out out′ r
   unfolding missingOutput afterCheck
   call-good n e v = rw (e, table-good s n (checked-table s x n e) .is) v
+
+-- nothing is found where nothing is asked
+pub nothing-found : (t : List Row) (w : List Waiting) (s : List ℕ) (place entries most : ℕ) (after : List ℕ) → entries ≡ 0
+    → Found (missing t w (hashesAt s place entries)) most after 0
+unfolding hashesAt
+nothing-found t w s place entries most after e =
+    rw (e, missing-of-nothing t w)
+    (record { within = omega arith; all = λ _. record { many = refl; list = refl }; full = λ q. omega arith })

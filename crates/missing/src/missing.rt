@@ -176,6 +176,9 @@ pub fn find_missing(
     ensures { λ r. ⌜ Found (missing (rowsAt (now (table .entry)) 0 n) (waitingOf (now (waiting .entry))) (hashesAt (now (bytes .entry)) place entries))
         (length (now (list .entry)) / sizes .hash) (now (list .exit)) r ⌝ }
 {
+    if entries == 0 {
+        return 0;
+    }
     let mut order = [0u8; ORDER_SIZE];
     order_waiting(waiting, m, &mut order);
     find_in_order(

@@ -17,7 +17,7 @@ use Rattle.rules.specs.declared.refusal.Refusal.the-variants.{BadWaitingRow}
 use Rattle.rules.proofs.Cases.{split, both}
 use Rattle.rules.proofs.Hash.{length-hashes-at, hash-is-hash, hashes-are-hashes}
 use Rattle.rules.proofs.KeepLaws.{index-once}
-use Rattle.tables.specs.Bytes.{zeros}
+use Rattle.tables.specs.Bytes.{zeros, checkedWith, firstBad}
 use Rattle.tables.specs.Table.{Row, rows, indexIn, held}
 use Rattle.tables.specs.declared.check.Checked.the-variants.{Good, Refused}
 use Rattle.tables.proofs.CheckLaws.{fewer, accepted, good-is-accepted}
@@ -360,3 +360,8 @@ module _ (t : List Row) (s : List ℕ) (n : ℕ) (d : WaitingDecoded t s n) wher
 
   pub decoded-asks-count : (i : ℕ) → i < n → asksCount s i ≤ sizes .dependencies
   decoded-asks-count i b = row-waits t s i (d .each i b) .count
+
+-- a table of no bytes is good
+pub none-waits : (t : List Row) (w : List ℕ) → length w ≡ 0 → Good 0 ≡ waitingChecked t w
+unfolding waitingCheckedOf checkedWith firstBad
+none-waits t w e = rw e
