@@ -7,6 +7,7 @@ use mathlib.Core.Path.{_≡_}
 use native.Mathlib.Omega.{arith}
 use borrow.Author.Tests.{ltb-false, lt-ltb, le-ltb, not-true}
 use lib.ListN.{length, replicate, length-replicate}
+use Rattle.bloom.specs.Filter.{fieldSize}
 use Rattle.decide.specs.Draft.{Parts, SmallDraft}
 use Rattle.decide.specs.declared.decide.Draft.{Draft}
 use Rattle.draft.specs.Make.{carriedBody, BlankMarks, Counted, ReadyRooms, DraftMade, Finished}
@@ -22,6 +23,7 @@ use Rattle.missing.specs.Ask.{Found}
 use Rattle.planned.specs.Call.{Buffers}
 use Rattle.planned.specs.declared.answer.Planned.{Planned as Answer}
 use Rattle.planning.specs.Made.{Setting}
+use Rattle.probe.proofs.BuildLaws.{rules-field}
 use Rattle.rules.specs.Hash.{hashesAt}
 use Rattle.rules.specs.Sizes.{sizes}
 use Rattle.rules.proofs.Cases.{both}
@@ -32,7 +34,7 @@ use Rattle.state.specs.declared.session.Heard.the-variants.{Nothing, Count}
 use Rattle.state.specs.declared.session.Session.{Session}
 use Rattle.tables.specs.Bytes.{rowsAt}
 use Rattle.tables.proofs.TableLaws.{length-rows-at}
-use Rattle.asked.specs.Asked.{isFew, NeedRoom, AskedCalled}
+use Rattle.asked.specs.Asked.{shortField, isFew, NeedRoom, AskedCalled}
 
 -- ---- what is asked for
 
@@ -48,24 +50,30 @@ need-room after room f e h = record { within = omega (arith, f .within); there =
 
 -- ---- what is counted
 
-module _ (k : Counts) (before : ℕ) where
-  pub many-heads : few < k .heads → false ≡ isFew k before
+module _ (k : Counts) (before size : ℕ) where
+  pub many-heads : few < k .heads → false ≡ isFew k before size
   unfolding isFew
   many-heads h = rw (lt-ltb _ _ h)
 
-  pub many-sent : k .heads ≤ few → few < before + k .body .hashes → false ≡ isFew k before
+  pub many-sent : k .heads ≤ few → few < before + k .body .hashes → false ≡ isFew k before size
   unfolding isFew
   many-sent h m = rw (le-ltb _ _ h, lt-ltb _ _ m)
 
-  pub few-all : k .heads ≤ few → before + k .body .hashes ≤ few → true ≡ isFew k before
-  unfolding isFew
-  few-all h m = rw (le-ltb _ _ h, le-ltb _ _ m)
+  module _ (h : k .heads ≤ few) (m : before + k .body .hashes ≤ few) where
+    pub long-field : shortField < size → false ≡ isFew k before size
+    unfolding isFew
+    long-field l = rw (le-ltb _ _ h, le-ltb _ _ m, lt-ltb _ _ l)
 
-  few-parts : isFew k before ≡ true → (k .heads ≤ few) × (before + k .body .hashes ≤ few)
+    pub few-all : size ≤ shortField → true ≡ isFew k before size
+    unfolding isFew
+    few-all l = rw (le-ltb _ _ h, le-ltb _ _ m, le-ltb _ _ l)
+
+  few-parts : isFew k before size ≡ true → (k .heads ≤ few) × ((before + k .body .hashes ≤ few) × (size ≤ shortField))
   unfolding isFew
   few-parts e =
       let p = both _ _ e in
-      (ltb-false _ _ (not-true _ (p .0)), ltb-false _ _ (not-true _ (p .1)))
+      let q = both _ _ (p .1) in
+      (ltb-false _ _ (not-true _ (p .0)), (ltb-false _ _ (not-true _ (q .0)), ltb-false _ _ (not-true _ (q .1))))
 
 heard-most : (s : List ℕ) (h : Heard) → heardGood s h ≡ true → heardCount h ≤ sizes .hashes
 unfolding heardGood
@@ -108,28 +116,31 @@ module _ {table index : List ℕ} {n : ℕ} (s : Session) (l : Lent) (rows : Ind
     sent-few = session-parts s l good .sent .few
 
     -- buffers for few
-    pub few-rooms : (heads list sent : ℕ) → heads ≡ sizes .hash * (few + 1) → list ≡ sizes .hash * (few + 1) → sent ≡ sizes .hash * (few + 1)
-        → isFew k (s .«sent_hashes») ≡ true
-        → ReadyRooms k (s .«sent_hashes») heads (sizes .field) list sent
-    few-rooms heads list sent a b d e =
-        let f = few-parts k (s .«sent_hashes») e in
+    pub few-rooms : (bits size heads field list sent : ℕ) → size ≡ fieldSize n bits → heads ≡ sizes .hash * (few + 1) → field ≡ shortField
+        → list ≡ sizes .hash * (few + 1)
+        → sent ≡ sizes .hash * (few + 1)
+        → isFew k (s .«sent_hashes») size ≡ true
+        → ReadyRooms bits n k (s .«sent_hashes») heads field list sent
+    few-rooms bits size heads field list sent z a g b d e =
+        let f = few-parts k (s .«sent_hashes») size e in
         record {
           headsRoom = omega (arith, f .0);
-          fieldRoom = omega arith;
-          listRoom = omega (arith, f .1);
-          sentThere = omega (arith, f .1);
+          fieldRoom = omega (arith, f .1 .1);
+          listRoom = omega (arith, f .1 .0);
+          sentThere = omega (arith, f .1 .0);
           sentMost = omega arith;
-          sentRoom = λ _. omega (arith, f .1);
+          sentRoom = λ _. omega (arith, f .1 .0);
         }
 
     -- buffers for as many as there may be
-    pub many-rooms : (heads list sent : ℕ) → heads ≡ sizes .hash * sizes .rows → list ≡ sizes .hash * sizes .hashesToSend
+    pub many-rooms : (bits probes heads field list sent : ℕ) → Setting bits probes → heads ≡ sizes .hash * sizes .rows → field ≡ sizes .field
+        → list ≡ sizes .hash * sizes .hashesToSend
         → sent ≡ sizes .hash * (sizes .sentHashes + 1)
-        → ReadyRooms k (s .«sent_hashes») heads (sizes .field) list sent
-    many-rooms heads list sent a b d =
+        → ReadyRooms bits n k (s .«sent_hashes») heads field list sent
+    many-rooms bits probes heads field list sent setting a g b d =
         record {
           headsRoom = omega (arith, c .heads, marked-most n headMarks, rows .rows .few);
-          fieldRoom = omega arith;
+          fieldRoom = omega (arith, rules-field n bits probes (setting .each n (rows .rows .few)) .1);
           listRoom = omega (arith, carried-few);
           sentThere = omega (arith, sent-few);
           sentMost = omega arith;

@@ -21,9 +21,13 @@ use Rattle.tables.specs.declared.check.Checked.the-variants.{Good}
 use Rattle.waiting.specs.Bytes.{waitingChecked}
 use Rattle.waiting.specs.Waiting.{Waiting}
 
--- Few heads, and few sent hashes with what the message carries.
-unfoldable pub isFew : Counts → ℕ → Bool
-isFew k before = not (ltb few (k .heads)) && not (ltb few (before + k .body .hashes))
+-- A field of so many bytes is short.
+abbrev pub shortField : ℕ
+shortField = 2048
+
+-- Few heads, few sent hashes with what the message carries, and a short field.
+unfoldable pub isFew : Counts → ℕ → ℕ → Bool
+isFew k before size = not (ltb few (k .heads)) && (not (ltb few (before + k .body .hashes)) && not (ltb shortField size))
 
 -- What was checked: tables of so many rows and waiting rows, an index that fits, beside a session that is good.
 pub record Checked (table index : List ℕ) (n : ℕ) (waiting : List ℕ) (m : ℕ) (s : Session) (l : Lent) : Type 0 where

@@ -1,4 +1,5 @@
 // What was counted is made, decided and put: in buffers for few hashes where they are few.
+use bloom::rule::bits_capacity;
 use draft::finish::finish;
 use draft::make::Counts;
 use draft::make::count_plan;
@@ -40,16 +41,22 @@ const SENT_SIZE: usize = HASH_SIZE * (SENT_HASHES + 1);
 // Room for any hashes to send.
 const SEND_SIZE: usize = HASH_SIZE * HASHES_TO_SEND;
 
-// Whether the heads and what the message carries, joined to the hashes that were sent, are few.
-fn is_few(counts: Counts, before: usize) -> bool
+// Room for a field over as many rows as there may be, at ten bits each.
+const FEW_FIELD: usize = 2_048;
+
+// Whether the heads and what the message carries, joined to the hashes that were sent, are few, and a field of so many bytes is short.
+fn is_few(counts: Counts, before: usize, size: usize) -> bool
     requires { ⌜ (counts .body .hashes ≤ sizes .hashesToSend) × (before ≤ sizes .sentHashes) ⌝ }
-    ensures { λ r. ⌜ r ≡ isFew counts before ⌝ }
+    ensures { λ r. ⌜ r ≡ isFew counts before size ⌝ }
 {
     let body = counts.body;
     if FEW < counts.heads {
         return false;
     }
     if FEW < before + body.hashes {
+        return false;
+    }
+    if FEW_FIELD < size {
         return false;
     }
     true
@@ -70,6 +77,7 @@ fn plan_in(
     ready_need: &[u8],
     asked: usize,
     ready_heads: &mut [u8],
+    field: &mut [u8],
     ready_list: &mut [u8],
     ready_sent: &mut [u8],
     shared: &[u8],
@@ -91,7 +99,7 @@ fn plan_in(
         (carriedBody (rowsAt (now table) 0 n) session (now «their_heads») (now «their_need») (now haves) (now bytes) (now sent))
         (hashesAt (now «their_need») 0 (heardCount (session .«their_need»))) (now «head_marks») (now marks) (now needs) counts
         × NeedRoom asked (length (now «ready_need»))
-        × ReadyRooms counts (session .«sent_hashes») (length (now «ready_heads»)) (sizes .field) (length (now «ready_list»)) (length (now «ready_sent»)) ⌝ }
+        × ReadyRooms bits n counts (session .«sent_hashes») (length (now «ready_heads»)) (length (now field)) (length (now «ready_list»)) (length (now «ready_sent»)) ⌝ }
     ensures { λ r. ⌜ AskedCalled bits probes session (rowsAt (now (table .entry)) 0 n)
         (lentOf (now (shared .entry)) (now («last_sent» .entry)) (now («their_heads» .entry)) (now («their_need» .entry)) (now (haves .entry))
         (now (bytes .entry)) (now (sent .entry)))
@@ -99,7 +107,6 @@ fn plan_in(
         (buffersOf (now (heads .entry)) (now (need .entry)) (now (have .entry)) (now (list .entry)) (now («last_sent» .entry)) (now (sent .entry)))
         (buffersOf (now (heads .exit)) (now (need .exit)) (now (have .exit)) (now (list .exit)) (now («last_sent» .exit)) (now (sent .exit))) r ⌝ }
 {
-    let mut field = [0u8; FIELD_SIZE];
     let draft = make_plan(
         bits,
         probes,
@@ -121,7 +128,7 @@ fn plan_in(
         bytes,
         sent,
         ready_heads,
-        &mut field,
+        field,
         ready_list,
         ready_sent,
     );
@@ -133,7 +140,7 @@ fn plan_in(
         shared,
         ready_heads,
         ready_need,
-        &field,
+        field,
         ready_list,
         ready_sent,
         heads,
@@ -195,8 +202,10 @@ fn plan_asked(
         &mut marks,
         &mut needs,
     );
-    if is_few(counts, session.sent_hashes) {
+    let size = bits_capacity(n as u64, bits) as usize;
+    if is_few(counts, session.sent_hashes, size) {
         let mut few_heads = [0u8; FEW_SIZE];
+        let mut few_field = [0u8; FEW_FIELD];
         let mut few_list = [0u8; FEW_SIZE];
         let mut few_sent = [0u8; FEW_SIZE];
         return plan_in(
@@ -213,6 +222,7 @@ fn plan_asked(
             ready_need,
             asked,
             &mut few_heads,
+            &mut few_field,
             &mut few_list,
             &mut few_sent,
             shared,
@@ -229,6 +239,7 @@ fn plan_asked(
         );
     }
     let mut ready_heads = [0u8; LIST_SIZE];
+    let mut field = [0u8; FIELD_SIZE];
     let mut ready_list = [0u8; SEND_SIZE];
     let mut ready_sent = [0u8; SENT_SIZE];
     plan_in(
@@ -245,6 +256,7 @@ fn plan_asked(
         ready_need,
         asked,
         &mut ready_heads,
+        &mut field,
         &mut ready_list,
         &mut ready_sent,
         shared,

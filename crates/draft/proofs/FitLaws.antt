@@ -5,23 +5,23 @@ use mathlib.Core.Path.{_≡_, refl}
 use native.Mathlib.Omega.{arith}
 use borrow.Author.Tests.{ltb-false}
 use lib.Dec.{ltb}
-use Rattle.rules.specs.Sizes.{sizes}
-use Rattle.rules.proofs.Cases.{split}
-use Rattle.session.specs.Rooms.{orShort}
-use Rattle.state.specs.declared.session.Session.{Session}
+use Rattle.bloom.specs.Filter.{fieldSize}
+use Rattle.decide.specs.Draft.{Parts, SmallDraft, headsCount, countIf, filterIf, drafted, resetStated, ifRoom, saysWith, decided, noPuts, putsOf, Fits}
+use Rattle.decide.specs.Draft.{allPut}
+use Rattle.decide.specs.declared.decide.Draft.{Draft}
+use Rattle.decide.specs.declared.put.Puts.{Puts}
 use Rattle.planned.specs.Call.{Buffers, plannedCounts, messageRoom, sessionRoom}
 use Rattle.planned.specs.Call.{said, roomsIn}
-use Rattle.decide.specs.Draft.{Parts, SmallDraft, headsCount, countIf, drafted, resetStated, ifRoom, saysWith, decided, noPuts, putsOf, Fits}
-use Rattle.decide.specs.Draft.{allPut}
-use Rattle.decide.proofs.DecideLaws.{small-drafted}
 use Rattle.planned.specs.declared.answer.Planned.{Planned as Answer}
 use Rattle.planned.specs.declared.answer.Planned.the-variants.{Reset, Says}
 use Rattle.planned.specs.declared.answer.Room.{Room}
 use Rattle.planned.specs.declared.answer.Room.the-variants.{Enough, Short}
 use Rattle.planned.specs.declared.answer.Rooms.{Rooms}
 use Rattle.planned.specs.declared.answer.Stated.{Stated}
-use Rattle.decide.specs.declared.decide.Draft.{Draft}
-use Rattle.decide.specs.declared.put.Puts.{Puts}
+use Rattle.rules.specs.Sizes.{sizes}
+use Rattle.rules.proofs.Cases.{split}
+use Rattle.session.specs.Rooms.{orShort}
+use Rattle.state.specs.declared.session.Session.{Session}
 use Rattle.draft.specs.Make.{Long, Finished}
 
 some-there : (b : Bool) (n long : ℕ) → sizes .hash * n ≤ long → sizes .hash * countIf b n ≤ long
@@ -32,6 +32,11 @@ some-there false n long h = omega arith
 heads-there : (needs supports : Bool) (n long : ℕ) → sizes .hash * n ≤ long → sizes .hash * headsCount needs supports n ≤ long
 unfolding headsCount
 heads-there needs supports n long h = split (needs && not supports) (λ e. rw e (omega arith)) (λ e. rw e h)
+
+field-there : (b : Bool) (syncs entries bits probes long : ℕ) → fieldSize entries bits ≤ long → filterIf b syncs entries bits probes .size ≤ long
+unfolding filterIf
+field-there true syncs entries bits probes long h = h
+field-there false syncs entries bits probes long h = omega arith
 
 not-short : (room wanted : ℕ) (rest : Room) → orShort Short room wanted rest ≡ Enough → (wanted ≤ room) × (rest ≡ Enough)
 not-short room wanted rest e =
@@ -83,7 +88,7 @@ module _ (s : Session) (d : Draft) (bits probes : ℕ) (ready : Parts) (b : Buff
   by-test true x y f g = f
   by-test false x y f g = g
 
-  module _ (m : SmallDraft s d bits) (long : Long s d ready) where
+  module _ (m : SmallDraft s d bits) (long : Long s d bits ready) where
     reset-fits : Fits (putsOf (ifRoom (messageRoom (resetStated (d .heads)) (roomsIn b)) (Reset (resetStated (d .heads))))) ready b
     unfolding putsOf
     reset-fits =
@@ -103,7 +108,6 @@ module _ (s : Session) (d : Draft) (bits probes : ℕ) (ready : Parts) (b : Buff
     unfolding saysWith putsOf
     says-fits =
         let p : Stated = drafted s d bits probes in
-        let q = small-drafted s d bits probes m in
         let said : Answer = Says p (plannedCounts s (d .heads) (d .sent)) in
         in-room (messageRoom p (roomsIn b)) (ifRoom (sessionRoom (d .heads) (d .sent) (roomsIn b)) said)
         (λ e.
@@ -114,7 +118,7 @@ module _ (s : Session) (d : Draft) (bits probes : ℕ) (ready : Parts) (b : Buff
         record {
           heads = record { there = heads-there (s .«needs_reset») (s .«supports_reset») _ _ (long .heads); room = f .heads };
           need = record { there = long .need; room = f .need };
-          have = record { hashes = some-there (d .gives) _ _ (long .shared); bytes = omega (arith, q .field, long .field); room = f .have };
+          have = record { hashes = some-there (d .gives) _ _ (long .shared); bytes = field-there (d .gives) (s .«shared_heads») (d .entries) bits probes _ (long .field); room = f .have };
           list = record { there = long .list; room = f .list };
           lastSent = record { there = long .heads; room = h .0 };
           sent = record { there = long .sent; room = h .1 };
@@ -128,7 +132,7 @@ module _ (s : Session) (d : Draft) (bits probes : ℕ) (ready : Parts) (b : Buff
         (by-test (d .silent) _ _ none-fit (by-test (ltb (sizes .sentHashes) (d .sent)) _ _ none-fit says-fits)))
 
 -- What was decided and is counted fits.
-pub puts-fit : (s : Session) (d : Draft) (bits probes : ℕ) (ready : Parts) (b : Buffers) (a : Answer) (p : Puts) → SmallDraft s d bits → Long s d ready
+pub puts-fit : (s : Session) (d : Draft) (bits probes : ℕ) (ready : Parts) (b : Buffers) (a : Answer) (p : Puts) → SmallDraft s d bits → Long s d bits ready
     → a ≡ decided s d bits probes (roomsIn b) → p ≡ putsOf a → Fits p ready b
 puts-fit s d bits probes ready b a p m long e q = rw (q, e) (decided-fits s d bits probes ready b m long)
 

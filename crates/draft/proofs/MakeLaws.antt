@@ -2,16 +2,19 @@
 use Prim.Native.Nat.{ℕ, _+_, _*_, _/_, _≤_, _<_}
 use mathlib.Core.Bool.{Bool, true, false, cond, not, _&&_, _||_}
 use mathlib.Core.List.{List, [], _∷_, _++_}
+use mathlib.Core.Option.{Option}
 use mathlib.Core.Path.{_≡_, refl, sym, _∙_}
 use native.Mathlib.Omega.{arith}
 use borrow.Author.Tests.{ne-eqb, ltb-true, ltb-false}
 use lib.Dec.{eqb, ltb}
 use lib.ListN.{length, length-append}
 use lib.Seq.{sets}
+use Rattle.bloom.specs.Filter.{fieldSize}
 use Rattle.decide.specs.Draft.{Parts}
 use Rattle.decide.specs.declared.decide.Draft.{Draft}
 use Rattle.graph.specs.Graph.{needed, heads, beyond}
 use Rattle.graph.specs.Marks.{Marks, marked, picked, Collected}
+use Rattle.graph.proofs.BelowLaws.{beyond-few}
 use Rattle.graph.proofs.CollectLaws.{heads-gathered}
 use Rattle.graph.proofs.GraphMarks.{picked-heads, heads-many}
 use Rattle.index.specs.Index.{Indexed}
@@ -20,6 +23,7 @@ use Rattle.lent.proofs.GoodSessions.{session-tests, session-parts}
 use Rattle.lists.specs.Lists.{same}
 use Rattle.planning.specs.Made.{FieldMade, SentMade, BodyChosen}
 use Rattle.planning.specs.declared.body.Body.{Body as Carried}
+use Rattle.planning.proofs.FieldLaws.{field-grows}
 use Rattle.rules.specs.Hash.{Bytes, AreHashes, hashesAt, hashesBytes}
 use Rattle.rules.specs.Order.{ascend}
 use Rattle.rules.specs.Output.{Gathered}
@@ -36,6 +40,7 @@ use Rattle.state.specs.declared.session.Session.{Session}
 use Rattle.tables.specs.Bytes.{rowsAt}
 use Rattle.tables.specs.Table.{Row, rows as hashes}
 use Rattle.tables.proofs.GoodLaws.{rows-hashes}
+use Rattle.tables.proofs.TableLaws.{length-rows-at}
 use Rattle.draft.specs.Make.{
   CountReady,
   carriedBody,
@@ -88,6 +93,19 @@ module _ {bits probes : ℕ} {gives : Bool} {hs field : List ℕ} where
 
   pub field-given : {entries : ℕ} → gives ≡ true → FieldMade bits probes hs field entries → GivenMade bits probes gives hs field entries
   field-given e f = record { made = λ t. f; none = λ n. absurd (true-false gives e n) }
+
+-- no more entries than rows, so their field has room
+pub given-room : (bits probes : ℕ) (table : List ℕ) (n : ℕ) {need lastSync field : List ℕ} {theirs : Option (List ℕ)} (g : Given) (room : ℕ)
+    → HaveMade bits probes (rowsAt table 0 n) need theirs lastSync field g
+    → fieldSize n bits ≤ room
+    → fieldSize (g .entries) bits ≤ room
+given-room bits probes table n {need} {lastSync} g room m h =
+    let few : g .entries ≤ n =
+    split (g .gives)
+    (λ e. omega (arith, m .made .made e .many, beyond-few (rowsAt table 0 n) lastSync, length-rows-at table 0 n))
+    (λ e. omega (arith, m .made .none e))
+    in
+    omega (arith, field-grows (g .entries) n bits few)
 
 -- ---- what is carried
 
@@ -204,7 +222,8 @@ module _ {table index : List ℕ} {n : ℕ} (s : Session) (l : Lent) (rows : Ind
       (hashesAt (l .theirNeed) 0 (heardCount (s .«their_need»))) headMarks marks needs k)
       (b : Bytes table)
       {heads′ field list sent : ℕ}
-      (r : ReadyRooms k (s .«sent_hashes») heads′ field list sent) where
+      {bits : ℕ}
+      (r : ReadyRooms bits n k (s .«sent_hashes») heads′ field list sent) where
     pub carry-ready : CarryReady table n s marks needs (k .body) (l .theirNeed) (l .sent) list sent
     carry-ready =
         let p = session-parts s l good in

@@ -6,6 +6,7 @@ use mathlib.Core.Option.{Option}
 use mathlib.Core.Path.{_≡_}
 use lib.Dec.{eqb}
 use lib.ListN.{length}
+use Rattle.bloom.specs.Filter.{fieldSize}
 use Rattle.decide.specs.Draft.{Parts, decided, putsOf, allPut}
 use Rattle.decide.specs.declared.decide.Draft.{Draft}
 use Rattle.graph.specs.Graph.{needed, heads, beyond}
@@ -62,9 +63,9 @@ pub record Counted (t : List Row) (n : ℕ) (b : Body) (need : List ℕ) (headMa
 
 -- The lengths of the buffers: room for what was counted. Of sent hashes there is room for one more than there can be, or than there may be, so that too
 -- many show.
-pub record ReadyRooms (k : Counts) (before heads field list sent : ℕ) : Type 0 where
+pub record ReadyRooms (bits n : ℕ) (k : Counts) (before heads field list sent : ℕ) : Type 0 where
   pub headsRoom : sizes .hash * k .heads ≤ heads
-  pub fieldRoom : sizes .field ≤ field
+  pub fieldRoom : fieldSize n bits ≤ field
   pub listRoom : sizes .hash * k .body .hashes ≤ list
   pub sentThere : sizes .hash * before ≤ sent
   pub sentMost : sent / sizes .hash ≤ sizes .sentHashes + 1
@@ -142,11 +143,11 @@ pub record DraftMade (bits probes : ℕ) (t : List Row) (s : State) (asked : ℕ
   pub sent : AtMost (sizes .sentHashes) (ascend (bodyOf t s .hashes ++ s .sentHashes)) (ready .sent) (d .sent)
 
 -- Parts that are as long as the plan's numbers say.
-pub record Long (s : Session) (d : Draft) (ready : Parts) : Type 0 where
+pub record Long (s : Session) (d : Draft) (bits : ℕ) (ready : Parts) : Type 0 where
   pub heads : sizes .hash * d .heads ≤ length (ready .heads)
   pub need : sizes .hash * d .need ≤ length (ready .need)
   pub shared : sizes .hash * s .«shared_heads» ≤ length (ready .shared)
-  pub field : sizes .field ≤ length (ready .field)
+  pub field : fieldSize (d .entries) bits ≤ length (ready .field)
   pub list : sizes .hash * d .body .hashes ≤ length (ready .list)
   pub sent : sizes .hash * d .sent ≤ length (ready .sent)
 

@@ -30,7 +30,7 @@ pub fn finish(
     sent: &mut [u8],
 ) -> Planned
     requires { ⌜ SmallDraft session draft bits
-        × Long session draft (partsOf (now «ready_heads») (now «ready_need») (now shared) (now field) (now «ready_list») (now «ready_sent»)) ⌝ }
+        × Long session draft bits (partsOf (now «ready_heads») (now «ready_need») (now shared) (now field) (now «ready_list») (now «ready_sent»)) ⌝ }
     ensures { λ r. ⌜ Finished session draft bits probes
         (partsOf (now («ready_heads» .entry)) (now («ready_need» .entry)) (now (shared .entry)) (now (field .entry)) (now («ready_list» .entry))
         (now («ready_sent» .entry)))

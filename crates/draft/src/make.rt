@@ -21,6 +21,7 @@ ghost use mathlib.Core.Bool.{true};
 ghost use mathlib.Core.Path.{_≡_};
 ghost use Prim.Native.Nat.{_+_, _*_, _≤_};
 ghost use lib.ListN.{length};
+ghost use Rattle.bloom.specs.Filter.{fieldSize};
 ghost use Rattle.decide.specs.Draft.{partsOf};
 ghost use Rattle.graph.specs.Graph.{beyond};
 ghost use Rattle.index.specs.Index.{Indexed};
@@ -120,7 +121,7 @@ fn make_have(
     field: &mut [u8],
 ) -> usize
     requires { ⌜ Indexed (now table) (now index) n × (sizes .hash * count ≤ length (now shared)) × Setting bits probes
-        × (sizes .field ≤ length (now field)) ⌝ }
+        × (fieldSize n bits ≤ length (now field)) ⌝ }
     ensures { λ r. ⌜ GivenMade bits probes gives (beyond (rowsAt (now (table .entry)) 0 n) (hashesAt (now (shared .entry)) 0 count)) (now (field .exit)) r ⌝ }
 {
     if !gives {
@@ -145,7 +146,7 @@ fn make_given(
     field: &mut [u8],
 ) -> Given
     requires { ⌜ Indexed (now table) (now index) n × (sizes .hash * asked ≤ length (now «ready_need»)) × (heardGood (now «their_heads») heard ≡ true)
-        × (sizes .hash * count ≤ length (now shared)) × Setting bits probes × (sizes .field ≤ length (now field)) ⌝ }
+        × (sizes .hash * count ≤ length (now shared)) × Setting bits probes × (fieldSize n bits ≤ length (now field)) ⌝ }
     ensures { λ r. ⌜ HaveMade bits probes (rowsAt (now (table .entry)) 0 n) (hashesAt (now («ready_need» .entry)) 0 asked)
         (heardHashes (now («their_heads» .entry)) heard) (hashesAt (now (shared .entry)) 0 count) (now (field .exit)) r ⌝ }
 {
@@ -256,13 +257,13 @@ pub fn make_plan(
         (carriedBody (rowsAt (now table) 0 n) session (now «their_heads») (now «their_need») (now haves) (now bytes) (now sent))
         (hashesAt (now «their_need») 0 (heardCount (session .«their_need»))) (now «head_marks») (now marks) (now needs) counts
         × (sizes .hash * asked ≤ length (now «ready_need»))
-        × ReadyRooms counts (session .«sent_hashes») (length (now «ready_heads»)) (length (now field)) (length (now «ready_list»)) (length (now «ready_sent»)) ⌝ }
+        × ReadyRooms bits n counts (session .«sent_hashes») (length (now «ready_heads»)) (length (now field)) (length (now «ready_list»)) (length (now «ready_sent»)) ⌝ }
     ensures { λ r. ⌜ DraftMade bits probes (rowsAt (now (table .entry)) 0 n)
         (valueOf session (lentOf (now (shared .entry)) (now («last_sent» .entry)) (now («their_heads» .entry)) (now («their_need» .entry))
         (now (haves .entry)) (now (bytes .entry)) (now (sent .entry)))) asked
         (partsOf (now («ready_heads» .exit)) (now («ready_need» .entry)) (now (shared .entry)) (now (field .exit)) (now («ready_list» .exit))
         (now («ready_sent» .exit))) r
-        × Long session r
+        × Long session r bits
         (partsOf (now («ready_heads» .exit)) (now («ready_need» .entry)) (now (shared .entry)) (now (field .exit)) (now («ready_list» .exit))
         (now («ready_sent» .exit))) ⌝ }
 {

@@ -3,6 +3,7 @@ use Prim.Native.Nat.{ℕ, _*_, _≤_}
 use mathlib.Core.Bool.{Bool, false, not}
 use mathlib.Core.List.{List, _++_}
 use mathlib.Core.Path.{_≡_, sym, ap, _∙_}
+use native.Mathlib.Nat.{mul-le-mul}
 use native.Mathlib.Omega.{arith}
 use lib.ListN.{length, getD, take, drop, replicate, length-replicate}
 use lib.Seq.{length-take-le, take-at}
@@ -36,13 +37,18 @@ module _ (table : List ℕ) (n : ℕ) (l : List ℕ) (known marks : List Bool)
 
 -- ---- the field
 
+-- more entries take no less
+pub field-grows : (k n bits : ℕ) → k ≤ n → fieldSize k bits ≤ fieldSize n bits
+unfolding fieldSize
+field-grows k n bits h = let more : k * bits ≤ n * bits = mul-le-mul h (omega arith) in omega arith
+
 module _ (bits probes entries : ℕ) (setting : Setting bits probes) (few : entries ≤ sizes .rows) where
   pub setting-numbers : (entries ≤ mostFilter) × (bits ≤ mostFilter)
   setting-numbers = rules-numbers _ _ _ _ (setting .each entries few)
 
   module _ (size : ℕ) (is : size ≡ fieldSize entries bits) where
-    pub field-inside : (room : ℕ) → sizes .field ≤ room → size ≤ room
-    field-inside room h = omega (arith, rules-field _ _ _ (setting .each entries few) .1)
+    pub field-inside : (n : ℕ) → entries ≤ n → (room : ℕ) → fieldSize n bits ≤ room → size ≤ room
+    field-inside n h room l = omega (arith, field-grows entries n bits h)
 
     -- the part of the buffer that is lent has a bit for each row, and filled with the rows it is the filter's
     module _ (field : List ℕ) (inside : size ≤ length field) where

@@ -15,6 +15,8 @@ ghost use mathlib.Core.Bool.{true};
 ghost use mathlib.Core.Path.{_≡_};
 ghost use Prim.Native.Nat.{_*_, _≤_};
 ghost use lib.ListN.{length};
+ghost use Rattle.bloom.specs.Filter.{fieldSize};
+ghost use Rattle.graph.specs.Graph.{beyond};
 ghost use Rattle.index.specs.Index.{Indexed};
 ghost use Rattle.lent.specs.Good.{heardGood, havesGood};
 ghost use Rattle.rules.specs.Hash.{hashesAt};
@@ -23,7 +25,6 @@ ghost use Rattle.rules.specs.Sizes.{sizes};
 ghost use Rattle.session.specs.Plan.{heard, unknownSync};
 ghost use Rattle.state.specs.Value.{heardHashes, heardHaves};
 ghost use Rattle.tables.specs.Bytes.{rowsAt};
-ghost use Rattle.graph.specs.Graph.{beyond};
 ghost use Rattle.planning.specs.Made.{Setting, FieldMade};
 
 // Whether each hash that is asked for is a head that was heard.
@@ -34,7 +35,7 @@ pub fn gives_have(need: &[u8], count: usize, their_heads: &[u8], heads: Heard) -
     all_in(need, 0, count, their_heads, 0, heard_count(heads))
 }
 
-// Builds the field of the filter over the rows beyond the shared heads, at the start of a buffer that is long enough for any, and returns how many rows
+// Builds the field of the filter over the rows beyond the shared heads, at the start of a buffer that is long enough for all, and returns how many rows
 // these are.
 pub fn make_field(
     bits: u64,
@@ -47,7 +48,7 @@ pub fn make_field(
     field: &mut [u8],
 ) -> usize
     requires { ⌜ Indexed (now table) (now index) n × (sizes .hash * count ≤ length (now shared)) × Setting bits probes
-        × (sizes .field ≤ length (now field)) ⌝ }
+        × (fieldSize n bits ≤ length (now field)) ⌝ }
     ensures { λ r. ⌜ FieldMade bits probes (beyond (rowsAt (now (table .entry)) 0 n) (hashesAt (now (shared .entry)) 0 count)) (now (field .exit)) r ⌝ }
 {
     let mut marks = [false; ROWS];

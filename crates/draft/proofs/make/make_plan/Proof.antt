@@ -1,7 +1,7 @@
 -- `draft::make::make_plan` meets its contract: what each part asks for was tested or counted, and the parts together are the plan. Assumes nothing.
 use mathlib.Core.Path.{refl}
 use native.Mathlib.Omega.{arith}
-use Rattle.draft.proofs.MakeLaws.{have-good, heads-good, shared-there, carry-ready, heads-made, heads-room, quiet-ready, draft-made}
+use Rattle.draft.proofs.MakeLaws.{given-room, have-good, heads-good, shared-there, carry-ready, heads-made, heads-room, quiet-ready, draft-made}
 use borrow.Author.Needs.{needs}
 use Rattle.draft.proofs.make.make_plan.Statement.{statement}
 use Rattle.draft.proofs.make.make_plan.Tie as tie
@@ -59,7 +59,7 @@ returns c =
         heads = omega (arith, room, heads .collect-marked .kept .1 .1 .1 .1 .1 .0);
         need = pre .4;
         shared = shared-there _ _ (pre .0) (pre .1);
-        field = omega (arith, pre .5 .fieldRoom, given .make-given .kept .1 .1 .1 .1 .1 .1 .1 .1 .1 .1 .1 .0);
+        field = given-room _ _ _ _ _ _ (given .make-given .ensures) (omega (arith, pre .5 .fieldRoom, given .make-given .kept .1 .1 .1 .1 .1 .1 .1 .1 .1 .1 .1 .0));
         list = omega (arith, pre .5 .listRoom, carried .make-carried .kept .1 .1 .1 .1 .1 .1 .1 .1 .0);
         sent = carried .make-carried .ensures .there;
       },

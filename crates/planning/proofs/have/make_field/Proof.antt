@@ -8,6 +8,7 @@ use borrow.Author.Needs.{needs}
 use lib.ListN.{length, length-replicate}
 use lib.Seq.{length-take-le}
 use Rattle.graph.proofs.MarkLaws.{blank}
+use Rattle.graph.proofs.PickLaws.{count-most}
 use Rattle.rules.specs.Sizes.{sizes}
 use Rattle.planning.proofs.FieldLaws.{beyond-many, beyond-added, setting-numbers, field-inside, field-enough, field-made}
 use Rattle.planning.proofs.RoomLaws.{marked-few, marks-room}
@@ -25,7 +26,7 @@ inside : (c : tie.After-bits-capacity)
     c .bits-capacity .result ≤ length (start .args .field .now)
 inside c =
     let start = c .before .before .before .before .before .before .before .before .before .before .before .before .before in
-    field-inside _ _ _ (start .pre .2) (few (c .before)) _ (c .bits-capacity .ensures) _ (start .pre .3)
+    field-inside _ _ _ (start .pre .2) (few (c .before)) _ (c .bits-capacity .ensures) _ (count-most _ _ _ (c .before .count-marked .ensures)) _ (start .pre .3)
 
 slice-aggregate-mark-at-or-below : tie.Need-slice-aggregate-mark-at-or-below
 slice-aggregate-mark-at-or-below c = search needs
