@@ -31,7 +31,7 @@ impl Session {
     /// awaited. The message is a value: [`Message::encode`] makes its bytes, and refuses
     /// one that passes the limit, though the session takes it as said.
     ///
-    /// Where the library is linked this takes up to 640 KiB of the thread's stack.
+    /// Where the library is linked this takes up to 512 KiB of the thread's stack.
     #[doc(alias = "generate_sync_message")]
     pub fn generate<H: Host>(&mut self, host: &H) -> Result<Option<Message>, Error<H::Error>> {
         // The session changes once the host has lent everything.

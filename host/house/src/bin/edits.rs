@@ -20,6 +20,10 @@ const READ: &[(&str, &str)] = &[
         "`returns-3` of `opening::parse_opening`",
     ),
     (
+        "draft/have_of_all_rows",
+        "`returns` of `make::make_plan`",
+    ),
+    (
         "drafting/rows_before_beyond",
         "`returns-4` of `check::check_receive`",
     ),
