@@ -41,7 +41,7 @@ const SENT_SIZE: usize = HASH_SIZE * (SENT_HASHES + 1);
 // Room for any hashes to send.
 const SEND_SIZE: usize = HASH_SIZE * HASHES_TO_SEND;
 
-// Room for a field over as many rows as there may be, at ten bits each.
+// A field of no more bytes is short: it has ten bits for each of 1,638 rows.
 const FEW_FIELD: usize = 2_048;
 
 // Whether the heads and what the message carries, joined to the hashes that were sent, are few, and a field of so many bytes is short.

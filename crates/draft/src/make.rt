@@ -47,7 +47,7 @@ ghost use Rattle.draft.specs.Make.{
   Long,
 };
 
-// How many heads a table has, at most, and what the message carries.
+// How many heads a table has, and what the message carries.
 pub struct Counts {
     pub heads: usize,
     pub body: Body,

@@ -1,15 +1,15 @@
 -- A body's hashes as marks: all rows, none, or what was chosen; and which of these goes, a law for each way through the tests.
-use Prim.Native.Nat.{ℕ, suc, _+_, _*_, _/_, _≤_, _<_}
+use Prim.Native.Nat.{ℕ, suc, _*_, _/_, _≤_}
 use mathlib.Core.Bool.{Bool, true, false, cond, _&&_}
 use mathlib.Core.List.{List, [], _∷_}
 use mathlib.Core.Path.{_≡_, refl, sym, _∙_}
 use native.Mathlib.Omega.{arith}
 use lib.Dec.{ltb}
-use lib.ListN.{length, getD}
+use lib.ListN.{length}
 use Rattle.bloom.specs.Have.{Have, haveWords, havesOf}
 use Rattle.graph.specs.Marks.{Marks, Blank, pickFrom, picked}
 use Rattle.graph.proofs.GraphMarks.{many-rows, marked-rows}
-use Rattle.graph.proofs.PickLaws.{rows-picked}
+use Rattle.graph.proofs.PickLaws.{pick-none, marks-picked, rows-picked}
 use Rattle.index.specs.Index.{Indexed}
 use Rattle.lent.specs.Good.{heardGood, havesGood}
 use Rattle.lent.proofs.GoodLaws.{heard-count}
@@ -36,16 +36,8 @@ unfolding pickFrom
 pick-all [] i = refl
 pick-all (x ∷ xs) i = rw (pick-all xs (suc i))
 
-pick-none : (l : List ℕ) (i : ℕ) (p : ℕ → Bool) → ((k : ℕ) → i ≤ k → k < i + length l → p k ≡ false) → pickFrom i l p ≡ []
-unfolding pickFrom
-pick-none [] i p f = refl
-pick-none (x ∷ xs) i p f =
-    let here : p i ≡ false = f i (omega arith) (omega arith) in
-    rw here (pick-none xs (suc i) p (λ k l m. f k (omega arith) (omega arith)))
-
 none-picked : (l : List ℕ) (n : ℕ) (m : List Bool) → length l ≡ n → Blank n m → picked l m ≡ []
-unfolding picked
-none-picked l n m e b = pick-none l 0 (λ k. getD m k false) (λ k h f. b .each k (omega arith))
+none-picked l n m e b = marks-picked l m (λ i. false) (rw e b) ∙ pick-none l 0
 
 all-picked : (table : List ℕ) (n : ℕ) (m : List Bool) → Marks n m (λ i. true) → picked (rows (rowsAt table 0 n)) m ≡ rows (rowsAt table 0 n)
 all-picked table n m all =

@@ -1,6 +1,5 @@
--- Room for marked rows: they are as many as the rows at most, a list with room for a whole table has room for them, and marks that are made for a
--- whole table and kept in length have one for each.
-use Prim.Native.Nat.{ℕ, _+_, _*_, _≤_}
+-- Marked rows are as many as the rows at most, and marks that are made for a whole table and kept in length have one for each.
+use Prim.Native.Nat.{ℕ, _≤_}
 use mathlib.Core.Bool.{Bool, false}
 use mathlib.Core.List.{List}
 use mathlib.Core.Path.{_≡_}
@@ -11,9 +10,6 @@ use Rattle.graph.proofs.PickLaws.{marked-most}
 use Rattle.rules.specs.Sizes.{sizes}
 
 module _ (n : ℕ) (marks : List Bool) where
-  pub marked-room : (room : ℕ) → sizes .hash * n ≤ room → 0 + sizes .hash * marked n marks ≤ room
-  marked-room room h = omega (arith, marked-most n marks)
-
   pub marked-few : (count : ℕ) → count ≡ marked n marks → n ≤ sizes .rows → count ≤ sizes .rows
   marked-few count e h = omega (arith, marked-most n marks)
 
