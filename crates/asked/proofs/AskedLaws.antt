@@ -8,10 +8,10 @@ use native.Mathlib.Omega.{arith}
 use borrow.Author.Tests.{ltb-false, lt-ltb, le-ltb, not-true}
 use lib.ListN.{length, replicate, length-replicate}
 use Rattle.bloom.specs.Filter.{fieldSize}
-use Rattle.decide.specs.Draft.{Parts, SmallDraft}
+use Rattle.decide.specs.Draft.{PlanParts, SmallDraft}
 use Rattle.decide.specs.declared.decide.Draft.{Draft}
-use Rattle.draft.specs.Make.{carriedBody, BlankMarks, Counted, ReadyRooms, DraftMade, Finished}
-use Rattle.draft.specs.declared.make.Counts.{Counts}
+use Rattle.draft.specs.Make.{carriedBody, BlankMarks, PlanCounted, ReadyRooms, DraftMade, Finished}
+use Rattle.draft.specs.declared.make.PlanCounts.{PlanCounts}
 use Rattle.draft.proofs.MadeLaws.{small-made, plan-called}
 use Rattle.graph.proofs.MarkLaws.{blank}
 use Rattle.graph.proofs.PickLaws.{marked-most}
@@ -19,7 +19,7 @@ use Rattle.index.specs.Index.{Indexed}
 use Rattle.lent.specs.Good.{heardGood, lentOf, sessionGood}
 use Rattle.lent.proofs.GoodSessions.{list-parts, session-tests, session-parts, heard-within}
 use Rattle.lists.specs.Lists.{few}
-use Rattle.missing.specs.Ask.{Found}
+use Rattle.missing.specs.Ask.{FoundUpTo}
 use Rattle.planned.specs.Call.{Buffers}
 use Rattle.planned.specs.declared.answer.Planned.{Planned as Answer}
 use Rattle.planning.specs.Made.{Setting}
@@ -28,48 +28,48 @@ use Rattle.rules.specs.Hash.{hashesAt}
 use Rattle.rules.specs.Sizes.{sizes}
 use Rattle.rules.proofs.Cases.{both}
 use Rattle.session.proofs.PlanLaws.{list-few}
-use Rattle.state.specs.Value.{Lent, heardCount, valueOf}
+use Rattle.state.specs.Value.{Lent, heardCount, stateOf}
 use Rattle.state.specs.declared.session.Heard.{Heard}
 use Rattle.state.specs.declared.session.Heard.the-variants.{Nothing, Count}
 use Rattle.state.specs.declared.session.Session.{Session}
 use Rattle.tables.specs.Bytes.{rowsAt}
 use Rattle.tables.proofs.TableLaws.{length-rows-at}
-use Rattle.asked.specs.Asked.{shortField, isFew, NeedRoom, AskedCalled}
+use Rattle.asked.specs.Asked.{shortField, asksFew, NeedRoom, AskedCalled}
 
 -- ---- what is asked for
 
 -- Few hashes that are asked for are all of them.
-pub few-found : {l after : List ℕ} {count : ℕ} (most : ℕ) → Found l most after count → most ≡ few + 1 → count ≤ few → Found l (sizes .hashes + 1) after count
+pub few-found : {l after : List ℕ} {count : ℕ} (most : ℕ) → FoundUpTo l most after count → most ≡ few + 1 → count ≤ few → FoundUpTo l (sizes .hashes + 1) after count
 few-found most f e h =
     record { within = omega arith; all = λ _. f .all (omega arith); full = λ q. absurd (omega arith) }
 
-pub need-room : {l : List ℕ} {count : ℕ} (after : List ℕ) (room : ℕ) → Found l (room / sizes .hash) after count → length after ≡ room
+pub need-room : {l : List ℕ} {count : ℕ} (after : List ℕ) (room : ℕ) → FoundUpTo l (room / sizes .hash) after count → length after ≡ room
     → room / sizes .hash ≤ sizes .hashes + 1
     → NeedRoom count (length after)
 need-room after room f e h = record { within = omega (arith, f .within); there = omega (arith, f .within) }
 
 -- ---- what is counted
 
-module _ (k : Counts) (before size : ℕ) where
-  pub many-heads : few < k .heads → false ≡ isFew k before size
-  unfolding isFew
+module _ (k : PlanCounts) (before size : ℕ) where
+  pub many-heads : few < k .heads → false ≡ asksFew k before size
+  unfolding asksFew
   many-heads h = rw (lt-ltb _ _ h)
 
-  pub many-sent : k .heads ≤ few → few < before + k .body .hashes → false ≡ isFew k before size
-  unfolding isFew
+  pub many-sent : k .heads ≤ few → few < before + k .body .hashes → false ≡ asksFew k before size
+  unfolding asksFew
   many-sent h m = rw (le-ltb _ _ h, lt-ltb _ _ m)
 
   module _ (h : k .heads ≤ few) (m : before + k .body .hashes ≤ few) where
-    pub long-field : shortField < size → false ≡ isFew k before size
-    unfolding isFew
+    pub long-field : shortField < size → false ≡ asksFew k before size
+    unfolding asksFew
     long-field l = rw (le-ltb _ _ h, le-ltb _ _ m, lt-ltb _ _ l)
 
-    pub few-all : size ≤ shortField → true ≡ isFew k before size
-    unfolding isFew
+    pub few-all : size ≤ shortField → true ≡ asksFew k before size
+    unfolding asksFew
     few-all l = rw (le-ltb _ _ h, le-ltb _ _ m, le-ltb _ _ l)
 
-  few-parts : isFew k before size ≡ true → (k .heads ≤ few) × ((before + k .body .hashes ≤ few) × (size ≤ shortField))
-  unfolding isFew
+  few-parts : asksFew k before size ≡ true → (k .heads ≤ few) × ((before + k .body .hashes ≤ few) × (size ≤ shortField))
+  unfolding asksFew
   few-parts e =
       let p = both _ _ e in
       let q = both _ _ (p .1) in
@@ -97,14 +97,14 @@ module _ {table index : List ℕ} {n : ℕ} (s : Session) (l : Lent) (rows : Ind
             };
       }
 
-  module _ {headMarks marks needs : List Bool} {k : Counts}
-      (c : Counted (rowsAt table 0 n) n
+  module _ {headMarks marks needs : List Bool} {k : PlanCounts}
+      (c : PlanCounted (rowsAt table 0 n) n
       (carriedBody (rowsAt table 0 n) s (l .theirHeads) (l .theirNeed) (l .haves) (l .bytes) (l .sent))
       (hashesAt (l .theirNeed) 0 (heardCount (s .«their_need»))) headMarks marks needs k) where
     pub carried-few : k .body .hashes ≤ sizes .hashesToSend
     carried-few =
         let t = rowsAt table 0 n in
-        let v = valueOf s (lentOf [] [] (l .theirHeads) (l .theirNeed) (l .haves) (l .bytes) (l .sent)) in
+        let v = stateOf s (lentOf [] [] (l .theirHeads) (l .theirNeed) (l .haves) (l .bytes) (l .sent)) in
         let there : length t ≤ sizes .rows = rw (length-rows-at table 0 n) (rows .rows .few) in
         omega (
           arith,
@@ -119,7 +119,7 @@ module _ {table index : List ℕ} {n : ℕ} (s : Session) (l : Lent) (rows : Ind
     pub few-rooms : (bits size heads field list sent : ℕ) → size ≡ fieldSize n bits → heads ≡ sizes .hash * (few + 1) → field ≡ shortField
         → list ≡ sizes .hash * (few + 1)
         → sent ≡ sizes .hash * (few + 1)
-        → isFew k (s .«sent_hashes») size ≡ true
+        → asksFew k (s .«sent_hashes») size ≡ true
         → ReadyRooms bits n k (s .«sent_hashes») heads field list sent
     few-rooms bits size heads field list sent z a g b d e =
         let f = few-parts k (s .«sent_hashes») size e in
@@ -150,16 +150,16 @@ module _ {table index : List ℕ} {n : ℕ} (s : Session) (l : Lent) (rows : Ind
 -- ---- what is made
 
 module _ {table index : List ℕ} {n : ℕ} (s : Session) (l : Lent) (rows : Indexed table index n) (good : sessionGood s l ≡ true) where
-  pub small-asked : {bits probes asked room : ℕ} {ready : Parts} {d : Draft} → Setting bits probes → NeedRoom asked room
-      → DraftMade bits probes (rowsAt table 0 n) (valueOf s l) asked ready d
+  pub small-asked : {bits probes asked room : ℕ} {ready : PlanParts} {d : Draft} → Setting bits probes → NeedRoom asked room
+      → DraftMade bits probes (rowsAt table 0 n) (stateOf s l) asked ready d
       → SmallDraft s d bits
   small-asked setting need made =
       let there : length (rowsAt table 0 n) ≤ sizes .rows = rw (length-rows-at table 0 n) (rows .rows .few) in
       small-made _ _ _ s l _ _ _ made (need .within) there good setting
 
   -- What was made, decided and put is what the call promises.
-  pub asked-called : {bits probes asked : ℕ} {ready : Parts} {d : Draft} {before after : Buffers} {a : Answer}
-      → DraftMade bits probes (rowsAt table 0 n) (valueOf s l) asked ready d
+  pub asked-called : {bits probes asked : ℕ} {ready : PlanParts} {d : Draft} {before after : Buffers} {a : Answer}
+      → DraftMade bits probes (rowsAt table 0 n) (stateOf s l) asked ready d
       → ready .shared ≡ l .shared
       → Finished s d bits probes ready before after a
       → AskedCalled bits probes s (rowsAt table 0 n) l (ready .need) asked before after a

@@ -4,16 +4,16 @@ use mathlib.Core.Bool.{Bool, true, not, _&&_}
 use mathlib.Core.List.{List}
 use mathlib.Core.Path.{_≡_}
 use lib.Dec.{ltb}
-use Rattle.draft.specs.declared.make.Counts.{Counts}
+use Rattle.draft.specs.declared.make.PlanCounts.{PlanCounts}
 use Rattle.index.specs.Index.{Indexed}
 use Rattle.lent.specs.Good.{sessionGood}
 use Rattle.lists.specs.Lists.{few}
-use Rattle.missing.specs.Ask.{Found}
+use Rattle.missing.specs.Ask.{FoundUpTo}
 use Rattle.planned.specs.Call.{Buffers, PlanCalled}
 use Rattle.planned.specs.declared.answer.Planned.{Planned as Answer}
 use Rattle.rules.specs.Sizes.{sizes}
 use Rattle.session.specs.Plan.{heard, needOf, plan}
-use Rattle.state.specs.Value.{Lent, valueOf}
+use Rattle.state.specs.Value.{Lent, stateOf}
 use Rattle.state.specs.declared.session.Session.{Session}
 use Rattle.tables.specs.Bytes.{rowsAt}
 use Rattle.tables.specs.Table.{Row}
@@ -26,8 +26,8 @@ abbrev pub shortField : ℕ
 shortField = 2048
 
 -- Few heads, few sent hashes with what the message carries, and a short field.
-unfoldable pub isFew : Counts → ℕ → ℕ → Bool
-isFew k before size = not (ltb few (k .heads)) && (not (ltb few (before + k .body .hashes)) && not (ltb shortField size))
+unfoldable pub asksFew : PlanCounts → ℕ → ℕ → Bool
+asksFew k before size = not (ltb few (k .heads)) && (not (ltb few (before + k .body .hashes)) && not (ltb shortField size))
 
 -- What was checked: tables of so many rows and waiting rows, an index that fits, beside a session that is good.
 pub record Checked (table index : List ℕ) (n : ℕ) (waiting : List ℕ) (m : ℕ) (s : Session) (l : Lent) : Type 0 where
@@ -43,5 +43,5 @@ pub record NeedRoom (asked room : ℕ) : Type 0 where
 -- What the call ensures, whatever waits, if this is what is asked for then.
 pub record AskedCalled (bits probes : ℕ) (s : Session) (t : List Row) (l : Lent) (ready : List ℕ) (asked : ℕ) (before after : Buffers) (r : Answer) : Type 0
   where
-    pub called : (w : List Waiting) → Found (needOf t w (s .«read_only») (heard (valueOf s l .theirHeads))) (sizes .hashes + 1) ready asked
-        → PlanCalled s (plan bits probes t w (valueOf s l)) before after r
+    pub called : (w : List Waiting) → FoundUpTo (needOf t w (s .«read_only») (heard (stateOf s l .theirHeads))) (sizes .hashes + 1) ready asked
+        → PlanCalled s (plan bits probes t w (stateOf s l)) before after r

@@ -1,7 +1,7 @@
 // What was counted is made, decided and put: in buffers for few hashes where they are few.
 use bloom::rule::bits_capacity;
 use draft::finish::finish;
-use draft::make::Counts;
+use draft::make::PlanCounts;
 use draft::make::count_plan;
 use draft::make::make_plan;
 use graph::heads::LIST_SIZE;
@@ -19,7 +19,7 @@ ghost use mathlib.Core.Bool.{true};
 ghost use mathlib.Core.Path.{_≡_};
 ghost use Prim.Native.Nat.{_≤_};
 ghost use lib.ListN.{length};
-ghost use Rattle.draft.specs.Make.{carriedBody, Counted, ReadyRooms};
+ghost use Rattle.draft.specs.Make.{carriedBody, PlanCounted, ReadyRooms};
 ghost use Rattle.index.specs.Index.{Indexed};
 ghost use Rattle.lent.specs.Good.{lentOf, sessionGood};
 ghost use Rattle.planned.specs.Call.{buffersOf, PlanCalled};
@@ -27,10 +27,10 @@ ghost use Rattle.planning.specs.Made.{Setting};
 ghost use Rattle.rules.specs.Hash.{hashesAt};
 ghost use Rattle.rules.specs.Sizes.{sizes};
 ghost use Rattle.session.specs.Plan.{plan as planFor};
-ghost use Rattle.state.specs.Value.{heardCount, valueOf};
+ghost use Rattle.state.specs.Value.{heardCount, stateOf};
 ghost use Rattle.tables.specs.Bytes.{rowsAt};
 ghost use Rattle.waiting.specs.Bytes.{waitingOf};
-ghost use Rattle.asked.specs.Asked.{Checked, isFew, NeedRoom, AskedCalled};
+ghost use Rattle.asked.specs.Asked.{Checked, asksFew, NeedRoom, AskedCalled};
 
 // Room for one hash more than are few, or than a list may have, so that too many show.
 const FEW_SIZE: usize = HASH_SIZE * (FEW + 1);
@@ -45,9 +45,9 @@ const SEND_SIZE: usize = HASH_SIZE * HASHES_TO_SEND;
 const FEW_FIELD: usize = 2_048;
 
 // Whether the heads and what the message carries, joined to the hashes that were sent, are few, and a field of so many bytes is short.
-fn is_few(counts: Counts, before: usize, size: usize) -> bool
+fn asks_few(counts: PlanCounts, before: usize, size: usize) -> bool
     requires { ⌜ (counts .body .hashes ≤ sizes .hashesToSend) × (before ≤ sizes .sentHashes) ⌝ }
-    ensures { λ r. ⌜ r ≡ isFew counts before size ⌝ }
+    ensures { λ r. ⌜ r ≡ asksFew counts before size ⌝ }
 {
     let body = counts.body;
     if FEW < counts.heads {
@@ -70,7 +70,7 @@ fn plan_in(
     table: &[u8],
     index: &[u8],
     n: usize,
-    counts: Counts,
+    counts: PlanCounts,
     head_marks: &[bool],
     marks: &[bool],
     needs: &[bool],
@@ -95,7 +95,7 @@ fn plan_in(
     requires { ⌜ Indexed (now table) (now index) n
         × (sessionGood session (lentOf (now shared) (now «last_sent») (now «their_heads») (now «their_need») (now haves) (now bytes) (now sent)) ≡ true)
         × Setting bits probes
-        × Counted (rowsAt (now table) 0 n) n
+        × PlanCounted (rowsAt (now table) 0 n) n
         (carriedBody (rowsAt (now table) 0 n) session (now «their_heads») (now «their_need») (now haves) (now bytes) (now sent))
         (hashesAt (now «their_need») 0 (heardCount (session .«their_need»))) (now «head_marks») (now marks) (now needs) counts
         × NeedRoom asked (length (now «ready_need»))
@@ -203,7 +203,7 @@ fn plan_asked(
         &mut needs,
     );
     let size = bits_capacity(n as u64, bits) as usize;
-    if is_few(counts, session.sent_hashes, size) {
+    if asks_few(counts, session.sent_hashes, size) {
         let mut few_heads = [0u8; FEW_SIZE];
         let mut few_field = [0u8; FEW_FIELD];
         let mut few_list = [0u8; FEW_SIZE];
@@ -300,7 +300,7 @@ pub fn plan_checked(
         (lentOf (now shared) (now «last_sent») (now «their_heads») (now «their_need») (now haves) (now bytes) (now sent))
         × Setting bits probes ⌝ }
     ensures { λ r. ⌜ PlanCalled session (planFor bits probes (rowsAt (now (table .entry)) 0 n) (waitingOf (now (waiting .entry)))
-        (valueOf session
+        (stateOf session
         (lentOf (now (shared .entry)) (now («last_sent» .entry)) (now («their_heads» .entry)) (now («their_need» .entry)) (now (haves .entry))
         (now (bytes .entry)) (now (sent .entry)))))
         (buffersOf (now (heads .entry)) (now (need .entry)) (now (have .entry)) (now (list .entry)) (now («last_sent» .entry)) (now (sent .entry)))

@@ -19,7 +19,7 @@ use Rattle.receive.proofs.receive.receive_sync_message as of-receive-sync-messa
 use Rattle.planning.proofs.silence.is_silent as of-is-silent
 use Rattle.decide.proofs.put.puts_of as of-decide-puts-of
 use Rattle.receiving.proofs.flags.take_flags as of-take-flags
-use Rattle.taking.proofs.put.puts_of as of-taking-puts-of
+use Rattle.taking.proofs.put.receipt_puts as of-taking-receipt-puts
 use Rattle.drafting.proofs.check.check_receive as of-check-receive
 use Rattle.drafting.proofs.make.loads_changes as of-loads-changes
 use Rattle.drafting.proofs.make.load_failed as of-load-failed
@@ -53,7 +53,7 @@ pub record SessionsBind : Type 0 where
   -- the crate receiving
   pub take-flags : Binds of-take-flags.ended of-take-flags.Reads.Post
   -- the crate taking
-  pub taking-puts-of : Binds of-taking-puts-of.ended of-taking-puts-of.Reads.Post
+  pub taking-receipt-puts : Binds of-taking-receipt-puts.ended of-taking-receipt-puts.Reads.Post
   -- the crate drafting
   pub check-receive : Binds of-check-receive.ended of-check-receive.Reads.Post
   pub loads-changes : Binds of-loads-changes.ended of-loads-changes.Reads.Post

@@ -11,10 +11,10 @@ use Rattle.rules.specs.declared.refusal.Refusal.{Refusal}
 use Rattle.wire.specs.Item.{leftAt}
 use Rattle.wire.proofs.Item.{left-is}
 use Rattle.bloom.specs.Filter.{Filter, filterRules, filterBytes}
-use Rattle.bloom.specs.Ignored.{ignoredAt, countedAt, forgotten}
+use Rattle.bloom.specs.Ignored.{ignoredAt, countedAt, asParsed}
 use Rattle.bloom.specs.Read.{filterAt, afterFilter}
 use Rattle.bloom.specs.declared.have.FilterNumbers.{FilterNumbers}
-use Rattle.bloom.specs.declared.parse.Counted.the-variants.{Filter as Count, Refused as NotCounted}
+use Rattle.bloom.specs.declared.parse.CountedFilter.the-variants.{Filter as Count, Refused as NotCounted}
 use Rattle.bloom.specs.declared.parse.Parsed.{Parsed}
 use Rattle.bloom.specs.declared.parse.Parsed.the-variants.{Filter as Read, Refused}
 use Rattle.bloom.proofs.Filters.{filter-default, filter-inside, filter-written, bytes-length}
@@ -37,11 +37,11 @@ module _ (s : List ℕ) (at end : ℕ) where
 
   -- ---- the number forgotten
 
-  pub filter-forgotten : forgotten (countedAt s at end) ≡ filterAt s at end
-  unfolding countedAt forgotten afterFilter
+  pub filter-forgotten : asParsed (countedAt s at end) ≡ filterAt s at end
+  unfolding countedAt asParsed afterFilter
   filter-forgotten = go (filterAt s at end) refl
     where
-      go : (x : Parsed) → filterAt s at end ≡ x → forgotten (countedAt s at end) ≡ filterAt s at end
+      go : (x : Parsed) → filterAt s at end ≡ x → asParsed (countedAt s at end) ≡ filterAt s at end
       go (Read f next) e = rw e
       go (Refused r) e = rw e
 

@@ -1,7 +1,7 @@
 -- The filter rules taken apart and put together: the tests of `filterRules` as facts about the numbers, one law for each way to keep or to break
 -- them; and the size of a field, which has a bit for every entry and fits 64 bits.
 use Prim.Native.Nat.{ℕ, _*_, _≤_, _<_}
-use mathlib.Core.Bool.{Bool, true, false, _&&_, _||_}
+use mathlib.Core.Bool.{true, false, _&&_, _||_}
 use mathlib.Core.Path.{_≡_, refl, sym, _∙_}
 use native.Mathlib.Nat.{mul-le-mul, le-mul-of-pos-right}
 use native.Mathlib.Omega.{arith}

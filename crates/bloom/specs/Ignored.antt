@@ -4,8 +4,8 @@ use Prim.Native.Nat.{ℕ}
 use mathlib.Core.List.{List}
 use Rattle.wire.specs.Item.{leftAt}
 use Rattle.bloom.specs.Read.{filterAt, afterFilter}
-use Rattle.bloom.specs.declared.parse.Counted.{Counted}
-use Rattle.bloom.specs.declared.parse.Counted.the-variants.{Filter as Count, Refused as NotCounted}
+use Rattle.bloom.specs.declared.parse.CountedFilter.{CountedFilter}
+use Rattle.bloom.specs.declared.parse.CountedFilter.the-variants.{Filter as Count, Refused as NotCounted}
 use Rattle.bloom.specs.declared.parse.Parsed.{Parsed}
 use Rattle.bloom.specs.declared.parse.Parsed.the-variants.{Filter, Refused}
 
@@ -14,9 +14,9 @@ unfoldable pub ignoredAt : List ℕ → ℕ → ℕ → ℕ
 ignoredAt s at end = afterFilter (filterAt s at end) (λ r. 0) (λ f next. leftAt s next end)
 
 -- The filter at a place with its number; and the reading that it is without it.
-unfoldable pub countedAt : List ℕ → ℕ → ℕ → Counted
+unfoldable pub countedAt : List ℕ → ℕ → ℕ → CountedFilter
 countedAt s at end = afterFilter (filterAt s at end) NotCounted (λ f next. Count f next (ignoredAt s at end))
 
-unfoldable pub forgotten : Counted → Parsed
-forgotten (Count f next ignored) = Filter f next
-forgotten (NotCounted r) = Refused r
+unfoldable pub asParsed : CountedFilter → Parsed
+asParsed (Count f next ignored) = Filter f next
+asParsed (NotCounted r) = Refused r

@@ -127,7 +127,7 @@ pub fn parse(bytes: &[u8], at: usize, end: usize) -> Parsed
 }
 
 // A filter that was read, the place where it ended, and how many bytes of its part stand behind that.
-pub enum Counted {
+pub enum CountedFilter {
     Filter {
         filter: FilterNumbers,
         next: usize,
@@ -137,19 +137,19 @@ pub enum Counted {
 }
 
 // The filter at a place, and the number of bytes that are ignored: those behind its field.
-pub fn parse_counted(bytes: &[u8], at: usize, end: usize) -> Counted
+pub fn parse_counted(bytes: &[u8], at: usize, end: usize) -> CountedFilter
     ensures { λ r. ⌜ r ≡ countedAt (now (bytes .entry)) at end ⌝ }
 {
     let parsed = parse(bytes, at, end);
     match parsed {
         Parsed::Filter { filter, next } => {
             let ignored = left(bytes, next, end);
-            Counted::Filter {
+            CountedFilter::Filter {
                 filter,
                 next,
                 ignored,
             }
         }
-        Parsed::Refused(r) => Counted::Refused(r),
+        Parsed::Refused(r) => CountedFilter::Refused(r),
     }
 }

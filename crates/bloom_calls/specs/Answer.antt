@@ -2,13 +2,13 @@
 use Prim.Native.Nat.{ℕ}
 use mathlib.Core.List.{List, [], _∷_}
 use Rattle.rules.specs.Refusal.{numberOf, valueOf}
-use Rattle.bloom.specs.declared.parse.Counted.{Counted}
-use Rattle.bloom.specs.declared.parse.Counted.the-variants.{Filter, Refused as NoFilter}
+use Rattle.bloom.specs.declared.parse.CountedFilter.{CountedFilter}
+use Rattle.bloom.specs.declared.parse.CountedFilter.the-variants.{Filter, Refused as NoFilter}
 use Rattle.probe.specs.declared.contains.Contained.{Contained}
 use Rattle.probe.specs.declared.contains.Contained.the-variants.{Yes, No, Refused as NotTested}
 use Rattle.answers.specs.Answer.{refusalWords}
 
-abbrev pub filterWords : Counted → List ℕ
+abbrev pub filterWords : CountedFilter → List ℕ
 filterWords (Filter f next ignored) = 0 ∷ f .entries ∷ f .bits ∷ f .probes ∷ f .place ∷ f .size ∷ next ∷ ignored ∷ []
 filterWords (NoFilter r) = numberOf r ∷ valueOf r ∷ 0 ∷ 0 ∷ 0 ∷ 0 ∷ 0 ∷ 0 ∷ []
 

@@ -1,15 +1,15 @@
 // An answer as words.
 use answers::answer::refusal_words;
-use bloom::parse::Counted;
+use bloom::parse::CountedFilter;
 use probe::contains::Contained;
 ghost use mathlib.Core.Path.{_≡_};
 ghost use Rattle.bloom_calls.specs.Answer.{filterWords, containedWords};
 
-pub fn filter_words(f: Counted) -> [u64; 8]
+pub fn filter_words(f: CountedFilter) -> [u64; 8]
     ensures { λ w. ⌜ w ≡ filterWords f ⌝ }
 {
     match f {
-        Counted::Filter {
+        CountedFilter::Filter {
             filter,
             next,
             ignored,
@@ -23,7 +23,7 @@ pub fn filter_words(f: Counted) -> [u64; 8]
             next as u64,
             ignored as u64,
         ],
-        Counted::Refused(r) => [r.number(), r.value(), 0, 0, 0, 0, 0, 0],
+        CountedFilter::Refused(r) => [r.number(), r.value(), 0, 0, 0, 0, 0, 0],
     }
 }
 

@@ -6,7 +6,7 @@ use mathlib.Core.Path.{_≡_, refl, sym, ap, _∙_}
 use native.Mathlib.Nat.{zero-add}
 use lib.ListN.{length, take}
 use lib.Seq.{sets}
-use Rattle.planned.specs.Call.{Buffers, syncsOf, filterNumbers, answerOf, afterRoom, roomed}
+use Rattle.planned.specs.Call.{Buffers, syncsOf, filterNumbers, plannedAnswer, afterRoom, plannedRoomed}
 use Rattle.planned.specs.Call.{said, lastSentPut, sentPut, putInto}
 use Rattle.planned.specs.declared.answer.Room.{Room}
 use Rattle.planned.specs.declared.answer.Room.the-variants.{Enough, Short}
@@ -20,13 +20,13 @@ use Rattle.rules.proofs.Outputs.{sets-append, gathered-bytes}
 use Rattle.session.specs.Laid.{laidBytes}
 use Rattle.session.specs.Plan.{Planned}
 use Rattle.state.specs.declared.session.Session.{Session}
-use Rattle.decide.specs.Draft.{Parts, putsOf}
+use Rattle.decide.specs.Draft.{PlanParts, putsOf}
 use Rattle.decide.specs.Draft.{startPut, havePut, allPut}
 
 -- ---- bytes at the start of what stands ready
 
 -- What stands ready starts with what is said and with what the session's lists become.
-pub record Starts (q : Planned) (ready : Parts) : Type 0 where
+pub record Starts (q : Planned) (ready : PlanParts) : Type 0 where
   pub heads : hashesAt (ready .heads) 0 (length (said q .heads)) ≡ said q .heads
   pub need : hashesAt (ready .need) 0 (length (said q .need)) ≡ said q .need
   pub have : hashesBytes (hashesAt (ready .shared) 0 (syncsOf (said q .haves))) ++ take (filterNumbers (said q .haves) .size) (ready .field)
@@ -64,9 +64,9 @@ have-put buffer shared field bytes k n e =
     in
     rw (long, e) at all
 
-module _ (s : Session) (ready : Parts) (b : Buffers) where
-  pub put-as-said : (q : Planned) → Starts q ready → allPut (putsOf (answerOf s q)) ready b ≡ putInto q b
-  unfolding putsOf answerOf putInto hashesAt hashesBytes laidBytes
+module _ (s : Session) (ready : PlanParts) (b : Buffers) where
+  pub put-as-said : (q : Planned) → Starts q ready → allPut (putsOf (plannedAnswer s q)) ready b ≡ putInto q b
+  unfolding putsOf plannedAnswer putInto hashesAt hashesBytes laidBytes
   put-as-said (Planned.refused r) f = refl
   put-as-said Planned.silent f = refl
   put-as-said (Planned.reset p) f =
@@ -87,21 +87,21 @@ module _ (s : Session) (ready : Parts) (b : Buffers) where
       (start-put _ _ _ (f .sent))
 
 -- nothing is at every start
-pub refused-starts : (r : Refusal) (ready : Parts) → Starts (Planned.refused r) ready
+pub refused-starts : (r : Refusal) (ready : PlanParts) → Starts (Planned.refused r) ready
 unfolding hashesAt hashesBytes laidBytes
 refused-starts r ready = record { heads = refl; need = refl; have = refl; list = refl; lastSent = refl; sent = refl }
 
-pub silent-starts : (ready : Parts) → Starts Planned.silent ready
+pub silent-starts : (ready : PlanParts) → Starts Planned.silent ready
 unfolding hashesAt hashesBytes laidBytes
 silent-starts ready = record { heads = refl; need = refl; have = refl; list = refl; lastSent = refl; sent = refl }
 
-after-room : (x : Room) (q : Planned) (ready : Parts) → Starts q ready → Starts (afterRoom x q) ready
+after-room : (x : Room) (q : Planned) (ready : PlanParts) → Starts q ready → Starts (afterRoom x q) ready
 unfolding afterRoom
 after-room Enough q ready f = f
 after-room (Short wanted) q ready f = refused-starts _ ready
 
-pub roomed-starts : (r : Rooms) (q : Planned) (ready : Parts) → Starts q ready → Starts (roomed r q) ready
-unfolding roomed
+pub roomed-starts : (r : Rooms) (q : Planned) (ready : PlanParts) → Starts q ready → Starts (plannedRoomed r q) ready
+unfolding plannedRoomed
 roomed-starts r (Planned.refused e) ready f = f
 roomed-starts r Planned.silent ready f = f
 roomed-starts r (Planned.reset p) ready f = after-room _ _ ready f

@@ -112,7 +112,7 @@ decided s d bits probes r =
 -- ---- what is put
 
 -- What stands ready to be put.
-pub record Parts : Type 0 where
+pub record PlanParts : Type 0 where
   pub heads : List ℕ
   pub need : List ℕ
   pub shared : List ℕ
@@ -120,8 +120,8 @@ pub record Parts : Type 0 where
   pub list : List ℕ
   pub sent : List ℕ
 
-abbrev pub partsOf : List ℕ → List ℕ → List ℕ → List ℕ → List ℕ → List ℕ → Parts
-partsOf heads need shared field list sent =
+abbrev pub planParts : List ℕ → List ℕ → List ℕ → List ℕ → List ℕ → List ℕ → PlanParts
+planParts heads need shared field list sent =
     record { heads = heads; need = need; shared = shared; field = field; list = list; sent = sent }
 
 -- How many hashes and bytes are put into each buffer.
@@ -157,7 +157,7 @@ pub record HaveFits (n : ℕ) (shared : List ℕ) (size : ℕ) (field buffer : L
   pub bytes : size ≤ length field
   pub room : sizes .hash * n + size ≤ length buffer
 
-pub record Fits (p : Puts) (ready : Parts) (b : Buffers) : Type 0 where
+pub record Fits (p : Puts) (ready : PlanParts) (b : Buffers) : Type 0 where
   pub heads : HashesFit (p .heads) (ready .heads) (b .heads)
   pub need : HashesFit (p .need) (ready .need) (b .need)
   pub have : HaveFits (p .syncs) (ready .shared) (p .field) (ready .field) (b .have)
@@ -173,7 +173,7 @@ abbrev pub havePut : ℕ → List ℕ → ℕ → List ℕ → List ℕ → List
 havePut n shared size field buffer = sets (startPut n shared buffer) (sizes .hash * n) (take size field)
 
 -- All of it put.
-abbrev pub allPut : Puts → Parts → Buffers → Buffers
+abbrev pub allPut : Puts → PlanParts → Buffers → Buffers
 allPut p ready b =
     record {
       heads = startPut (p .heads) (ready .heads) (b .heads);

@@ -5,7 +5,7 @@ use rules::put::copy_into;
 use rules::sizes::HASH_SIZE;
 ghost use mathlib.Core.Path.{_≡_};
 ghost use Rattle.planned.specs.Call.{buffersOf};
-ghost use Rattle.decide.specs.Draft.{partsOf, putsFor, putsOf, HashesFit, HaveFits, Fits, startPut, havePut, allPut};
+ghost use Rattle.decide.specs.Draft.{planParts, putsFor, putsOf, HashesFit, HaveFits, Fits, startPut, havePut, allPut};
 
 // How many hashes go into each list, and how many bytes the field has.
 pub struct Puts {
@@ -89,10 +89,10 @@ pub fn put(
     last_sent: &mut [u8],
     sent: &mut [u8],
 )
-    requires { ⌜ Fits p (partsOf (now «ready_heads») (now «ready_need») (now shared) (now field) (now «ready_list») (now «ready_sent»))
+    requires { ⌜ Fits p (planParts (now «ready_heads») (now «ready_need») (now shared) (now field) (now «ready_list») (now «ready_sent»))
         (buffersOf (now heads) (now need) (now have) (now list) (now «last_sent») (now sent)) ⌝ }
     ensures { λ _. ⌜ buffersOf (now (heads .exit)) (now (need .exit)) (now (have .exit)) (now (list .exit)) (now («last_sent» .exit)) (now (sent .exit))
-        ≡ allPut p (partsOf (now («ready_heads» .entry)) (now («ready_need» .entry)) (now (shared .entry)) (now (field .entry))
+        ≡ allPut p (planParts (now («ready_heads» .entry)) (now («ready_need» .entry)) (now (shared .entry)) (now (field .entry))
         (now («ready_list» .entry)) (now («ready_sent» .entry)))
         (buffersOf (now (heads .entry)) (now (need .entry)) (now (have .entry)) (now (list .entry)) (now («last_sent» .entry)) (now (sent .entry))) ⌝ }
 {

@@ -15,7 +15,7 @@ use Rattle.message.specs.declared.flags.Section.the-variants.{Absent, Present}
 use Rattle.message.proofs.flags.Section.{enum}
 use Rattle.wire.specs.Item.{leftAt}
 use Rattle.wire.proofs.Item.{left-is}
-use Rattle.decode.specs.Ignored.{ignoredOf, behindOf, countedOf, forgotten}
+use Rattle.decode.specs.Ignored.{ignoredOf, behindOf, countedOf, asDecoded}
 use Rattle.decode.specs.Read.{Reading, read, refused, messageAt, decodedOf}
 use Rattle.decode.specs.declared.parse.Places.{Places}
 use Rattle.decode.proofs.Messages.{message-words, section-apart}
@@ -23,8 +23,8 @@ use Rattle.decode.proofs.ReadLaws.{message-behind}
 
 -- ---- the numbers forgotten
 
-pub message-forgotten : (s : List ℕ) (x : Reading) → forgotten (countedOf s x) ≡ decodedOf x
-unfolding countedOf forgotten decodedOf
+pub message-forgotten : (s : List ℕ) (x : Reading) → asDecoded (countedOf s x) ≡ decodedOf x
+unfolding countedOf asDecoded decodedOf
 message-forgotten s (read p haves chunks) = refl
 message-forgotten s (refused r) = refl
 

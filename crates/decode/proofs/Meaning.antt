@@ -1,6 +1,6 @@
 -- A message that was read means what it says: each part stands from its place up to the next, and these parts are all the bytes.
-use Prim.Native.Nat.{ℕ, _+_, _≤_, _<_}
-use mathlib.Core.List.{List, [], _∷_, _++_}
+use Prim.Native.Nat.{ℕ, _+_, _<_}
+use mathlib.Core.List.{List, _∷_, _++_}
 use mathlib.Core.Path.{_≡_, refl, sym, _∙_, ap, ap₂, subst}
 use native.Mathlib.Omega.{arith}
 use lib.ListN.{length, getD}
@@ -21,7 +21,7 @@ use Rattle.numbers.specs.Number.{shortest}
 use Rattle.wire.proofs.Item.{prefixed-inside, written-prefixed, hash-list-inside, written-hash-list}
 use Rattle.numbers.proofs.Number.{slice-past, slice-next}
 use Rattle.decode.specs.Means.{SectionMeans, MessageMeans}
-use Rattle.decode.specs.Read.{read, sectionAt, messageAt, messageOf}
+use Rattle.decode.specs.Read.{read, sectionAt, messageAt, messageIn}
 use Rattle.decode.specs.declared.parse.Flagged.the-variants.{Section as Sectioned}
 use Rattle.decode.specs.declared.parse.Places.{Places}
 use Rattle.decode.proofs.Messages.{opening-behind, section-apart}
@@ -51,8 +51,8 @@ first-apart : (s : List ℕ) → 0 < length s → s ≡ getD s 0 0 ∷ slice 1 (
 first-apart s h = sym (take-length s) ∙ slice-next s 0 (length s) h (omega arith)
 
 pub message-means : (s : List ℕ) → Bytes s → (p : Places) (haves chunks : List ℕ) → messageAt s ≡ read p haves chunks
-    → MessageMeans s (messageOf s p haves chunks)
-unfolding messageOf
+    → MessageMeans s (messageIn s p haves chunks)
+unfolding messageIn
 message-means s all p haves chunks e =
     let b = message-behind s p haves chunks e in
     let o = opening-behind s (p .version) (p .heads) (b .atNeed) (b .opening) in

@@ -34,7 +34,7 @@ use Rattle.wire.proofs.Item.{prefixed-inside, hash-list-inside}
 use Rattle.items.specs.Items.{chunkWords}
 use Rattle.decode.specs.Read.{read, refused, headsAt, openingAt, sectionAt, messageAt}
 use Rattle.decode.specs.Ignored.{DecodedInto}
-use Rattle.decode.specs.declared.decode.Counted.{Counted}
+use Rattle.decode.specs.declared.decode.CountedMessage.{CountedMessage}
 use Rattle.decode.specs.declared.opening.Opening.the-variants.{Heads, Refused as NotOpened}
 use Rattle.decode.specs.declared.parse.Flagged.the-variants.{Section as Sectioned, Refused as NoSection}
 use Rattle.decode.specs.declared.parse.Places.{Places}
@@ -57,7 +57,7 @@ use Rattle.decode.proofs.ReadLaws.{
 
 -- ---- one result
 
-pub decoded-once : (s haves₀ haves₁ haves₂ chunks₀ chunks₁ chunks₂ ignored₀ ignored₁ ignored₂ : List ℕ) (r₁ r₂ : Counted)
+pub decoded-once : (s haves₀ haves₁ haves₂ chunks₀ chunks₁ chunks₂ ignored₀ ignored₁ ignored₂ : List ℕ) (r₁ r₂ : CountedMessage)
     → DecodedInto s haves₀ haves₁ chunks₀ chunks₁ ignored₀ ignored₁ r₁
     → DecodedInto s haves₀ haves₂ chunks₀ chunks₂ ignored₀ ignored₂ r₂
     → (r₁ ≡ r₂) × (haves₁ ≡ haves₂) × (chunks₁ ≡ chunks₂) × (ignored₁ ≡ ignored₂)

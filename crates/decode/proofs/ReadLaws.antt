@@ -59,8 +59,8 @@ use Rattle.decode.specs.Read.{
   chunksInto,
 }
 use Rattle.decode.specs.Ignored.{ignoredOf, behindOf, countedOf, ignoredInto, DecodedInto}
-use Rattle.decode.specs.declared.decode.Counted.{Counted}
-use Rattle.decode.specs.declared.decode.Counted.the-variants.{Message as Counts, Refused as NotCounted}
+use Rattle.decode.specs.declared.decode.CountedMessage.{CountedMessage}
+use Rattle.decode.specs.declared.decode.CountedMessage.the-variants.{Message as Counts, Refused as NotCounted}
 use Rattle.decode.specs.declared.opening.Opening.{Opening}
 use Rattle.decode.specs.declared.opening.Opening.the-variants.{Heads, Refused as NotOpened}
 use Rattle.decode.specs.declared.parse.Decoded.the-variants.{Message as Placed, Refused}
@@ -301,7 +301,7 @@ not-placed (read q haves chunks) r e = absurd (let z : _≡_ {A = ℕ} 0 1 = cc 
 not-placed (refused q) r e = cc
 
 -- 7 with the words wanted
-abbrev short-of : ℕ → Counted
+abbrev short-of : ℕ → CountedMessage
 short-of n = NotCounted (NoRoom n)
 
 pub decode-refused : (s haves₀ chunks₀ ignored₀ : List ℕ) (r : Refusal) → decodedOf (messageAt s) ≡ Refused r

@@ -1,6 +1,6 @@
 -- Reading what was written gives the message back, and ignores nothing. 01, Wire: "Reading what was written gives the message back if its filters have n at least 1 or
 -- are the default and its flags are below 80." Part after part is read where it was written.
-use Prim.Native.Nat.{ℕ, _+_, _-_, _%_, _≤_, _<_}
+use Prim.Native.Nat.{ℕ, _+_, _-_, _%_, _≤_}
 use mathlib.Core.List.{List, [], _∷_, _++_}
 use mathlib.Core.Path.{_≡_, refl, sym, _∙_, ap}
 use native.Mathlib.Omega.{arith}
@@ -27,7 +27,7 @@ use Rattle.items.specs.Ignored.{total}
 use Rattle.items.specs.Items.{chunksOf}
 use Rattle.items.proofs.RoundTrip.{onward, haves-written, chunks-written}
 use Rattle.decode.specs.Ignored.{ignoredOf, behindOf}
-use Rattle.decode.specs.Read.{read, headsAt, openingAt, sectionAt, messageAt, messageOf}
+use Rattle.decode.specs.Read.{read, headsAt, openingAt, sectionAt, messageAt, messageIn}
 use Rattle.decode.specs.declared.parse.Flagged.the-variants.{Section as Sectioned}
 use Rattle.decode.specs.declared.parse.Places.{Places}
 use Rattle.decode.proofs.ReadLaws.{MessageBehind, behind-read, heads-read, opening-first, opening-second, section-none, section-read}
@@ -40,7 +40,7 @@ pub record ReadBack (s : List ℕ) (m : Message) : Type 0 where
   pub haves : List ℕ
   pub chunks : List ℕ
   pub is : messageAt s ≡ read places haves chunks
-  pub says : messageOf s places haves chunks ≡ m
+  pub says : messageIn s places haves chunks ≡ m
   -- 02, M-103: numbers of ignored bytes are zero after writing and reading
   pub ignored : total (ignoredOf s places) ≡ 0
   pub behind : behindOf s (places .flags) (places .next) ≡ 0
@@ -95,7 +95,7 @@ same-message : (v : MessageVersion) (f : Section) (a₁ a₂ b₁ b₂ : List �
 same-message v f a₁ a₂ b₁ b₂ c₁ c₂ d₁ d₂ p q r t = rw (p, q, r, t)
 
 pub message-there-and-back : (s : List ℕ) (m : Message) → s ≡ messageBytes m → SoundMessage m → SaidMessage m → ReadBack s m
-unfolding messageBytes messageOf ignoredOf
+unfolding messageBytes messageIn ignoredOf
 message-there-and-back s m e sound said =
     let b5 : List ℕ = sectionBytes (m .flags) in
     let b4 : List ℕ = counted prefixedBytes (m .chunks) ++ b5 in

@@ -10,8 +10,8 @@ use Rattle.message.specs.declared.flags.Section.{Section}
 use Rattle.message.specs.declared.flags.Section.the-variants.{Absent, Present}
 use Rattle.wire.specs.Item.{leftAt}
 use Rattle.decode.specs.Read.{Reading, read, refused, readWith, havesInto, chunksInto}
-use Rattle.decode.specs.declared.decode.Counted.{Counted}
-use Rattle.decode.specs.declared.decode.Counted.the-variants.{Message, Refused}
+use Rattle.decode.specs.declared.decode.CountedMessage.{CountedMessage}
+use Rattle.decode.specs.declared.decode.CountedMessage.the-variants.{Message, Refused}
 use Rattle.decode.specs.declared.parse.Decoded.{Decoded}
 use Rattle.decode.specs.declared.parse.Decoded.the-variants.{Message as Placed, Refused as NotPlaced}
 use Rattle.decode.specs.declared.parse.Places.{Places}
@@ -26,13 +26,13 @@ behindOf s Absent next = 0
 behindOf s (Present f) next = leftAt s next (length s)
 
 -- What was read with its two numbers; and what it is without them.
-unfoldable pub countedOf : List ℕ → Reading → Counted
+unfoldable pub countedOf : List ℕ → Reading → CountedMessage
 countedOf s (read p haves chunks) = Message p (total (ignoredOf s p)) (behindOf s (p .flags) (p .next))
 countedOf s (refused r) = Refused r
 
-unfoldable pub forgotten : Counted → Decoded
-forgotten (Message p ignored behind) = Placed p
-forgotten (Refused r) = NotPlaced r
+unfoldable pub asDecoded : CountedMessage → Decoded
+asDecoded (Message p ignored behind) = Placed p
+asDecoded (Refused r) = NotPlaced r
 
 -- The list of the haves' numbers at exit: they stand at its start, and the rest is as it was; after a refusal all of it.
 unfoldable pub ignoredInto : List ℕ → Reading → List ℕ → List ℕ
@@ -40,7 +40,7 @@ ignoredInto s (read p haves chunks) before = sets before 0 (ignoredOf s p)
 ignoredInto s (refused r) before = before
 
 -- A message read into lent lists: the answer, and what the call leaves in each.
-pub record DecodedInto (s haves₀ haves₁ chunks₀ chunks₁ ignored₀ ignored₁ : List ℕ) (r : Counted) : Type 0 where
+pub record DecodedInto (s haves₀ haves₁ chunks₀ chunks₁ ignored₀ ignored₁ : List ℕ) (r : CountedMessage) : Type 0 where
   pub answer : r ≡ countedOf s (readWith s haves₀ chunks₀)
   pub haves : haves₁ ≡ havesInto (readWith s haves₀ chunks₀) haves₀
   pub chunks : chunks₁ ≡ chunksInto (readWith s haves₀ chunks₀) chunks₀

@@ -123,8 +123,8 @@ abbrev pub readWith : List ℕ → List ℕ → List ℕ → Reading
 readWith s haves chunks = roomFor (messageAt s) (length haves) (length chunks)
 
 -- The message as a value, from its places and words.
-unfoldable pub messageOf : List ℕ → Places → List ℕ → List ℕ → Message
-messageOf s p haves chunks =
+unfoldable pub messageIn : List ℕ → Places → List ℕ → List ℕ → Message
+messageIn s p haves chunks =
     record {
       version = p .version;
       heads = hashesAt s (p .heads .start) (p .heads .count);

@@ -14,7 +14,7 @@ ghost use mathlib.Core.Path.{_≡_};
 ghost use Rattle.decode.specs.Ignored.{behindOf, DecodedInto};
 
 // A message that was read, and how many of its bytes were ignored: behind the fields of its filters, and after its flags section.
-pub enum Counted {
+pub enum CountedMessage {
     Message {
         places: Places,
         ignored: usize,
@@ -40,7 +40,7 @@ pub fn decode(
     haves: &mut [u64],
     chunks: &mut [u64],
     ignored: &mut [u64; HAVES],
-) -> Counted
+) -> CountedMessage
     ensures { λ r. ⌜ DecodedInto (now (bytes .entry)) (now (haves .entry)) (now (haves .exit)) (now (chunks .entry)) (now (chunks .exit))
         (now (ignored .entry)) (now (ignored .exit)) r ⌝ }
 {
@@ -51,22 +51,22 @@ pub fn decode(
             let chunk_run = places.chunks;
             let have_words = HAVE_WORDS * have_run.count;
             if haves.len() < have_words {
-                return Counted::Refused(Refusal::NoRoom(have_words));
+                return CountedMessage::Refused(Refusal::NoRoom(have_words));
             }
             let chunk_words = CHUNK_WORDS * chunk_run.count;
             if chunks.len() < chunk_words {
-                return Counted::Refused(Refusal::NoRoom(chunk_words));
+                return CountedMessage::Refused(Refusal::NoRoom(chunk_words));
             }
             let sum = put_counted(bytes, have_run.start, have_run.count, haves, ignored);
             put_chunks(bytes, chunk_run.start, chunk_run.count, chunks);
             let flags = places.flags;
             let behind = behind_section(bytes, flags, places.next);
-            Counted::Message {
+            CountedMessage::Message {
                 places,
                 ignored: sum,
                 behind,
             }
         }
-        Decoded::Refused(r) => Counted::Refused(r),
+        Decoded::Refused(r) => CountedMessage::Refused(r),
     }
 }

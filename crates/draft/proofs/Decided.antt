@@ -10,41 +10,40 @@ use lib.ListN.{length, length-replicate}
 use Rattle.bloom.specs.Filter.{fieldSize}
 use Rattle.bloom.specs.Have.{numbersOf}
 use Rattle.bloom.specs.declared.have.FilterNumbers.{FilterNumbers}
+use Rattle.decide.specs.Draft.{PlanParts, headsCount, countIf, filterIf, drafted, resetStated, ifRoom, saysWith, decided}
+use Rattle.decide.specs.declared.decide.Draft.{Draft}
 use Rattle.graph.specs.Graph.{heads}
 use Rattle.message.specs.declared.flags.MessageFlags.{MessageFlags}
 use Rattle.message.specs.declared.version.MessageVersion.{MessageVersion}
-use Rattle.missing.specs.Ask.{Found}
-use Rattle.probe.specs.Build.{filterOf}
+use Rattle.missing.specs.Ask.{FoundUpTo}
+use Rattle.order.specs.Order.{member, every}
+use Rattle.planned.specs.Call.{syncsOf, filterNumbers, statedOf, plannedAnswer, messageRoom, sessionRoom, afterRoom, plannedRoomed}
+use Rattle.planned.specs.declared.answer.Planned.the-variants.{Refused, Reset}
+use Rattle.planned.specs.declared.answer.Planned.{Planned as Answer}
+use Rattle.planned.specs.declared.answer.Room.the-variants.{Enough, Short}
+use Rattle.planned.specs.declared.answer.Room.{Room}
+use Rattle.planned.specs.declared.answer.Rooms.{Rooms}
+use Rattle.planned.specs.declared.answer.Stated.{Stated}
+use Rattle.planning.specs.Made.{FieldMade}
 use Rattle.probe.proofs.FieldLaws.{length-add-hashes}
-use Rattle.rules.specs.Hash.{hashesAt}
-use Rattle.rules.specs.Order.{member, every}
+use Rattle.probe.specs.Build.{filterOf}
+use Rattle.rules.proofs.Cases.{split}
+use Rattle.rules.proofs.Hash.{length-hashes-at}
 use Rattle.rules.specs.Output.{Gathered}
 use Rattle.rules.specs.Sizes.{sizes}
 use Rattle.rules.specs.declared.refusal.Refusal.the-variants.{PastSize}
-use Rattle.rules.proofs.Cases.{split}
-use Rattle.rules.proofs.Hash.{length-hashes-at}
 use Rattle.session.specs.Plan.{Planned, heard, needOf, haveOf, havesFor, sentAfter, headsFor, planOf, planned, resetOf, planSent, planSilence, planReset, plan}
-use Rattle.state.specs.Value.{Lent, valueOf}
+use Rattle.state.specs.Value.{Lent, stateOf}
 use Rattle.state.specs.declared.session.Session.{Session}
 use Rattle.tables.specs.Table.{Row}
 use Rattle.waiting.specs.Waiting.{Waiting}
-use Rattle.planning.specs.Made.{FieldMade}
-use Rattle.planned.specs.Call.{syncsOf, filterNumbers, statedOf, answerOf, messageRoom, sessionRoom, afterRoom, roomed}
-use Rattle.decide.specs.Draft.{Parts, headsCount, countIf, filterIf, drafted, resetStated, ifRoom, saysWith, decided}
-use Rattle.planned.specs.declared.answer.Planned.{Planned as Answer}
-use Rattle.planned.specs.declared.answer.Planned.the-variants.{Refused, Reset}
-use Rattle.planned.specs.declared.answer.Room.{Room}
-use Rattle.planned.specs.declared.answer.Room.the-variants.{Enough, Short}
-use Rattle.planned.specs.declared.answer.Rooms.{Rooms}
-use Rattle.planned.specs.declared.answer.Stated.{Stated}
-use Rattle.decide.specs.declared.decide.Draft.{Draft}
 use Rattle.draft.specs.Make.{DraftMade}
 
 -- ---- counts of parts
 
 -- room is asked before the answer is counted, or after
-room-answers : (s : Session) (x : Room) (q : Planned) → ifRoom x (answerOf s q) ≡ answerOf s (afterRoom x q)
-unfolding ifRoom answerOf afterRoom
+room-answers : (s : Session) (x : Room) (q : Planned) → ifRoom x (plannedAnswer s q) ≡ plannedAnswer s (afterRoom x q)
+unfolding ifRoom plannedAnswer afterRoom
 room-answers s Enough q = refl
 room-answers s (Short wanted) q = refl
 
@@ -64,7 +63,7 @@ module _ (bits probes : ℕ) (hs field : List ℕ) (entries : ℕ) (f : FieldMad
 
 -- ---- lists with room for one more than there may be
 
-module _ {l after : List ℕ} {most count : ℕ} (f : Found l (most + 1) after count) where
+module _ {l after : List ℕ} {most count : ℕ} (f : FoundUpTo l (most + 1) after count) where
   pub found-many : most < count → most < length l
   found-many h = omega (arith, f .full (omega (arith, f .within)))
 
@@ -95,17 +94,17 @@ counted-same b h n v s f k = rw (b, h, n, v, s, f, k)
 numbers-same : {bits probes e e′ p p′ z z′ : ℕ} → e ≡ e′ → p ≡ p′ → z ≡ z′ → numbersOf e bits probes p z ≡ numbersOf e′ bits probes p′ z′
 numbers-same e p z = rw (e, p, z)
 
-module _ (bits probes : ℕ) (t : List Row) (w : List Waiting) (s : Session) (l : Lent) (ready : Parts) (d : Draft)
-    (asked : ℕ) (m : DraftMade bits probes t (valueOf s l) asked ready d)
-    (f : Found (needOf t w (s .«read_only») (heard (valueOf s l .theirHeads))) (sizes .hashes + 1) (ready .need) (d .need)) where
+module _ (bits probes : ℕ) (t : List Row) (w : List Waiting) (s : Session) (l : Lent) (ready : PlanParts) (d : Draft)
+    (asked : ℕ) (m : DraftMade bits probes t (stateOf s l) asked ready d)
+    (f : FoundUpTo (needOf t w (s .«read_only») (heard (stateOf s l .theirHeads))) (sizes .hashes + 1) (ready .need) (d .need)) where
   abbrev theirs : List ℕ
-  theirs = heard (valueOf s l .theirHeads)
+  theirs = heard (stateOf s l .theirHeads)
 
   abbrev needs : List ℕ
   needs = needOf t w (s .«read_only») theirs
 
   abbrev shared : List ℕ
-  shared = valueOf s l .sharedHeads
+  shared = stateOf s l .sharedHeads
 
   module _ (few : d .need ≤ sizes .hashes) where
     gives-every : every (λ h. member h theirs) needs ≡ d .gives
@@ -132,7 +131,7 @@ module _ (bits probes : ℕ) (t : List Row) (w : List Waiting) (s : Session) (l 
     unfolding haveOf
     given-syncs = length-hashes-at (l .shared) 0 (s .«shared_heads»)
 
-    pub stated-drafted : statedOf (planOf bits probes t w (valueOf s l)) ≡ drafted s d bits probes
+    pub stated-drafted : statedOf (planOf bits probes t w (stateOf s l)) ≡ drafted s d bits probes
     unfolding planOf countIf filterIf
     stated-drafted =
         split (d .gives)
@@ -147,35 +146,35 @@ module _ (bits probes : ℕ) (t : List Row) (w : List Waiting) (s : Session) (l 
 
   module _ (r : Rooms) where
     abbrev answer : Planned → Answer
-    answer q = answerOf s (roomed r q)
+    answer q = plannedAnswer s (plannedRoomed r q)
 
     says-decided : d .need ≤ sizes .hashes → d .sent ≤ sizes .sentHashes
-        → saysWith s d bits probes r ≡ answer (Planned.says (planOf bits probes t w (valueOf s l)) (planned t (valueOf s l)))
-    unfolding saysWith roomed planned sentAfter answerOf
+        → saysWith s d bits probes r ≡ answer (Planned.says (planOf bits probes t w (stateOf s l)) (planned t (stateOf s l)))
+    unfolding saysWith plannedRoomed planned sentAfter plannedAnswer
     says-decided few some =
-        let p = planOf bits probes t w (valueOf s l) in
-        let q : Planned = Planned.says p (planned t (valueOf s l)) in
-        let x : Room = sessionRoom (length (heads t)) (length (sentAfter t (valueOf s l))) r in
+        let p = planOf bits probes t w (stateOf s l) in
+        let q : Planned = Planned.says p (planned t (stateOf s l)) in
+        let x : Room = sessionRoom (length (heads t)) (length (sentAfter t (stateOf s l))) r in
         rw (sym (stated-drafted few), m .heads .many, m .sent .all some .many)
         (ap (λ (a : Answer). ifRoom (messageRoom (statedOf p) r) a) (room-answers s x q) ∙ room-answers s (messageRoom (statedOf p) r) (afterRoom x q))
 
     sent-decided : d .need ≤ sizes .hashes
-        → cond (ltb (sizes .sentHashes) (d .sent)) (Refused (PastSize 0)) (saysWith s d bits probes r) ≡ answer (planSent bits probes t w (valueOf s l))
-    unfolding planSent sentAfter roomed answerOf
+        → cond (ltb (sizes .sentHashes) (d .sent)) (Refused (PastSize 0)) (saysWith s d bits probes r) ≡ answer (planSent bits probes t w (stateOf s l))
+    unfolding planSent sentAfter plannedRoomed plannedAnswer
     sent-decided few =
         split (ltb (sizes .sentHashes) (d .sent))
         (λ e. rw (e, lt-ltb _ _ (m .sent .many (ltb-true _ _ e))))
         (λ e.
         let some : d .sent ≤ sizes .sentHashes = ltb-false _ _ e in
-        let room : length (sentAfter t (valueOf s l)) ≤ sizes .sentHashes = omega (arith, m .sent .all some .many) in
+        let room : length (sentAfter t (stateOf s l)) ≤ sizes .sentHashes = omega (arith, m .sent .all some .many) in
         rw (e, le-ltb _ _ room) (says-decided few some))
 
     reset-decided : ifRoom (messageRoom (resetStated (d .heads)) r) (Reset (resetStated (d .heads))) ≡ answer (Planned.reset (resetOf t))
-    unfolding roomed resetOf answerOf
+    unfolding plannedRoomed resetOf plannedAnswer
     reset-decided = rw (m .heads .many) (room-answers s (messageRoom (resetStated (length (heads t))) r) (Planned.reset (resetOf t)))
 
-    pub plan-decided : decided s d bits probes r ≡ answer (plan bits probes t w (valueOf s l))
-    unfolding decided plan planReset planSilence roomed answerOf
+    pub plan-decided : decided s d bits probes r ≡ answer (plan bits probes t w (stateOf s l))
+    unfolding decided plan planReset planSilence plannedRoomed plannedAnswer
     plan-decided =
         split (ltb (sizes .hashes) (d .need))
         (λ e. rw (e, lt-ltb _ _ (found-many {most = sizes .hashes} f (ltb-true _ _ e))))
@@ -183,4 +182,4 @@ module _ (bits probes : ℕ) (t : List Row) (w : List Waiting) (s : Session) (l 
         let few : d .need ≤ sizes .hashes = ltb-false _ _ e in
         let some : length needs ≤ sizes .hashes = omega (arith, found-all {most = sizes .hashes} f few .many) in
         rw (e, le-ltb _ _ some, sym (m .unknown), sym (m .silent))
-        (both-ways (λ q. answerOf s (roomed r q)) (d .unknown) reset-decided (both-ways (λ q. answerOf s (roomed r q)) (d .silent) refl (sent-decided few))))
+        (both-ways (λ q. plannedAnswer s (plannedRoomed r q)) (d .unknown) reset-decided (both-ways (λ q. plannedAnswer s (plannedRoomed r q)) (d .silent) refl (sent-decided few))))

@@ -6,12 +6,12 @@ use native.Mathlib.Omega.{arith}
 use borrow.Author.Tests.{ltb-false}
 use lib.Dec.{ltb}
 use Rattle.bloom.specs.Filter.{fieldSize}
-use Rattle.decide.specs.Draft.{Parts, SmallDraft, headsCount, countIf, filterIf, drafted, resetStated, ifRoom, saysWith, decided, noPuts, putsOf, Fits}
+use Rattle.decide.specs.Draft.{PlanParts, SmallDraft, headsCount, countIf, filterIf, drafted, resetStated, ifRoom, saysWith, decided, noPuts, putsOf, Fits}
 use Rattle.decide.specs.Draft.{allPut}
 use Rattle.decide.specs.declared.decide.Draft.{Draft}
 use Rattle.decide.specs.declared.put.Puts.{Puts}
 use Rattle.planned.specs.Call.{Buffers, plannedCounts, messageRoom, sessionRoom}
-use Rattle.planned.specs.Call.{said, roomsIn}
+use Rattle.planned.specs.Call.{said, plannedRooms}
 use Rattle.planned.specs.declared.answer.Planned.{Planned as Answer}
 use Rattle.planned.specs.declared.answer.Planned.the-variants.{Reset, Says}
 use Rattle.planned.specs.declared.answer.Room.{Room}
@@ -67,7 +67,7 @@ session-fits lastSent sent r e =
     let b = not-short _ _ _ (a .1) in
     (a .0, b .0)
 
-module _ (s : Session) (d : Draft) (bits probes : ℕ) (ready : Parts) (b : Buffers) where
+module _ (s : Session) (d : Draft) (bits probes : ℕ) (ready : PlanParts) (b : Buffers) where
   none-fit : Fits noPuts ready b
   none-fit =
       record {
@@ -89,12 +89,12 @@ module _ (s : Session) (d : Draft) (bits probes : ℕ) (ready : Parts) (b : Buff
   by-test false x y f g = g
 
   module _ (m : SmallDraft s d bits) (long : Long s d bits ready) where
-    reset-fits : Fits (putsOf (ifRoom (messageRoom (resetStated (d .heads)) (roomsIn b)) (Reset (resetStated (d .heads))))) ready b
+    reset-fits : Fits (putsOf (ifRoom (messageRoom (resetStated (d .heads)) (plannedRooms b)) (Reset (resetStated (d .heads))))) ready b
     unfolding putsOf
     reset-fits =
-        in-room (messageRoom (resetStated (d .heads)) (roomsIn b)) (Reset (resetStated (d .heads)))
+        in-room (messageRoom (resetStated (d .heads)) (plannedRooms b)) (Reset (resetStated (d .heads)))
         (λ e.
-        let f = message-fits (resetStated (d .heads)) (roomsIn b) e in
+        let f = message-fits (resetStated (d .heads)) (plannedRooms b) e in
         record {
           heads = record { there = long .heads; room = f .heads };
           need = record { there = omega arith; room = omega arith };
@@ -104,17 +104,17 @@ module _ (s : Session) (d : Draft) (bits probes : ℕ) (ready : Parts) (b : Buff
           sent = record { there = omega arith; room = omega arith };
         })
 
-    says-fits : Fits (putsOf (saysWith s d bits probes (roomsIn b))) ready b
+    says-fits : Fits (putsOf (saysWith s d bits probes (plannedRooms b))) ready b
     unfolding saysWith putsOf
     says-fits =
         let p : Stated = drafted s d bits probes in
         let said : Answer = Says p (plannedCounts s (d .heads) (d .sent)) in
-        in-room (messageRoom p (roomsIn b)) (ifRoom (sessionRoom (d .heads) (d .sent) (roomsIn b)) said)
+        in-room (messageRoom p (plannedRooms b)) (ifRoom (sessionRoom (d .heads) (d .sent) (plannedRooms b)) said)
         (λ e.
-        in-room (sessionRoom (d .heads) (d .sent) (roomsIn b)) said
+        in-room (sessionRoom (d .heads) (d .sent) (plannedRooms b)) said
         (λ g.
-        let f = message-fits p (roomsIn b) e in
-        let h = session-fits (d .heads) (d .sent) (roomsIn b) g in
+        let f = message-fits p (plannedRooms b) e in
+        let h = session-fits (d .heads) (d .sent) (plannedRooms b) g in
         record {
           heads = record { there = heads-there (s .«needs_reset») (s .«supports_reset») _ _ (long .heads); room = f .heads };
           need = record { there = long .need; room = f .need };
@@ -124,7 +124,7 @@ module _ (s : Session) (d : Draft) (bits probes : ℕ) (ready : Parts) (b : Buff
           sent = record { there = long .sent; room = h .1 };
         }))
 
-    pub decided-fits : Fits (putsOf (decided s d bits probes (roomsIn b))) ready b
+    pub decided-fits : Fits (putsOf (decided s d bits probes (plannedRooms b))) ready b
     unfolding decided putsOf
     decided-fits =
         by-test (ltb (sizes .hashes) (d .need)) _ _ none-fit
@@ -132,11 +132,11 @@ module _ (s : Session) (d : Draft) (bits probes : ℕ) (ready : Parts) (b : Buff
         (by-test (d .silent) _ _ none-fit (by-test (ltb (sizes .sentHashes) (d .sent)) _ _ none-fit says-fits)))
 
 -- What was decided and is counted fits.
-pub puts-fit : (s : Session) (d : Draft) (bits probes : ℕ) (ready : Parts) (b : Buffers) (a : Answer) (p : Puts) → SmallDraft s d bits → Long s d bits ready
-    → a ≡ decided s d bits probes (roomsIn b) → p ≡ putsOf a → Fits p ready b
+pub puts-fit : (s : Session) (d : Draft) (bits probes : ℕ) (ready : PlanParts) (b : Buffers) (a : Answer) (p : Puts) → SmallDraft s d bits → Long s d bits ready
+    → a ≡ decided s d bits probes (plannedRooms b) → p ≡ putsOf a → Fits p ready b
 puts-fit s d bits probes ready b a p m long e q = rw (q, e) (decided-fits s d bits probes ready b m long)
 
 -- And once it is put, the plan is finished.
-pub put-finished : (s : Session) (d : Draft) (bits probes : ℕ) (ready : Parts) (before after : Buffers) (a : Answer) (p : Puts)
-    → a ≡ decided s d bits probes (roomsIn before) → p ≡ putsOf a → after ≡ allPut p ready before → Finished s d bits probes ready before after a
+pub put-finished : (s : Session) (d : Draft) (bits probes : ℕ) (ready : PlanParts) (before after : Buffers) (a : Answer) (p : Puts)
+    → a ≡ decided s d bits probes (plannedRooms before) → p ≡ putsOf a → after ≡ allPut p ready before → Finished s d bits probes ready before after a
 put-finished s d bits probes ready before after a p e q f = record { answer = e; buffers = rw q at f }

@@ -12,7 +12,7 @@ use Rattle.graph.specs.Graph.{heads}
 use Rattle.graph.proofs.BelowLaws.{beyond-few}
 use Rattle.graph.proofs.HeadLaws.{heads-few}
 use Rattle.lent.specs.Good.{sessionGood}
-use Rattle.missing.specs.Ask.{Found}
+use Rattle.missing.specs.Ask.{FoundUpTo}
 use Rattle.lent.proofs.GoodSessions.{session-parts, good-within}
 use Rattle.probe.proofs.BuildLaws.{rules-field}
 use Rattle.rules.specs.Hash.{hashesAt, hashesBytes}
@@ -24,15 +24,15 @@ use Rattle.rules.proofs.Hash.{length-hashes-at}
 use Rattle.session.specs.Laid.{laidBytes}
 use Rattle.session.specs.Plan.{Planned, heard, needOf, haveOf, havesFor, silence, sentAfter}
 use Rattle.session.specs.Plan.{headsFor, planOf, planned, resetOf, planSent, planSilence, planReset, plan, unknownSync}
-use Rattle.state.specs.Value.{Lent, valueOf}
+use Rattle.state.specs.Value.{Lent, stateOf}
 use Rattle.state.specs.declared.session.Session.{Session}
 use Rattle.tables.specs.Table.{Row, rows}
 use Rattle.waiting.specs.Waiting.{Waiting}
 use Rattle.bloom.specs.Have.{Have}
 use mathlib.Core.Option.{none}
 use Rattle.planning.specs.Made.{Setting}
-use Rattle.planned.specs.Call.{Buffers, syncsOf, filterNumbers, answerOf, roomed, roomsIn, PlanCalled}
-use Rattle.decide.specs.Draft.{Parts, SmallDraft, putsOf, allPut}
+use Rattle.planned.specs.Call.{Buffers, syncsOf, filterNumbers, plannedAnswer, plannedRoomed, plannedRooms, PlanCalled}
+use Rattle.decide.specs.Draft.{PlanParts, SmallDraft, putsOf, allPut}
 use Rattle.planned.specs.declared.answer.Planned.{Planned as Answer}
 use Rattle.decide.specs.declared.decide.Draft.{Draft}
 use Rattle.session.proofs.PlanLaws.{list-few}
@@ -42,13 +42,13 @@ use Rattle.decide.proofs.PutLaws.{Starts, put-as-said, refused-starts, silent-s
 
 -- ---- small
 
-module _ (bits probes : ℕ) (t : List Row) (s : Session) (l : Lent) (ready : Parts) (d : Draft) (asked : ℕ)
-    (m : DraftMade bits probes t (valueOf s l) asked ready d) (less : asked ≤ sizes .hashes + 1) where
+module _ (bits probes : ℕ) (t : List Row) (s : Session) (l : Lent) (ready : PlanParts) (d : Draft) (asked : ℕ)
+    (m : DraftMade bits probes t (stateOf s l) asked ready d) (less : asked ≤ sizes .hashes + 1) where
   module _ (few : length t ≤ sizes .rows) (good : sessionGood s l ≡ true) (setting : Setting bits probes) where
     entries-few : d .entries ≤ sizes .rows
     entries-few =
         split (d .gives)
-        (λ e. omega (arith, m .field .made e .many, beyond-few t (valueOf s l .sharedHeads)))
+        (λ e. omega (arith, m .field .made e .many, beyond-few t (stateOf s l .sharedHeads)))
         (λ e. omega (arith, m .field .none e))
 
     pub small-made : SmallDraft s d bits
@@ -60,7 +60,7 @@ module _ (bits probes : ℕ) (t : List Row) (s : Session) (l : Lent) (ready : Pa
           entries = entries-few;
           few = ruled 0 bits probes _ (setting .each 0 (omega arith)) .bits;
           field = rules-field (d .entries) bits probes (setting .each _ entries-few) .1;
-          hashes = omega (arith, m .body .hashes .many, list-few t (valueOf s l) few (good-within s l good .theirNeed));
+          hashes = omega (arith, m .body .hashes .many, list-few t (stateOf s l) few (good-within s l good .theirNeed));
           sent = m .sent .within;
         }
 
@@ -74,30 +74,30 @@ heads-start : (needs supports : Bool) (hs part : List ℕ) → hashesAt part 0 (
 unfolding headsFor hashesAt
 heads-start needs supports hs part e = split (needs && not supports) (λ b. rw b) (λ b. rw b e)
 
-test-starts : (b : Bool) (p q : Planned) (ready : Parts) → (b ≡ true → Starts p ready) → (b ≡ false → Starts q ready) → Starts (cond b p q) ready
+test-starts : (b : Bool) (p q : Planned) (ready : PlanParts) → (b ≡ true → Starts p ready) → (b ≡ false → Starts q ready) → Starts (cond b p q) ready
 test-starts true p q ready f g = f refl
 test-starts false p q ready f g = g refl
 
-module _ (bits probes : ℕ) (t : List Row) (w : List Waiting) (s : Session) (l : Lent) (ready : Parts) (d : Draft) (asked : ℕ)
-    (m : DraftMade bits probes t (valueOf s l) asked ready d)
-    (f : Found (needOf t w (s .«read_only») (heard (valueOf s l .theirHeads))) (sizes .hashes + 1) (ready .need) (d .need))
+module _ (bits probes : ℕ) (t : List Row) (w : List Waiting) (s : Session) (l : Lent) (ready : PlanParts) (d : Draft) (asked : ℕ)
+    (m : DraftMade bits probes t (stateOf s l) asked ready d)
+    (f : FoundUpTo (needOf t w (s .«read_only») (heard (stateOf s l .theirHeads))) (sizes .hashes + 1) (ready .need) (d .need))
     (same : ready .shared ≡ l .shared) where
   our-heads : hashesAt (ready .heads) 0 (length (heads t)) ≡ heads t
   our-heads = gathered-start (m .heads)
 
-  shared-start : hashesAt (ready .shared) 0 (length (valueOf s l .sharedHeads)) ≡ valueOf s l .sharedHeads
+  shared-start : hashesAt (ready .shared) 0 (length (stateOf s l .sharedHeads)) ≡ stateOf s l .sharedHeads
   shared-start =
       ap (hashesAt (ready .shared) 0) (length-hashes-at (l .shared) 0 (s .«shared_heads»))
       ∙ ap (λ (z : List ℕ). hashesAt z 0 (s .«shared_heads»)) same
 
   given-start : (field : List ℕ) (n : ℕ) → take n (ready .field) ≡ field → length field ≡ n
-      → hashesBytes (hashesAt (ready .shared) 0 (length (valueOf s l .sharedHeads))) ++ take (length field) (ready .field)
-      ≡ hashesBytes (valueOf s l .sharedHeads) ++ (field ++ [])
+      → hashesBytes (hashesAt (ready .shared) 0 (length (stateOf s l .sharedHeads))) ++ take (length field) (ready .field)
+      ≡ hashesBytes (stateOf s l .sharedHeads) ++ (field ++ [])
   given-start field n e q = rw (shared-start, q, e, append-nil field)
 
   -- the have that is said, or none
   abbrev ours : List Have
-  ours = havesFor bits probes t (needOf t w (s .«read_only») (heard (valueOf s l .theirHeads))) (heard (valueOf s l .theirHeads)) (valueOf s l .sharedHeads)
+  ours = havesFor bits probes t (needOf t w (s .«read_only») (heard (stateOf s l .theirHeads))) (heard (stateOf s l .theirHeads)) (stateOf s l .sharedHeads)
 
   have-start : d .need ≤ sizes .hashes
       → hashesBytes (hashesAt (ready .shared) 0 (syncsOf ours)) ++ take (filterNumbers ours .size) (ready .field) ≡ laidBytes ours
@@ -110,7 +110,7 @@ module _ (bits probes : ℕ) (t : List Row) (w : List Waiting) (s : Session) (l 
       (λ e. rw (have-none bits probes t w s l ready d asked m f few e))
 
   says-start : d .need ≤ sizes .hashes → d .sent ≤ sizes .sentHashes
-      → Starts (Planned.says (planOf bits probes t w (valueOf s l)) (planned t (valueOf s l))) ready
+      → Starts (Planned.says (planOf bits probes t w (stateOf s l)) (planned t (stateOf s l))) ready
   unfolding planOf planned sentAfter
   says-start few sent =
       record {
@@ -126,48 +126,48 @@ module _ (bits probes : ℕ) (t : List Row) (w : List Waiting) (s : Session) (l 
   unfolding resetOf hashesAt hashesBytes laidBytes
   reset-start = record { heads = our-heads; need = refl; have = refl; list = refl; lastSent = refl; sent = refl }
 
-  few-asked : length (needOf t w (s .«read_only») (heard (valueOf s l .theirHeads))) ≤ sizes .hashes → d .need ≤ sizes .hashes
+  few-asked : length (needOf t w (s .«read_only») (heard (stateOf s l .theirHeads))) ≤ sizes .hashes → d .need ≤ sizes .hashes
   few-asked h =
       split (ltb (sizes .hashes) (d .need))
       (λ e. absurd (omega (arith, found-many {most = sizes .hashes} f (ltb-true _ _ e))))
       (λ e. ltb-false _ _ e)
 
-  few-sent : length (sentAfter t (valueOf s l)) ≤ sizes .sentHashes → d .sent ≤ sizes .sentHashes
+  few-sent : length (sentAfter t (stateOf s l)) ≤ sizes .sentHashes → d .sent ≤ sizes .sentHashes
   unfolding sentAfter
   few-sent h =
       split (ltb (sizes .sentHashes) (d .sent))
       (λ e. absurd (omega (arith, m .sent .many (ltb-true _ _ e))))
       (λ e. ltb-false _ _ e)
 
-  sent-starts : d .need ≤ sizes .hashes → Starts (planSent bits probes t w (valueOf s l)) ready
+  sent-starts : d .need ≤ sizes .hashes → Starts (planSent bits probes t w (stateOf s l)) ready
   unfolding planSent
   sent-starts few =
-      test-starts (ltb (sizes .sentHashes) (length (sentAfter t (valueOf s l)))) (Planned.refused (PastSize 0)) _ ready
+      test-starts (ltb (sizes .sentHashes) (length (sentAfter t (stateOf s l)))) (Planned.refused (PastSize 0)) _ ready
       (λ e. refused-starts _ ready)
       (λ e. says-start few (few-sent (ltb-false _ _ e)))
 
-  silence-starts : d .need ≤ sizes .hashes → Starts (planSilence bits probes t w (valueOf s l)) ready
+  silence-starts : d .need ≤ sizes .hashes → Starts (planSilence bits probes t w (stateOf s l)) ready
   unfolding planSilence
   silence-starts few =
-      test-starts (silence t (valueOf s l)) Planned.silent _ ready (λ e. silent-starts ready) (λ e. sent-starts few)
+      test-starts (silence t (stateOf s l)) Planned.silent _ ready (λ e. silent-starts ready) (λ e. sent-starts few)
 
-  reset-starts : d .need ≤ sizes .hashes → Starts (planReset bits probes t w (valueOf s l)) ready
+  reset-starts : d .need ≤ sizes .hashes → Starts (planReset bits probes t w (stateOf s l)) ready
   unfolding planReset
   reset-starts few =
-      test-starts (unknownSync t (valueOf s l .theirHave)) (Planned.reset (resetOf t)) _ ready (λ e. reset-start) (λ e. silence-starts few)
+      test-starts (unknownSync t (stateOf s l .theirHave)) (Planned.reset (resetOf t)) _ ready (λ e. reset-start) (λ e. silence-starts few)
 
-  pub plan-starts : Starts (plan bits probes t w (valueOf s l)) ready
+  pub plan-starts : Starts (plan bits probes t w (stateOf s l)) ready
   unfolding plan
   plan-starts =
-      test-starts (ltb (sizes .hashes) (length (needOf t w (s .«read_only») (heard (valueOf s l .theirHeads))))) (Planned.refused (PastSize 0)) _ ready
+      test-starts (ltb (sizes .hashes) (length (needOf t w (s .«read_only») (heard (stateOf s l .theirHeads))))) (Planned.refused (PastSize 0)) _ ready
       (λ e. refused-starts _ ready)
       (λ e. reset-starts (few-asked (ltb-false _ _ e)))
 
   -- So a plan that is finished is what the call promises.
   pub plan-called : (before after : Buffers) (a : Answer) → Finished s d bits probes ready before after a
-      → PlanCalled s (plan bits probes t w (valueOf s l)) before after a
+      → PlanCalled s (plan bits probes t w (stateOf s l)) before after a
   plan-called before after a fin =
-      let q : Planned = roomed (roomsIn before) (plan bits probes t w (valueOf s l)) in
-      let is : a ≡ answerOf s q = fin .answer ∙ plan-decided bits probes t w s l ready d asked m f (roomsIn before) in
-      let put : after ≡ allPut (putsOf (answerOf s q)) ready before = rw is at (fin .buffers) in
-      record { answer = is; buffers = put ∙ put-as-said s ready before q (roomed-starts (roomsIn before) _ ready plan-starts) }
+      let q : Planned = plannedRoomed (plannedRooms before) (plan bits probes t w (stateOf s l)) in
+      let is : a ≡ plannedAnswer s q = fin .answer ∙ plan-decided bits probes t w s l ready d asked m f (plannedRooms before) in
+      let put : after ≡ allPut (putsOf (plannedAnswer s q)) ready before = rw is at (fin .buffers) in
+      record { answer = is; buffers = put ∙ put-as-said s ready before q (roomed-starts (plannedRooms before) _ ready plan-starts) }

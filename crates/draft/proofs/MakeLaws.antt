@@ -3,66 +3,52 @@ use Prim.Native.Nat.{ℕ, _+_, _*_, _/_, _≤_, _<_}
 use mathlib.Core.Bool.{Bool, true, false, cond, not, _&&_, _||_}
 use mathlib.Core.List.{List, [], _∷_, _++_}
 use mathlib.Core.Option.{Option}
-use mathlib.Core.Path.{_≡_, refl, sym, _∙_}
+use mathlib.Core.Path.{_≡_, refl}
 use native.Mathlib.Omega.{arith}
 use borrow.Author.Tests.{ne-eqb, ltb-true, ltb-false}
 use lib.Dec.{eqb, ltb}
 use lib.ListN.{length, length-append}
 use lib.Seq.{sets}
 use Rattle.bloom.specs.Filter.{fieldSize}
-use Rattle.decide.specs.Draft.{Parts}
+use Rattle.decide.specs.Draft.{PlanParts}
 use Rattle.decide.specs.declared.decide.Draft.{Draft}
-use Rattle.graph.specs.Graph.{needed, heads, beyond}
-use Rattle.graph.specs.Marks.{Marks, marked, picked, Collected}
 use Rattle.graph.proofs.BelowLaws.{beyond-few}
 use Rattle.graph.proofs.CollectLaws.{heads-gathered}
-use Rattle.graph.proofs.GraphMarks.{picked-heads, heads-many}
+use Rattle.graph.proofs.GraphMarks.{heads-many}
+use Rattle.graph.specs.Graph.{needed, heads, beyond}
+use Rattle.graph.specs.Marks.{Marks, marked, picked, Collected}
 use Rattle.index.specs.Index.{Indexed}
-use Rattle.lent.specs.Good.{heardGood, havesGood, lentOf, sessionGood}
 use Rattle.lent.proofs.GoodSessions.{session-tests, session-parts}
+use Rattle.lent.specs.Good.{heardGood, havesGood, lentOf, sessionGood}
 use Rattle.lists.specs.Lists.{same}
+use Rattle.order.proofs.OrderLaws.{ascend-most}
+use Rattle.order.specs.Order.{ascend}
+use Rattle.planning.proofs.FieldLaws.{field-grows}
 use Rattle.planning.specs.Made.{FieldMade, SentMade, BodyChosen}
 use Rattle.planning.specs.declared.body.Body.{Body as Carried}
-use Rattle.planning.proofs.FieldLaws.{field-grows}
-use Rattle.rules.specs.Hash.{Bytes, AreHashes, hashesAt, hashesBytes}
-use Rattle.rules.specs.Order.{ascend}
-use Rattle.rules.specs.Output.{Gathered}
-use Rattle.rules.specs.Sizes.{sizes}
 use Rattle.rules.proofs.Cases.{split, true-false}
 use Rattle.rules.proofs.Hash.{length-hashes-at}
-use Rattle.rules.proofs.OrderLaws.{ascend-most}
 use Rattle.rules.proofs.Outputs.{written-gathered}
+use Rattle.rules.specs.Hash.{Bytes, hashesAt, hashesBytes}
+use Rattle.rules.specs.Output.{Gathered}
+use Rattle.rules.specs.Sizes.{sizes}
 use Rattle.selection.specs.Chosen.{chosenBy}
-use Rattle.session.specs.Plan.{heardAs, listOf, unknownSync, bodyHeard, bodyOf, empty, silence}
 use Rattle.session.proofs.PlanLaws.{body-hashes}
-use Rattle.state.specs.Value.{Lent, heardCount, heardHashes, heardHaves, valueOf}
+use Rattle.session.specs.Plan.{heardAs, listOf, unknownSync, bodyHeard, bodyOf, empty, silence}
+use Rattle.state.specs.Value.{Lent, heardCount, heardHashes, heardHaves, stateOf}
 use Rattle.state.specs.declared.session.Session.{Session}
-use Rattle.tables.specs.Bytes.{rowsAt}
-use Rattle.tables.specs.Table.{Row, rows as hashes}
 use Rattle.tables.proofs.GoodLaws.{rows-hashes}
 use Rattle.tables.proofs.TableLaws.{length-rows-at}
-use Rattle.draft.specs.Make.{
-  CountReady,
-  carriedBody,
-  Counted,
-  ReadyRooms,
-  GivenMade,
-  HaveMade,
-  CarryReady,
-  AtMost,
-  CarriedMade,
-  QuietReady,
-  quiet,
-  DraftMade,
-  Long,
-}
-use Rattle.draft.specs.declared.make.Counts.{Counts}
+use Rattle.tables.specs.Bytes.{rowsAt}
+use Rattle.tables.specs.Table.{Row, rows as hashes}
+use Rattle.draft.specs.Make.{CountReady, carriedBody, PlanCounted, ReadyRooms, GivenMade, HaveMade, CarryReady, AtMost, CarriedMade, QuietReady, quiet, DraftMade}
+use Rattle.draft.specs.declared.make.PlanCounts.{PlanCounts}
 use Rattle.draft.specs.declared.make.Given.{Given}
 
 -- ---- heads and body as marks
 
 -- The peer is heard to have no heads.
-pub counted-made : (t : List Row) (n : ℕ) (s : Session) (theirHeads theirNeed haves bytes sent : List ℕ) (headMarks marks needs : List Bool) (k : Counts)
+pub counted-made : (t : List Row) (n : ℕ) (s : Session) (theirHeads theirNeed haves bytes sent : List ℕ) (headMarks marks needs : List Bool) (k : PlanCounts)
     (lost : Bool)
     → n ≤ length headMarks
     → Marks n headMarks (λ i. not (needed t i))
@@ -73,7 +59,7 @@ pub counted-made : (t : List Row) (n : ℕ) (s : Session) (theirHeads theirNeed 
     → BodyChosen (cond (s .«peer_read_only») (listOf [])
     (bodyHeard t (s .«supports_v2») lost (heardHaves bytes haves (s .«their_have»)) (heardHashes theirNeed (s .«their_need»))
     (hashesAt sent 0 (s .«sent_hashes»)))) t marks (hashesAt theirNeed 0 (heardCount (s .«their_need»))) needs (k .body)
-    → Counted t n (carriedBody t s theirHeads theirNeed haves bytes sent) (hashesAt theirNeed 0 (heardCount (s .«their_need»))) headMarks marks needs k
+    → PlanCounted t n (carriedBody t s theirHeads theirNeed haves bytes sent) (hashesAt theirNeed 0 (heardCount (s .«their_need»))) headMarks marks needs k
 unfolding hashesAt bodyOf
 counted-made t n s theirHeads theirNeed haves bytes sent headMarks marks needs k lost a b c d e f g =
     record {
@@ -217,8 +203,8 @@ module _ {table index : List ℕ} {n : ℕ} (s : Session) (l : Lent) (rows : Ind
       let q = session-tests s l good in
       record { rows = rows; heads = q .theirHeads; need = q .theirNeed; have = q .theirHave; there = session-parts s l good .sent .there }
 
-  module _ {headMarks marks needs : List Bool} {k : Counts}
-      (c : Counted t n (carriedBody t s (l .theirHeads) (l .theirNeed) (l .haves) (l .bytes) (l .sent))
+  module _ {headMarks marks needs : List Bool} {k : PlanCounts}
+      (c : PlanCounted t n (carriedBody t s (l .theirHeads) (l .theirNeed) (l .haves) (l .bytes) (l .sent))
       (hashesAt (l .theirNeed) 0 (heardCount (s .«their_need»))) headMarks marks needs k)
       (b : Bytes table)
       {heads′ field list sent : ℕ}
@@ -227,7 +213,7 @@ module _ {table index : List ℕ} {n : ℕ} (s : Session) (l : Lent) (rows : Ind
     pub carry-ready : CarryReady table n s marks needs (k .body) (l .theirNeed) (l .sent) list sent
     carry-ready =
         let p = session-parts s l good in
-        let v = valueOf s (lentOf [] [] (l .theirHeads) (l .theirNeed) (l .haves) (l .bytes) (l .sent)) in
+        let v = stateOf s (lentOf [] [] (l .theirHeads) (l .theirNeed) (l .haves) (l .bytes) (l .sent)) in
         let is = c .body .hashes .list in
         record {
           rows = rows .rows;
@@ -254,7 +240,7 @@ module _ {table index : List ℕ} {n : ℕ} (s : Session) (l : Lent) (rows : Ind
   pub quiet-ready : (list : List ℕ) (count : ℕ) → sizes .hash * count ≤ length list → QuietReady s (l .lastSent) (l .theirHeads) list count
   quiet-ready list count h = record { told = session-parts s l good .lastSent .there; theirs = heads-good; ours = h }
 
-module _ (bits probes : ℕ) (t : List Row) (s : Session) (l : Lent) (ready : Parts) (asked count sent : ℕ) (g : Given) (unknown silent : Bool)
+module _ (bits probes : ℕ) (t : List Row) (s : Session) (l : Lent) (ready : PlanParts) (asked count sent : ℕ) (g : Given) (unknown silent : Bool)
     (b : Carried) where
   abbrev drawn : Draft
   drawn =
@@ -267,11 +253,11 @@ module _ (bits probes : ℕ) (t : List Row) (s : Session) (l : Lent) (ready : Pa
       → BodyChosen (carriedBody t s (l .theirHeads) (l .theirNeed) (l .haves) (l .bytes) (l .sent)) t marks need needs b
       → CarriedMade t marks need needs b (hashesAt (l .sent) 0 (s .«sent_hashes»)) (ready .list) (ready .sent) sent
       → silent ≡ quiet s (l .lastSent) (l .theirHeads) (hashesAt (ready .heads) 0 count) (b .hashes)
-      → DraftMade bits probes t (valueOf s l) asked ready drawn
+      → DraftMade bits probes t (stateOf s l) asked ready drawn
   unfolding bodyOf silence quiet
   draft-made {marks} {needs} {need} h q u k c e =
-      let is : chosenBy t marks need needs ≡ bodyOf t (valueOf s l) .hashes = k .hashes .list in
-      let nothing : eqb (b .hashes) 0 ≡ empty (bodyOf t (valueOf s l) .hashes) = none-empty _ (bodyOf t (valueOf s l) .hashes) (k .hashes .many) in
+      let is : chosenBy t marks need needs ≡ bodyOf t (stateOf s l) .hashes = k .hashes .list in
+      let nothing : eqb (b .hashes) 0 ≡ empty (bodyOf t (stateOf s l) .hashes) = none-empty _ (bodyOf t (stateOf s l) .hashes) (k .hashes .many) in
       record {
         heads = h;
         need = refl;

@@ -7,29 +7,29 @@ use mathlib.Core.Path.{_≡_}
 use lib.Dec.{eqb}
 use lib.ListN.{length}
 use Rattle.bloom.specs.Filter.{fieldSize}
-use Rattle.decide.specs.Draft.{Parts, decided, putsOf, allPut}
+use Rattle.decide.specs.Draft.{PlanParts, decided, putsOf, allPut}
 use Rattle.decide.specs.declared.decide.Draft.{Draft}
 use Rattle.graph.specs.Graph.{needed, heads, beyond}
 use Rattle.graph.specs.Marks.{Marks, Blank, marked}
 use Rattle.index.specs.Index.{Indexed}
 use Rattle.lent.specs.Good.{heardGood, havesGood, lentOf}
 use Rattle.lists.specs.Lists.{same}
-use Rattle.planned.specs.Call.{Buffers, roomsIn}
+use Rattle.order.specs.Order.{member, every, ascend, ascends}
+use Rattle.planned.specs.Call.{Buffers, plannedRooms}
 use Rattle.planned.specs.declared.answer.Planned.{Planned as Answer}
 use Rattle.planning.specs.Made.{FieldMade, BlankBody, BodyChosen}
 use Rattle.planning.specs.declared.body.Body.{Body as Carried}
 use Rattle.rules.specs.Hash.{AreHashes, hashesAt}
-use Rattle.rules.specs.Order.{member, every, ascend, ascends}
 use Rattle.rules.specs.Output.{Gathered}
 use Rattle.rules.specs.Sizes.{sizes}
 use Rattle.selection.specs.Chosen.{chosenBy}
 use Rattle.session.specs.Plan.{Body, heard, heardAs, unknownSync, bodyOf, silence}
 use Rattle.state.specs.Session.{State}
-use Rattle.state.specs.Value.{heardCount, heardHashes, valueOf}
+use Rattle.state.specs.Value.{heardCount, heardHashes, stateOf}
 use Rattle.state.specs.declared.session.Session.{Session}
 use Rattle.tables.specs.Bytes.{rowsAt, GoodRows}
 use Rattle.tables.specs.Table.{Row}
-use Rattle.draft.specs.declared.make.Counts.{Counts}
+use Rattle.draft.specs.declared.make.PlanCounts.{PlanCounts}
 use Rattle.draft.specs.declared.make.Given.{Given}
 
 -- ---- heads and body as marks
@@ -50,10 +50,10 @@ pub record BlankMarks (n count : ℕ) (headMarks marks needs : List Bool) : Type
 
 -- What goes in a message, of the lists that it is chosen from.
 abbrev pub carriedBody : List Row → Session → List ℕ → List ℕ → List ℕ → List ℕ → List ℕ → Body
-carriedBody t s theirHeads theirNeed haves bytes sent = bodyOf t (valueOf s (lentOf [] [] theirHeads theirNeed haves bytes sent))
+carriedBody t s theirHeads theirNeed haves bytes sent = bodyOf t (stateOf s (lentOf [] [] theirHeads theirNeed haves bytes sent))
 
 -- The heads are marked, and the needs and rows that a body has, and they are counted.
-pub record Counted (t : List Row) (n : ℕ) (b : Body) (need : List ℕ) (headMarks marks needs : List Bool) (k : Counts) : Type 0 where
+pub record PlanCounted (t : List Row) (n : ℕ) (b : Body) (need : List ℕ) (headMarks marks needs : List Bool) (k : PlanCounts) : Type 0 where
   pub headRoom : n ≤ length headMarks
   pub areHeads : Marks n headMarks (λ i. not (needed t i))
   pub heads : k .heads ≡ marked n headMarks
@@ -63,7 +63,7 @@ pub record Counted (t : List Row) (n : ℕ) (b : Body) (need : List ℕ) (headMa
 
 -- The lengths of the buffers: room for what was counted. Of sent hashes there is room for one more than there can be, or than there may be, so that too
 -- many show.
-pub record ReadyRooms (bits n : ℕ) (k : Counts) (before heads field list sent : ℕ) : Type 0 where
+pub record ReadyRooms (bits n : ℕ) (k : PlanCounts) (before heads field list sent : ℕ) : Type 0 where
   pub headsRoom : sizes .hash * k .heads ≤ heads
   pub fieldRoom : fieldSize n bits ≤ field
   pub listRoom : sizes .hash * k .body .hashes ≤ list
@@ -132,7 +132,7 @@ pub record BodyMade (b : Body) (list : List ℕ) (r : Carried) : Type 0 where
   pub hashes : Gathered (b .hashes) list (r .hashes)
 
 -- The parts of a plan and its numbers, so many hashes being asked for.
-pub record DraftMade (bits probes : ℕ) (t : List Row) (s : State) (asked : ℕ) (ready : Parts) (d : Draft) : Type 0 where
+pub record DraftMade (bits probes : ℕ) (t : List Row) (s : State) (asked : ℕ) (ready : PlanParts) (d : Draft) : Type 0 where
   pub heads : Gathered (heads t) (ready .heads) (d .heads)
   pub need : d .need ≡ asked
   pub unknown : d .unknown ≡ unknownSync t (s .theirHave)
@@ -143,7 +143,7 @@ pub record DraftMade (bits probes : ℕ) (t : List Row) (s : State) (asked : ℕ
   pub sent : AtMost (sizes .sentHashes) (ascend (bodyOf t s .hashes ++ s .sentHashes)) (ready .sent) (d .sent)
 
 -- Parts that are as long as the plan's numbers say.
-pub record Long (s : Session) (d : Draft) (bits : ℕ) (ready : Parts) : Type 0 where
+pub record Long (s : Session) (d : Draft) (bits : ℕ) (ready : PlanParts) : Type 0 where
   pub heads : sizes .hash * d .heads ≤ length (ready .heads)
   pub need : sizes .hash * d .need ≤ length (ready .need)
   pub shared : sizes .hash * s .«shared_heads» ≤ length (ready .shared)
@@ -152,6 +152,6 @@ pub record Long (s : Session) (d : Draft) (bits : ℕ) (ready : Parts) : Type 0 
   pub sent : sizes .hash * d .sent ≤ length (ready .sent)
 
 -- What was decided, and all buffers with it put.
-pub record Finished (s : Session) (d : Draft) (bits probes : ℕ) (ready : Parts) (before after : Buffers) (a : Answer) : Type 0 where
-  pub answer : a ≡ decided s d bits probes (roomsIn before)
+pub record Finished (s : Session) (d : Draft) (bits probes : ℕ) (ready : PlanParts) (before after : Buffers) (a : Answer) : Type 0 where
+  pub answer : a ≡ decided s d bits probes (plannedRooms before)
   pub buffers : after ≡ allPut (putsOf a) ready before

@@ -6,7 +6,7 @@ use decide::put::puts_of;
 use planned::answer::Planned;
 use planned::answer::Rooms;
 use state::session::Session;
-ghost use Rattle.decide.specs.Draft.{SmallDraft, partsOf};
+ghost use Rattle.decide.specs.Draft.{SmallDraft, planParts};
 ghost use Rattle.planned.specs.Call.{buffersOf};
 ghost use Rattle.draft.specs.Make.{Long, Finished};
 
@@ -30,9 +30,9 @@ pub fn finish(
     sent: &mut [u8],
 ) -> Planned
     requires { ⌜ SmallDraft session draft bits
-        × Long session draft bits (partsOf (now «ready_heads») (now «ready_need») (now shared) (now field) (now «ready_list») (now «ready_sent»)) ⌝ }
+        × Long session draft bits (planParts (now «ready_heads») (now «ready_need») (now shared) (now field) (now «ready_list») (now «ready_sent»)) ⌝ }
     ensures { λ r. ⌜ Finished session draft bits probes
-        (partsOf (now («ready_heads» .entry)) (now («ready_need» .entry)) (now (shared .entry)) (now (field .entry)) (now («ready_list» .entry))
+        (planParts (now («ready_heads» .entry)) (now («ready_need» .entry)) (now (shared .entry)) (now (field .entry)) (now («ready_list» .entry))
         (now («ready_sent» .entry)))
         (buffersOf (now (heads .entry)) (now (need .entry)) (now (have .entry)) (now (list .entry)) (now («last_sent» .entry)) (now (sent .entry)))
         (buffersOf (now (heads .exit)) (now (need .exit)) (now (have .exit)) (now (list .exit)) (now («last_sent» .exit)) (now (sent .exit))) r ⌝ }

@@ -19,23 +19,23 @@ use state::session::Session;
 use state::session::heard_count;
 ghost use mathlib.Core.Bool.{true};
 ghost use mathlib.Core.Path.{_≡_};
-ghost use Prim.Native.Nat.{_+_, _*_, _≤_};
+ghost use Prim.Native.Nat.{_*_, _≤_};
 ghost use lib.ListN.{length};
 ghost use Rattle.bloom.specs.Filter.{fieldSize};
-ghost use Rattle.decide.specs.Draft.{partsOf};
+ghost use Rattle.decide.specs.Draft.{planParts};
 ghost use Rattle.graph.specs.Graph.{beyond};
 ghost use Rattle.index.specs.Index.{Indexed};
 ghost use Rattle.lent.specs.Good.{heardGood, lentOf, sessionGood};
 ghost use Rattle.planning.specs.Made.{Setting};
 ghost use Rattle.rules.specs.Hash.{hashesAt};
 ghost use Rattle.rules.specs.Sizes.{sizes};
-ghost use Rattle.state.specs.Value.{heardCount, heardHashes, valueOf};
+ghost use Rattle.state.specs.Value.{heardCount, heardHashes, stateOf};
 ghost use Rattle.tables.specs.Bytes.{rowsAt};
 ghost use Rattle.draft.specs.Make.{
   BlankMarks,
   CountReady,
   carriedBody,
-  Counted,
+  PlanCounted,
   ReadyRooms,
   GivenMade,
   HaveMade,
@@ -48,7 +48,7 @@ ghost use Rattle.draft.specs.Make.{
 };
 
 // How many heads a table has, and what the message carries.
-pub struct Counts {
+pub struct PlanCounts {
     pub heads: usize,
     pub body: Body,
 }
@@ -73,10 +73,10 @@ pub fn count_plan(
     head_marks: &mut [bool],
     marks: &mut [bool],
     needs: &mut [bool],
-) -> Counts
+) -> PlanCounts
     requires { ⌜ CountReady (now table) (now index) n session (now «their_heads») (now «their_need») (now haves) (now bytes) (now sent)
         × BlankMarks n (heardCount (session .«their_need»)) (now «head_marks») (now marks) (now needs) ⌝ }
-    ensures { λ r. ⌜ Counted (rowsAt (now (table .entry)) 0 n) n
+    ensures { λ r. ⌜ PlanCounted (rowsAt (now (table .entry)) 0 n) n
         (carriedBody (rowsAt (now (table .entry)) 0 n) session (now («their_heads» .entry)) (now («their_need» .entry)) (now (haves .entry))
         (now (bytes .entry)) (now (sent .entry)))
         (hashesAt (now («their_need» .entry)) 0 (heardCount (session .«their_need»)))
@@ -105,7 +105,7 @@ pub fn count_plan(
         marks,
         needs,
     );
-    Counts { heads, body }
+    PlanCounts { heads, body }
 }
 
 // The field of the have's filter, if one is given, and how many entries it has.
@@ -232,7 +232,7 @@ pub fn make_plan(
     table: &[u8],
     index: &[u8],
     n: usize,
-    counts: Counts,
+    counts: PlanCounts,
     head_marks: &[bool],
     marks: &[bool],
     needs: &[bool],
@@ -253,18 +253,18 @@ pub fn make_plan(
     requires { ⌜ Indexed (now table) (now index) n
         × (sessionGood session (lentOf (now shared) (now «last_sent») (now «their_heads») (now «their_need») (now haves) (now bytes) (now sent)) ≡ true)
         × Setting bits probes
-        × Counted (rowsAt (now table) 0 n) n
+        × PlanCounted (rowsAt (now table) 0 n) n
         (carriedBody (rowsAt (now table) 0 n) session (now «their_heads») (now «their_need») (now haves) (now bytes) (now sent))
         (hashesAt (now «their_need») 0 (heardCount (session .«their_need»))) (now «head_marks») (now marks) (now needs) counts
         × (sizes .hash * asked ≤ length (now «ready_need»))
         × ReadyRooms bits n counts (session .«sent_hashes») (length (now «ready_heads»)) (length (now field)) (length (now «ready_list»)) (length (now «ready_sent»)) ⌝ }
     ensures { λ r. ⌜ DraftMade bits probes (rowsAt (now (table .entry)) 0 n)
-        (valueOf session (lentOf (now (shared .entry)) (now («last_sent» .entry)) (now («their_heads» .entry)) (now («their_need» .entry))
+        (stateOf session (lentOf (now (shared .entry)) (now («last_sent» .entry)) (now («their_heads» .entry)) (now («their_need» .entry))
         (now (haves .entry)) (now (bytes .entry)) (now (sent .entry)))) asked
-        (partsOf (now («ready_heads» .exit)) (now («ready_need» .entry)) (now (shared .entry)) (now (field .exit)) (now («ready_list» .exit))
+        (planParts (now («ready_heads» .exit)) (now («ready_need» .entry)) (now (shared .entry)) (now (field .exit)) (now («ready_list» .exit))
         (now («ready_sent» .exit))) r
         × Long session r bits
-        (partsOf (now («ready_heads» .exit)) (now («ready_need» .entry)) (now (shared .entry)) (now (field .exit)) (now («ready_list» .exit))
+        (planParts (now («ready_heads» .exit)) (now («ready_need» .entry)) (now (shared .entry)) (now (field .exit)) (now («ready_list» .exit))
         (now («ready_sent» .exit))) ⌝ }
 {
     let have = session.their_have;

@@ -15,7 +15,7 @@ use Rattle.state.specs.Value.{Lent}
 use Rattle.state.specs.declared.session.Session.{Session}
 use Rattle.tables.specs.declared.check.Checked.the-variants as tables
 use Rattle.drafting.specs.Checks.{checked, afterRows, besideRows}
-use Rattle.drafting.specs.declared.check.Checks.the-variants as checks
+use Rattle.drafting.specs.declared.check.ReceiptChecks.the-variants as checks
 
 module _ (s : Session) (l : Lent) (table index : List ℕ) (before : ℕ) (message : List ℕ) where
   pub bad-session : sessionGood s l ≡ false → checks.Refused BadNumbers ≡ checked s l table index before message

@@ -11,14 +11,14 @@ use Rattle.graph.specs.Marks.{Marks}
 use Rattle.lists.specs.Lists.{same}
 use Rattle.rules.specs.Sizes.{sizes}
 use native.Mathlib.Omega.{arith}
-use Rattle.receiving.specs.Made.{heldMarked, SharedMade}
+use Rattle.order.proofs.KeepLaws.{keep-most}
+use Rattle.order.specs.Order.{keep}
 use Rattle.receiving.proofs.LeftLaws.{left-below}
-use Rattle.rules.specs.Hash.{hashesAt}
-use Rattle.rules.specs.Order.{keep}
-use Rattle.rules.specs.Output.{Gathered}
+use Rattle.receiving.specs.Made.{heldMarked, SharedMade}
 use Rattle.rules.proofs.Cases.{split}
 use Rattle.rules.proofs.Hash.{length-hashes-at}
-use Rattle.rules.proofs.KeepLaws.{keep-most}
+use Rattle.rules.specs.Hash.{hashesAt}
+use Rattle.rules.specs.Output.{Gathered}
 use Rattle.tables.specs.Bytes.{rowsAt}
 use Rattle.drafting.specs.Made.{toldHeads, lastSentCount, keptHashes}
 

@@ -10,7 +10,7 @@ use lib.ListN.{length, take}
 use lib.Seq.{sets}
 use Rattle.bloom.specs.Have.{haveWords, haveCount, haveGood, havesOf}
 use Rattle.bloom.proofs.HaveLaws.{PassedHaves, passed-haves}
-use Rattle.decode.specs.Read.{Reading, messageAt, messageOf, decodedOf}
+use Rattle.decode.specs.Read.{Reading, messageAt, messageIn, decodedOf}
 use Rattle.decode.specs.declared.parse.Decoded.the-variants.{Message as Placed}
 use Rattle.decode.specs.declared.parse.Places.{Places}
 use Rattle.decode.proofs.Messages.{MessageWords, message-words, haves-good}
@@ -75,8 +75,8 @@ module _ (s : List ℕ) (p : Places) (is : decodedOf (messageAt s) ≡ Placed p)
         syncs = h .syncs;
       }
 
-  said-is : saidIn (messageOf s p (words .haves) (words .chunks)) ≡ saidAt s p
-  unfolding saidIn messageOf
+  said-is : saidIn (messageIn s p (words .haves) (words .chunks)) ≡ saidAt s p
+  unfolding saidIn messageIn
   said-is = rw (haves-are, sym (some-chunk s (words .chunks) (p .chunks .count) (read-words .chunkLong)))
 
   -- receiving the bytes is receiving what they say

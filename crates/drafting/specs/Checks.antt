@@ -15,20 +15,20 @@ use Rattle.state.specs.Value.{Lent}
 use Rattle.state.specs.declared.session.Session.{Session}
 use Rattle.tables.specs.declared.check.Checked.{Checked}
 use Rattle.tables.specs.declared.check.Checked.the-variants as tables
-use Rattle.drafting.specs.declared.check.Checks.{Checks}
-use Rattle.drafting.specs.declared.check.Checks.the-variants as checks
+use Rattle.drafting.specs.declared.check.ReceiptChecks.{ReceiptChecks}
+use Rattle.drafting.specs.declared.check.ReceiptChecks.the-variants as checks
 
 -- The rows of the table and the places of the message, or the first refusal: 10, then 4 and 6, then 12, then 11, then the message's own.
-unfoldable pub besideRows : ℕ → Decoded → Checks
+unfoldable pub besideRows : ℕ → Decoded → ReceiptChecks
 besideRows n (Placed p) = checks.Good n p
 besideRows n (NotRead r) = checks.Refused r
 
-unfoldable pub afterRows : Checked → ℕ → List ℕ → Checks
+unfoldable pub afterRows : Checked → ℕ → List ℕ → ReceiptChecks
 afterRows (tables.Good n) before message =
     cond (ltb n before) (checks.Refused BadRowsBefore) (besideRows n (decodedOf (messageAt message)))
 afterRows (tables.Refused r) before message = checks.Refused r
 
-unfoldable pub checked : Session → Lent → List ℕ → List ℕ → ℕ → List ℕ → Checks
+unfoldable pub checked : Session → Lent → List ℕ → List ℕ → ℕ → List ℕ → ReceiptChecks
 checked s l table index before message =
     cond (not (sessionGood s l)) (checks.Refused BadNumbers) (afterRows (indexChecked table index) before message)
 

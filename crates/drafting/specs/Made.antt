@@ -11,21 +11,21 @@ use Rattle.decode.specs.Read.{messageAt, decodedOf}
 use Rattle.decode.specs.declared.parse.Decoded.the-variants.{Message as Placed}
 use Rattle.decode.specs.declared.parse.Places.{Places}
 use Rattle.graph.specs.Graph.{heads, below}
+use Rattle.hearing.specs.Receive.{Said, advance, join}
 use Rattle.index.specs.Index.{Indexed}
 use Rattle.items.specs.Items.{haveItem, manyAt, wordsOf}
 use Rattle.lists.specs.Lists.{same}
+use Rattle.order.specs.Order.{keep, every}
+use Rattle.receiving.specs.Made.{HeadsMarked, sharedRoom, SharedFits, SharedMade}
 use Rattle.rules.specs.Hash.{Bytes, hashesAt}
-use Rattle.rules.specs.Order.{keep, every}
 use Rattle.rules.specs.Output.{Gathered}
 use Rattle.rules.specs.Sizes.{sizes}
 use Rattle.session.specs.Laid.{laidBytes}
-use Rattle.hearing.specs.Receive.{Said, advance, join}
 use Rattle.state.specs.declared.session.Session.{Session}
 use Rattle.tables.specs.Bytes.{rowsAt}
 use Rattle.tables.specs.Table.{held}
-use Rattle.receiving.specs.Made.{HeadsMarked, sharedRoom, SharedFits, SharedMade}
-use Rattle.taking.specs.declared.decide.Draft.{Draft}
-use Rattle.taking.specs.Draft.{Parts}
+use Rattle.taking.specs.Receipt.{ReceiptParts}
+use Rattle.taking.specs.declared.decide.Receipt.{Receipt}
 
 -- ---- what a message says, by its places
 
@@ -58,7 +58,7 @@ pub record Prepared (table : List ℕ) (n : ℕ) (message : List ℕ) (p : Place
   pub sent : sizes .hash * kept ≤ length readySent
 
 -- Parts that stand ready: bytes, and as many as the draft says.
-pub record Stands (d : Draft) (ready : Parts) : Type 0 where
+pub record Stands (d : Receipt) (ready : ReceiptParts) : Type 0 where
   pub shared : Bytes (ready .shared)
   pub sharedThere : sizes .hash * d .shared ≤ length (ready .shared)
   pub sent : Bytes (ready .sent)
@@ -90,8 +90,8 @@ pub record WordsMade (message : List ℕ) (p : Places) (ready : List ℕ) (size 
   pub bytes : size ≡ length (laidBytes (saidAt message p .haves))
 
 -- The numbers of a session after a message, the counts of before having the message's flags taken; and what stands ready.
-pub record DraftMade (loads : Bool) (s : Session) (table : List ℕ) (n before : ℕ) (message : List ℕ) (p : Places) (oldShared oldSent : List ℕ) (ready : Parts)
-    (d : Draft) : Type 0 where
+pub record ReceiptMade (loads : Bool) (s : Session) (table : List ℕ) (n before : ℕ) (message : List ℕ) (p : Places) (oldShared oldSent : List ℕ) (ready : ReceiptParts)
+    (d : Receipt) : Type 0 where
   pub shared : SharedMade
       (cond (every (held (rowsAt table 0 n)) (saidAt message p .heads))
       (saidAt message p .heads)

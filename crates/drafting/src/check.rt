@@ -12,7 +12,7 @@ ghost use Rattle.lent.specs.Good.{lentOf};
 ghost use Rattle.drafting.specs.Checks.{checked};
 
 // A table of so many rows and its index beside a session that is good, and where a message's parts stand; or the first refusal.
-pub enum Checks {
+pub enum ReceiptChecks {
     Good { rows: usize, places: Places },
     Refused(Refusal),
 }
@@ -31,7 +31,7 @@ pub fn check_receive(
     index: &[u8],
     before: usize,
     message: &[u8],
-) -> Checks
+) -> ReceiptChecks
     ensures { λ r. ⌜ r ≡ checked session (lentOf (now (shared .entry)) (now («last_sent» .entry)) (now («their_heads» .entry)) (now («their_need» .entry))
         (now (haves .entry)) (now (bytes .entry)) (now (sent .entry))) (now (table .entry)) (now (index .entry)) before (now (message .entry)) ⌝ }
 {
@@ -45,17 +45,17 @@ pub fn check_receive(
         bytes,
         sent,
     ) {
-        return Checks::Refused(Refusal::BadNumbers);
+        return ReceiptChecks::Refused(Refusal::BadNumbers);
     }
     match check_indexed(table, index) {
-        Checked::Refused(r) => Checks::Refused(r),
+        Checked::Refused(r) => ReceiptChecks::Refused(r),
         Checked::Good(n) => {
             if n < before {
-                return Checks::Refused(Refusal::BadRowsBefore);
+                return ReceiptChecks::Refused(Refusal::BadRowsBefore);
             }
             match parse(message) {
-                Decoded::Refused(r) => Checks::Refused(r),
-                Decoded::Message(places) => Checks::Good { rows: n, places },
+                Decoded::Refused(r) => ReceiptChecks::Refused(r),
+                Decoded::Message(places) => ReceiptChecks::Good { rows: n, places },
             }
         }
     }

@@ -7,7 +7,7 @@ use receiving::heads::heads_before;
 use receiving::left::make_left;
 use receiving::shared::make_shared;
 use state::session::Session;
-use taking::decide::Draft;
+use taking::decide::Receipt;
 ghost use mathlib.Core.Bool.{not, _&&_};
 ghost use mathlib.Core.Path.{_≡_};
 ghost use Prim.Native.Nat.{_+_, _*_, _≤_};
@@ -20,8 +20,8 @@ ghost use Rattle.index.specs.Index.{Indexed};
 ghost use Rattle.rules.specs.Hash.{hashesAt};
 ghost use Rattle.rules.specs.Sizes.{sizes};
 ghost use Rattle.tables.specs.Bytes.{rowsAt};
-ghost use Rattle.taking.specs.Draft.{partsOf};
-ghost use Rattle.drafting.specs.Made.{wordsRoom, toldHeads, lastSentCount, keptHashes, Prepared, Stands, Makes, WordsMade, DraftMade};
+ghost use Rattle.taking.specs.Receipt.{receiptParts};
+ghost use Rattle.drafting.specs.Made.{wordsRoom, toldHeads, lastSentCount, keptHashes, Prepared, Stands, Makes, WordsMade, ReceiptMade};
 
 // Whether a message's changes are loaded: it has some, and this unit takes them.
 pub fn loads_changes(chunks: usize, read_only: bool) -> bool
@@ -112,13 +112,13 @@ pub fn make_received(
     ready_shared: &mut [u8],
     ready_sent: &mut [u8],
     words: &mut [u64],
-) -> Draft
+) -> Receipt
     requires { ⌜ Makes flagged (now table) (now index) n before (now message) places (now shared) (now sent)
         × Prepared (now table) n (now message) places (flagged .«sent_hashes») (now marks) all (now «ready_shared») (now «ready_sent»)
         × (length (now words) ≡ wordsRoom) ⌝ }
-    ensures { λ d. ⌜ DraftMade loads flagged (now (table .entry)) n before (now (message .entry)) places (now (shared .entry)) (now (sent .entry))
-        (partsOf (now («ready_shared» .exit)) (now («ready_sent» .exit)) (now (words .exit))) d
-        × Stands d (partsOf (now («ready_shared» .exit)) (now («ready_sent» .exit)) (now (words .exit))) ⌝ }
+    ensures { λ d. ⌜ ReceiptMade loads flagged (now (table .entry)) n before (now (message .entry)) places (now (shared .entry)) (now (sent .entry))
+        (receiptParts (now («ready_shared» .exit)) (now («ready_sent» .exit)) (now (words .exit))) d
+        × Stands d (receiptParts (now («ready_shared» .exit)) (now («ready_sent» .exit)) (now (words .exit))) ⌝ }
 {
     let heads = places.heads;
     let need = places.need;
@@ -152,7 +152,7 @@ pub fn make_received(
         heads.count,
     );
     let last_sent = last_sent_after(heads.count, told, flagged.last_sent_heads);
-    Draft {
+    Receipt {
         shared: count,
         last_sent,
         told,

@@ -5,22 +5,23 @@ use mathlib.Core.Bool.{true, false}
 use mathlib.Core.List.{List, [], _∷_}
 use mathlib.Core.Path.{_≡_, refl, sym, ap, _∙_}
 use native.Mathlib.Omega.{arith}
-use lib.ListN.{length, replicate, take, drop}
+use lib.ListN.{take, drop}
 use lib.Seq.{slice, drop-drop}
+use Rattle.bloom.proofs.Filters.{filter-numbers, numbers-read, field-no-bits, field-probes, filter-written}
 use Rattle.bloom.specs.Filter.{filterOf4, filterBytes, filterRules, fieldSize, defaultBits, defaultProbes}
 use Rattle.bloom.specs.Have.{numbersOf, filterWith}
-use Rattle.bloom.specs.Read.{fieldAt, numbersAt, filterAt}
+use Rattle.bloom.specs.Read.{fieldAt, filterAt}
 use Rattle.bloom.specs.declared.parse.Parsed.the-variants.{Filter as Found, Refused}
-use Rattle.bloom.proofs.Filters.{filter-numbers, numbers-read, field-no-bits, field-probes, filter-written}
-use Rattle.numbers.specs.Number.{shortest, sevens, mostFilter, find, answerAt, numberAt}
 use Rattle.numbers.proofs.Number.{find-end}
+use Rattle.numbers.specs.Number.{shortest, sevens, mostFilter, find, answerAt, numberAt}
 use Rattle.numbers.specs.declared.leb128.Number.the-variants.{Value}
 use Rattle.probe.specs.Build.{setBit, setBits, addHash, addHashes, filterOf}
 use Rattle.probe.specs.Contains.{clearAt, noneClear, contains}
-use Rattle.probe.specs.Probes.{u32At, probesFrom, probesOf, bitAt}
+use Rattle.probe.specs.Probes.{probesFrom, probesOf, bitAt}
 use Rattle.rules.specs.Hash.{hashBytes}
+use Rattle.rules.specs.LittleEndian.{u32At}
 use Rattle.rules.specs.declared.refusal.Refusal.the-variants.{PastSize, NoBits}
-use Rattle.wire.specs.Item.{leftAt, afterNumber}
+use Rattle.wire.specs.Item.{leftAt}
 use Rattle.examples.specs.Examples.{Words, RefusedWith, ReadAs}
 
 -- ---- probes

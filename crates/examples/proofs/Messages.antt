@@ -5,21 +5,21 @@ use mathlib.Core.List.{List, [], _∷_}
 use mathlib.Core.Path.{_≡_, refl}
 use Rattle.bloom.specs.Filter.{filterBytes, fieldSize, defaultBits, defaultProbes}
 use Rattle.bloom.specs.Have.{havesFrom, havesOf}
-use Rattle.decode.specs.Read.{headsAt, openingAt, sectionAt, afterOpening, afterSection, listsAt, needAt, messageAt, messageOf}
+use Rattle.decode.specs.Read.{headsAt, openingAt, sectionAt, afterOpening, afterSection, listsAt, needAt, messageAt, messageIn}
 use Rattle.decode.specs.declared.parse.Places.{Places}
-use Rattle.graph.specs.Graph.{needed, heads, belowRow, beyond}
+use Rattle.graph.specs.Graph.{heads, beyond}
 use Rattle.items.specs.Items.{afterItem, haveItem, chunkItem, manyAt, afterList, listFrom, listAt, havesAt, chunksAt, chunksOf}
 use Rattle.lists.specs.Lists.{same}
 use Rattle.message.specs.Flags.{flagsOf, addFlags, flagsIn, sectionBytes}
 use Rattle.message.specs.Message.{joined, counted, haveBytes, messageBytes}
-use Rattle.message.specs.declared.flags.Section.{Section}
 use Rattle.message.specs.declared.flags.Section.the-variants.{Absent, Present}
+use Rattle.message.specs.declared.flags.Section.{Section}
 use Rattle.message.specs.declared.version.MessageVersion.the-variants.{V1}
 use Rattle.missing.specs.Missing.{asksFrom, missing}
 use Rattle.numbers.specs.Number.{shortest, sevens, goOn, find, answerAt, numberAt}
+use Rattle.order.specs.Order.{keep, every, ascend}
 use Rattle.probe.specs.Build.{addHashes, filterOf}
 use Rattle.rules.specs.Hash.{hashesAt, hashesBytes}
-use Rattle.rules.specs.Order.{keep, every, ascend}
 use Rattle.session.specs.Plan.{
   needOf,
   haveOf,
@@ -82,7 +82,7 @@ unfolding
     listsAt
     needAt
     messageAt
-    messageOf
+    messageIn
     addFlags
     flagsIn
     hashesAt

@@ -1,17 +1,17 @@
 -- The premises of P6, P7 and P12 are met, by computation: hashes whose bytes behind the three words are 0, and a filter of one byte and one probe in which
 -- all bits but b's are set. Assumes nothing.
-use Prim.Native.Nat.{ℕ, _<_}
 use mathlib.Core.List.{[], _∷_}
-use mathlib.Core.Path.{_≡_, refl}
+use mathlib.Core.Path.{refl}
 use borrow.Author.Tests.{ltb-true}
 use Rattle.bloom.specs.Filter.{filterOf4}
 use Rattle.bloom.specs.Have.{Have}
 use Rattle.members.specs.Members.{lastSyncs, filters}
+use Rattle.order.proofs.KeepLaws.{once-ascends}
+use Rattle.order.specs.Order.{ascends}
 use Rattle.probe.specs.Contains.{clearAt, noneClear, contains, anyContains}
-use Rattle.probe.specs.Probes.{u32At, probesFrom, probesOf, bitAt}
+use Rattle.probe.specs.Probes.{probesFrom, probesOf, bitAt}
 use Rattle.rules.specs.Hash.{bigEndian, bigEndianBytes, hashBytes}
-use Rattle.rules.specs.Order.{ascends, Once}
-use Rattle.rules.proofs.KeepLaws.{once-ascends}
+use Rattle.rules.specs.LittleEndian.{u32At}
 use Rattle.walk.proofs.Example.{wordsHash}
 use Rattle.examples.specs.Examples.{Met}
 

@@ -1,22 +1,21 @@
 -- P11 and P12: what is beyond b by computation, once the four hashes are known to be apart; S row by row, by its equation. Assumes nothing.
 use Prim.Native.Nat.{ℕ, zero, suc, _<_}
 use mathlib.Core.Bool.{Bool, true, false, not, _&&_, _||_}
-use mathlib.Core.List.{List, [], _∷_, _++_}
-use mathlib.Core.Path.{_≡_, refl, sym, ap, _∙_}
+use mathlib.Core.List.{List, [], _∷_}
+use mathlib.Core.Path.{_≡_, refl, ap, _∙_}
 use native.Mathlib.Omega.{arith}
 use borrow.Author.Tests.{eqb-true, eq-eqb}
 use lib.Dec.{eqb}
-use lib.ListN.{length}
 use Rattle.bloom.specs.Have.{Have}
 use Rattle.graph.specs.Graph.{needed, heads, belowRow, beyond}
-use Rattle.members.specs.Members.{lastSyncs, filters, candidate, inTheS, theS, someOf}
 use Rattle.members.proofs.MemberLaws.{s-equation}
+use Rattle.members.specs.Members.{filters, candidate, inTheS, theS, someOf}
+use Rattle.order.proofs.KeepLaws.{once-first, once-tail}
+use Rattle.order.proofs.OrderLaws.{member-here, member-there, member-none}
+use Rattle.order.specs.Order.{member, keep, insertOnce, ascend, Once}
+use Rattle.order.specs.Reach.{someBelow, reachIn, reach}
 use Rattle.probe.specs.Contains.{anyContains}
-use Rattle.rules.specs.Order.{member, keep, insertOnce, ascend, Once}
-use Rattle.rules.specs.Reach.{someBelow, reachIn, reach}
 use Rattle.rules.proofs.Cases.{split, either, true-false}
-use Rattle.rules.proofs.KeepLaws.{once-first, once-tail}
-use Rattle.rules.proofs.OrderLaws.{member-here, member-there, member-none}
 use Rattle.selection.specs.ToSend.{toSend}
 use Rattle.tables.specs.Table.{Row, rows, hashOf, depsOf, held, rowsFrom, rowsWhere}
 use Rattle.walk.proofs.Example.{only}

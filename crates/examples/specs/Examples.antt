@@ -9,22 +9,23 @@ use Rattle.bloom.specs.Filter.{filterOf4, filterBytes, defaultBits, defaultProb
 use Rattle.bloom.specs.Have.{Have, filterWith}
 use Rattle.bloom.specs.Read.{filterAt}
 use Rattle.bloom.specs.declared.have.FilterNumbers.{FilterNumbers}
-use Rattle.bloom.specs.declared.parse.Parsed.{Parsed}
 use Rattle.bloom.specs.declared.parse.Parsed.the-variants.{Filter as Found, Refused}
-use Rattle.decode.specs.Read.{read, messageAt, messageOf}
+use Rattle.bloom.specs.declared.parse.Parsed.{Parsed}
+use Rattle.decode.specs.Read.{read, messageAt, messageIn}
 use Rattle.decode.specs.declared.parse.Places.{Places}
 use Rattle.graph.specs.Graph.{beyond, heads}
 use Rattle.members.specs.Members.{lastSyncs, filters}
 use Rattle.message.specs.Flags.{flagsOf}
 use Rattle.message.specs.Message.{Message, messageBytes}
-use Rattle.message.specs.declared.flags.Section.{Section}
 use Rattle.message.specs.declared.flags.Section.the-variants.{Absent, Present}
+use Rattle.message.specs.declared.flags.Section.{Section}
 use Rattle.message.specs.declared.version.MessageVersion.the-variants.{V1}
+use Rattle.order.specs.Order.{Once}
 use Rattle.probe.specs.Build.{filterOf}
 use Rattle.probe.specs.Contains.{contains, anyContains}
-use Rattle.probe.specs.Probes.{u32At, probesOf}
+use Rattle.probe.specs.Probes.{probesOf}
 use Rattle.rules.specs.Hash.{IsHash, hashBytes}
-use Rattle.rules.specs.Order.{Once}
+use Rattle.rules.specs.LittleEndian.{u32At}
 use Rattle.rules.specs.Refusal.{numberOf, valueOf}
 use Rattle.rules.specs.declared.refusal.Refusal.{Refusal}
 use Rattle.selection.specs.ToSend.{toSend}
@@ -39,7 +40,7 @@ pub record Reads (s : List ℕ) (m : Message) : Type 0 where
   pub haveWords : List ℕ
   pub chunkWords : List ℕ
   pub found : messageAt s ≡ read places haveWords chunkWords
-  pub says : messageOf s places haveWords chunkWords ≡ m
+  pub says : messageIn s places haveWords chunkWords ≡ m
 
 abbrev pub emptyMessage : Section → Message
 emptyMessage flags = record { version = V1; heads = []; need = []; haves = []; chunks = []; flags = flags }

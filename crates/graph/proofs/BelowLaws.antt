@@ -9,14 +9,14 @@ use native.Mathlib.Omega.{arith}
 use borrow.Author.Tests.{eqb-true, eq-eqb, not-true}
 use lib.Dec.{eqb}
 use lib.ListN.{length, getD, List·getD-eq-default}
-use Rattle.rules.specs.Order.{member}
-use Rattle.rules.specs.Reach.{someBelow}
+use Rattle.order.proofs.OrderLaws.{member-none}
+use Rattle.order.proofs.ReachLaws.{reach-equation, reach-base, reach-closed, reach-least}
+use Rattle.order.specs.Order.{member}
+use Rattle.order.specs.Reach.{someBelow}
 use Rattle.rules.proofs.Cases.{split, both, true-false, either, or-left, or-right}
-use Rattle.rules.proofs.OrderLaws.{member-none}
-use Rattle.rules.proofs.ReachLaws.{reach-equation, reach-base, reach-closed, reach-least}
 use Rattle.rules.specs.Hash.{AreHashes}
-use Rattle.tables.specs.Table.{Row, noRow, rows, hashOf, depsOf, GoodTable, indexIn, rowNumber, held, deps}
 use Rattle.tables.proofs.TableLaws.{length-rows, number-of-row, held-row, row-of-held, hash-of-held, index-of-unknown}
+use Rattle.tables.specs.Table.{Row, noRow, rows, hashOf, depsOf, GoodTable, indexIn, rowNumber, held, deps}
 use Rattle.graph.specs.Graph.{belowRow, below, beyond}
 use Rattle.graph.proofs.PickLaws.{rows-where, rows-most, chosen-hashes}
 

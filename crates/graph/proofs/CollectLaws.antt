@@ -9,21 +9,22 @@ use borrow.Author.Tests.{lt-ltb, le-ltb}
 use lib.Dec.{ltb}
 use lib.ListN.{length, getD, take}
 use lib.Seq.{sets, slice}
-use Rattle.index.specs.Index.{fits}
-use Rattle.index.proofs.ByteLaws.{u16s-next, u16s-none}
 use Rattle.index.proofs.AscendLaws.{ascend-by-index}
+use Rattle.index.proofs.ByteLaws.{u16s-next, u16s-none}
+use Rattle.index.specs.Index.{fits}
+use Rattle.order.proofs.KeepLaws.{hashes-inside}
+use Rattle.order.proofs.OrderLaws.{ascend-most, ascend-members}
+use Rattle.order.specs.Order.{keep, ascend, member}
+use Rattle.rules.proofs.Hash.{length-hashes-bytes}
+use Rattle.rules.proofs.Outputs.{written-gathered}
 use Rattle.rules.specs.Hash.{Bytes, AreHashes, hashAt, hashesBytes}
-use Rattle.rules.specs.Order.{keep, ascend, member}
+use Rattle.rules.specs.LittleEndian.{u16At}
 use Rattle.rules.specs.Output.{Gathered}
 use Rattle.rules.specs.Sizes.{sizes}
-use Rattle.rules.proofs.Hash.{length-hashes-bytes}
-use Rattle.rules.proofs.KeepLaws.{hashes-inside}
-use Rattle.rules.proofs.OrderLaws.{ascend-most, ascend-members}
-use Rattle.rules.proofs.Outputs.{written-gathered}
-use Rattle.tables.specs.Bytes.{u16At, u16sAt, rowSize, rowsAt}
-use Rattle.tables.specs.Table.{Row, rows, hashOf, GoodTable, rowsFrom, rowsWhere}
 use Rattle.tables.proofs.GoodLaws.{rows-hashes}
 use Rattle.tables.proofs.TableLaws.{length-rows, length-rows-at, take-rows-at, hash-of-row}
+use Rattle.tables.specs.Bytes.{u16sAt, rowSize, rowsAt}
+use Rattle.tables.specs.Table.{Row, rows, hashOf, GoodTable, rowsFrom, rowsWhere}
 use Rattle.graph.specs.Graph.{needed, heads}
 use Rattle.graph.specs.Marks.{Marks, marked, picked, Collected}
 use Rattle.graph.proofs.GraphMarks.{picked-heads, heads-many}

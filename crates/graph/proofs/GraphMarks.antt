@@ -7,16 +7,16 @@ use mathlib.Core.Path.{_≡_, refl, ap, _∙_}
 use native.Mathlib.Omega.{arith}
 use lib.ListN.{length, getD}
 use lib.Seq.{sets}
+use Rattle.order.proofs.KeepLaws.{once-inside}
+use Rattle.order.proofs.OrderLaws.{ascend-most, ascend-members}
+use Rattle.order.proofs.ReachLaws.{reach-same}
+use Rattle.order.specs.Order.{member, ascend}
+use Rattle.order.specs.Reach.{reach}
 use Rattle.rules.specs.Hash.{hashesBytes}
-use Rattle.rules.specs.Order.{member, ascend}
-use Rattle.rules.specs.Reach.{reach}
 use Rattle.rules.specs.Sizes.{sizes}
-use Rattle.rules.proofs.KeepLaws.{once-inside}
-use Rattle.rules.proofs.OrderLaws.{ascend-most, ascend-members}
-use Rattle.rules.proofs.ReachLaws.{reach-same}
+use Rattle.tables.proofs.TableLaws.{length-rows, length-rows-at}
 use Rattle.tables.specs.Bytes.{rowsAt}
 use Rattle.tables.specs.Table.{Row, rows, hashOf, depsOf, GoodTable, rowsWhere}
-use Rattle.tables.proofs.TableLaws.{length-rows, length-rows-at}
 use Rattle.graph.specs.Graph.{needed, heads, belowRow, beyond}
 use Rattle.graph.specs.Marks.{Marks, Blank, marked, picked}
 use Rattle.graph.proofs.MarkLaws.{blank-or}

@@ -6,14 +6,14 @@ use mathlib.Core.Path.{_≡_, sym, ap, subst, _∙_}
 use native.Mathlib.Omega.{arith}
 use borrow.Author.Tests.{not-true}
 use lib.ListN.{length}
-use Rattle.rules.specs.Order.{member, ascends, ascend}
+use Rattle.order.proofs.KeepLaws.{hashes-inside}
+use Rattle.order.proofs.OrderLaws.{ascend-ascends, ascend-members, ascend-most}
+use Rattle.order.proofs.ReachLaws.{some-below, some-witness}
+use Rattle.order.specs.Order.{member, ascends, ascend}
 use Rattle.rules.proofs.Cases.{split, both, true-false}
-use Rattle.rules.proofs.KeepLaws.{hashes-inside}
-use Rattle.rules.proofs.OrderLaws.{ascend-ascends, ascend-members, ascend-most}
-use Rattle.rules.proofs.ReachLaws.{some-below, some-witness}
 use Rattle.rules.specs.Hash.{AreHashes}
-use Rattle.tables.specs.Table.{Row, rows, hashOf, depsOf, GoodTable, rowNumber, held, deps, rowsWhere}
 use Rattle.tables.proofs.TableLaws.{number-of-row, held-row, row-of-held, hash-of-held}
+use Rattle.tables.specs.Table.{Row, rows, hashOf, depsOf, GoodTable, rowNumber, held, deps, rowsWhere}
 use Rattle.graph.specs.Graph.{needed, heads, below}
 use Rattle.graph.proofs.BelowLaws.{dependency, deps-of-hash, below-listed, below-deps}
 use Rattle.graph.proofs.PickLaws.{rows-where, rows-member, rows-most}

@@ -11,18 +11,19 @@ use borrow.Author.Tests.{eqb-true, eqb-false, eq-eqb, ne-eqb, ltb-true, ltb-fals
 use lib.Dec.{ltb, eqb}
 use lib.ListN.{length, getD, set, drop, replicate, length-set, getD-replicate, drop-of-length-le}
 use lib.Seq.{drop-cons, getD-set-same, getD-set-other}
+use Rattle.order.proofs.KeepLaws.{once-index}
+use Rattle.order.proofs.OrderLaws.{index-member}
+use Rattle.order.proofs.ReachLaws.{some-witness, reach-unique}
+use Rattle.order.specs.Order.{member, Once}
+use Rattle.order.specs.Reach.{someBelow, reach}
+use Rattle.rules.proofs.Cases.{split, both, same-truth, or-right}
 use Rattle.rules.specs.Hash.{hashAt, hashesAt}
-use Rattle.rules.specs.Order.{member, Once}
-use Rattle.rules.specs.Reach.{someBelow, reach}
+use Rattle.rules.specs.LittleEndian.{u16At}
 use Rattle.rules.specs.Sizes.{sizes}
-use Rattle.tables.specs.Bytes.{u16At, depCount, usedAt, rowsAt, GoodRows}
-use Rattle.tables.specs.Table.{Row, rows, hashOf, depsOf, indexIn}
-use Rattle.rules.proofs.KeepLaws.{once-index}
 use Rattle.tables.proofs.GoodLaws.{good-down}
 use Rattle.tables.proofs.TableLaws.{entry-at-index, index-first, length-rows, length-rows-at, deps-of-row, numberAt, length-used, used-index}
-use Rattle.rules.proofs.Cases.{split, both, same-truth, or-right}
-use Rattle.rules.proofs.OrderLaws.{index-member}
-use Rattle.rules.proofs.ReachLaws.{some-witness, reach-unique}
+use Rattle.tables.specs.Bytes.{depCount, usedAt, rowsAt, GoodRows}
+use Rattle.tables.specs.Table.{Row, rows, hashOf, depsOf, indexIn}
 use Rattle.graph.specs.Graph.{needed}
 use Rattle.graph.specs.Marks.{Marks, Blank, markAll, markRow, markHash}
 

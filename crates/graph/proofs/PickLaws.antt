@@ -11,15 +11,15 @@ use borrow.Author.Tests.{eqb-true, eq-eqb}
 use lib.Dec.{eqb}
 use lib.ListN.{length, getD, drop, length-drop, drop-of-length-le}
 use lib.Seq.{drop-cons}
-use Rattle.rules.specs.Hash.{AreHashes, hashesBytes}
-use Rattle.rules.specs.Order.{member, keep, Once}
-use Rattle.rules.specs.Sizes.{sizes}
+use Rattle.order.proofs.KeepLaws.{once-none, once-first, once-tail, once-cons, hashes-inside}
+use Rattle.order.proofs.OrderLaws.{index-member}
+use Rattle.order.specs.Order.{member, keep, Once}
 use Rattle.rules.proofs.Cases.{split, both, true-false, same-truth, either, or-left, or-right, and-true}
 use Rattle.rules.proofs.Hash.{length-hashes-bytes}
-use Rattle.rules.proofs.KeepLaws.{once-none, once-first, once-tail, once-cons, hashes-inside}
-use Rattle.rules.proofs.OrderLaws.{index-member}
-use Rattle.tables.specs.Table.{Row, GoodTable, rows, hashOf, rowNumber, held, rowsFrom, rowsWhere}
+use Rattle.rules.specs.Hash.{AreHashes, hashesBytes}
+use Rattle.rules.specs.Sizes.{sizes}
 use Rattle.tables.proofs.TableLaws.{length-rows, number-of-row, held-row, row-of-held, hash-of-held}
+use Rattle.tables.specs.Table.{Row, GoodTable, rows, hashOf, rowNumber, held, rowsFrom, rowsWhere}
 use Rattle.graph.specs.Marks.{Marks, marked, pickFrom, picked}
 
 -- ---- which they are

@@ -7,8 +7,8 @@ use native.Mathlib.Nat.{not-suc-le-zero}
 use native.Mathlib.Omega.{arith}
 use lib.ListN.{length, getD, set}
 use lib.Seq.{getD-set-same, getD-set-other}
+use Rattle.order.proofs.ReachLaws.{below-suc}
 use Rattle.rules.proofs.Cases.{and-false}
-use Rattle.rules.proofs.ReachLaws.{below-suc}
 use Rattle.graph.specs.Marks.{Marks}
 
 pub record Turned (f : ℕ → Bool → Bool) (i : ℕ) (old new : List Bool) : Type 0 where

@@ -3,8 +3,8 @@ use Prim.Native.Nat.{ℕ}
 use mathlib.Core.Bool.{Bool, false, cond, not}
 use mathlib.Core.List.{List}
 use lib.ListN.{length}
-use Rattle.rules.specs.Order.{member, ascend}
-use Rattle.rules.specs.Reach.{someBelow, reach}
+use Rattle.order.specs.Order.{member, ascend}
+use Rattle.order.specs.Reach.{someBelow, reach}
 use Rattle.tables.specs.Table.{Row, hashOf, depsOf, rowNumber, held, rowsWhere}
 
 -- Heads: rows that no row depends on, ascending bytes.

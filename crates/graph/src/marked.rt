@@ -1,15 +1,15 @@
 // The rows that are marked: how many they are, their hashes in table order, and their hashes ascending.
-use rules::hashes::put_hash;
+use order::hashes::put_hash;
+use rules::little_endian::u16_at;
 use rules::sizes::HASH_SIZE;
 use tables::row::ROW_SIZE;
-use tables::row::u16_at;
 ghost use mathlib.Core.Path.{_≡_};
 ghost use Prim.Native.Nat.{_+_, _*_, _≤_};
 ghost use lib.ListN.{length};
 ghost use lib.Seq.{sets};
 ghost use Rattle.index.specs.Index.{Indexed};
+ghost use Rattle.order.specs.Order.{ascend};
 ghost use Rattle.rules.specs.Hash.{hashesBytes};
-ghost use Rattle.rules.specs.Order.{ascend};
 ghost use Rattle.rules.specs.Sizes.{sizes};
 ghost use Rattle.tables.specs.Bytes.{rowsAt, GoodRows};
 ghost use Rattle.tables.specs.Table.{rows};

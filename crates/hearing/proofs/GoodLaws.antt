@@ -10,30 +10,30 @@ use native.Mathlib.Omega.{arith}
 use borrow.Author.Tests.{leb-true, ltb-true, ltb-false}
 use lib.Dec.{leb, ltb}
 use lib.ListN.{length, take, length-replicate}
-use Rattle.bloom.specs.Filter.{fieldSize, filterRules, defaultBits, defaultProbes}
-use Rattle.bloom.specs.Have.{haveCount, haveIn, havesFrom, havesOf, syncPlace, syncCount, numbersIn, filterGood, filterWith}
 use Rattle.bloom.proofs.HaveLaws.{PassedHaves, passed-haves}
 use Rattle.bloom.proofs.Rules.{rules-default}
-use Rattle.decode.specs.Read.{Reading, messageAt, messageOf}
-use Rattle.decode.specs.declared.parse.Places.{Places}
+use Rattle.bloom.specs.Filter.{fieldSize, filterRules, defaultBits, defaultProbes}
+use Rattle.bloom.specs.Have.{haveCount, haveIn, havesFrom, havesOf, syncPlace, syncCount, numbersIn, filterGood, filterWith}
 use Rattle.decode.proofs.Messages.{message-words, haves-good}
-use Rattle.graph.specs.Graph.{heads, beyond}
+use Rattle.decode.specs.Read.{Reading, messageAt, messageIn}
+use Rattle.decode.specs.declared.parse.Places.{Places}
 use Rattle.graph.proofs.BelowLaws.{beyond-few}
 use Rattle.graph.proofs.HeadLaws.{heads-few, heads-hashes}
+use Rattle.graph.specs.Graph.{heads, beyond}
 use Rattle.lists.specs.Lists.{same}
 use Rattle.message.specs.Sound.{Each, SoundHashes, SoundHave, SaidFilter, SaidHave}
 use Rattle.message.specs.declared.flags.Section.{Section}
 use Rattle.missing.specs.Missing.{missing}
-use Rattle.probe.specs.Build.{addHashes, filterOf}
+use Rattle.order.proofs.KeepLaws.{hashes-member, hashes-each, hashes-inside}
+use Rattle.order.specs.Order.{member, every, ascends}
 use Rattle.probe.proofs.FieldLaws.{length-add-hashes}
-use Rattle.rules.specs.Hash.{Bytes, AreHashes, hashesAt}
-use Rattle.rules.specs.Order.{member, every, ascends}
-use Rattle.rules.specs.Sizes.{sizes}
-use Rattle.rules.specs.declared.refusal.Refusal.{Refusal}
-use Rattle.rules.specs.declared.refusal.Refusal.the-variants.{LoadFailed, BadRowsBefore}
+use Rattle.probe.specs.Build.{addHashes, filterOf}
 use Rattle.rules.proofs.Cases.{split, both, either}
 use Rattle.rules.proofs.Hash.{length-hashes-at, hashes-are-hashes, length-slice-of}
-use Rattle.rules.proofs.KeepLaws.{hashes-member, hashes-each, hashes-inside}
+use Rattle.rules.specs.Hash.{Bytes, AreHashes, hashesAt}
+use Rattle.rules.specs.Sizes.{sizes}
+use Rattle.rules.specs.declared.refusal.Refusal.the-variants.{LoadFailed, BadRowsBefore}
+use Rattle.rules.specs.declared.refusal.Refusal.{Refusal}
 use Rattle.session.specs.Plan.{
   Plan,
   Planned,
@@ -405,8 +405,8 @@ module _ (s haves : List ℕ) (all : Bytes s) (p : PassedHaves s haves) where
 
 -- a message that was read is one that a session can take
 pub read-sound : (bytes : List ℕ) → Bytes bytes → (p : Places) (haves chunks : List ℕ) → messageAt bytes ≡ Reading.read p haves chunks
-    → SoundSaid (saidIn (messageOf bytes p haves chunks))
-unfolding saidIn messageOf
+    → SoundSaid (saidIn (messageIn bytes p haves chunks))
+unfolding saidIn messageIn
 read-sound bytes all p haves chunks e =
     let w = message-words bytes p haves chunks e in
     let good = haves-good bytes all p haves chunks e in
@@ -432,7 +432,7 @@ module _ (loaded : Bool) (before : ℕ) (t : List Row) (s : State) (bytes : List
   read-good : before ≤ length t → (x : Reading) → messageAt bytes ≡ x → LeavesGood (receiveBytes loaded before t s bytes)
   read-good inside (Reading.refused r) e = as-was _ r (bytes-refused loaded before t s bytes inside r e)
   read-good inside (Reading.read p haves chunks) e =
-      let m : Said = saidIn (messageOf bytes p haves chunks) in
+      let m : Said = saidIn (messageIn bytes p haves chunks) in
       rw (bytes-read loaded before t s bytes inside p haves chunks e)
       (record {
         took = received-good before t s m are g (read-sound bytes all p haves chunks e) loaded;

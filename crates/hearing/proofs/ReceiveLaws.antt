@@ -2,7 +2,7 @@
 -- one law for each way through the stages.
 use Prim.Native.Nat.{ℕ, _≤_, _<_}
 use mathlib.Core.Bool.{Bool, true, false, not, _&&_, _||_}
-use mathlib.Core.List.{List, [], _∷_, _++_}
+use mathlib.Core.List.{List, [], _++_}
 use mathlib.Core.Logic.{_⊎_, inl, inr, ⊎-elim}
 use mathlib.Core.Path.{_≡_, refl, sym, _∙_}
 use native.Mathlib.Nat.{le-trans}
@@ -10,18 +10,18 @@ use native.Mathlib.Omega.{arith}
 use borrow.Author.Tests.{ltb-true, ltb-false, lt-ltb, le-ltb}
 use lib.Dec.{ltb}
 use lib.ListN.{length}
-use Rattle.decode.specs.Read.{Reading, messageAt, messageOf}
+use Rattle.decode.specs.Read.{Reading, messageAt, messageIn}
 use Rattle.decode.specs.declared.parse.Places.{Places}
 use Rattle.graph.specs.Graph.{below}
 use Rattle.message.specs.Flags.{syncReset, hasFlag}
 use Rattle.message.specs.declared.flags.Section.{Section}
-use Rattle.rules.specs.Order.{member, keep, every, ascends, Once}
-use Rattle.rules.specs.Sizes.{sizes}
-use Rattle.rules.specs.declared.refusal.Refusal.{Refusal}
-use Rattle.rules.specs.declared.refusal.Refusal.the-variants.{PastSize, LoadFailed, BadRowsBefore}
+use Rattle.order.proofs.KeepLaws.{keep-member, keep-most, keep-ascends, once-ascends}
+use Rattle.order.proofs.OrderLaws.{ascend-ascends, ascend-members, ascending-unique, member-append, member-none}
+use Rattle.order.specs.Order.{member, keep, every, ascends, Once}
 use Rattle.rules.proofs.Cases.{split, both}
-use Rattle.rules.proofs.KeepLaws.{keep-member, keep-most, keep-ascends, once-ascends}
-use Rattle.rules.proofs.OrderLaws.{ascend-ascends, ascend-members, ascending-unique, member-append, member-none}
+use Rattle.rules.specs.Sizes.{sizes}
+use Rattle.rules.specs.declared.refusal.Refusal.the-variants.{PastSize, LoadFailed, BadRowsBefore}
+use Rattle.rules.specs.declared.refusal.Refusal.{Refusal}
 use Rattle.session.specs.Plan.{empty}
 use Rattle.state.specs.Session.{State}
 use Rattle.tables.specs.Table.{Row, held}
@@ -283,7 +283,7 @@ module _ (loaded : Bool) (before : ℕ) (t : List Row) (s : State) (bytes : List
     bytes-refused r e = rw (le-ltb _ _ inside, e)
 
     pub bytes-read : (p : Places) (haves chunks : List ℕ) → messageAt bytes ≡ Reading.read p haves chunks
-        → receiveBytes loaded before t s bytes ≡ receive loaded before t s (saidIn (messageOf bytes p haves chunks))
+        → receiveBytes loaded before t s bytes ≡ receive loaded before t s (saidIn (messageIn bytes p haves chunks))
     unfolding receiveBytes receiveRead
     bytes-read p haves chunks e = rw (le-ltb _ _ inside, e)
 
@@ -292,7 +292,7 @@ module _ (loaded : Bool) (before : ℕ) (t : List Row) (s : State) (bytes : List
       → (r ≡ LoadFailed) ⊎ (s′ ≡ s)
   reading-keeps inside (Reading.read p haves chunks) q r s′ e =
       ⊎-elim (λ f. inl (f .0)) inr
-      (refused-leaves loaded before t s (saidIn (messageOf bytes p haves chunks)) r s′ (sym (bytes-read inside p haves chunks q) ∙ e))
+      (refused-leaves loaded before t s (saidIn (messageIn bytes p haves chunks)) r s′ (sym (bytes-read inside p haves chunks q) ∙ e))
   reading-keeps inside (Reading.refused f) q r s′ e =
       let is : Received.refused r s′ ≡ Received.refused f s = sym e ∙ bytes-refused inside f q in
       inr cc

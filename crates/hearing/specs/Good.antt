@@ -8,8 +8,8 @@ use mathlib.Core.Path.{_≡_}
 use lib.ListN.{length}
 use Rattle.bloom.specs.Have.{Have}
 use Rattle.message.specs.Sound.{Each, SoundHashes, SoundHave}
+use Rattle.order.specs.Order.{ascends}
 use Rattle.rules.specs.Hash.{AreHashes}
-use Rattle.rules.specs.Order.{ascends}
 use Rattle.rules.specs.Sizes.{sizes}
 use Rattle.state.specs.Session.{State}
 use Rattle.tables.specs.Table.{Row, GoodTable, rows}

@@ -7,18 +7,18 @@ use mathlib.Core.Option.{some}
 use lib.Dec.{ltb}
 use lib.ListN.{length, take}
 use Rattle.bloom.specs.Have.{Have}
-use Rattle.decode.specs.Read.{Reading, messageAt, messageOf}
+use Rattle.decode.specs.Read.{Reading, messageAt, messageIn}
 use Rattle.graph.specs.Graph.{heads, below}
 use Rattle.lists.specs.Lists.{same}
 use Rattle.message.specs.Flags.{syncReset, readOnly, supportsSyncReset, hasFlag}
 use Rattle.message.specs.Message.{Message}
 use Rattle.message.specs.declared.flags.MessageFlags.{MessageFlags}
-use Rattle.message.specs.declared.flags.Section.{Section}
 use Rattle.message.specs.declared.flags.Section.the-variants.{Absent, Present}
-use Rattle.rules.specs.Order.{member, keep, every, ascend}
+use Rattle.message.specs.declared.flags.Section.{Section}
+use Rattle.order.specs.Order.{member, keep, every, ascend}
 use Rattle.rules.specs.Sizes.{sizes}
-use Rattle.rules.specs.declared.refusal.Refusal.{Refusal}
 use Rattle.rules.specs.declared.refusal.Refusal.the-variants.{PastSize, LoadFailed, BadRowsBefore}
+use Rattle.rules.specs.declared.refusal.Refusal.{Refusal}
 use Rattle.session.specs.Plan.{Plan, Body, empty}
 use Rattle.state.specs.Session.{State}
 use Rattle.tables.specs.Table.{Row, held}
@@ -153,7 +153,7 @@ receive loaded before t s m =
 
 unfoldable pub receiveRead : Bool → ℕ → List Row → State → List ℕ → Reading → Received
 receiveRead loaded before t s bytes (Reading.read places haves chunks) =
-    receive loaded before t s (saidIn (messageOf bytes places haves chunks))
+    receive loaded before t s (saidIn (messageIn bytes places haves chunks))
 receiveRead loaded before t s bytes (Reading.refused r) = refused r s
 
 unfoldable pub receiveBytes : Bool → ℕ → List Row → State → List ℕ → Received

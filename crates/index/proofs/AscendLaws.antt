@@ -8,10 +8,10 @@ use native.Mathlib.Omega.{arith}
 use borrow.Author.Tests.{eqb-true, eqb-false}
 use lib.Dec.{eqb}
 use lib.ListN.{length}
-use Rattle.rules.specs.Order.{member, keep, ascends, ascend}
+use Rattle.order.proofs.KeepLaws.{keep-member}
+use Rattle.order.proofs.OrderLaws.{member-here, member-there, member-behind, member-none, ascends-tail, ascends-first, ascends-cons, ascend-ascends, ascend-members, ascending-unique}
+use Rattle.order.specs.Order.{member, keep, ascends, ascend}
 use Rattle.rules.proofs.Cases.{split, both, and-true, same-truth}
-use Rattle.rules.proofs.KeepLaws.{keep-member}
-use Rattle.rules.proofs.OrderLaws.{member-here, member-there, member-behind, member-none, ascends-tail, ascends-first, ascends-cons, ascend-ascends, ascend-members, ascending-unique}
 use Rattle.tables.specs.Table.{Row, rows, hashOf, rowsFrom, rowsWhere}
 use Rattle.index.specs.Index.{fits}
 use Rattle.index.proofs.ListLaws.{map-member, member-map}

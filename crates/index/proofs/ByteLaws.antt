@@ -5,7 +5,8 @@ use mathlib.Core.Path.{_≡_, refl, ap, _∙_}
 use native.Mathlib.Nat.{add-zero, zero-add, not-suc-le-zero}
 use native.Mathlib.Omega.{arith}
 use lib.ListN.{length, getD}
-use Rattle.tables.specs.Bytes.{u16At, u16sAt}
+use Rattle.rules.specs.LittleEndian.{u16At}
+use Rattle.tables.specs.Bytes.{u16sAt}
 
 pub length-u16s : (s : List ℕ) (at count : ℕ) → length (u16sAt s at count) ≡ count
 unfolding u16sAt

@@ -7,22 +7,22 @@ use mathlib.Core.Path.{_≡_, refl, sym, _∙_}
 use native.Mathlib.Omega.{arith}
 use borrow.Author.Tests.{le-leb, lt-leb}
 use lib.ListN.{length}
-use Rattle.rules.specs.Hash.{hashAt}
-use Rattle.rules.specs.Order.{member}
-use Rattle.rules.specs.Sizes.{sizes}
-use Rattle.rules.specs.declared.refusal.Refusal.{Refusal}
-use Rattle.rules.specs.declared.refusal.Refusal.the-variants.{PastSize, BadRow, BadIndex}
+use Rattle.order.proofs.OrderLaws.{member-index}
+use Rattle.order.specs.Order.{member}
 use Rattle.rules.proofs.Cases.{split}
-use Rattle.rules.proofs.OrderLaws.{member-index}
+use Rattle.rules.specs.Hash.{hashAt}
+use Rattle.rules.specs.Sizes.{sizes}
+use Rattle.rules.specs.declared.refusal.Refusal.the-variants.{PastSize, BadRow, BadIndex}
+use Rattle.rules.specs.declared.refusal.Refusal.{Refusal}
+use Rattle.tables.proofs.CheckLaws.{check-past, check-bad, check-partial, check-good}
+use Rattle.tables.proofs.GoodLaws.{accepted-rows}
+use Rattle.tables.proofs.TableLaws.{length-rows, length-rows-at, hash-of-row, table-good}
+use Rattle.tables.proofs.Today.{unusedAt, rowGood}
 use Rattle.tables.specs.Bytes.{u16sAt, rowSize, depCount, usedAt, rowGoodOf, rowsAt, tableOf, wholeRowsOf, numbersGood, zeros, firstBad, checkedWith, tableChecked, tableCheckedOf, GoodRows}
 use Rattle.tables.specs.Calls.{passedOn}
 use Rattle.tables.specs.Table.{rows, hashOf}
-use Rattle.tables.specs.declared.check.Checked.{Checked}
 use Rattle.tables.specs.declared.check.Checked.the-variants.{Good, Refused}
-use Rattle.tables.proofs.CheckLaws.{check-past, check-bad, check-partial, check-good}
-use Rattle.tables.proofs.GoodLaws.{accepted-rows}
-use Rattle.tables.proofs.Today.{unusedAt, rowGood}
-use Rattle.tables.proofs.TableLaws.{length-rows, length-rows-at, hash-of-row, table-good}
+use Rattle.tables.specs.declared.check.Checked.{Checked}
 use Rattle.index.specs.Index.{fits, indexFits, indexChecked, Indexed, rowSound, soundChecked}
 use Rattle.index.proofs.FitLaws.{index-fitting}
 use Rattle.index.proofs.IndexLaws.{Apart}

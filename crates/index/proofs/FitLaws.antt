@@ -7,12 +7,13 @@ use native.Mathlib.Omega.{arith}
 use borrow.Author.Tests.{lt-ltb, le-ltb, eq-eqb, ne-eqb, eqb-true}
 use lib.Dec.{ltb, eqb}
 use lib.ListN.{length}
-use Rattle.rules.specs.Hash.{hashAt}
-use Rattle.rules.specs.Order.{every, ascends}
+use Rattle.order.specs.Order.{every, ascends}
 use Rattle.rules.proofs.Cases.{split, both}
-use Rattle.tables.specs.Bytes.{u16At, u16sAt, rowSize, rowsAt}
-use Rattle.tables.specs.Table.{hashOf}
+use Rattle.rules.specs.Hash.{hashAt}
+use Rattle.rules.specs.LittleEndian.{u16At}
 use Rattle.tables.proofs.TableLaws.{length-rows-at, hash-of-row}
+use Rattle.tables.specs.Bytes.{u16sAt, rowSize, rowsAt}
+use Rattle.tables.specs.Table.{hashOf}
 use Rattle.index.specs.Index.{fitsBy, fits, indexFits}
 use Rattle.index.proofs.ByteLaws.{length-u16s, u16s-next, u16s-none}
 

@@ -8,16 +8,16 @@ use native.Mathlib.Omega.{arith}
 use borrow.Author.Tests.{ltb-true, ltb-false}
 use lib.Dec.{ltb}
 use lib.ListN.{length, getD, length-map}
-use Rattle.rules.specs.Hash.{hashAt}
-use Rattle.rules.specs.Order.{member, every, ascends, placeOf}
-use Rattle.rules.specs.Sizes.{sizes}
+use Rattle.order.proofs.KeepLaws.{index-once}
+use Rattle.order.proofs.OrderLaws.{place-within, member-index}
+use Rattle.order.specs.Order.{member, ascends, placeOf}
 use Rattle.rules.proofs.Cases.{split, true-false}
-use Rattle.rules.proofs.KeepLaws.{index-once}
-use Rattle.rules.proofs.OrderLaws.{place-within, index-member, member-index}
-use Rattle.tables.specs.Bytes.{rowSizeOf, rowOf, rowsOf, u16At, u16sAt, rowSize, rowsAt}
-use Rattle.tables.specs.Table.{rows, hashOf, indexIn}
+use Rattle.rules.specs.LittleEndian.{u16At}
+use Rattle.rules.specs.Sizes.{sizes}
 use Rattle.tables.proofs.TableLaws.{length-rows-at, hash-of-row, index-of-entry, index-of-unknown}
-use Rattle.index.specs.Index.{Indexed, Ordered, fits, fitsBy, hashesFrom, recordHash}
+use Rattle.tables.specs.Bytes.{rowSizeOf, rowOf, rowsOf, u16sAt, rowSize, rowsAt}
+use Rattle.tables.specs.Table.{rows, hashOf, indexIn}
+use Rattle.index.specs.Index.{Ordered, fits, fitsBy, hashesFrom, recordHash}
 use Rattle.index.proofs.ByteLaws.{length-u16s, entry}
 use Rattle.index.proofs.IndexLaws.{Fits, fits-has, has-fits, each-named, hashes-once}
 use Rattle.index.proofs.ListLaws.{map-index, map-member, map-same, below-each, below-index, ascends-rises, place-low, place-high, place-unknown}

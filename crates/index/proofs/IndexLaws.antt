@@ -10,9 +10,9 @@ use borrow.Author.Tests.{ltb-true, ltb-false, lt-ltb, le-ltb, eq-eqb, ne-eqb, eq
 use lib.Dec.{ltb, eqb}
 use lib.ListN.{length, getD, take, drop, length-map}
 use lib.Seq.{ext-getD}
-use Rattle.rules.specs.Order.{member, every, ascends, insertOnce, placeOf, ascend}
+use Rattle.order.proofs.OrderLaws.{member-here, member-there, member-behind, member-none, member-index, index-member, ascends-index, insert-ascends, insert-longer, ascend-ascends, ascend-members, ascending-unique}
+use Rattle.order.specs.Order.{member, every, ascends, insertOnce, placeOf, ascend}
 use Rattle.rules.proofs.Cases.{split, both, other, true-false, same-truth}
-use Rattle.rules.proofs.OrderLaws.{member-here, member-there, member-behind, member-none, member-index, index-member, ascends-index, insert-ascends, insert-longer, ascend-ascends, ascend-members, ascending-unique}
 use Rattle.index.specs.Index.{put, indexed, fitsBy, rises}
 use Rattle.index.proofs.ListLaws.{compared, each-below, below-each, map-index, map-member, member-map, sorted-length, ascending-few, rises-tail, rises-first, rises-cons}
 

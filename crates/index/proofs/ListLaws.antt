@@ -8,10 +8,10 @@ use native.Mathlib.Omega.{arith}
 use borrow.Author.Tests.{ltb-true, ltb-false, leb-true, lt-ltb, le-ltb, le-leb, eqb-true, eqb-false}
 use lib.Dec.{ltb, leb, eqb}
 use lib.ListN.{length, getD, length-map}
-use Rattle.rules.specs.Order.{member, every, Once, ascends, placeOf, ascend}
+use Rattle.order.proofs.KeepLaws.{once-none, once-cons}
+use Rattle.order.proofs.OrderLaws.{member-here, member-there, member-behind, member-none, member-index, index-member, ascends-tail, ascends-first, ascends-index, insert-longer, ascend-members}
+use Rattle.order.specs.Order.{member, every, Once, ascends, placeOf, ascend}
 use Rattle.rules.proofs.Cases.{split, both}
-use Rattle.rules.proofs.KeepLaws.{once-none, once-cons}
-use Rattle.rules.proofs.OrderLaws.{member-here, member-there, member-behind, member-none, member-index, index-member, ascends-tail, ascends-first, ascends-index, insert-longer, ascend-members}
 use Rattle.index.specs.Index.{rises}
 
 -- less, equal or greater, scrutinee first

@@ -7,12 +7,12 @@ use native.Mathlib.Omega.{arith}
 use borrow.Author.Tests.{ltb-true, ltb-false, eqb-true, eqb-false}
 use lib.Dec.{ltb, eqb}
 use lib.ListN.{length, getD, length-map}
-use Rattle.rules.specs.Order.{member, often, placeOf}
+use Rattle.order.proofs.KeepLaws.{often-none, often-some, once-index, index-once}
+use Rattle.order.proofs.OrderLaws.{index-member, member-index}
+use Rattle.order.specs.Order.{member, often, placeOf}
 use Rattle.rules.proofs.Cases.{split, true-false}
-use Rattle.rules.proofs.KeepLaws.{often-none, often-some, once-index, index-once}
-use Rattle.rules.proofs.OrderLaws.{index-member, member-index}
-use Rattle.tables.specs.Table.{Row, rows, hashOf, indexIn, GoodTable}
 use Rattle.tables.proofs.TableLaws.{length-rows, index-of-entry, index-of-unknown}
+use Rattle.tables.specs.Table.{Row, rows, hashOf, indexIn, GoodTable}
 use Rattle.index.specs.Index.{indexOf, fits}
 use Rattle.index.proofs.ListLaws.{map-index, map-member, sorted-once, place-unknown}
 use Rattle.index.proofs.IndexLaws.{Fits, Apart, fits-has, each-named, hashes-once, index-fits, fits-is}

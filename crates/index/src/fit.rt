@@ -1,7 +1,7 @@
 // Whether an index fits its table.
-use rules::hashes::hash_before;
+use order::hashes::hash_before;
+use rules::little_endian::u16_at;
 use tables::row::ROW_SIZE;
-use tables::row::u16_at;
 ghost use mathlib.Core.Path.{_≡_};
 ghost use Prim.Native.Nat.{_*_, _≤_};
 ghost use lib.ListN.{length};

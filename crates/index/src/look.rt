@@ -1,15 +1,15 @@
 // Records looked up by an index.
-use rules::hashes::hash_before;
-use rules::hashes::same_hash;
+use order::hashes::hash_before;
+use order::hashes::same_hash;
+use rules::little_endian::u16_at;
 use tables::row::ROW_SIZE;
-use tables::row::u16_at;
 ghost use mathlib.Core.Bool.{true};
 ghost use mathlib.Core.Path.{_≡_};
 ghost use mathlib.Core.List.{map};
 ghost use Prim.Native.Nat.{_+_, _*_, _≤_};
 ghost use lib.ListN.{length};
+ghost use Rattle.order.specs.Order.{placeOf};
 ghost use Rattle.rules.specs.Hash.{hashAt};
-ghost use Rattle.rules.specs.Order.{placeOf};
 ghost use Rattle.rules.specs.Sizes.{sizes};
 ghost use Rattle.tables.specs.Bytes.{rowsAt, u16sAt};
 ghost use Rattle.tables.specs.Table.{rows, indexIn};

@@ -9,28 +9,29 @@ use borrow.Author.Tests.{ltb-true, lt-ltb, eq-eqb}
 use lib.Dec.{ltb}
 use lib.ListN.{length, getD, take, drop, List·getD-append}
 use lib.Seq.{sets, slice, sets-eq, slice-empty, slice-cons, ext-getD}
-use Rattle.rules.specs.Hash.{Bytes}
-use Rattle.rules.specs.Order.{member}
-use Rattle.rules.specs.Output.{Output}
-use Rattle.rules.specs.Sizes.{sizes}
-use Rattle.rules.specs.declared.refusal.Refusal.{Refusal}
-use Rattle.rules.specs.declared.refusal.Refusal.the-variants.{PastSize, BadRow, BadIndex}
-use Rattle.rules.proofs.Cases.{both}
-use Rattle.rules.proofs.OrderLaws.{member-here, member-there}
-use Rattle.tables.specs.Bytes.{u16At, u16sAt, rowSize, rowsAt, tableOf, wholeRowsOf, tableChecked, tableCheckedOf}
-use Rattle.tables.specs.Calls.{afterCheck, passedOn}
-use Rattle.tables.specs.Table.{Row, hashOf}
-use Rattle.tables.specs.declared.check.Checked.{Checked}
-use Rattle.tables.specs.declared.check.Checked.the-variants.{Good, Refused}
-use Rattle.tables.proofs.CheckLaws.{check-past}
-use Rattle.tables.proofs.TableLaws.{table-good}
-use Rattle.tables.proofs.Today.{rowGood}
-use Rattle.index.specs.Index.{put, indexed, indexOf, fits, indexFits, indexChecked, soundChecked}
 use Rattle.index.proofs.ByteLaws.{length-u16s, entry}
 use Rattle.index.proofs.CheckLaws.{checked-sound}
 use Rattle.index.proofs.FitLaws.{index-fitting}
 use Rattle.index.proofs.IndexLaws.{index-length, index-member-below}
 use Rattle.index.proofs.LookLaws.{good-fits, fits-is-index}
+use Rattle.index.specs.Index.{put, indexed, indexOf, fits, indexFits, indexChecked, soundChecked}
+use Rattle.order.proofs.OrderLaws.{member-here, member-there}
+use Rattle.order.specs.Order.{member}
+use Rattle.rules.proofs.Cases.{both}
+use Rattle.rules.specs.Hash.{Bytes}
+use Rattle.rules.specs.LittleEndian.{u16At}
+use Rattle.rules.specs.Output.{Output}
+use Rattle.rules.specs.Sizes.{sizes}
+use Rattle.rules.specs.declared.refusal.Refusal.the-variants.{PastSize, BadRow, BadIndex}
+use Rattle.rules.specs.declared.refusal.Refusal.{Refusal}
+use Rattle.tables.proofs.CheckLaws.{check-past}
+use Rattle.tables.proofs.TableLaws.{table-good}
+use Rattle.tables.proofs.Today.{rowGood}
+use Rattle.tables.specs.Bytes.{u16sAt, rowSize, rowsAt, tableOf, wholeRowsOf, tableChecked, tableCheckedOf}
+use Rattle.tables.specs.Calls.{afterCheck, passedOn}
+use Rattle.tables.specs.Table.{Row, hashOf}
+use Rattle.tables.specs.declared.check.Checked.the-variants.{Good, Refused}
+use Rattle.tables.specs.declared.check.Checked.{Checked}
 use Rattle.indexing.specs.Indexing.{entryLimit, indexBytes, builtOutput, fitsButLast, extendedOutput}
 use Rattle.indexing.proofs.ExtendLaws.{u16-same, index-next}
 

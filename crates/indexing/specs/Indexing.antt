@@ -5,12 +5,13 @@ use mathlib.Core.List.{List, [], _∷_}
 use mathlib.Core.Path.{_≡_}
 use lib.Dec.{ltb}
 use lib.ListN.{getD}
+use Rattle.index.specs.Index.{put, indexOf, indexFits}
+use Rattle.rules.specs.LittleEndian.{u16At}
 use Rattle.rules.specs.Output.{Output}
 use Rattle.rules.specs.declared.refusal.Refusal.the-variants.{BadIndex}
-use Rattle.tables.specs.Bytes.{u16At, u16sAt, rowsAt, tableOf, tableChecked}
+use Rattle.tables.specs.Bytes.{u16sAt, rowsAt, tableOf, tableChecked}
 use Rattle.tables.specs.Calls.{afterCheck}
 use Rattle.tables.specs.Table.{hashOf}
-use Rattle.index.specs.Index.{put, indexOf, indexFits}
 
 -- Row numbers as bytes: two for each, the lower first.
 unfoldable pub indexBytes : List ℕ → List ℕ

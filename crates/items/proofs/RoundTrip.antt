@@ -1,6 +1,6 @@
 -- Reading haves and chunks that were written gives them back, and ignores nothing. Items one after the other are read one after the other whatever an item is; a have and
 -- a chunk give their one-item laws, and the laws of hash lists, prefixed strings and filters do the rest.
-use Prim.Native.Nat.{ℕ, zero, suc, _+_, _-_, _*_, _≤_, _<_}
+use Prim.Native.Nat.{ℕ, zero, suc, _+_, _-_, _*_, _≤_}
 use mathlib.Core.Bool.{true}
 use mathlib.Core.List.{List, [], _∷_, _++_, append-assoc, append-nil}
 use mathlib.Core.Path.{_≡_, refl, sym, _∙_, ap}

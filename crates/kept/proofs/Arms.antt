@@ -7,14 +7,14 @@ use mathlib.Core.Path.{_≡_, refl, subst}
 use lib.Dec.{ltb}
 use lib.ListN.{length}
 use Rattle.bloom.proofs.HaveLaws.{passed-haves, good-filters}
-use Rattle.lent.specs.Good.{havesGood}
 use Rattle.lent.proofs.GoodSessions.{haves-parts, session-tests}
+use Rattle.lent.specs.Good.{havesGood}
+use Rattle.order.specs.Order.{every}
 use Rattle.probe.proofs.InsideLaws.{probes-inside as rules-inside, built-inside, passed-inside, read-inside}
-use Rattle.rules.specs.Order.{every}
-use Rattle.rules.specs.Sizes.{sizes}
 use Rattle.rules.proofs.Cases.{split}
-use Rattle.session.specs.Plan.{heard, needOf, unknownSync, silence, sentAfter, planOf, resetOf, planSent, planSilence, planReset, plan}
+use Rattle.rules.specs.Sizes.{sizes}
 use Rattle.session.proofs.PlanLaws.{planned-held}
+use Rattle.session.specs.Plan.{heard, needOf, unknownSync, silence, sentAfter, planOf, resetOf, planSent, planSilence, planReset, plan}
 use Rattle.state.specs.Session.{State}
 use Rattle.tables.specs.Table.{Row, GoodTable, held}
 use Rattle.waiting.specs.Waiting.{Waiting}

@@ -8,7 +8,7 @@ use native.Mathlib.Omega.{arith}
 use borrow.Author.Tests.{ltb-true, ltb-false}
 use lib.Dec.{ltb}
 use lib.ListN.{length}
-use Rattle.decode.specs.Read.{Reading, messageAt, messageOf}
+use Rattle.decode.specs.Read.{Reading, messageAt, messageIn}
 use Rattle.hearing.specs.Good.{SoundTable, GoodState}
 use Rattle.hearing.specs.Receive.{Said, saidIn, Received, told, sentFlagged, flagged, received, receive, receiveBytes}
 use Rattle.hearing.proofs.GoodLaws.{planned-good, LeavesGood, bytes-good}
@@ -26,7 +26,7 @@ use Rattle.rules.proofs.Hash.{length-hashes-at}
 use Rattle.session.specs.Plan.{Plan, Planned, planned, plan}
 use Rattle.session.proofs.PlanLaws.{plan-saying}
 use Rattle.state.specs.Session.{State}
-use Rattle.state.specs.Value.{Lent, valueOf}
+use Rattle.state.specs.Value.{Lent, stateOf}
 use Rattle.state.specs.declared.session.Session.{Session}
 use Rattle.tables.specs.Table.{Row, rows}
 use Rattle.waiting.specs.Waiting.{Waiting}
@@ -58,9 +58,9 @@ module _ (bits probes : ℕ) (t : List Row) (w : List Waiting) (sound : SoundTab
 
   -- so the session after it is good, and the one that was planned; any other answer leaves counts and lists as they were
   pub plan-stays-good : (c : Session) (l : Lent) → sessionGood c l ≡ true → LentBytes l
-      → (q : Plan) (s′ : State) → plan bits probes t w (valueOf c l) ≡ Planned.says q s′ → PlannedRoom s′ l → Stays s′ (plannedIn s′ l)
+      → (q : Plan) (s′ : State) → plan bits probes t w (stateOf c l) ≡ Planned.says q s′ → PlannedRoom s′ l → Stays s′ (plannedIn s′ l)
   plan-stays-good c l good all q s′ e room =
-      let s : State = valueOf c l in
+      let s : State = stateOf c l in
       let g : GoodState s = good-state c l good all in
       stays s′ (plannedIn s′ l) (planned-good bits probes t w s sound g q s′ e) (planned-kept s l g (good-kept c l good) q s′ e room)
 
@@ -124,7 +124,7 @@ module _ (loaded : Bool) (before : ℕ) (t : List Row) (s : State) (l : Lent) (k
   read-leaves : (bytes : List ℕ) → before ≤ length t → (x : Reading) → messageAt bytes ≡ x → LeavesKept s l (receiveBytes loaded before t s bytes)
   read-leaves bytes inside (Reading.refused r) e = as-was _ r (bytes-refused loaded before t s bytes inside r e)
   read-leaves bytes inside (Reading.read p haves chunks) e =
-      rw (bytes-read loaded before t s bytes inside p haves chunks e) (message-leaves (saidIn (messageOf bytes p haves chunks)))
+      rw (bytes-read loaded before t s bytes inside p haves chunks e) (message-leaves (saidIn (messageIn bytes p haves chunks)))
 
   bytes-leave : (bytes : List ℕ) → LeavesKept s l (receiveBytes loaded before t s bytes)
   bytes-leave bytes =
@@ -134,14 +134,14 @@ module _ (loaded : Bool) (before : ℕ) (t : List Row) (s : State) (l : Lent) (k
 
 module _ (loaded : Bool) (before : ℕ) (t : List Row) (are : AreHashes (rows t)) (bytes : List ℕ) (all : Bytes bytes) where
   module _ (c : Session) (l : Lent) (good : sessionGood c l ≡ true) (lent : LentBytes l) where
-    leaves-good : LeavesGood (receiveBytes loaded before t (valueOf c l) bytes)
-    leaves-good = bytes-good loaded before t (valueOf c l) bytes all are (good-state c l good lent)
+    leaves-good : LeavesGood (receiveBytes loaded before t (stateOf c l) bytes)
+    leaves-good = bytes-good loaded before t (stateOf c l) bytes all are (good-state c l good lent)
 
-    leaves-kept : LeavesKept (valueOf c l) l (receiveBytes loaded before t (valueOf c l) bytes)
-    leaves-kept = bytes-leave loaded before t (valueOf c l) l (good-kept c l good) bytes
+    leaves-kept : LeavesKept (stateOf c l) l (receiveBytes loaded before t (stateOf c l) bytes)
+    leaves-kept = bytes-leave loaded before t (stateOf c l) l (good-kept c l good) bytes
 
     -- the hashes sent have room where those of before had
-    pub sent-fits : (s′ : State) → receiveBytes loaded before t (valueOf c l) bytes ≡ Received.took s′
+    pub sent-fits : (s′ : State) → receiveBytes loaded before t (stateOf c l) bytes ≡ Received.took s′
         → sizes .hash * length (s′ .sentHashes) ≤ length (l .sent)
     sent-fits s′ e =
         let fewer : length (s′ .sentHashes) ≤ c .«sent_hashes» =
@@ -150,12 +150,12 @@ module _ (loaded : Bool) (before : ℕ) (t : List Row) (are : AreHashes (rows t)
         omega (arith, session-parts c l good .sent .there)
 
     -- the session after a message that is taken is good, and the one that receiving gives
-    pub receive-stays-good : (s′ : State) → receiveBytes loaded before t (valueOf c l) bytes ≡ Received.took s′ → ReceivedRoom s′ l
+    pub receive-stays-good : (s′ : State) → receiveBytes loaded before t (stateOf c l) bytes ≡ Received.took s′ → ReceivedRoom s′ l
         → Stays s′ (receivedIn s′ l)
     receive-stays-good s′ e room =
         let g : GoodState s′ = leaves-good .took s′ e in
         stays s′ (receivedIn s′ l) g (received-kept s′ l g room (sent-fits s′ e))
 
     -- and after a refusal over the same lists, 8 as well
-    pub refuse-stays-good : (r : Refusal) (s′ : State) → receiveBytes loaded before t (valueOf c l) bytes ≡ Received.refused r s′ → Stays s′ l
+    pub refuse-stays-good : (r : Refusal) (s′ : State) → receiveBytes loaded before t (stateOf c l) bytes ≡ Received.refused r s′ → Stays s′ l
     refuse-stays-good r s′ e = stays s′ l (leaves-good .refused r s′ e) (leaves-kept .refused r s′ e)

@@ -8,21 +8,21 @@ use mathlib.Core.Path.{_≡_, refl, ap, _∙_}
 use borrow.Author.Tests.{le-leb}
 use lib.ListN.{length}
 use Rattle.bloom.specs.Have.{Have}
-use Rattle.hearing.specs.Good.{SoundHaves, WhereHeard, GoodState}
 use Rattle.hearing.proofs.GoodLaws.{sound-hashes, sound-haves}
-use Rattle.lent.specs.Good.{listGood, heardGood, havesGood, sessionGood}
+use Rattle.hearing.specs.Good.{SoundHaves, WhereHeard, GoodState}
 use Rattle.lent.proofs.GoodLaws.{list-where, heard-nothing, heard-count, haves-nothing, syncs-decide, sent-there, all-good}
 use Rattle.lent.proofs.GoodSessions.{ListParts, HavesParts, session-parts, LentBytes}
+use Rattle.lent.specs.Good.{listGood, heardGood, havesGood, sessionGood}
 use Rattle.message.specs.Sound.{SoundHashes}
-use Rattle.rules.specs.Hash.{Bytes, hashesAt}
-use Rattle.rules.specs.Order.{ascends}
+use Rattle.order.specs.Order.{ascends}
 use Rattle.rules.proofs.Hash.{length-hashes-at, hashes-are-hashes}
-use Rattle.state.specs.Session.{State}
-use Rattle.state.specs.Value.{Lent, heardHashes, heardHaves, valueOf, countHeard, countsOf}
-use Rattle.state.specs.declared.session.Heard.{Heard}
-use Rattle.state.specs.declared.session.Heard.the-variants.{Nothing, Count}
-use Rattle.state.specs.declared.session.Session.{Session}
+use Rattle.rules.specs.Hash.{Bytes, hashesAt}
 use Rattle.state.proofs.ValueLaws.{counts-back as counts-read}
+use Rattle.state.specs.Session.{State}
+use Rattle.state.specs.Value.{Lent, heardHashes, heardHaves, stateOf, countHeard, countsOf}
+use Rattle.state.specs.declared.session.Heard.the-variants.{Nothing, Count}
+use Rattle.state.specs.declared.session.Heard.{Heard}
+use Rattle.state.specs.declared.session.Session.{Session}
 use Rattle.kept.specs.Kept.{Stand, StandHeard, StandHeardHaves, Kept}
 use Rattle.kept.proofs.Stands.{stand-at, heard-at, haves-at}
 
@@ -39,7 +39,7 @@ haves-value none records bytes k = refl
 haves-value (some vs) records bytes k = ap some (k .are)
 
 -- a session that stands in lent lists is what its counts are with them
-pub kept-value : (s : State) (l : Lent) → Kept s l → valueOf (countsOf s) l ≡ s
+pub kept-value : (s : State) (l : Lent) → Kept s l → stateOf (countsOf s) l ≡ s
 kept-value s l k =
     let heads = heard-value (s .theirHeads) (l .theirHeads) (k .theirHeads) in
     let need = heard-value (s .theirNeed) (l .theirNeed) (k .theirNeed) in
@@ -88,7 +88,7 @@ haves-sound bytes records Nothing all f = tt
 haves-sound bytes records (Count n) all f = sound-haves bytes _ all (f n refl .passed)
 
 module _ (c : Session) (l : Lent) (good : sessionGood c l ≡ true) where
-  pub good-kept : Kept (valueOf c l) l
+  pub good-kept : Kept (stateOf c l) l
   good-kept =
       let p = session-parts c l good in
       record {
@@ -101,11 +101,11 @@ module _ (c : Session) (l : Lent) (good : sessionGood c l ≡ true) where
       }
 
   -- its counts are those of the session that it is
-  pub counts-back : countsOf (valueOf c l) ≡ c
+  pub counts-back : countsOf (stateOf c l) ≡ c
   counts-back = counts-read c l (λ n e. session-parts c l good .theirHave n e .there)
 
   -- and over bytes that session keeps every size
-  pub good-state : LentBytes l → GoodState (valueOf c l)
+  pub good-state : LentBytes l → GoodState (stateOf c l)
   good-state all =
       let p = session-parts c l good in
       record {

@@ -11,10 +11,10 @@ use Rattle.bloom.specs.Read.{filterAt}
 use Rattle.bloom.specs.declared.have.FilterNumbers.{FilterNumbers}
 use Rattle.bloom.specs.declared.parse.Parsed.the-variants.{Filter as Read}
 use Rattle.lent.specs.Good.{sessionGood}
+use Rattle.order.specs.Order.{every}
 use Rattle.probe.specs.Build.{filterOf}
 use Rattle.probe.specs.Inside.{Inside}
 use Rattle.rules.specs.Hash.{Bytes}
-use Rattle.rules.specs.Order.{every}
 use Rattle.session.specs.Plan.{Planned, plan}
 use Rattle.state.specs.Session.{State}
 use Rattle.state.specs.Value.{Lent, keptHaves}

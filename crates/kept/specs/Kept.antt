@@ -13,7 +13,7 @@ use Rattle.rules.specs.Sizes.{sizes}
 use Rattle.session.specs.Laid.{laidBytes, laidWords}
 use Rattle.session.specs.Plan.{heard}
 use Rattle.state.specs.Session.{State}
-use Rattle.state.specs.Value.{Lent, keptHaves, valueOf, countsOf}
+use Rattle.state.specs.Value.{Lent, keptHaves, stateOf, countsOf}
 
 -- These hashes stand at the start of a buffer.
 pub record Stand (hs buffer : List ℕ) : Type 0 where
@@ -48,7 +48,7 @@ pub record Kept (s : State) (l : Lent) : Type 0 where
 -- Its counts over the lists are a good session, and just this one.
 pub record Stays (s : State) (l : Lent) : Type 0 where
   pub good : sessionGood (countsOf s) l ≡ true
-  pub value : valueOf (countsOf s) l ≡ s
+  pub value : stateOf (countsOf s) l ≡ s
 
 -- ---- what calls leave of the lists: what changed stands at their start, the rest as it was
 

@@ -8,12 +8,12 @@ use borrow.Author.Tests.{lt-leb, le-leb}
 use lib.Dec.{leb, ltb}
 use lib.ListN.{length}
 use Rattle.bloom.specs.Have.{haveWords, passedGood, passedFew}
+use Rattle.order.specs.Order.{ascends}
 use Rattle.rules.specs.Hash.{hashAt, hashesAt}
-use Rattle.rules.specs.Order.{ascends}
 use Rattle.rules.specs.Sizes.{sizes}
 use Rattle.state.specs.Value.{Lent, keptHaves}
-use Rattle.state.specs.declared.session.Heard.{Heard}
 use Rattle.state.specs.declared.session.Heard.the-variants.{Nothing, Count}
+use Rattle.state.specs.declared.session.Heard.{Heard}
 use Rattle.state.specs.declared.session.Session.{Session}
 use Rattle.lent.specs.Good.{listGood, heardGood, havesGood, sentGood, sessionGood}
 

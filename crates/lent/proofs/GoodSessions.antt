@@ -8,21 +8,21 @@ use native.Mathlib.Omega.{arith}
 use borrow.Author.Tests.{le-leb, leb-true}
 use lib.Dec.{leb}
 use lib.ListN.{length}
-use Rattle.bloom.specs.Have.{Have, haveWords, haveCount, syncPlace, syncCount, haveIn, havesFrom, havesOf, havesGoodFrom, passedGood, syncsFew, passedFew, GoodFilters}
 use Rattle.bloom.proofs.HaveLaws.{PassedHaves, passed-haves, good-filters}
-use Rattle.rules.specs.Hash.{Bytes, AreHashes, hashesAt}
-use Rattle.rules.specs.Order.{ascends}
-use Rattle.rules.specs.Sizes.{sizes}
+use Rattle.bloom.specs.Have.{Have, haveWords, haveCount, syncPlace, syncCount, haveIn, havesFrom, havesOf, havesGoodFrom, passedGood, syncsFew, passedFew, GoodFilters}
+use Rattle.order.specs.Order.{ascends}
 use Rattle.rules.proofs.Cases.{split, both}
 use Rattle.rules.proofs.Hash.{length-hashes-at, hashes-are-hashes}
-use Rattle.state.specs.Counts.{freshCounts, freshReadOnlyCounts, restoredCounts, setReadOnlyCounts}
-use Rattle.state.specs.Session.{State}
-use Rattle.state.specs.Value.{Lent, keptHaves, heardHashes, heardHaves, valueOf}
-use Rattle.state.specs.declared.session.Heard.{Heard}
-use Rattle.state.specs.declared.session.Heard.the-variants.{Nothing, Count}
-use Rattle.state.specs.declared.session.Session.{Session}
+use Rattle.rules.specs.Hash.{Bytes, AreHashes, hashesAt}
+use Rattle.rules.specs.Sizes.{sizes}
 use Rattle.state.proofs.CountsLaws.{counts-same, counts-on, counts-off}
 use Rattle.state.proofs.ValueLaws.{kept-length, kept-records}
+use Rattle.state.specs.Counts.{freshCounts, freshReadOnlyCounts, restoredCounts, setReadOnlyCounts}
+use Rattle.state.specs.Session.{State}
+use Rattle.state.specs.Value.{Lent, keptHaves, heardHashes, heardHaves, stateOf}
+use Rattle.state.specs.declared.session.Heard.the-variants.{Nothing, Count}
+use Rattle.state.specs.declared.session.Heard.{Heard}
+use Rattle.state.specs.declared.session.Session.{Session}
 use Rattle.lent.specs.Good.{listGood, heardGood, havesGood, sentGood, sessionGood}
 use Rattle.lent.proofs.GoodLaws.{heard-count}
 
@@ -187,7 +187,7 @@ syncs-within s haves (Count n) e hs q =
     (each-have (λ h. length (h .lastSync) ≤ sizes .hashes) s kept
     (λ j h. rw (length-hashes-at s (syncPlace kept j) (syncCount kept j)) (p .passed .syncs j h)))
 
-pub good-within : (s : Session) (l : Lent) → sessionGood s l ≡ true → Within (valueOf s l)
+pub good-within : (s : Session) (l : Lent) → sessionGood s l ≡ true → Within (stateOf s l)
 good-within s l e =
     let p = session-parts s l e in
     let t = session-tests s l e in
@@ -237,7 +237,7 @@ syncs-hashes s haves (Count n) b hs q =
     let r : havesOf s kept ≡ hs = cc in
     rw (← r) (each-have (λ h. AreHashes (h .lastSync)) s kept (λ j h. hashes-are-hashes s (syncPlace kept j) (syncCount kept j) b))
 
-pub lent-hashes : (s : Session) (l : Lent) → LentBytes l → OfHashes (valueOf s l)
+pub lent-hashes : (s : Session) (l : Lent) → LentBytes l → OfHashes (stateOf s l)
 lent-hashes s l b =
     record {
       shared = hashes-are-hashes (l .shared) 0 (s .«shared_heads») (b .shared);

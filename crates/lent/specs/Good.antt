@@ -6,12 +6,12 @@ use mathlib.Core.List.{List}
 use lib.Dec.{leb}
 use lib.ListN.{length}
 use Rattle.bloom.specs.Have.{haveWords, passedGood, passedFew}
+use Rattle.order.specs.Order.{ascends}
 use Rattle.rules.specs.Hash.{hashesAt}
-use Rattle.rules.specs.Order.{ascends}
 use Rattle.rules.specs.Sizes.{sizes}
 use Rattle.state.specs.Value.{Lent, keptHaves}
-use Rattle.state.specs.declared.session.Heard.{Heard}
 use Rattle.state.specs.declared.session.Heard.the-variants.{Nothing, Count}
+use Rattle.state.specs.declared.session.Heard.{Heard}
 use Rattle.state.specs.declared.session.Session.{Session}
 
 -- A list of hashes: no more than a list may have, and all of them are lent.

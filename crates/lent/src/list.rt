@@ -1,5 +1,5 @@
 // Lists of hashes, each the first of a lent buffer.
-use rules::hashes::hash_before;
+use order::hashes::hash_before;
 use rules::sizes::HASH_SIZE;
 use rules::sizes::HASHES;
 use rules::sizes::SENT_HASHES;
@@ -7,8 +7,8 @@ use state::session::Heard;
 ghost use mathlib.Core.Path.{_≡_};
 ghost use Prim.Native.Nat.{_*_, _≤_};
 ghost use lib.ListN.{length};
+ghost use Rattle.order.specs.Order.{ascends};
 ghost use Rattle.rules.specs.Hash.{hashesAt};
-ghost use Rattle.rules.specs.Order.{ascends};
 ghost use Rattle.rules.specs.Sizes.{sizes};
 ghost use Rattle.lent.specs.Good.{listGood, heardGood, sentGood};
 

@@ -7,14 +7,14 @@ use native.Mathlib.Omega.{arith}
 use borrow.Author.Tests.{not-true, not-false}
 use lib.Dec.{eqb}
 use lib.ListN.{length}
-use Rattle.rules.specs.Hash.{hashAt, hashesAt}
-use Rattle.rules.specs.Order.{member, every}
-use Rattle.rules.specs.Sizes.{sizes}
+use Rattle.order.specs.Order.{member, every}
 use Rattle.rules.proofs.Cases.{split}
 use Rattle.rules.proofs.Hash.{length-hashes-at}
+use Rattle.rules.specs.Hash.{hashAt, hashesAt}
+use Rattle.rules.specs.Sizes.{sizes}
+use Rattle.tables.proofs.TableLaws.{member-of-index, unknown-of-index, index-at-most, length-rows, length-rows-at}
 use Rattle.tables.specs.Bytes.{rowsAt}
 use Rattle.tables.specs.Table.{rows, indexIn, held}
-use Rattle.tables.proofs.TableLaws.{member-of-index, unknown-of-index, index-at-most, length-rows, length-rows-at}
 use Rattle.lists.specs.Lists.{same}
 use Rattle.lists.proofs.Lists.{same-equal}
 

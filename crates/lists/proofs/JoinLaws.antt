@@ -5,10 +5,10 @@ use mathlib.Core.List.{List, [], _∷_}
 use mathlib.Core.Path.{_≡_, refl, sym}
 use native.Mathlib.Omega.{arith}
 use lib.ListN.{length}
-use Rattle.rules.specs.Hash.{hashAt, hashesAt}
-use Rattle.rules.specs.Order.{keep, Inserted}
-use Rattle.rules.specs.Sizes.{sizes}
+use Rattle.order.specs.Order.{keep, Inserted}
 use Rattle.rules.proofs.Hash.{length-hashes-at}
+use Rattle.rules.specs.Hash.{hashAt, hashesAt}
+use Rattle.rules.specs.Sizes.{sizes}
 use Rattle.lists.specs.Lists.{insertAll, Joined}
 use Rattle.lists.proofs.Lists.{joined-within}
 use Rattle.lists.proofs.CompareLaws.{onward, onward-starts, onward-back, onward-ends}

@@ -8,13 +8,13 @@ use native.Mathlib.Omega.{arith}
 use borrow.Author.Tests.{ltb-true, ltb-false, eq-eqb, eqb-true}
 use lib.Dec.{ltb, eqb}
 use lib.ListN.{length}
-use Rattle.rules.specs.Hash.{hashesAt}
-use Rattle.rules.specs.Order.{ascends, ascend, insertOnce, insertUpTo}
-use Rattle.rules.specs.Output.{Gathered}
-use Rattle.rules.specs.Sizes.{sizes}
+use Rattle.order.proofs.OrderLaws.{insert-full, insert-room, insert-grows, up-to-fits, ascend-same}
+use Rattle.order.specs.Order.{ascends, ascend, insertOnce, insertUpTo}
 use Rattle.rules.proofs.Cases.{split, both, true-false}
 use Rattle.rules.proofs.Hash.{length-hashes-at}
-use Rattle.rules.proofs.OrderLaws.{insert-full, insert-room, insert-grows, up-to-fits, ascend-same}
+use Rattle.rules.specs.Hash.{hashesAt}
+use Rattle.rules.specs.Output.{Gathered}
+use Rattle.rules.specs.Sizes.{sizes}
 use Rattle.lists.specs.Lists.{same, insertAll, Joined, UpTo}
 
 -- ---- the same hashes in the same order

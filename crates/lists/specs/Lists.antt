@@ -6,8 +6,8 @@ use mathlib.Core.List.{List, [], _∷_}
 use mathlib.Core.Path.{_≡_}
 use lib.Dec.{eqb}
 use lib.ListN.{length}
+use Rattle.order.specs.Order.{insertUpTo}
 use Rattle.rules.specs.Hash.{hashesAt}
-use Rattle.rules.specs.Order.{insertUpTo}
 use Rattle.rules.specs.Sizes.{sizes}
 
 -- The same hashes in the same order.

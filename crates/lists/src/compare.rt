@@ -1,13 +1,13 @@
 // Lists compared, and looked up in one another or in a table.
 use index::look::look_up;
-use rules::hashes::same_hash;
+use order::hashes::same_hash;
 use rules::sizes::HASH_SIZE;
 ghost use mathlib.Core.Path.{_≡_};
 ghost use Prim.Native.Nat.{_+_, _*_, _≤_};
 ghost use lib.ListN.{length};
 ghost use Rattle.index.specs.Index.{Indexed};
+ghost use Rattle.order.specs.Order.{member, every};
 ghost use Rattle.rules.specs.Hash.{hashAt, hashesAt};
-ghost use Rattle.rules.specs.Order.{member, every};
 ghost use Rattle.rules.specs.Sizes.{sizes};
 ghost use Rattle.tables.specs.Bytes.{rowsAt};
 ghost use Rattle.tables.specs.Table.{held};

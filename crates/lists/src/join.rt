@@ -2,14 +2,14 @@
 // is full, the list stays as it is.
 use crate::compare::is_in;
 use index::look::look_up;
-use rules::hashes::insert_hash;
+use order::hashes::insert_hash;
 use rules::sizes::HASH_SIZE;
 ghost use mathlib.Core.Bool.{not};
 ghost use Prim.Native.Nat.{_+_, _*_, _≤_};
 ghost use lib.ListN.{length};
 ghost use Rattle.index.specs.Index.{Indexed};
+ghost use Rattle.order.specs.Order.{member, keep};
 ghost use Rattle.rules.specs.Hash.{hashesAt};
-ghost use Rattle.rules.specs.Order.{member, keep};
 ghost use Rattle.rules.specs.Sizes.{sizes};
 ghost use Rattle.tables.specs.Bytes.{rowsAt};
 ghost use Rattle.tables.specs.Table.{held};

@@ -9,23 +9,24 @@ use native.Mathlib.Omega.{arith}
 use borrow.Author.Tests.{eqb-true, eq-eqb}
 use lib.Dec.{eqb}
 use lib.ListN.{length, getD, set, drop}
-use Rattle.probe.specs.Contains.{anyContains}
-use Rattle.bloom.specs.Have.{Have, haveCount, syncPlace, syncCount, haveIn, havesFrom, havesOf, filtersOf}
 use Rattle.bloom.proofs.HaveLaws.{filters-of-haves}
-use Rattle.rules.specs.Hash.{hashAt, hashesAt}
-use Rattle.rules.specs.Order.{member}
-use Rattle.rules.specs.Reach.{someBelow, reach}
-use Rattle.rules.proofs.Cases.{both, true-false, same-truth, either, or-left, or-right, and-true}
-use Rattle.rules.proofs.OrderLaws.{member-append}
-use Rattle.rules.proofs.ReachLaws.{some-below, some-witness, reach-equation}
-use Rattle.tables.specs.Bytes.{u16At, rowSize, depCount, usedAt, rowsAt, GoodRows}
-use Rattle.tables.specs.Table.{Row, hashOf, depsOf}
-use Rattle.tables.proofs.GoodLaws.{good-down}
-use Rattle.tables.proofs.TableLaws.{length-rows-at, deps-of-row, hash-of-row, numberAt}
-use Rattle.graph.specs.Graph.{belowRow}
-use Rattle.graph.specs.Marks.{Marks}
+use Rattle.bloom.specs.Have.{Have, haveCount, syncPlace, syncCount, haveIn, havesFrom, havesOf, filtersOf}
 use Rattle.graph.proofs.MarkLaws.{or-assoc, or-false, numbers-more, numbers-none}
 use Rattle.graph.proofs.TurnLaws.{Turned, turn-set, turn-done}
+use Rattle.graph.specs.Graph.{belowRow}
+use Rattle.graph.specs.Marks.{Marks}
+use Rattle.order.proofs.OrderLaws.{member-append}
+use Rattle.order.proofs.ReachLaws.{some-below, some-witness, reach-equation}
+use Rattle.order.specs.Order.{member}
+use Rattle.order.specs.Reach.{someBelow, reach}
+use Rattle.probe.specs.Contains.{anyContains}
+use Rattle.rules.proofs.Cases.{both, true-false, same-truth, either, or-left, or-right, and-true}
+use Rattle.rules.specs.Hash.{hashAt, hashesAt}
+use Rattle.rules.specs.LittleEndian.{u16At}
+use Rattle.tables.proofs.GoodLaws.{good-down}
+use Rattle.tables.proofs.TableLaws.{length-rows-at, deps-of-row, hash-of-row, numberAt}
+use Rattle.tables.specs.Bytes.{rowSize, depCount, usedAt, rowsAt, GoodRows}
+use Rattle.tables.specs.Table.{Row, hashOf, depsOf}
 use Rattle.members.specs.Members.{lastSyncs, filters, candidate, missed, inTheS, someOf}
 
 -- ---- numbers of a list that are some of p

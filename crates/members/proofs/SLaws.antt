@@ -6,18 +6,18 @@ use mathlib.Core.Path.{_≡_, refl, sym, ap, subst, _∙_}
 use native.Mathlib.Omega.{arith}
 use borrow.Author.Tests.{not-true}
 use lib.ListN.{length}
-use Rattle.probe.specs.Contains.{anyContains}
 use Rattle.bloom.specs.Have.{Have}
-use Rattle.rules.specs.Hash.{AreHashes}
-use Rattle.rules.specs.Order.{member, Once}
-use Rattle.rules.proofs.Cases.{split, both, true-false, or-left, or-right, and-true}
-use Rattle.rules.proofs.KeepLaws.{no-members}
-use Rattle.rules.proofs.ReachLaws.{reach-least}
-use Rattle.tables.specs.Table.{Row, GoodTable, rows, hashOf, depsOf, rowNumber, held, deps}
-use Rattle.tables.proofs.TableLaws.{number-of-row, held-row, row-of-held, hash-of-held}
-use Rattle.graph.specs.Graph.{below}
 use Rattle.graph.proofs.BelowLaws.{below-row, below-deps, dependency, only-rows, deps-of-hash}
 use Rattle.graph.proofs.PickLaws.{rows-where, rows-once, rows-most, chosen-hashes}
+use Rattle.graph.specs.Graph.{below}
+use Rattle.order.proofs.KeepLaws.{no-members}
+use Rattle.order.proofs.ReachLaws.{reach-least}
+use Rattle.order.specs.Order.{member, Once}
+use Rattle.probe.specs.Contains.{anyContains}
+use Rattle.rules.proofs.Cases.{split, both, true-false, or-left, or-right, and-true}
+use Rattle.rules.specs.Hash.{AreHashes}
+use Rattle.tables.proofs.TableLaws.{number-of-row, held-row, row-of-held, hash-of-held}
+use Rattle.tables.specs.Table.{Row, GoodTable, rows, hashOf, depsOf, rowNumber, held, deps}
 use Rattle.members.specs.Members.{lastSyncs, filters, candidate, missed, inTheS, theS, someOf}
 use Rattle.members.proofs.MemberLaws.{s-equation, some-of}
 

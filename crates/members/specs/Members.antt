@@ -4,16 +4,16 @@ use Prim.Native.Nat.{ℕ, _+_, _*_, _≤_, _<_}
 use mathlib.Core.Bool.{Bool, false, not, _&&_, _||_}
 use mathlib.Core.List.{List, [], _∷_, _++_, map}
 use lib.ListN.{length, getD}
-use Rattle.probe.specs.Contains.{anyContains}
 use Rattle.bloom.specs.Filter.{Filter}
 use Rattle.bloom.specs.Have.{Have, haveCount, filtersOf, syncPlace, syncCount}
+use Rattle.graph.specs.Graph.{belowRow}
+use Rattle.order.specs.Order.{member}
+use Rattle.order.specs.Reach.{reach}
+use Rattle.probe.specs.Contains.{anyContains}
 use Rattle.rules.specs.Hash.{hashAt}
-use Rattle.rules.specs.Order.{member}
-use Rattle.rules.specs.Reach.{reach}
 use Rattle.rules.specs.Sizes.{sizes}
 use Rattle.tables.specs.Bytes.{rowSize, usedAt}
 use Rattle.tables.specs.Table.{Row, hashOf, depsOf, rowsWhere}
-use Rattle.graph.specs.Graph.{belowRow}
 
 -- The last-sync hashes of all haves, and their filters.
 unfoldable pub lastSyncs : List Have → List ℕ

@@ -14,12 +14,12 @@ ghost use mathlib.Core.Path.{_≡_};
 ghost use Prim.Native.Nat.{_+_, _≤_};
 ghost use lib.ListN.{length, getD};
 ghost use Rattle.bloom.specs.Have.{havesOf, GoodFilters};
-ghost use Rattle.index.specs.Index.{Indexed};
-ghost use Rattle.rules.specs.Order.{member};
-ghost use Rattle.tables.specs.Bytes.{usedAt, rowsAt, GoodRows};
-ghost use Rattle.tables.specs.Table.{hashOf};
 ghost use Rattle.graph.specs.Graph.{belowRow};
 ghost use Rattle.graph.specs.Marks.{Marks, Blank};
+ghost use Rattle.index.specs.Index.{Indexed};
+ghost use Rattle.order.specs.Order.{member};
+ghost use Rattle.tables.specs.Bytes.{usedAt, rowsAt, GoodRows};
+ghost use Rattle.tables.specs.Table.{hashOf};
 ghost use Rattle.members.specs.Members.{lastSyncs, inTheS, someOf, isMember, SyncsInside};
 
 // Marks the rows of all haves' last-sync hashes.

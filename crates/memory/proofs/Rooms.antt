@@ -2,7 +2,7 @@
 use Prim.Native.Nat.{ℕ, _+_, _*_, _≤_, _<_}
 use mathlib.Core.List.{List, [], _∷_}
 use mathlib.Core.Option.{Option, none, some}
-use mathlib.Core.Path.{_≡_, refl, _∙_}
+use mathlib.Core.Path.{_≡_, _∙_}
 use native.Mathlib.Omega.{arith}
 use borrow.Author.Tests.{le-ltb, eqb-true}
 use lib.Dec.{eqb}
@@ -13,8 +13,8 @@ use Rattle.hearing.specs.Good.{SoundHaves, WhereHeard, GoodState}
 use Rattle.hearing.specs.Receive.{Received}
 use Rattle.kept.specs.Kept.{PlannedRoom, ReceivedRoom}
 use Rattle.message.specs.Sound.{Each, SoundHashes, SoundHave}
-use Rattle.planned.specs.Call.{Buffers, buffersOf, syncsOf, filterNumbers, messageRoom, sessionRoom, afterRoom, roomed, roomsIn}
-use Rattle.receive.specs.Call.{shortFor, unlessShort, roomed as roomedFor, roomsIn as roomsOf}
+use Rattle.planned.specs.Call.{Buffers, buffersOf, syncsOf, filterNumbers, messageRoom, sessionRoom, afterRoom, plannedRoomed, plannedRooms}
+use Rattle.receive.specs.Call.{shortFor, unlessShort, receivedRoomed as roomedFor, receivedRooms as roomsOf}
 use Rattle.rules.specs.Hash.{AreHashes}
 use Rattle.rules.specs.Sizes.{sizes}
 use Rattle.rules.proofs.Cases.{split}
@@ -79,8 +79,8 @@ module _ (o : Out) (l : Lent) (wide : RoomyOut o) (room : Roomy l) where
   have-fits : (q : Plan) → Fine q → sizes .hash * syncsOf (q .haves) + filterNumbers (q .haves) .size ≤ length (o .have)
   have-fits q f = omega (arith, wanted-small (q .haves) (f .haves .each), wide .have)
 
-  pub reset-roomed : (q : Plan) → Fine q → roomed (roomsIn buffers) (Planned.reset q) ≡ Planned.reset q
-  unfolding roomed messageRoom afterRoom
+  pub reset-roomed : (q : Plan) → Fine q → plannedRoomed (plannedRooms buffers) (Planned.reset q) ≡ Planned.reset q
+  unfolding plannedRoomed messageRoom afterRoom
   reset-roomed q f =
       rw (
         le-ltb _ _ (fits _ _ _ (f .heads .few) (wide .heads)),
@@ -89,8 +89,8 @@ module _ (o : Out) (l : Lent) (wide : RoomyOut o) (room : Roomy l) where
         le-ltb _ _ (fits _ _ _ (f .few) (wide .list)),
       )
 
-  pub says-roomed : (q : Plan) (s : State) → Fine q → GoodState s → roomed (roomsIn buffers) (Planned.says q s) ≡ Planned.says q s
-  unfolding roomed messageRoom sessionRoom afterRoom
+  pub says-roomed : (q : Plan) (s : State) → Fine q → GoodState s → plannedRoomed (plannedRooms buffers) (Planned.says q s) ≡ Planned.says q s
+  unfolding plannedRoomed messageRoom sessionRoom afterRoom
   says-roomed q s f g =
       rw (
         le-ltb _ _ (fits _ _ _ (f .heads .few) (wide .heads)),

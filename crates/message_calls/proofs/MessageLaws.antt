@@ -5,7 +5,7 @@ use mathlib.Core.List.{List}
 use mathlib.Core.Path.{_≡_, refl, sym, ap, ap₂, subst, _∙_}
 use borrow.Author.Tests.{eq-eqb, ne-eqb, lt-ltb, le-ltb}
 use Rattle.decode.specs.Ignored.{DecodedInto}
-use Rattle.decode.specs.declared.decode.Counted.{Counted}
+use Rattle.decode.specs.declared.decode.CountedMessage.{CountedMessage}
 use Rattle.message.specs.Write.{partsOf, messageOutput}
 use Rattle.message.specs.Flags.{flagsOf}
 use Rattle.message.specs.declared.flags.Section.{Section}
@@ -50,7 +50,7 @@ flags-back f h = sym (section-there f h)
 
 -- ---- the words that are answered
 
-pub message-answered : (s haves₀ haves₁ chunks₀ chunks₁ ignored₀ ignored₁ words : List ℕ) (r : Counted)
+pub message-answered : (s haves₀ haves₁ chunks₀ chunks₁ ignored₀ ignored₁ words : List ℕ) (r : CountedMessage)
     → DecodedInto s haves₀ haves₁ chunks₀ chunks₁ ignored₀ ignored₁ r
     → words ≡ decodedWords r
     → MessageAnswered s haves₀ haves₁ chunks₀ chunks₁ ignored₀ ignored₁ words

@@ -8,8 +8,8 @@ use lib.ListN.{length}
 use Rattle.answers.specs.Answer.{refusalWords}
 use Rattle.decode.specs.Ignored.{countedOf, ignoredInto}
 use Rattle.decode.specs.Read.{openingAt, readWith, havesInto, chunksInto}
-use Rattle.decode.specs.declared.decode.Counted.{Counted}
-use Rattle.decode.specs.declared.decode.Counted.the-variants.{Message, Refused}
+use Rattle.decode.specs.declared.decode.CountedMessage.{CountedMessage}
+use Rattle.decode.specs.declared.decode.CountedMessage.the-variants.{Message, Refused}
 use Rattle.message.specs.Flags.{flagsOf}
 use Rattle.message.specs.declared.flags.Section.{Section}
 use Rattle.message.specs.declared.flags.Section.the-variants.{Absent, Present}
@@ -37,7 +37,7 @@ unfoldable pub sectionOf : ℕ → Section
 sectionOf n = cond (ltb n 256) (Present (flagsOf n)) Absent
 
 -- The places, then both numbers of ignored bytes: behind the filters' fields, and after the flags section.
-abbrev pub decodedWords : Counted → List ℕ
+abbrev pub decodedWords : CountedMessage → List ℕ
 decodedWords (Message p ignored behind) =
     0
     ∷ versionWord (p .version)

@@ -1,6 +1,6 @@
 // A message as words.
 use answers::answer::refusal_words;
-use decode::decode::Counted;
+use decode::decode::CountedMessage;
 use message::flags::MessageFlags;
 use message::flags::Section;
 use message::version::MessageVersion;
@@ -44,11 +44,11 @@ pub fn section_of(n: u64) -> Section
     Section::Absent
 }
 
-pub fn decoded_words(d: Counted) -> [u64; 14]
+pub fn decoded_words(d: CountedMessage) -> [u64; 14]
     ensures { λ w. ⌜ w ≡ decodedWords d ⌝ }
 {
     match d {
-        Counted::Message {
+        CountedMessage::Message {
             places: p,
             ignored,
             behind,
@@ -76,7 +76,7 @@ pub fn decoded_words(d: Counted) -> [u64; 14]
                 behind as u64,
             ]
         }
-        Counted::Refused(r) => [r.number(), r.value(), 0, 0, 0, 0, 0, 0, 0, 0, 0, 0, 0, 0],
+        CountedMessage::Refused(r) => [r.number(), r.value(), 0, 0, 0, 0, 0, 0, 0, 0, 0, 0, 0, 0],
     }
 }
 

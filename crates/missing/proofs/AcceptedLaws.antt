@@ -3,14 +3,14 @@ use Prim.Native.Nat.{ℕ}
 use mathlib.Core.Bool.{true, false}
 use mathlib.Core.List.{List}
 use mathlib.Core.Path.{_≡_}
+use Rattle.order.proofs.KeepLaws.{once-ascends}
+use Rattle.order.specs.Order.{member, ascends, Once}
 use Rattle.rules.specs.Hash.{Bytes, AreHashes}
-use Rattle.rules.specs.Order.{member, ascends, Once}
-use Rattle.rules.proofs.KeepLaws.{once-ascends}
 use Rattle.tables.specs.Table.{Row, held}
 use Rattle.tables.specs.declared.check.Checked.the-variants.{Good}
+use Rattle.waiting.proofs.WaitingLaws.{waiting-good, asks-hashes}
 use Rattle.waiting.specs.Bytes.{waitingOf, waitingChecked}
 use Rattle.waiting.specs.Waiting.{Waiting, waiting}
-use Rattle.waiting.proofs.WaitingLaws.{waiting-good, asks-hashes}
 use Rattle.missing.specs.Missing.{Missing, missing}
 use Rattle.missing.proofs.MissingLaws.{missing-member, member-missing, missing-unknown, missing-ascends, missing-are-hashes, unknown-not-held, unknown-not-waiting}
 

@@ -6,18 +6,18 @@ use mathlib.Core.Path.{_≡_, refl, sym, ap, _∙_}
 use native.Mathlib.Omega.{arith}
 use lib.ListN.{length, getD, set, length-set, replicate, length-replicate}
 use Rattle.index.specs.Index.{Indexed}
-use Rattle.rules.specs.Hash.{hashAt, hashesAt}
-use Rattle.rules.specs.Order.{member, Inserted}
-use Rattle.rules.specs.Sizes.{sizes}
+use Rattle.order.specs.Order.{member, Inserted}
 use Rattle.rules.proofs.Hash.{length-hashes-at}
+use Rattle.rules.specs.Hash.{hashAt, hashesAt}
+use Rattle.rules.specs.Sizes.{sizes}
+use Rattle.tables.proofs.TableLaws.{length-rows, length-rows-at, index-at-most, member-of-index, unknown-of-index}
 use Rattle.tables.specs.Bytes.{rowsAt}
 use Rattle.tables.specs.Table.{rows, held, indexIn}
-use Rattle.tables.proofs.TableLaws.{length-rows, length-rows-at, index-at-most, member-of-index, unknown-of-index}
-use Rattle.waiting.specs.Bytes.{Sorted, asksCount, waitingsAt, waitingOf}
-use Rattle.waiting.specs.Waiting.{waiting, asks}
 use Rattle.waiting.proofs.Today.{asksPlace}
 use Rattle.waiting.proofs.WaitingLaws.{length-waiting, length-waitings-at, asks-of-waiting, WaitingDecoded, decoded-asks-count}
-use Rattle.missing.specs.Ask.{Request, change, list, held-hash, marked, waits, unknown-hash, none, more, Askable, Asked, Found}
+use Rattle.waiting.specs.Bytes.{Sorted, asksCount, waitingsAt, waitingOf}
+use Rattle.waiting.specs.Waiting.{waiting, asks}
+use Rattle.missing.specs.Ask.{Request, change, list, held-hash, marked, waits, unknown-hash, none, more, Askable, Asked, FoundUpTo}
 use Rattle.missing.specs.Missing.{missing}
 use Rattle.missing.proofs.AskLaws.{unmarked, unmarked-set, fewer-unmarked, within-most}
 use Rattle.missing.proofs.MissingLaws.{found-all, found-many}
@@ -147,7 +147,7 @@ module _ (table : List ℕ) (n : ℕ) (waitings : List ℕ) (m : ℕ) (d : Waiti
 
   pub list-found : {hs : List ℕ} {marks′ : List Bool} {found found′ : List ℕ} {count′ : ℕ}
       → Asked table n waitings m (list hs) (replicate (sizes .waitingRows) false) found 0 marks′ found′ count′
-      → Found (missing (rowsAt table 0 n) (waitingOf waitings) hs) (length found / sizes .hash) found′ count′
+      → FoundUpTo (missing (rowsAt table 0 n) (waitingOf waitings) hs) (length found / sizes .hash) found′ count′
   unfolding hashesAt
   list-found {hs} {marks′} {found} {found′} {count′} a =
       let once = rw (d .is) at (d .good .once) in

@@ -10,9 +10,9 @@ use borrow.Author.Tests.{ltb-false, eqb-true, eq-eqb}
 use lib.Dec.{ltb, eqb}
 use lib.ListN.{length, getD, set, length-set}
 use lib.Seq.{getD-set-same}
+use Rattle.order.proofs.OrderLaws.{insert-member, up-to-fits, up-to-ascends, member-here, member-there}
+use Rattle.order.specs.Order.{member, ascends, insertOnce, insertUpTo}
 use Rattle.rules.proofs.Cases.{split, either, or-right}
-use Rattle.rules.proofs.OrderLaws.{insert-member, up-to-fits, up-to-ascends, member-here, member-there}
-use Rattle.rules.specs.Order.{member, ascends, insertOnce, insertUpTo}
 use Rattle.tables.specs.Table.{Row, held, indexIn}
 use Rattle.waiting.specs.Waiting.{Waiting, waiting, asks, asksOf}
 use Rattle.missing.specs.Missing.{unknown, Missing, itself, through}

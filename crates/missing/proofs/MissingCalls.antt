@@ -27,7 +27,7 @@ use Rattle.tables.specs.declared.check.Checked.the-variants as checked
 use Rattle.tables.proofs.TableLaws.{table-good}
 use Rattle.waiting.specs.Bytes.{waitingOf, waitingChecked}
 use Rattle.waiting.specs.Waiting.{Waiting}
-use Rattle.missing.specs.Ask.{Found}
+use Rattle.missing.specs.Ask.{FoundUpTo}
 use Rattle.missing.specs.Calls.{missingOf, missingFrom, missingBeside, missingOutput}
 use Rattle.missing.specs.Missing.{missing}
 use Rattle.missing.proofs.MissingLaws.{missing-of-nothing}
@@ -56,7 +56,7 @@ module _ (t : List Row) (w : List Waiting) (l out : List ℕ) where
     from-list = after-hashes _ _ _ n e
 
     module _ {most : ℕ} {after : List ℕ} {count : ℕ} (room : most ≡ suc (sizes .hashes))
-        (f : Found (missing t w (hashesAt l 0 n)) most after count) where
+        (f : FoundUpTo (missing t w (hashesAt l 0 n)) most after count) where
       pub too-many : sizes .hashes < count → Written (missingFrom t w l) out out (Refused (PastSize 0))
       unfolding missingOf
       too-many h =
@@ -96,7 +96,7 @@ module _ (s x w l out : List ℕ) where
 
 -- nothing is found where nothing is asked
 pub nothing-found : (t : List Row) (w : List Waiting) (s : List ℕ) (place entries most : ℕ) (after : List ℕ) → entries ≡ 0
-    → Found (missing t w (hashesAt s place entries)) most after 0
+    → FoundUpTo (missing t w (hashesAt s place entries)) most after 0
 unfolding hashesAt
 nothing-found t w s place entries most after e =
     rw (e, missing-of-nothing t w)

@@ -6,19 +6,18 @@ use mathlib.Core.List.{List, [], _∷_, _++_}
 use mathlib.Core.Path.{_≡_, refl, sym, _∙_}
 use native.Mathlib.Nat.{not-suc-le-zero, add-zero, zero-add}
 use native.Mathlib.Omega.{arith}
-use borrow.Author.Tests.{eqb-true, not-true}
-use lib.Dec.{eqb}
+use borrow.Author.Tests.{not-true}
 use lib.ListN.{length, getD}
-use Rattle.rules.specs.Hash.{AreHashes}
-use Rattle.rules.specs.Order.{member, ascends, keep, Once}
-use Rattle.rules.proofs.KeepLaws.{keep-member, no-members, hashes-member, hashes-each}
+use Rattle.order.proofs.KeepLaws.{keep-member, no-members, hashes-member, hashes-each}
+use Rattle.order.proofs.OrderLaws.{ascend-ascends, ascend-members, member-append, member-none, ascending-unique, ascending-shorter}
+use Rattle.order.proofs.ReachLaws.{reach-base, reach-closed, reach-least}
+use Rattle.order.specs.Order.{member, ascends, keep, Once}
 use Rattle.rules.proofs.Cases.{split, both, true-false, same-truth, either, or-left, or-right, and-true}
-use Rattle.rules.proofs.OrderLaws.{ascend-ascends, ascend-members, member-append, member-here, member-none, ascending-unique, ascending-shorter}
-use Rattle.rules.proofs.ReachLaws.{reach-base, reach-closed, reach-least}
-use Rattle.tables.specs.Table.{Row, held, indexIn}
+use Rattle.rules.specs.Hash.{AreHashes}
 use Rattle.tables.proofs.TableLaws.{index-of-member, entry-at-index, member-at, index-of-entry}
-use Rattle.waiting.specs.Waiting.{Waiting, noWaiting, waiting, asks, asksOf}
+use Rattle.tables.specs.Table.{Row, held, indexIn}
 use Rattle.waiting.proofs.WaitingLaws.{length-waiting}
+use Rattle.waiting.specs.Waiting.{Waiting, noWaiting, waiting, asks, asksOf}
 use Rattle.missing.specs.Missing.{unknown, Missing, itself, through, askedRow, asksFrom, missing}
 use Rattle.missing.specs.Ask.{list, Asks}
 use Rattle.missing.proofs.AskLaws.{asked, more-missing, missing-found, asked-settled, newly-settled, found-missing, still-ascending}

@@ -6,8 +6,8 @@ use mathlib.Core.List.{List, [], _∷_}
 use mathlib.Core.Path.{_≡_}
 use lib.ListN.{length, getD, set}
 use Rattle.index.specs.Index.{Indexed}
+use Rattle.order.specs.Order.{member, insertUpTo}
 use Rattle.rules.specs.Hash.{hashesAt}
-use Rattle.rules.specs.Order.{member, insertUpTo}
 use Rattle.rules.specs.Output.{Gathered}
 use Rattle.rules.specs.Sizes.{sizes}
 use Rattle.tables.specs.Bytes.{rowsAt}
@@ -54,7 +54,7 @@ pub record Asked (table : List ℕ) (n : ℕ) (waitings : List ℕ) (m : ℕ) (q
   pub way : Asks (rowsAt table 0 n) (waitingsAt waitings 0 m) (length found / sizes .hash) q marks (hashesAt found 0 count) marks′ (hashesAt found′ 0 count′)
 
 -- A list asked for in a buffer that holds no more than `most` hashes: all of it, or the buffer is full, and the list has no fewer.
-pub record Found (l : List ℕ) (most : ℕ) (after : List ℕ) (count : ℕ) : Type 0 where
+pub record FoundUpTo (l : List ℕ) (most : ℕ) (after : List ℕ) (count : ℕ) : Type 0 where
   pub within : count ≤ most
   pub all : count < most → Gathered l after count
   pub full : count ≡ most → most ≤ length l

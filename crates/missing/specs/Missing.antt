@@ -5,8 +5,8 @@ use mathlib.Core.Bool.{Bool, true, false, cond, not, _&&_}
 use mathlib.Core.List.{List, [], _∷_, _++_}
 use mathlib.Core.Path.{_≡_}
 use lib.ListN.{length, getD}
-use Rattle.rules.specs.Order.{member, ascend, keep}
-use Rattle.rules.specs.Reach.{reach}
+use Rattle.order.specs.Order.{member, ascend, keep}
+use Rattle.order.specs.Reach.{reach}
 use Rattle.tables.specs.Table.{Row, held}
 use Rattle.waiting.specs.Waiting.{Waiting, waiting, asksOf, asks}
 

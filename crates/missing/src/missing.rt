@@ -1,7 +1,7 @@
 // What is missing from a list of hashes. One change is asked, or a list of them in turn, and a change that waits asks its own list.
 use index::check::check_indexed;
 use index::look::look_up;
-use rules::hashes::insert_hash;
+use order::hashes::insert_hash;
 use rules::output::Write;
 use rules::passed::Passed;
 use rules::passed::passed_hashes;
@@ -28,7 +28,7 @@ ghost use Rattle.rules.specs.Sizes.{sizes};
 ghost use Rattle.tables.specs.Bytes.{rowsAt};
 ghost use Rattle.tables.specs.declared.check.Checked.the-variants.{Good};
 ghost use Rattle.waiting.specs.Bytes.{waitingOf, waitingChecked, Sorted};
-ghost use Rattle.missing.specs.Ask.{Request, Askable, Asked, Found};
+ghost use Rattle.missing.specs.Ask.{Request, Askable, Asked, FoundUpTo};
 ghost use Rattle.missing.specs.Calls.{missingFrom, missingBeside, missingOutput};
 ghost use Rattle.missing.specs.Missing.{missing};
 
@@ -139,7 +139,7 @@ fn find_in_order(
 ) -> usize
     requires { ⌜ Indexed (now table) (now index) n × (waitingChecked (rowsAt (now table) 0 n) (now waiting) ≡ Good m)
         × Sorted (now waiting) (now order) m × (place + sizes .hash * entries ≤ length (now bytes)) ⌝ }
-    ensures { λ r. ⌜ Found (missing (rowsAt (now (table .entry)) 0 n) (waitingOf (now (waiting .entry))) (hashesAt (now (bytes .entry)) place entries))
+    ensures { λ r. ⌜ FoundUpTo (missing (rowsAt (now (table .entry)) 0 n) (waitingOf (now (waiting .entry))) (hashesAt (now (bytes .entry)) place entries))
         (length (now (list .entry)) / sizes .hash) (now (list .exit)) r ⌝ }
 {
     let mut marks = [false; WAITING_ROWS];
@@ -173,7 +173,7 @@ pub fn find_missing(
 ) -> usize
     requires { ⌜ Indexed (now table) (now index) n
         × ((waitingChecked (rowsAt (now table) 0 n) (now waiting) ≡ Good m) × (place + sizes .hash * entries ≤ length (now bytes))) ⌝ }
-    ensures { λ r. ⌜ Found (missing (rowsAt (now (table .entry)) 0 n) (waitingOf (now (waiting .entry))) (hashesAt (now (bytes .entry)) place entries))
+    ensures { λ r. ⌜ FoundUpTo (missing (rowsAt (now (table .entry)) 0 n) (waitingOf (now (waiting .entry))) (hashesAt (now (bytes .entry)) place entries))
         (length (now (list .entry)) / sizes .hash) (now (list .exit)) r ⌝ }
 {
     if entries == 0 {

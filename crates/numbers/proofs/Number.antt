@@ -1,9 +1,9 @@
 -- Laws of numbers: how the shortest form goes on, and how `find` goes from one byte to the next.
 use Prim.Native.Nat.{ℕ, zero, suc, _+_, _-_, _*_, _/_, _%_, _^_, _≤_, _<_, min, suc-le-suc}
-use mathlib.Core.Bool.{Bool, true, false, cond, _||_}
+use mathlib.Core.Bool.{true, false}
 use mathlib.Core.List.{List, [], _∷_, _++_}
 use mathlib.Core.Path.{_≡_, refl, sym, _∙_, ap, ap₂}
-use native.Mathlib.Nat.{mul-add-div-right, div-lt-iff-lt-mul, pow-suc, mul-add-div, le-div-iff-mul-le, div-div-eq-div-mul, mul-comm, mul-assoc, add-mul, add-assoc}
+use native.Mathlib.Nat.{mul-add-div-right, div-lt-iff-lt-mul, pow-suc, mul-add-div, le-div-iff-mul-le, div-div-eq-div-mul, mul-comm, mul-assoc, add-mul}
 use native.Mathlib.Numerals.{add-one}
 use native.Mathlib.Omega.{arith}
 use borrow.Author.Tests.{lt-ltb, le-ltb, ltb-true, ltb-false}

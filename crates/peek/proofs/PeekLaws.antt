@@ -23,7 +23,7 @@ use Rattle.wire.specs.Item.{run, hashListAt, hashListBytes}
 use Rattle.wire.specs.declared.parse.Listed.the-variants.{Items}
 use Rattle.wire.specs.declared.parse.Run.{Run}
 use Rattle.wire.proofs.Item.{HashesInside, hash-list-inside, written-hash-list, hash-list-written}
-use Rattle.decode.specs.Read.{read, refused, openingAt, messageAt, messageOf, readWith, roomFor}
+use Rattle.decode.specs.Read.{read, refused, openingAt, messageAt, messageIn, readWith, roomFor}
 use Rattle.decode.specs.declared.opening.Opening.{Opening}
 use Rattle.decode.specs.declared.opening.Opening.the-variants.{Heads as Opened, Refused as NotOpened}
 use Rattle.decode.specs.declared.parse.Places.{Places}
@@ -87,8 +87,8 @@ pub peek-agrees : (s : List ℕ) → Bytes s → (p : Places) (haves chunks : Li
     → (before after : List ℕ) (r : Peeked)
     → sizes .hash * p .heads .count ≤ length before
     → PeekedInto s before after r
-    → Agrees (messageOf s p haves chunks) before after r
-unfolding messageOf
+    → Agrees (messageIn s p haves chunks) before after r
+unfolding messageIn
 peek-agrees s all p haves chunks e before after r room q =
     let b = message-behind s p haves chunks e in
     let start : ℕ = p .heads .start in

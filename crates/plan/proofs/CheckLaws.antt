@@ -10,7 +10,7 @@ use Rattle.bloom.proofs.Rules.{rules-default}
 use Rattle.index.specs.Index.{Indexed, indexChecked}
 use Rattle.index.proofs.CheckLaws.{checked-table, checked-indexed}
 use Rattle.lent.specs.Good.{sessionGood}
-use Rattle.planned.specs.Call.{Buffers, afterTables, planWith, answerOf, roomed, putInto, PlanCalled}
+use Rattle.planned.specs.Call.{Buffers, afterTables, planWith, plannedAnswer, plannedRoomed, putInto, PlanCalled}
 use Rattle.planned.specs.declared.answer.Planned.the-variants as answer
 use Rattle.planning.specs.Made.{Setting}
 use Rattle.rules.specs.Hash.{hashesBytes}
@@ -18,7 +18,7 @@ use Rattle.rules.specs.declared.refusal.Refusal.{Refusal}
 use Rattle.rules.specs.declared.refusal.Refusal.the-variants.{BadNumbers}
 use Rattle.session.specs.Laid.{laidBytes}
 use Rattle.session.specs.Plan.{Planned, plan}
-use Rattle.state.specs.Value.{Lent, valueOf}
+use Rattle.state.specs.Value.{Lent, stateOf}
 use Rattle.state.specs.declared.session.Session.{Session}
 use Rattle.tables.specs.Bytes.{rowsAt, tableOf}
 use Rattle.tables.specs.Calls.{passedOn}
@@ -28,9 +28,9 @@ use Rattle.tables.specs.declared.check.Checked.the-variants as tables
 use Rattle.tables.proofs.TableLaws.{table-good}
 use Rattle.waiting.specs.Bytes.{waitingOf, waitingChecked}
 use Rattle.waiting.specs.Calls.{tablesChecked}
-use Rattle.plan.specs.Checks.{besideChecked, afterTable, checkedPlan}
-use Rattle.plan.specs.declared.check.Checks.{Checks}
-use Rattle.plan.specs.declared.check.Checks.the-variants.{Good, Refused}
+use Rattle.plan.specs.Checks.{besideChecked, besideTable, checkedPlan}
+use Rattle.plan.specs.declared.check.PlanChecks.{PlanChecks}
+use Rattle.plan.specs.declared.check.PlanChecks.the-variants.{Good, Refused}
 
 -- ---- what the code finds
 
@@ -41,7 +41,7 @@ module _ (s : Session) (l : Lent) (table index waiting : List ℕ) {found : Bool
 
   module _ (good : found ≡ true) {rows : TableChecked} (those : rows ≡ indexChecked table index) where
     pub bad-table : (r : Refusal) → rows ≡ tables.Refused r → Refused r ≡ checkedPlan s l table index waiting
-    unfolding checkedPlan afterTable
+    unfolding checkedPlan besideTable
     bad-table r e = rw (sym is ∙ good, sym those ∙ e)
 
     module _ (n : ℕ) (there : rows ≡ tables.Good n) {beside : TableChecked} (others : beside ≡ waitingChecked (rowsAt table 0 n) waiting) where
@@ -49,11 +49,11 @@ module _ (s : Session) (l : Lent) (table index waiting : List ℕ) {found : Bool
       same = table-good table n (checked-table table index n (sym those ∙ there)) .is
 
       pub bad-waiting : (r : Refusal) → beside ≡ tables.Refused r → Refused r ≡ checkedPlan s l table index waiting
-      unfolding checkedPlan afterTable besideChecked
+      unfolding checkedPlan besideTable besideChecked
       bad-waiting r e = rw (sym is ∙ good, sym those ∙ there, same, sym others ∙ e)
 
       pub both-good : (m : ℕ) → beside ≡ tables.Good m → Good n m ≡ checkedPlan s l table index waiting
-      unfolding checkedPlan afterTable besideChecked
+      unfolding checkedPlan besideTable besideChecked
       both-good m e = rw (sym is ∙ good, sym those ∙ there, same, sym others ∙ e)
 
 -- the rows are good and the index fits them
@@ -73,9 +73,9 @@ unfolding besideChecked afterTables
 beside-refused n (tables.Good m) r p e = absurd (no-refusal r n m e)
 beside-refused n (tables.Refused q) r p e = let same : q ≡ r = cc in rw same
 
-after-refused : (x : TableChecked) (t : List Row) (w : List ℕ) (r : Refusal) (p : Planned) → afterTable x t w ≡ Refused r
+after-refused : (x : TableChecked) (t : List Row) (w : List ℕ) (r : Refusal) (p : Planned) → besideTable x t w ≡ Refused r
     → afterTables (passedOn x (waitingChecked t w)) p ≡ Planned.refused r
-unfolding afterTable afterTables passedOn
+unfolding besideTable afterTables passedOn
 after-refused (tables.Good n) t w r p e = beside-refused n (waitingChecked t w) r p e
 after-refused (tables.Refused q) t w r p e = let same : q ≡ r = cc in rw same
 
@@ -87,25 +87,25 @@ beside-good k n m (tables.Good j) e =
     (a, rw b)
 beside-good k n m (tables.Refused r) e = absurd (no-good r n m e)
 
-after-good : (x : TableChecked) (t : List Row) (w : List ℕ) (n m : ℕ) → afterTable x t w ≡ Good n m
+after-good : (x : TableChecked) (t : List Row) (w : List ℕ) (n m : ℕ) → besideTable x t w ≡ Good n m
     → (x ≡ tables.Good n) × (waitingChecked t w ≡ tables.Good m)
-unfolding afterTable
+unfolding besideTable
 after-good (tables.Good k) t w n m e =
     let b = beside-good k n m (waitingChecked t w) e in
     let same : k ≡ n = b .0 in
     (rw same, b .1)
 after-good (tables.Refused r) t w n m e = absurd (no-good r n m e)
 
-abbrev checks : Bool → List ℕ → List ℕ → List ℕ → Checks
+abbrev checks : Bool → List ℕ → List ℕ → List ℕ → PlanChecks
 checks good table index waiting =
-    cond (not good) (Refused BadNumbers) (afterTable (indexChecked table index) (tableOf table) waiting)
+    cond (not good) (Refused BadNumbers) (besideTable (indexChecked table index) (tableOf table) waiting)
 
 good-checks : (good : Bool) (table index waiting : List ℕ) (n m : ℕ) → checks good table index waiting ≡ Good n m
     → (good ≡ true) × ((indexChecked table index ≡ tables.Good n) × (waitingChecked (tableOf table) waiting ≡ tables.Good m))
 good-checks true table index waiting n m e = (refl, after-good (indexChecked table index) (tableOf table) waiting n m e)
 good-checks false table index waiting n m e = absurd (no-good BadNumbers n m e)
 
-module _ (s : Session) (l : Lent) (table index waiting : List ℕ) (n m : ℕ) {found : Checks} (is : found ≡ checkedPlan s l table index waiting)
+module _ (s : Session) (l : Lent) (table index waiting : List ℕ) (n m : ℕ) {found : PlanChecks} (is : found ≡ checkedPlan s l table index waiting)
     (good : found ≡ Good n m) where
   parts : (sessionGood s l ≡ true) × ((indexChecked table index ≡ tables.Good n) × (waitingChecked (tableOf table) waiting ≡ tables.Good m))
   unfolding checkedPlan
@@ -124,7 +124,7 @@ module _ (s : Session) (l : Lent) (table index waiting : List ℕ) (n m : ℕ) {
 
   -- Tables and a session that are good are planned with.
   pub good-plans : (bits probes : ℕ)
-      → planWith bits probes s l table index waiting ≡ plan bits probes (rowsAt table 0 n) (waitingOf waiting) (valueOf s l)
+      → planWith bits probes s l table index waiting ≡ plan bits probes (rowsAt table 0 n) (waitingOf waiting) (stateOf s l)
   unfolding planWith tablesChecked passedOn afterTables
   good-plans bits probes = rw (parts .0, parts .1 .0, parts .1 .1, same-rows)
 
@@ -133,7 +133,7 @@ module _ (bits probes : ℕ) (s : Session) (l : Lent) (table index waiting : Lis
   plans good =
       cond (not good)
       (Planned.refused BadNumbers)
-      (afterTables (tablesChecked table index waiting) (plan bits probes (tableOf table) (waitingOf waiting) (valueOf s l)))
+      (afterTables (tablesChecked table index waiting) (plan bits probes (tableOf table) (waitingOf waiting) (stateOf s l)))
 
   refused-plans : (good : Bool) (r : Refusal) → checks good table index waiting ≡ Refused r → plans good ≡ Planned.refused r
   unfolding tablesChecked
@@ -141,9 +141,9 @@ module _ (bits probes : ℕ) (s : Session) (l : Lent) (table index waiting : Lis
   refused-plans false r e = let same : BadNumbers ≡ r = cc in rw same
 
   -- A refusal passes on, and leaves the buffers.
-  pub refused-called : (b : Buffers) (r : Refusal) {found : Checks} → found ≡ checkedPlan s l table index waiting → found ≡ Refused r
+  pub refused-called : (b : Buffers) (r : Refusal) {found : PlanChecks} → found ≡ checkedPlan s l table index waiting → found ≡ Refused r
       → PlanCalled s (planWith bits probes s l table index waiting) b b (answer.Refused r)
-  unfolding checkedPlan planWith answerOf roomed putInto hashesBytes laidBytes
+  unfolding checkedPlan planWith plannedAnswer plannedRoomed putInto hashesBytes laidBytes
   refused-called b r is e = rw (refused-plans (sessionGood s l) r (sym is ∙ e)) (record { answer = refl; buffers = refl })
 
 -- The filter rules hold with the default's bits and probes over any rows.

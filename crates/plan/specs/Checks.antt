@@ -12,18 +12,18 @@ use Rattle.tables.specs.Table.{Row}
 use Rattle.tables.specs.declared.check.Checked.{Checked as TableChecked}
 use Rattle.tables.specs.declared.check.Checked.the-variants as tables
 use Rattle.waiting.specs.Bytes.{waitingChecked}
-use Rattle.plan.specs.declared.check.Checks.{Checks}
-use Rattle.plan.specs.declared.check.Checks.the-variants.{Good, Refused}
+use Rattle.plan.specs.declared.check.PlanChecks.{PlanChecks}
+use Rattle.plan.specs.declared.check.PlanChecks.the-variants.{Good, Refused}
 
 -- The rows of both tables, or the first refusal: 10, then 4 and 6, then 12, then 4 and 9.
-unfoldable pub besideChecked : ℕ → TableChecked → Checks
+unfoldable pub besideChecked : ℕ → TableChecked → PlanChecks
 besideChecked n (tables.Good m) = Good n m
 besideChecked n (tables.Refused r) = Refused r
 
-unfoldable pub afterTable : TableChecked → List Row → List ℕ → Checks
-afterTable (tables.Good n) t waiting = besideChecked n (waitingChecked t waiting)
-afterTable (tables.Refused r) t waiting = Refused r
+unfoldable pub besideTable : TableChecked → List Row → List ℕ → PlanChecks
+besideTable (tables.Good n) t waiting = besideChecked n (waitingChecked t waiting)
+besideTable (tables.Refused r) t waiting = Refused r
 
-unfoldable pub checkedPlan : Session → Lent → List ℕ → List ℕ → List ℕ → Checks
+unfoldable pub checkedPlan : Session → Lent → List ℕ → List ℕ → List ℕ → PlanChecks
 checkedPlan s l table index waiting =
-    cond (not (sessionGood s l)) (Refused BadNumbers) (afterTable (indexChecked table index) (tableOf table) waiting)
+    cond (not (sessionGood s l)) (Refused BadNumbers) (besideTable (indexChecked table index) (tableOf table) waiting)

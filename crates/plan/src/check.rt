@@ -10,7 +10,7 @@ ghost use Rattle.lent.specs.Good.{lentOf};
 ghost use Rattle.plan.specs.Checks.{checkedPlan};
 
 // Tables of so many rows and waiting rows beside a session that is good, or the first refusal.
-pub enum Checks {
+pub enum PlanChecks {
     Good { rows: usize, waiting_rows: usize },
     Refused(Refusal),
 }
@@ -28,7 +28,7 @@ pub fn check_plan(
     table: &[u8],
     index: &[u8],
     waiting: &[u8],
-) -> Checks
+) -> PlanChecks
     ensures { λ r. ⌜ r ≡ checkedPlan session
         (lentOf (now (shared .entry)) (now («last_sent» .entry)) (now («their_heads» .entry)) (now («their_need» .entry)) (now (haves .entry))
         (now (bytes .entry)) (now (sent .entry)))
@@ -44,13 +44,13 @@ pub fn check_plan(
         bytes,
         sent,
     ) {
-        return Checks::Refused(Refusal::BadNumbers);
+        return PlanChecks::Refused(Refusal::BadNumbers);
     }
     match check_indexed(table, index) {
-        Checked::Refused(r) => Checks::Refused(r),
+        Checked::Refused(r) => PlanChecks::Refused(r),
         Checked::Good(n) => match check_waiting(table, index, n, waiting) {
-            Checked::Refused(r) => Checks::Refused(r),
-            Checked::Good(m) => Checks::Good {
+            Checked::Refused(r) => PlanChecks::Refused(r),
+            Checked::Good(m) => PlanChecks::Good {
                 rows: n,
                 waiting_rows: m,
             },

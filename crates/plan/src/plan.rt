@@ -1,5 +1,5 @@
 // The plan: checked, computed, decided, put.
-use crate::check::Checks;
+use crate::check::PlanChecks;
 use crate::check::check_plan;
 use asked::asked::plan_checked;
 use bloom::parse::BITS_PER_ENTRY;
@@ -52,8 +52,8 @@ pub fn plan(
         index,
         waiting,
     ) {
-        Checks::Refused(r) => Planned::Refused(r),
-        Checks::Good { rows, waiting_rows } => plan_checked(
+        PlanChecks::Refused(r) => Planned::Refused(r),
+        PlanChecks::Good { rows, waiting_rows } => plan_checked(
             bits,
             probes,
             session,

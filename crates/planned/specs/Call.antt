@@ -17,7 +17,7 @@ use Rattle.rules.specs.declared.refusal.Refusal.the-variants.{BadNumbers, NoRoo
 use Rattle.session.specs.Laid.{laidBytes}
 use Rattle.session.specs.Plan.{Plan, Planned, listOf, plan}
 use Rattle.session.specs.Rooms.{orShort}
-use Rattle.state.specs.Value.{Lent, valueOf}
+use Rattle.state.specs.Value.{Lent, stateOf}
 use Rattle.state.specs.declared.session.Session.{Session}
 use Rattle.tables.specs.Bytes.{tableOf}
 use Rattle.tables.specs.declared.check.Checked.{Checked}
@@ -43,7 +43,7 @@ unfoldable pub planWith : ℕ → ℕ → Session → Lent → List ℕ → List
 planWith bits probes s l table index waiting =
     cond (not (sessionGood s l))
     (Planned.refused BadNumbers)
-    (afterTables (tablesChecked table index waiting) (plan bits probes (tableOf table) (waitingOf waiting) (valueOf s l)))
+    (afterTables (tablesChecked table index waiting) (plan bits probes (tableOf table) (waitingOf waiting) (stateOf s l)))
 
 -- ---- the answer: counts of what is said
 
@@ -95,11 +95,11 @@ plannedCounts s lastSent sent =
       «needs_reset» = false;
     }
 
-unfoldable pub answerOf : Session → Planned → Answer
-answerOf s (Planned.refused r) = Refused r
-answerOf s Planned.silent = Silent
-answerOf s (Planned.reset p) = Reset (statedOf p)
-answerOf s (Planned.says p after) =
+unfoldable pub plannedAnswer : Session → Planned → Answer
+plannedAnswer s (Planned.refused r) = Refused r
+plannedAnswer s Planned.silent = Silent
+plannedAnswer s (Planned.reset p) = Reset (statedOf p)
+plannedAnswer s (Planned.says p after) =
     Says (statedOf p) (plannedCounts s (length (after .lastSentHeads)) (length (after .sentHashes)))
 
 -- ---- room
@@ -122,11 +122,11 @@ afterRoom Enough p = p
 afterRoom (Short wanted) p = Planned.refused (NoRoom wanted)
 
 -- 7 comes last. A reset changes no list of the session.
-unfoldable pub roomed : Rooms → Planned → Planned
-roomed r (Planned.refused refusal) = Planned.refused refusal
-roomed r Planned.silent = Planned.silent
-roomed r (Planned.reset p) = afterRoom (messageRoom (statedOf p) r) (Planned.reset p)
-roomed r (Planned.says p after) =
+unfoldable pub plannedRoomed : Rooms → Planned → Planned
+plannedRoomed r (Planned.refused refusal) = Planned.refused refusal
+plannedRoomed r Planned.silent = Planned.silent
+plannedRoomed r (Planned.reset p) = afterRoom (messageRoom (statedOf p) r) (Planned.reset p)
+plannedRoomed r (Planned.says p after) =
     afterRoom (messageRoom (statedOf p) r)
     (afterRoom (sessionRoom (length (after .lastSentHeads)) (length (after .sentHashes)) r) (Planned.says p after))
 
@@ -168,8 +168,8 @@ abbrev pub buffersOf : List ℕ → List ℕ → List ℕ → List ℕ → List 
 buffersOf heads need have list lastSent sent =
     record { heads = heads; need = need; have = have; list = list; lastSent = lastSent; sent = sent }
 
-abbrev pub roomsIn : Buffers → Rooms
-roomsIn b =
+abbrev pub plannedRooms : Buffers → Rooms
+plannedRooms b =
     record {
       heads = length (b .heads);
       need = length (b .need);
@@ -192,5 +192,5 @@ putInto p b =
 
 -- What the call ensures: the answer, and all buffers, of what was planned and has room.
 pub record PlanCalled (s : Session) (p : Planned) (before after : Buffers) (r : Answer) : Type 0 where
-  pub answer : r ≡ answerOf s (roomed (roomsIn before) p)
-  pub buffers : after ≡ putInto (roomed (roomsIn before) p) before
+  pub answer : r ≡ plannedAnswer s (plannedRoomed (plannedRooms before) p)
+  pub buffers : after ≡ putInto (plannedRoomed (plannedRooms before) p) before

@@ -6,20 +6,20 @@ use mathlib.Core.List.{List}
 use mathlib.Core.Path.{_≡_, _∙_}
 use native.Mathlib.Omega.{arith}
 use lib.ListN.{length}
-use Rattle.lent.specs.Good.{heardGood}
 use Rattle.lent.proofs.GoodSessions.{list-parts}
+use Rattle.lent.specs.Good.{heardGood}
 use Rattle.lists.specs.Lists.{same}
-use Rattle.missing.specs.Ask.{Found}
-use Rattle.missing.specs.Missing.{missing}
 use Rattle.missing.proofs.MissingLaws.{missing-of-nothing}
-use Rattle.rules.specs.Hash.{hashesAt}
-use Rattle.rules.specs.Order.{member, every}
-use Rattle.rules.specs.Sizes.{sizes}
+use Rattle.missing.specs.Ask.{FoundUpTo}
+use Rattle.missing.specs.Missing.{missing}
+use Rattle.order.specs.Order.{member, every}
 use Rattle.rules.proofs.Cases.{split}
+use Rattle.rules.specs.Hash.{hashesAt}
+use Rattle.rules.specs.Sizes.{sizes}
 use Rattle.session.specs.Plan.{heard, heardAs, needOf}
 use Rattle.state.specs.Value.{heardCount, heardHashes}
-use Rattle.state.specs.declared.session.Heard.{Heard}
 use Rattle.state.specs.declared.session.Heard.the-variants.{Nothing, Count}
+use Rattle.state.specs.declared.session.Heard.{Heard}
 use Rattle.tables.specs.Table.{Row}
 use Rattle.waiting.specs.Waiting.{Waiting}
 
@@ -52,8 +52,8 @@ module _ (s : List ℕ) (readOnlyUnit : Bool) (h : Heard) (k : ℕ) (e : k ≡ c
   need-asked t w =
       split readOnlyUnit (λ r. rw (none-asked r, r) (missing-of-nothing t w)) (λ r. rw (r, heard-list s h k (all-asked r)))
 
-  pub need-found : (t : List Row) (w : List Waiting) (most : ℕ) (list : List ℕ) (count : ℕ) → Found (missing t w (hashesAt s 0 k)) most list count
-      → Found (needOf t w readOnlyUnit (heard (heardHashes s h))) most list count
+  pub need-found : (t : List Row) (w : List Waiting) (most : ℕ) (list : List ℕ) (count : ℕ) → FoundUpTo (missing t w (hashesAt s 0 k)) most list count
+      → FoundUpTo (needOf t w readOnlyUnit (heard (heardHashes s h))) most list count
   need-found t w most list count so = rw (need-asked t w) at so
 
 -- ---- compared

@@ -6,13 +6,13 @@ use mathlib.Core.Path.{_≡_, sym, ap, _∙_}
 use native.Mathlib.Omega.{arith}
 use lib.ListN.{length, take}
 use lib.Seq.{sets, length-sets, length-take-le}
-use Rattle.lists.specs.Lists.{Joined, UpTo}
 use Rattle.lists.proofs.Lists.{up-to-ascending, joined-up-to}
-use Rattle.rules.specs.Hash.{hashesAt}
-use Rattle.rules.specs.Order.{ascends, ascend}
-use Rattle.rules.specs.Sizes.{sizes}
+use Rattle.lists.specs.Lists.{Joined, UpTo}
+use Rattle.order.specs.Order.{ascends, ascend}
 use Rattle.rules.proofs.Hash.{length-hashes-at, hashes-at-slice}
 use Rattle.rules.proofs.Outputs.{take-sets}
+use Rattle.rules.specs.Hash.{hashesAt}
+use Rattle.rules.specs.Sizes.{sizes}
 use Rattle.planning.specs.Made.{SentMade}
 
 -- the first hashes of a buffer stand in its first bytes

@@ -6,16 +6,16 @@ use mathlib.Core.Path.{_≡_, refl}
 use native.Mathlib.Omega.{arith}
 use lib.ListN.{length}
 use Rattle.bloom.specs.Have.{haveCount, syncPlace, syncCount, haveIn, havesFrom, havesOf}
-use Rattle.lent.specs.Good.{havesGood}
 use Rattle.lent.proofs.KeptLaws.{kept-place, kept-count, kept-each}
+use Rattle.lent.specs.Good.{havesGood}
+use Rattle.order.specs.Order.{every}
 use Rattle.rules.specs.Hash.{hashesAt}
-use Rattle.rules.specs.Order.{every}
 use Rattle.rules.specs.Sizes.{sizes}
 use Rattle.session.specs.Plan.{unknownSync}
-use Rattle.state.specs.Value.{keptHaves, heardCount, heardHaves}
-use Rattle.state.specs.declared.session.Heard.{Heard}
-use Rattle.state.specs.declared.session.Heard.the-variants.{Nothing, Count}
 use Rattle.state.proofs.ValueLaws.{kept-records}
+use Rattle.state.specs.Value.{keptHaves, heardCount, heardHaves}
+use Rattle.state.specs.declared.session.Heard.the-variants.{Nothing, Count}
+use Rattle.state.specs.declared.session.Heard.{Heard}
 use Rattle.tables.specs.Table.{Row, held}
 
 pub no-have : (t : List Row) (s haves : List ℕ) (h : Heard) → heardCount h ≡ 0 → false ≡ unknownSync t (heardHaves s haves h)

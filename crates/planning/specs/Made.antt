@@ -7,9 +7,9 @@ use lib.ListN.{length, getD, take}
 use Rattle.bloom.specs.Filter.{fieldSize, filterRules}
 use Rattle.graph.specs.Marks.{Marks, Blank}
 use Rattle.lists.specs.Lists.{UpTo}
+use Rattle.order.specs.Order.{ascend}
 use Rattle.probe.specs.Build.{filterOf}
 use Rattle.rules.specs.Hash.{hashesAt}
-use Rattle.rules.specs.Order.{ascend}
 use Rattle.rules.specs.Sizes.{sizes}
 use Rattle.selection.specs.Chosen.{Chosen}
 use Rattle.session.specs.Plan.{Body}

@@ -8,7 +8,7 @@ ghost use Prim.Native.Nat.{_/_};
 ghost use lib.ListN.{length};
 ghost use Rattle.index.specs.Index.{Indexed};
 ghost use Rattle.lent.specs.Good.{heardGood};
-ghost use Rattle.missing.specs.Ask.{Found};
+ghost use Rattle.missing.specs.Ask.{FoundUpTo};
 ghost use Rattle.rules.specs.Sizes.{sizes};
 ghost use Rattle.session.specs.Plan.{heard, needOf};
 ghost use Rattle.state.specs.Value.{heardCount, heardHashes};
@@ -40,7 +40,7 @@ pub fn make_need(
 ) -> usize
     requires { ⌜ Indexed (now table) (now index) n × (waitingChecked (rowsAt (now table) 0 n) (now waiting) ≡ Good m)
         × (heardGood (now «their_heads») heads ≡ true) ⌝ }
-    ensures { λ r. ⌜ Found (needOf (rowsAt (now (table .entry)) 0 n) (waitingOf (now (waiting .entry))) «read_only»
+    ensures { λ r. ⌜ FoundUpTo (needOf (rowsAt (now (table .entry)) 0 n) (waitingOf (now (waiting .entry))) «read_only»
         (heard (heardHashes (now («their_heads» .entry)) heads))) (length (now (list .entry)) / sizes .hash) (now (list .exit)) r ⌝ }
 {
     find_missing(

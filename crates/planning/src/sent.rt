@@ -6,8 +6,8 @@ ghost use mathlib.Core.Bool.{true};
 ghost use mathlib.Core.Path.{_≡_};
 ghost use Prim.Native.Nat.{_*_, _≤_};
 ghost use lib.ListN.{length};
+ghost use Rattle.order.specs.Order.{ascends};
 ghost use Rattle.rules.specs.Hash.{hashesAt};
-ghost use Rattle.rules.specs.Order.{ascends};
 ghost use Rattle.rules.specs.Sizes.{sizes};
 ghost use Rattle.planning.specs.Made.{SentMade};
 

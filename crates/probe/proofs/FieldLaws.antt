@@ -13,11 +13,11 @@ use lib.Dec.{ltb, eqb}
 use lib.ListN.{length, getD, set, replicate, length-set, length-append, length-replicate}
 use lib.Pow.{shl-shr, pow-lt}
 use lib.Seq.{getD-set-same, getD-set-other, set-out, set-set, set-comm}
-use Rattle.rules.specs.Hash.{Bytes}
-use Rattle.rules.specs.Order.{member}
+use Rattle.order.proofs.KeepLaws.{member-long}
+use Rattle.order.proofs.OrderLaws.{member-none, member-here, member-there, member-behind}
+use Rattle.order.specs.Order.{member}
 use Rattle.rules.proofs.Cases.{split, or-left}
-use Rattle.rules.proofs.KeepLaws.{member-long}
-use Rattle.rules.proofs.OrderLaws.{member-none, member-here, member-there, member-behind}
+use Rattle.rules.specs.Hash.{Bytes}
 use Rattle.probe.specs.Build.{setBit, setBits, addHash, addHashes, filterOf}
 use Rattle.probe.specs.Contains.{clearAt, noneClear, contains, anyContains}
 use Rattle.probe.specs.Probes.{probesOf, bitAt}

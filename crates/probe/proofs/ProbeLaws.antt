@@ -10,13 +10,14 @@ use borrow.Author.Tests.{eqb-true, eqb-false}
 use lib.Dec.{eqb}
 use lib.ListN.{getD, length}
 use lib.Seq.{slice, getD-drop, getD-take}
+use Rattle.order.proofs.OrderLaws.{member-none, member-behind}
+use Rattle.order.specs.Order.{member}
 use Rattle.rules.proofs.Cases.{split}
 use Rattle.rules.proofs.Hash.{hash-bytes}
-use Rattle.rules.proofs.OrderLaws.{member-none, member-behind}
 use Rattle.rules.specs.Hash.{Bytes, hashAt, hashBytes}
-use Rattle.rules.specs.Order.{member}
+use Rattle.rules.specs.LittleEndian.{u32At}
 use Rattle.rules.specs.Sizes.{sizes}
-use Rattle.probe.specs.Probes.{u32At, probesFrom, probesOf}
+use Rattle.probe.specs.Probes.{probesFrom, probesOf}
 
 getD-slice : (s : List ℕ) (a e i : ℕ) → a + i < e → getD (slice a e s) i 0 ≡ getD s (a + i) 0
 getD-slice s a e i h = rw (getD-drop, getD-take)

@@ -10,12 +10,13 @@ use borrow.Author.Tests.{eq-eqb, ne-eqb, leb-true}
 use lib.Dec.{leb}
 use lib.ListN.{length, take, drop}
 use lib.Seq.{slice}
-use Rattle.rules.specs.Hash.{Bytes, hashAt}
-use Rattle.rules.specs.Sizes.{sizes}
 use Rattle.rules.proofs.Cases.{both}
 use Rattle.rules.proofs.Hash.{take-drop, length-slice-of}
+use Rattle.rules.specs.Hash.{Bytes, hashAt}
+use Rattle.rules.specs.LittleEndian.{u32At}
+use Rattle.rules.specs.Sizes.{sizes}
 use Rattle.probe.specs.Contains.{clearAt, noneClear, contains, anyContains}
-use Rattle.probe.specs.Probes.{u32At, probesFrom, probesOf}
+use Rattle.probe.specs.Probes.{probesFrom, probesOf}
 use Rattle.bloom.specs.Filter.{Filter, filterRules}
 use Rattle.bloom.specs.Have.{haveCount, numbersIn, filterWith, filtersFrom, filtersOf, filterGood}
 use Rattle.bloom.specs.declared.have.FilterNumbers.{FilterNumbers}

@@ -3,8 +3,8 @@ use Prim.Native.Nat.{ℕ, _*_, _/_, _<_}
 use mathlib.Core.Bool.{true}
 use mathlib.Core.Path.{_≡_}
 use lib.ListN.{length}
-use Rattle.rules.specs.Order.{member}
 use Rattle.bloom.specs.Filter.{Filter}
+use Rattle.order.specs.Order.{member}
 use Rattle.probe.specs.Probes.{probesOf}
 
 -- Every probe of every hash is a bit of the filter's field.

@@ -1,12 +1,9 @@
 -- Where a hash probes a bit field. 01, "Probes".
-use Prim.Native.Nat.{ℕ, zero, suc, _+_, _*_, _/_, _%_, _^_, max}
+use Prim.Native.Nat.{ℕ, zero, suc, _+_, _/_, _%_, _^_, max}
 use mathlib.Core.List.{List, [], _∷_}
 use lib.ListN.{getD}
 use Rattle.rules.specs.Hash.{hashBytes}
-
--- The little-endian number that four bytes are.
-unfoldable pub u32At : List ℕ → ℕ → ℕ
-u32At s i = getD s i 0 + 256 * (getD s (i + 1) 0 + 256 * (getD s (i + 2) 0 + 256 * getD s (i + 3) 0))
+use Rattle.rules.specs.LittleEndian.{u32At}
 
 -- The probes of x, y, z: first x; then x becomes (x + y) mod m, after it y becomes (y + z) mod m, and x is the next.
 unfoldable pub probesFrom : ℕ → ℕ → ℕ → ℕ → ℕ → List ℕ

@@ -1,7 +1,7 @@
 -- What internal contracts speak of: where the probes of a hash start. No rule of 01 stands here.
 use Prim.Native.Nat.{ℕ, _+_, _%_}
 use mathlib.Core.List.{List}
-use Rattle.probe.specs.Probes.{u32At}
+use Rattle.rules.specs.LittleEndian.{u32At}
 use Rattle.probe.specs.declared.build.Start.{Start}
 
 -- The start of the hash at a place, in a field of m bits.

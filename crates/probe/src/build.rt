@@ -1,9 +1,9 @@
 // A filter built from hashes (`from_hashes`, `add_hash`, `set_bit`).
 use crate::probes::Probe;
 use crate::probes::count;
-use crate::probes::u32_at;
 use bloom::rule::bits_capacity;
 use bloom::rule::build_rules;
+use rules::little_endian::u32_at;
 use rules::output::Write;
 use rules::passed::Passed;
 use rules::passed::passed_hashes;

@@ -1,11 +1,11 @@
 // Whether filters contain a hash (`contains_hash`, `get_bit`).
 use crate::probes::Probe;
 use crate::probes::count;
-use crate::probes::u32_at;
 use bloom::have::HAVE_WORDS;
 use bloom::have::filter_in;
 use bloom::have::passed_few;
 use bloom::have::passed_good;
+use rules::little_endian::u32_at;
 use rules::refusal::Refusal;
 use rules::sizes::HASH_SIZE;
 ghost use mathlib.Core.Path.{_≡_};

@@ -1,26 +1,7 @@
 // Where a hash probes a field.
 ghost use mathlib.Core.Path.{_≡_};
 ghost use Prim.Native.Nat.{_+_, _*_, _%_, _≤_, _<_, max};
-ghost use lib.ListN.{length, getD};
 ghost use Rattle.rules.specs.Sizes.{sizes};
-ghost use Rattle.probe.specs.Probes.{u32At};
-
-// The byte at a place, widened.
-fn byte(bytes: &[u8], at: usize) -> u32
-    requires { ⌜ at < length (now bytes) ⌝ }
-    ensures { λ r. ⌜ (r ≡ getD (now (bytes .entry)) at 0) × (r < 256) ⌝ }
-{
-    bytes[at] as u32
-}
-
-// The little-endian word at a place.
-pub fn u32_at(bytes: &[u8], at: usize) -> u32
-    requires { ⌜ at + 4 ≤ length (now bytes) ⌝ }
-    ensures { λ r. ⌜ r ≡ u32At (now (bytes .entry)) at ⌝ }
-{
-    byte(bytes, at)
-        + 256 * (byte(bytes, at + 1) + 256 * (byte(bytes, at + 2) + 256 * byte(bytes, at + 3)))
-}
 
 // One step of a probe. Both numbers are below m, so the sum is less than twice m, and taking m off at most once leaves its remainder: no
 // division.

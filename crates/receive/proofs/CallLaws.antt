@@ -22,21 +22,21 @@ use Rattle.rules.specs.declared.refusal.Refusal.{Refusal}
 use Rattle.rules.specs.declared.refusal.Refusal.the-variants.{BadNumbers, BadRowsBefore}
 use Rattle.rules.proofs.Cases.{split}
 use Rattle.hearing.specs.Receive.{Received, told, receive, receiveRead, receiveBytes}
-use Rattle.state.specs.Value.{Lent, valueOf}
+use Rattle.state.specs.Value.{Lent, stateOf}
 use Rattle.state.specs.declared.session.Session.{Session}
 use Rattle.tables.specs.Bytes.{rowsAt, tableOf}
 use Rattle.tables.specs.declared.check.Checked.{Checked}
 use Rattle.tables.specs.declared.check.Checked.the-variants as tables
 use Rattle.tables.proofs.TableLaws.{table-good}
 use Rattle.receiving.specs.Made.{flaggedCounts}
-use Rattle.receive.specs.Call.{afterTable, receiveWith, roomed, refusalAnswer, answerOf, keptIn, roomsIn, ReceiveCalled}
+use Rattle.receive.specs.Call.{afterTable, receiveWith, receivedRoomed, refusalAnswer, receivedAnswer, keptIn, receivedRooms, ReceiveCalled}
 use Rattle.drafting.specs.Checks.{besideRows, afterRows, checked, Accepted}
-use Rattle.drafting.specs.Made.{saidAt, Prepared, Stands, Makes, DraftMade}
-use Rattle.taking.specs.Draft.{decided, SmallDraft, Parts, putsOf, Fits, allPut}
+use Rattle.drafting.specs.Made.{saidAt, Prepared, Stands, Makes, ReceiptMade}
+use Rattle.taking.specs.Receipt.{receiptDecided, SmallReceipt, ReceiptParts, receiptPuts, ReceiptFits, receiptPut}
 use Rattle.taking.specs.declared.answer.Received.{Received as Answer}
 use Rattle.taking.specs.declared.answer.Received.the-variants.{Refused}
-use Rattle.drafting.specs.declared.check.Checks.the-variants as checks
-use Rattle.taking.specs.declared.decide.Draft.{Draft}
+use Rattle.drafting.specs.declared.check.ReceiptChecks.the-variants as checks
+use Rattle.taking.specs.declared.decide.Receipt.{Receipt}
 use Rattle.receive.proofs.DraftLaws.{forgets-most, Drafted, draft-small}
 use Rattle.receive.proofs.OtherLaws.{Other, message-other, table-other}
 use Rattle.receive.proofs.Outcomes.{Outcomes, outcome, same-answer}
@@ -56,8 +56,8 @@ module _ (s : Session) (l : Lent) (table index : List ℕ) (before : ℕ) (messa
     abbrev result : Received
     result = receiveWith loaded before s l table index message
 
-    as-refused : (r : Refusal) → Other r → result ≡ Received.refused r (valueOf s l) → ReceiveCalled s result l l (Refused r)
-    unfolding roomed answerOf refusalAnswer keptIn
+    as-refused : (r : Refusal) → Other r → result ≡ Received.refused r (stateOf s l) → ReceiveCalled s result l l (Refused r)
+    unfolding receivedRoomed receivedAnswer refusalAnswer keptIn
     as-refused r o e = record { answer = rw (e, o); lists = rw e }
 
     module _ (good : sessionGood s l ≡ true) (r : Refusal) where
@@ -158,43 +158,43 @@ module _ (s : Session) (l : Lent) (table index : List ℕ) (n before : ℕ) (mes
         sent = omega (arith, given .sent);
       })
 
-  module _ (loads : Bool) (flagged : Session) (ready : Parts) (d : Draft)
+  module _ (loads : Bool) (flagged : Session) (ready : ReceiptParts) (d : Receipt)
       (flags : flagged ≡ flaggedCounts (p .flags) s)
       (loading : loads ≡ (ltb 0 (p .chunks .count) && not (s .«read_only»)))
-      (made : DraftMade loads flagged table n before message p (l .shared) (l .sent) ready d)
+      (made : ReceiptMade loads flagged table n before message p (l .shared) (l .sent) ready d)
     where
       whole : Drafted s l table n before message p ready d
       whole = rw (← loading, ← flags) made
 
       -- what deciding asks
-      pub is-small : SmallDraft d
+      pub is-small : SmallReceipt d
       is-small = draft-small s l (ok .good) table n before (ok .inside) message p (ok .read) ready d whole
 
-      module _ (loaded failed : Bool) (a : Answer) (failing : failed ≡ (loads && not loaded)) (decides : a ≡ decided flagged failed d (roomsIn l)) where
-        is-decided : a ≡ decided (flaggedCounts (p .flags) s) ((ltb 0 (p .chunks .count) && not (s .«read_only»)) && not loaded) d (roomsIn l)
+      module _ (loaded failed : Bool) (a : Answer) (failing : failed ≡ (loads && not loaded)) (decides : a ≡ receiptDecided flagged failed d (receivedRooms l)) where
+        is-decided : a ≡ receiptDecided (flaggedCounts (p .flags) s) ((ltb 0 (p .chunks .count) && not (s .«read_only»)) && not loaded) d (receivedRooms l)
         is-decided = rw (← loading, ← failing, ← flags) decides
 
         abbrev values : Received
-        values = roomed (roomsIn l) (valueOf s l) (receive loaded before (rowsAt table 0 n) (valueOf s l) (saidAt message p))
+        values = receivedRoomed (receivedRooms l) (stateOf s l) (receive loaded before (rowsAt table 0 n) (stateOf s l) (saidAt message p))
 
-        together : Outcomes s l table n before message p d (roomsIn l) a values
-        together = rw is-decided (outcome s l (ok .good) table n before (ok .inside) message p (ok .read) ready d whole loaded (roomsIn l))
+        together : Outcomes s l table n before message p d (receivedRooms l) a values
+        together = rw is-decided (outcome s l (ok .good) table n before (ok .inside) message p (ok .read) ready d whole loaded (receivedRooms l))
 
-        result-is : receiveWith loaded before s l table index message ≡ receive loaded before (rowsAt table 0 n) (valueOf s l) (saidAt message p)
+        result-is : receiveWith loaded before s l table index message ≡ receive loaded before (rowsAt table 0 n) (stateOf s l) (saidAt message p)
         unfolding receiveWith afterTable
         result-is =
             let t = table-good table n (checked-table table index n (ok .rows)) in
             let inside : before ≤ length (tableOf table) = omega (arith, t .long, ok .inside) in
-            rw (ok .good, ok .rows, read-receives message p (ok .read) loaded before (tableOf table) (valueOf s l) inside, t .is)
+            rw (ok .good, ok .rows, read-receives message p (ok .read) loaded before (tableOf table) (stateOf s l) inside, t .is)
 
         module _ (stands : Stands d ready) (all : Bytes message) where
           -- what putting asks
-          pub has-room : (puts : Draft) → puts ≡ putsOf a d → Fits puts message (p .heads .start) (p .need .start) ready l
+          pub has-room : (puts : Receipt) → puts ≡ receiptPuts a d → ReceiptFits puts message (p .heads .start) (p .need .start) ready l
           has-room puts is = rw is (puts-fit s l (ok .good) table n before (ok .inside) message p (ok .read) ready d whole stands all a values together)
 
           -- and the promise
-          pub received-called : (puts : Draft) (after : Lent) → Bytes (l .lastSent) → puts ≡ putsOf a d
-              → after ≡ allPut puts message (p .heads .start) (p .need .start) ready l
+          pub received-called : (puts : Receipt) (after : Lent) → Bytes (l .lastSent) → puts ≡ receiptPuts a d
+              → after ≡ receiptPut puts message (p .heads .start) (p .need .start) ready l
               → ReceiveCalled s (receiveWith loaded before s l table index message) l after a
           received-called puts after last is put =
               let kept =

@@ -13,34 +13,34 @@ use Rattle.decode.specs.Read.{messageAt, decodedOf}
 use Rattle.decode.specs.declared.parse.Decoded.the-variants.{Message as Placed}
 use Rattle.decode.specs.declared.parse.Places.{Places}
 use Rattle.graph.specs.Graph.{heads, below}
-use Rattle.lent.specs.Good.{sessionGood}
+use Rattle.hearing.specs.Receive.{Said, told, sentFlagged, flagged, loads, sharedLoaded, sharedAfter, sentLeft, lastSentAfter, received}
 use Rattle.lent.proofs.GoodSessions.{session-parts}
+use Rattle.lent.specs.Good.{sessionGood}
 use Rattle.lists.specs.Lists.{same}
 use Rattle.message.specs.Flags.{syncReset, hasFlag}
 use Rattle.message.specs.declared.flags.Section.{Section}
-use Rattle.rules.specs.Hash.{hashesAt}
-use Rattle.rules.specs.Order.{keep}
-use Rattle.rules.specs.Output.{Gathered}
-use Rattle.rules.specs.Sizes.{sizes}
+use Rattle.order.proofs.KeepLaws.{keep-most}
+use Rattle.order.specs.Order.{keep}
+use Rattle.receiving.specs.Made.{flaggedCounts, sharedRoom, SharedMade}
 use Rattle.rules.proofs.Cases.{split}
 use Rattle.rules.proofs.Hash.{length-hashes-at}
-use Rattle.rules.proofs.KeepLaws.{keep-most}
+use Rattle.rules.specs.Hash.{hashesAt}
+use Rattle.rules.specs.Output.{Gathered}
+use Rattle.rules.specs.Sizes.{sizes}
 use Rattle.session.specs.Plan.{empty}
 use Rattle.session.specs.Rooms.{orShort}
-use Rattle.hearing.specs.Receive.{Said, told, sentFlagged, flagged, loads, sharedLoaded, sharedAfter, sentLeft, lastSentAfter, received}
-use Rattle.state.specs.Session.{State}
-use Rattle.state.specs.Value.{Lent, valueOf, countsOf}
-use Rattle.state.specs.declared.session.Session.{Session}
 use Rattle.state.proofs.ValueLaws.{hashes-counted, haves-counted}
+use Rattle.state.specs.Session.{State}
+use Rattle.state.specs.Value.{Lent, stateOf, countsOf}
+use Rattle.state.specs.declared.session.Session.{Session}
+use Rattle.tables.proofs.TableLaws.{take-rows-at}
 use Rattle.tables.specs.Bytes.{rowsAt}
 use Rattle.tables.specs.Table.{Row}
-use Rattle.tables.proofs.TableLaws.{take-rows-at}
-use Rattle.receiving.specs.Made.{flaggedCounts, sharedRoom, SharedMade}
 use Rattle.receive.specs.Call.{shortFor}
-use Rattle.drafting.specs.Made.{saidAt, toldHeads, lastSentCount, keptHashes, DraftMade}
-use Rattle.taking.specs.Draft.{SmallDraft, receivedCounts, orWanted, shortWith, Parts}
-use Rattle.taking.specs.declared.answer.Rooms.{Rooms}
-use Rattle.taking.specs.declared.decide.Draft.{Draft}
+use Rattle.drafting.specs.Made.{saidAt, toldHeads, lastSentCount, keptHashes, ReceiptMade}
+use Rattle.taking.specs.Receipt.{SmallReceipt, receivedCounts, orWanted, shortWith, ReceiptParts}
+use Rattle.taking.specs.declared.answer.SessionRooms.{SessionRooms}
+use Rattle.taking.specs.declared.decide.Receipt.{Receipt}
 use Rattle.drafting.proofs.SaidLaws.{read-words, haves-many}
 use Rattle.drafting.proofs.MakeLaws.{kept-most}
 
@@ -53,7 +53,7 @@ flagged-count flags s n = split (told (λ f. hasFlag f syncReset) flags false) (
 
 -- the counts that a failed load leaves
 pub flagged-counts : (s : Session) (l : Lent) → sessionGood s l ≡ true → (flags : Section)
-    → countsOf (flagged flags (valueOf s l)) ≡ flaggedCounts flags s
+    → countsOf (flagged flags (stateOf s l)) ≡ flaggedCounts flags s
 unfolding flagged
 flagged-counts s l good flags =
     let shared = length-hashes-at (l .shared) 0 (s .«shared_heads») in
@@ -151,7 +151,7 @@ or-more : (room wanted : ℕ) (rest : Option ℕ) (n : ℕ) → rest ≡ wantedO
 or-more room wanted rest n e = ap (λ (o : Option ℕ). orShort some room wanted o) e ∙ or-wanted room wanted n
 
 -- the first too short list says the same on both sides
-shorts : (d : Draft) (r : Rooms)
+shorts : (d : Receipt) (r : SessionRooms)
     → orShort some (r .shared) (sizes .hash * d .shared)
     (orShort some (r .«last_sent») (sizes .hash * d .«last_sent»)
     (orShort some (r .«their_heads») (sizes .hash * d .heads)
@@ -174,14 +174,14 @@ shorts d r =
 -- ---- all parts
 
 -- The draft that is made where a message was read for a session, its flags being taken.
-abbrev pub Drafted : Session → Lent → List ℕ → ℕ → ℕ → List ℕ → Places → Parts → Draft → Type 0
+abbrev pub Drafted : Session → Lent → List ℕ → ℕ → ℕ → List ℕ → Places → ReceiptParts → Receipt → Type 0
 Drafted s l table n before message p ready d =
-    DraftMade (ltb 0 (p .chunks .count) && not (s .«read_only»)) (flaggedCounts (p .flags) s) table n before message p (l .shared) (l .sent) ready d
+    ReceiptMade (ltb 0 (p .chunks .count) && not (s .«read_only»)) (flaggedCounts (p .flags) s) table n before message p (l .shared) (l .sent) ready d
 
 module _ (s : Session) (l : Lent) (good : sessionGood s l ≡ true) (table : List ℕ) (n before : ℕ) (inside : before ≤ n) (message : List ℕ) (p : Places)
     (read : decodedOf (messageAt message) ≡ Placed p) where
   abbrev v : State
-  v = valueOf s l
+  v = stateOf s l
 
   abbrev t : List Row
   t = rowsAt table 0 n
@@ -195,7 +195,7 @@ module _ (s : Session) (l : Lent) (good : sessionGood s l ≡ true) (table : Lis
   abbrev tells : Bool
   tells = not (ltb 0 (p .chunks .count)) && same (m .heads) (heads (take before t))
 
-  module _ (ready : Parts) (d : Draft) (made : Drafted s l table n before message p ready d) where
+  module _ (ready : ReceiptParts) (d : Receipt) (made : Drafted s l table n before message p ready d) where
     pub shared-made : SharedMade (sharedAfter before t v m) sharedRoom (ready .shared) (d .shared)
     unfolding sharedAfter sharedLoaded loads
     shared-made = made .shared
@@ -243,7 +243,7 @@ module _ (s : Session) (l : Lent) (good : sessionGood s l ≡ true) (table : Lis
         let long = length-hashes-at (l .sent) 0 (keptHashes (p .heads .count) k) in
         omega (arith, g .many, fewer, long, kept-most (p .heads .count) k, forgets-most forgets (s .«sent_hashes»))
 
-    pub draft-small : SmallDraft d
+    pub draft-small : SmallReceipt d
     draft-small =
         let g = session-parts s l good in
         let w = read-words message p read in
@@ -264,7 +264,7 @@ module _ (s : Session) (l : Lent) (good : sessionGood s l ≡ true) (table : Lis
       unfolding received
       received-counts = rw (shared-gathered .many, last-count, heads-count, need-count, haves-count, sent-made .many)
 
-      pub short-is : (r : Rooms) → shortFor (received before t v m) r ≡ wantedOf (shortWith d r)
+      pub short-is : (r : SessionRooms) → shortFor (received before t v m) r ≡ wantedOf (shortWith d r)
       unfolding shortFor received
       short-is r =
           rw (← shared-gathered .many, ← last-count, ← heads-count, ← need-count, ← haves-count, ← made .words .bytes) (shorts d r)

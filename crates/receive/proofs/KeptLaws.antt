@@ -27,17 +27,17 @@ use Rattle.session.specs.Laid.{laidBytes, laidFrom, laidWords}
 use Rattle.session.specs.Plan.{empty}
 use Rattle.hearing.specs.Receive.{Said, Received, lastSentAfter, received}
 use Rattle.state.specs.Session.{State}
-use Rattle.state.specs.Value.{Lent, valueOf}
+use Rattle.state.specs.Value.{Lent, stateOf}
 use Rattle.state.specs.declared.session.Session.{Session}
 use Rattle.tables.specs.Bytes.{rowsAt}
 use Rattle.tables.specs.Table.{Row}
 use Rattle.laying.specs.Made.{Layable}
-use Rattle.receive.specs.Call.{keptIn, roomsIn}
+use Rattle.receive.specs.Call.{keptIn, receivedRooms}
 use Rattle.drafting.specs.Made.{saidAt, havesWords, Stands}
-use Rattle.taking.specs.Draft.{orWanted, shortWith, Parts, noDraft, putsOf, Fits, allPut}
+use Rattle.taking.specs.Receipt.{orWanted, shortWith, ReceiptParts, noReceipt, receiptPuts, ReceiptFits, receiptPut}
 use Rattle.taking.specs.declared.answer.Received.{Received as Answer}
-use Rattle.taking.specs.declared.answer.Rooms.{Rooms}
-use Rattle.taking.specs.declared.decide.Draft.{Draft}
+use Rattle.taking.specs.declared.answer.SessionRooms.{SessionRooms}
+use Rattle.taking.specs.declared.decide.Receipt.{Receipt}
 use Rattle.receive.proofs.DraftLaws.{Drafted, shared-gathered, sent-made, told-made, told-few, told-within, sent-within, draft-small}
 use Rattle.receive.proofs.Outcomes.{Outcome, Outcomes}
 use Rattle.drafting.proofs.SaidLaws.{read-words, read-layable}
@@ -52,7 +52,7 @@ none-laid : (message : List ℕ) → havesOf message [] ≡ []
 unfolding havesOf havesFrom
 none-laid message = refl
 
-none-put : (message : List ℕ) (atHeads atNeed : ℕ) (ready : Parts) (l : Lent) → allPut noDraft message atHeads atNeed ready l ≡ l
+none-put : (message : List ℕ) (atHeads atNeed : ℕ) (ready : ReceiptParts) (l : Lent) → receiptPut noReceipt message atHeads atNeed ready l ≡ l
 unfolding laidWords laidFrom laidBytes
 none-put message atHeads atNeed ready l = rw (none-at atHeads message, none-at atNeed message, none-laid message)
 
@@ -91,7 +91,7 @@ not-short room wanted rest e =
     (λ t. let f : rest ≡ 0 = rw t at e in (omega (arith, ltb-false room wanted t), f))
 
 -- Room for every list.
-pub record Roomy (d : Draft) (r : Rooms) : Type 0 where
+pub record Roomy (d : Receipt) (r : SessionRooms) : Type 0 where
   pub shared : sizes .hash * d .shared ≤ r .shared
   pub lastSent : sizes .hash * d .«last_sent» ≤ r .«last_sent»
   pub heads : sizes .hash * d .heads ≤ r .«their_heads»
@@ -99,7 +99,7 @@ pub record Roomy (d : Draft) (r : Rooms) : Type 0 where
   pub haves : haveWords * d .haves ≤ r .haves
   pub bytes : d .bytes ≤ r .bytes
 
-roomy : (d : Draft) (r : Rooms) → shortWith d r ≡ 0 → Roomy d r
+roomy : (d : Receipt) (r : SessionRooms) → shortWith d r ≡ 0 → Roomy d r
 unfolding shortWith
 roomy d r e =
     let a = not-short _ _ _ e in
@@ -113,11 +113,11 @@ roomy d r e =
 -- ---- all parts
 
 module _ (s : Session) (l : Lent) (good : sessionGood s l ≡ true) (table : List ℕ) (n before : ℕ) (inside : before ≤ n) (message : List ℕ) (p : Places)
-    (read : decodedOf (messageAt message) ≡ Placed p) (ready : Parts) (d : Draft) (made : Drafted s l table n before message p ready d) (stands : Stands d ready)
-    (all : Bytes message) (a : Answer) (q : Received) (o : Outcomes s l table n before message p d (roomsIn l) a q)
+    (read : decodedOf (messageAt message) ≡ Placed p) (ready : ReceiptParts) (d : Receipt) (made : Drafted s l table n before message p ready d) (stands : Stands d ready)
+    (all : Bytes message) (a : Answer) (q : Received) (o : Outcomes s l table n before message p d (receivedRooms l) a q)
   where
     abbrev v : State
-    v = valueOf s l
+    v = stateOf s l
 
     abbrev t : List Row
     t = rowsAt table 0 n
@@ -128,11 +128,11 @@ module _ (s : Session) (l : Lent) (good : sessionGood s l ≡ true) (table : Lis
     words-ready : take (haveWords * d .haves) (ready .words) ≡ havesWords message p
     words-ready = rw (made .haves) (made .words .words)
 
-    took-fits : d .shared ≤ sizes .hashes → shortWith d (roomsIn l) ≡ 0 → Fits d message (p .heads .start) (p .need .start) ready l
+    took-fits : d .shared ≤ sizes .hashes → shortWith d (receivedRooms l) ≡ 0 → ReceiptFits d message (p .heads .start) (p .need .start) ready l
     took-fits few room =
         let g = session-parts s l good in
         let w = read-words message p read in
-        let r = roomy d (roomsIn l) room in
+        let r = roomy d (receivedRooms l) room in
         let small = draft-small s l good table n before inside message p read ready d made in
         let tells = told-within s l good table n before inside message p read ready d made in
         let less = sent-within s l good table n before inside message p read ready d made in
@@ -156,7 +156,7 @@ module _ (s : Session) (l : Lent) (good : sessionGood s l ≡ true) (table : Lis
           sentRoom = omega (arith, g .sent .there);
         }
 
-    none-fits : Fits noDraft message (p .heads .start) (p .need .start) ready l
+    none-fits : ReceiptFits noReceipt message (p .heads .start) (p .need .start) ready l
     unfolding laidBytes
     none-fits =
         let w = read-words message p read in
@@ -175,17 +175,17 @@ module _ (s : Session) (l : Lent) (good : sessionGood s l ≡ true) (table : Lis
         }
 
     -- what is put has room
-    pub puts-fit : Fits (putsOf a d) message (p .heads .start) (p .need .start) ready l
-    unfolding putsOf
+    pub puts-fit : ReceiptFits (receiptPuts a d) message (p .heads .start) (p .need .start) ready l
+    unfolding receiptPuts
     puts-fit = go o
       where
-        go : Outcomes s l table n before message p d (roomsIn l) a q
-            → Fits (putsOf a d) message (p .heads .start) (p .need .start) ready l
+        go : Outcomes s l table n before message p d (receivedRooms l) a q
+            → ReceiptFits (receiptPuts a d) message (p .heads .start) (p .need .start) ready l
         go (Outcome.refuses refusal left e f g) = rw f none-fits
         go (Outcome.takes few room e f g) = rw e (took-fits few room)
 
     module _ (lastBytes : Bytes (l .lastSent)) where
-      took-put : d .shared ≤ sizes .hashes → allPut d message (p .heads .start) (p .need .start) ready l ≡ keptIn (Received.took (received before t v m)) l
+      took-put : d .shared ≤ sizes .hashes → receiptPut d message (p .heads .start) (p .need .start) ready l ≡ keptIn (Received.took (received before t v m)) l
       unfolding keptIn received lastSentAfter
       took-put few =
           let g = session-parts s l good in
@@ -204,11 +204,11 @@ module _ (s : Session) (l : Lent) (good : sessionGood s l ≡ true) (table : Lis
           (ap (sets (l .sent) 0) (sym (gathered-bytes sent (stands .sent) (stands .sentThere))))
 
       -- and is what is kept
-      pub puts-kept : allPut (putsOf a d) message (p .heads .start) (p .need .start) ready l ≡ keptIn q l
-      unfolding putsOf keptIn
+      pub puts-kept : receiptPut (receiptPuts a d) message (p .heads .start) (p .need .start) ready l ≡ keptIn q l
+      unfolding receiptPuts keptIn
       puts-kept = go o
         where
-          go : Outcomes s l table n before message p d (roomsIn l) a q
-              → allPut (putsOf a d) message (p .heads .start) (p .need .start) ready l ≡ keptIn q l
+          go : Outcomes s l table n before message p d (receivedRooms l) a q
+              → receiptPut (receiptPuts a d) message (p .heads .start) (p .need .start) ready l ≡ keptIn q l
           go (Outcome.refuses refusal left e f g) = rw (e, f) (none-put message (p .heads .start) (p .need .start) ready l)
           go (Outcome.takes few room e f g) = rw (e, f) (took-put few)

@@ -18,34 +18,34 @@ use Rattle.rules.specs.declared.refusal.Refusal.the-variants.{PastSize, NoRoom,
 use Rattle.rules.proofs.Cases.{split}
 use Rattle.hearing.specs.Receive.{Said, Received, flagged, loads, sharedAfter, received, receiveJoined, receive}
 use Rattle.state.specs.Session.{State}
-use Rattle.state.specs.Value.{Lent, valueOf, countsOf}
+use Rattle.state.specs.Value.{Lent, stateOf, countsOf}
 use Rattle.state.specs.declared.session.Session.{Session}
 use Rattle.tables.specs.Bytes.{rowsAt}
 use Rattle.tables.specs.Table.{Row}
 use Rattle.receiving.specs.Made.{flaggedCounts}
-use Rattle.receive.specs.Call.{unlessShort, roomed, refusalAnswer, answerOf}
+use Rattle.receive.specs.Call.{unlessShort, receivedRoomed, refusalAnswer, receivedAnswer}
 use Rattle.drafting.specs.Made.{saidAt}
-use Rattle.taking.specs.Draft.{receivedCounts, shortWith, decided, Parts, noDraft, putsOf}
+use Rattle.taking.specs.Receipt.{receivedCounts, shortWith, receiptDecided, ReceiptParts, noReceipt, receiptPuts}
 use Rattle.taking.specs.declared.answer.Received.{Received as Answer}
 use Rattle.taking.specs.declared.answer.Received.the-variants.{Took, Failed, Refused}
-use Rattle.taking.specs.declared.answer.Rooms.{Rooms}
-use Rattle.taking.specs.declared.decide.Draft.{Draft}
+use Rattle.taking.specs.declared.answer.SessionRooms.{SessionRooms}
+use Rattle.taking.specs.declared.decide.Receipt.{Receipt}
 use Rattle.receive.proofs.DraftLaws.{Drafted, flagged-counts, shared-made, shared-many, shared-gathered, received-counts, wantedOf, short-is}
 
-module _ (d : Draft) (r : Rooms) (after : Session) (new : State) where
+module _ (d : Receipt) (r : SessionRooms) (after : Session) (new : State) where
   -- The two ways that an answer and a result on values go together.
   pub data Outcome (a : Answer) (q : Received) : Type 0 where
-    refuses : (refusal : Refusal) (left : State) → q ≡ Received.refused refusal left → putsOf a d ≡ noDraft → a ≡ answerOf q → Outcome a q
-    takes : d .shared ≤ sizes .hashes → shortWith d r ≡ 0 → a ≡ Took after → q ≡ Received.took new → a ≡ answerOf q → Outcome a q
+    refuses : (refusal : Refusal) (left : State) → q ≡ Received.refused refusal left → receiptPuts a d ≡ noReceipt → a ≡ receivedAnswer q → Outcome a q
+    takes : d .shared ≤ sizes .hashes → shortWith d r ≡ 0 → a ≡ Took after → q ≡ Received.took new → a ≡ receivedAnswer q → Outcome a q
 
-  pub same-answer : (a : Answer) (q : Received) → Outcome a q → a ≡ answerOf q
+  pub same-answer : (a : Answer) (q : Received) → Outcome a q → a ≡ receivedAnswer q
   same-answer a q (Outcome.refuses refusal left e f g) = g
   same-answer a q (Outcome.takes few room e f g) = g
 
   -- room is asked last
   room-asked : (old : State) (w : ℕ) → w ≡ shortWith d r → d .shared ≤ sizes .hashes → countsOf new ≡ after
       → Outcome (cond (ltb 0 w) (Refused (NoRoom w)) (Took after)) (unlessShort (wantedOf w) old new)
-  unfolding unlessShort putsOf answerOf refusalAnswer
+  unfolding unlessShort receiptPuts receivedAnswer refusalAnswer
   room-asked old w is few counts =
       split (ltb 0 w)
       (λ e. rw e (Outcome.refuses (NoRoom w) old refl refl refl))
@@ -54,15 +54,15 @@ module _ (d : Draft) (r : Rooms) (after : Session) (new : State) where
       rw e (Outcome.takes few none refl refl (ap Took (sym counts))))
 
 -- The same for a message that was read, over its draft and the lengths of the lent lists.
-abbrev pub Outcomes : Session → Lent → List ℕ → ℕ → ℕ → List ℕ → Places → Draft → Rooms → Answer → Received → Type 0
+abbrev pub Outcomes : Session → Lent → List ℕ → ℕ → ℕ → List ℕ → Places → Receipt → SessionRooms → Answer → Received → Type 0
 Outcomes s l table n before message p d r a q =
-    Outcome d r (receivedCounts (flaggedCounts (p .flags) s) d) (received before (rowsAt table 0 n) (valueOf s l) (saidAt message p)) a q
+    Outcome d r (receivedCounts (flaggedCounts (p .flags) s) d) (received before (rowsAt table 0 n) (stateOf s l) (saidAt message p)) a q
 
 module _ (s : Session) (l : Lent) (good : sessionGood s l ≡ true) (table : List ℕ) (n before : ℕ) (inside : before ≤ n) (message : List ℕ) (p : Places)
-    (read : decodedOf (messageAt message) ≡ Placed p) (ready : Parts) (d : Draft) (made : Drafted s l table n before message p ready d) (loaded : Bool)
-    (r : Rooms) where
+    (read : decodedOf (messageAt message) ≡ Placed p) (ready : ReceiptParts) (d : Receipt) (made : Drafted s l table n before message p ready d) (loaded : Bool)
+    (r : SessionRooms) where
   abbrev v : State
-  v = valueOf s l
+  v = stateOf s l
 
   abbrev t : List Row
   t = rowsAt table 0 n
@@ -82,8 +82,8 @@ module _ (s : Session) (l : Lent) (good : sessionGood s l ≡ true) (table : Lis
   joined : Of (cond (ltb (sizes .hashes) (d .shared))
       (Refused (PastSize 0))
       (cond (ltb 0 (shortWith d r)) (Refused (NoRoom (shortWith d r))) (Took (receivedCounts taken d))))
-      (roomed r v (receiveJoined before t v m))
-  unfolding roomed receiveJoined putsOf answerOf refusalAnswer
+      (receivedRoomed r v (receiveJoined before t v m))
+  unfolding receivedRoomed receiveJoined receiptPuts receivedAnswer refusalAnswer
   joined =
       split (ltb (sizes .hashes) (d .shared))
       (λ e.
@@ -98,8 +98,8 @@ module _ (s : Session) (l : Lent) (good : sessionGood s l ≡ true) (table : Lis
       (room-asked d r (receivedCounts taken d) (received before t v m) v (shortWith d r) refl few
       (received-counts s l good table n before inside message p read ready d made few)))
 
-  pub outcome : Of (decided taken fails d r) (roomed r v (receive loaded before t v m))
-  unfolding decided receive loads roomed putsOf answerOf refusalAnswer
+  pub outcome : Of (receiptDecided taken fails d r) (receivedRoomed r v (receive loaded before t v m))
+  unfolding receiptDecided receive loads receivedRoomed receiptPuts receivedAnswer refusalAnswer
   outcome =
       split fails
       (λ e. rw e (Outcome.refuses LoadFailed (flagged (p .flags) v) refl refl (ap Failed (sym (flagged-counts s l good (p .flags))))))

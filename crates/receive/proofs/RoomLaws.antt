@@ -23,26 +23,26 @@ use Rattle.drafting.specs.Checks.{Accepted}
 use Rattle.drafting.specs.Made.{saidAt, Prepared}
 use Rattle.drafting.proofs.SaidLaws.{read-words}
 use Rattle.lists.specs.Lists.{few}
-use Rattle.receive.specs.Few.{isFew}
+use Rattle.receive.specs.Few.{hearsFew}
 
 -- ---- whether they are few
 
 module _ (all : Bool) (heads sent : ℕ) where
-  pub not-held : all ≡ false → false ≡ isFew all heads sent
-  unfolding isFew
+  pub not-held : all ≡ false → false ≡ hearsFew all heads sent
+  unfolding hearsFew
   not-held e = rw e
 
   module _ (known : all ≡ true) where
-    pub many-heads : few < heads → false ≡ isFew all heads sent
-    unfolding isFew
+    pub many-heads : few < heads → false ≡ hearsFew all heads sent
+    unfolding hearsFew
     many-heads h = rw (known, lt-leb heads few h)
 
-    pub few-heads : heads ≤ few → leb sent few ≡ isFew all heads sent
-    unfolding isFew
+    pub few-heads : heads ≤ few → leb sent few ≡ hearsFew all heads sent
+    unfolding hearsFew
     few-heads h = rw (known, le-leb heads few h)
 
-  few-each : isFew all heads sent ≡ true → (all ≡ true) × (heads ≤ few) × (sent ≤ few)
-  unfolding isFew
+  few-each : hearsFew all heads sent ≡ true → (all ≡ true) × (heads ≤ few) × (sent ≤ few)
+  unfolding hearsFew
   few-each e =
       let a = both (all && leb heads few) (leb sent few) e in
       let b = both all (leb heads few) (a .0) in
@@ -67,7 +67,7 @@ module _ (s : Session) (l : Lent) (table index : List ℕ) (n before : ℕ) (mes
     inside : n ≤ length marks
     inside = omega (arith, can-mark .2)
 
-    pub few-prepared : isFew all (p .heads .count) (s .«sent_hashes») ≡ true
+    pub few-prepared : hearsFew all (p .heads .count) (s .«sent_hashes») ≡ true
         → Prepared table n message p (s .«sent_hashes») marks all (replicate (sizes .hash * few) 0) (replicate (sizes .hash * few) 0)
     few-prepared e =
         let size = length-replicate {A = ℕ} (sizes .hash * few) 0 in

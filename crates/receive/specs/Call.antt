@@ -21,14 +21,14 @@ use Rattle.session.specs.Laid.{laidBytes, laidWords}
 use Rattle.session.specs.Plan.{heard}
 use Rattle.session.specs.Rooms.{orShort}
 use Rattle.state.specs.Session.{State}
-use Rattle.state.specs.Value.{Lent, valueOf, countsOf}
+use Rattle.state.specs.Value.{Lent, stateOf, countsOf}
 use Rattle.state.specs.declared.session.Session.{Session}
 use Rattle.tables.specs.Bytes.{tableOf}
 use Rattle.tables.specs.declared.check.Checked.{Checked}
 use Rattle.tables.specs.declared.check.Checked.the-variants.{Good, Refused as BadTable}
 use Rattle.taking.specs.declared.answer.Received.{Received as Answer}
 use Rattle.taking.specs.declared.answer.Received.the-variants.{Took, Failed, Refused}
-use Rattle.taking.specs.declared.answer.Rooms.{Rooms}
+use Rattle.taking.specs.declared.answer.SessionRooms.{SessionRooms}
 
 -- ---- what is received, for a session as counts with its lent lists, and a table and its index as bytes
 
@@ -41,14 +41,14 @@ afterTable (BadTable r) s k = Received.refused r s
 unfoldable pub receiveWith : Bool → ℕ → Session → Lent → List ℕ → List ℕ → List ℕ → Received
 receiveWith loaded before s l table index message =
     cond (not (sessionGood s l))
-    (Received.refused BadNumbers (valueOf s l))
-    (afterTable (indexChecked table index) (valueOf s l) (receiveBytes loaded before (tableOf table) (valueOf s l) message))
+    (Received.refused BadNumbers (stateOf s l))
+    (afterTable (indexChecked table index) (stateOf s l) (receiveBytes loaded before (tableOf table) (stateOf s l) message))
 
 -- ---- room: 7 comes last
 
 -- The length that the first too short list wants: shared, last-sent, their heads and need, the haves' records in words, then their bytes. Sent hashes
 -- only become fewer.
-unfoldable pub shortFor : State → Rooms → Option ℕ
+unfoldable pub shortFor : State → SessionRooms → Option ℕ
 shortFor s r =
     orShort some (r .shared) (sizes .hash * length (s .sharedHeads))
     (orShort some (r .«last_sent») (sizes .hash * length (s .lastSentHeads))
@@ -61,9 +61,9 @@ unfoldable pub unlessShort : Option ℕ → State → State → Received
 unlessShort none old new = Received.took new
 unlessShort (some wanted) old new = Received.refused (NoRoom wanted) old
 
-unfoldable pub roomed : Rooms → State → Received → Received
-roomed r old (Received.took new) = unlessShort (shortFor new r) old new
-roomed r old (Received.refused refusal left) = Received.refused refusal left
+unfoldable pub receivedRoomed : SessionRooms → State → Received → Received
+receivedRoomed r old (Received.took new) = unlessShort (shortFor new r) old new
+receivedRoomed r old (Received.refused refusal left) = Received.refused refusal left
 
 -- ---- the answer, and the lists at exit: what is kept at their start, the rest as it was
 
@@ -71,9 +71,9 @@ roomed r old (Received.refused refusal left) = Received.refused refusal left
 unfoldable pub refusalAnswer : Refusal → State → Answer
 refusalAnswer r s = cond (eqb (numberOf r) (numberOf LoadFailed)) (Failed (countsOf s)) (Refused r)
 
-unfoldable pub answerOf : Received → Answer
-answerOf (Received.took s) = Took (countsOf s)
-answerOf (Received.refused r s) = refusalAnswer r s
+unfoldable pub receivedAnswer : Received → Answer
+receivedAnswer (Received.took s) = Took (countsOf s)
+receivedAnswer (Received.refused r s) = refusalAnswer r s
 
 unfoldable pub keptIn : Received → Lent → Lent
 keptIn (Received.took s) l =
@@ -88,8 +88,8 @@ keptIn (Received.took s) l =
     }
 keptIn (Received.refused r s) l = l
 
-abbrev pub roomsIn : Lent → Rooms
-roomsIn l =
+abbrev pub receivedRooms : Lent → SessionRooms
+receivedRooms l =
     record {
       shared = length (l .shared);
       «last_sent» = length (l .lastSent);
@@ -101,5 +101,5 @@ roomsIn l =
 
 -- What the call ensures.
 pub record ReceiveCalled (s : Session) (p : Received) (before after : Lent) (r : Answer) : Type 0 where
-  pub answer : r ≡ answerOf (roomed (roomsIn before) (valueOf s before) p)
-  pub lists : after ≡ keptIn (roomed (roomsIn before) (valueOf s before) p) before
+  pub answer : r ≡ receivedAnswer (receivedRoomed (receivedRooms before) (stateOf s before) p)
+  pub lists : after ≡ keptIn (receivedRoomed (receivedRooms before) (stateOf s before) p) before

@@ -5,5 +5,5 @@ use lib.Dec.{leb}
 use Rattle.lists.specs.Lists.{few}
 
 -- All of a message's heads are held, and they and the sent hashes are few.
-unfoldable pub isFew : Bool → ℕ → ℕ → Bool
-isFew all heads sent = all && leb heads few && leb sent few
+unfoldable pub hearsFew : Bool → ℕ → ℕ → Bool
+hearsFew all heads sent = all && leb heads few && leb sent few

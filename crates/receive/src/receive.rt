@@ -1,7 +1,7 @@
 // The message received: tested, computed, decided, put.
 use bloom::have::HAVE_WORDS;
 use decode::parse::Places;
-use drafting::check::Checks;
+use drafting::check::ReceiptChecks;
 use drafting::check::check_receive;
 use drafting::make::load_failed;
 use drafting::make::loads_changes;
@@ -16,16 +16,16 @@ use rules::sizes::ROWS;
 use rules::sizes::SENT_HASHES;
 use state::session::Session;
 use taking::answer::Received;
-use taking::answer::Rooms;
+use taking::answer::SessionRooms;
 use taking::decide::decide;
 use taking::put::put;
-use taking::put::puts_of;
+use taking::put::receipt_puts;
 ghost use mathlib.Core.Path.{_≡_};
 ghost use Rattle.lent.specs.Good.{lentOf};
 ghost use Rattle.drafting.specs.Checks.{Accepted};
 ghost use Rattle.drafting.specs.Made.{Prepared};
 ghost use Rattle.receive.specs.Call.{receiveWith, ReceiveCalled};
-ghost use Rattle.receive.specs.Few.{isFew};
+ghost use Rattle.receive.specs.Few.{hearsFew};
 
 // Room for one hash more than a list may have, so that too many show.
 const SHARED_SIZE: usize = HASH_SIZE * (HASHES + 1);
@@ -37,8 +37,8 @@ const RECORDS: usize = HAVE_WORDS * HAVES;
 const FEW_SIZE: usize = HASH_SIZE * FEW;
 
 // Whether few hashes have to be put: all heads of the message are held, so that they become the shared ones, and they and the hashes sent are few.
-fn is_few(all: bool, heads: usize, sent: usize) -> bool
-    ensures { λ r. ⌜ r ≡ isFew all heads sent ⌝ }
+fn hears_few(all: bool, heads: usize, sent: usize) -> bool
+    ensures { λ r. ⌜ r ≡ hearsFew all heads sent ⌝ }
 {
     if !all {
         return false;
@@ -106,7 +106,7 @@ fn receive_checked(
         ready_sent,
         &mut words,
     );
-    let rooms = Rooms {
+    let rooms = SessionRooms {
         shared: shared.len(),
         last_sent: last_sent.len(),
         their_heads: their_heads.len(),
@@ -115,7 +115,7 @@ fn receive_checked(
         bytes: bytes.len(),
     };
     let received = decide(flagged, load_failed(loads, loaded), draft, rooms);
-    let puts = puts_of(received, draft);
+    let puts = receipt_puts(received, draft);
     put(
         puts,
         message,
@@ -175,7 +175,7 @@ fn receive_sized(
         session.sent_hashes,
         &mut marks,
     );
-    if is_few(all, heads.count, session.sent_hashes) {
+    if hears_few(all, heads.count, session.sent_hashes) {
         let mut few_shared = [0u8; FEW_SIZE];
         let mut few_sent = [0u8; FEW_SIZE];
         return receive_checked(
@@ -264,8 +264,8 @@ pub fn receive_sync_message(
         before,
         message,
     ) {
-        Checks::Refused(refusal) => Received::Refused(refusal),
-        Checks::Good { rows, places } => receive_sized(
+        ReceiptChecks::Refused(refusal) => Received::Refused(refusal),
+        ReceiptChecks::Good { rows, places } => receive_sized(
             session,
             table,
             index,

@@ -3,31 +3,32 @@
 -- are the same.
 use Prim.Native.Nat.{ℕ, suc, _+_, _-_, _*_, _≤_, _<_}
 use mathlib.Core.Bool.{Bool, true, false, not, _&&_, _||_}
-use mathlib.Core.List.{List, [], _∷_}
-use mathlib.Core.Path.{_≡_, refl, sym, ap, _∙_}
+use mathlib.Core.List.{List}
+use mathlib.Core.Path.{_≡_, refl, sym, _∙_}
 use native.Mathlib.Omega.{arith}
-use borrow.Author.Tests.{lt-ltb, le-ltb, ltb-true, ltb-false, eq-eqb, ne-eqb}
+use borrow.Author.Tests.{ltb-true, ltb-false, eq-eqb, ne-eqb}
 use lib.Dec.{ltb, eqb}
 use lib.ListN.{length, getD, set, take, length-set}
-use Rattle.graph.specs.Graph.{needed, heads}
-use Rattle.graph.specs.Marks.{Marks, Blank, picked}
 use Rattle.graph.proofs.CollectLaws.{collects, collectFrom, collect-is, collect-taken, collect-passed, collect-none}
 use Rattle.graph.proofs.GraphMarks.{below-blank, picked-heads}
 use Rattle.graph.proofs.HeadLaws.{head-is}
 use Rattle.graph.proofs.MarkLaws.{markList, hash-held, hash-unknown, list-start, list-on, list-done, list-marked}
+use Rattle.graph.specs.Graph.{needed, heads}
+use Rattle.graph.specs.Marks.{Marks, Blank, picked}
 use Rattle.index.specs.Index.{fits}
-use Rattle.lists.specs.Lists.{same}
-use Rattle.lists.proofs.Lists.{same-equal}
 use Rattle.lists.proofs.CompareLaws.{onward, onward-starts, onward-first, onward-ends, test-starts, test-fails, test-on, test-ends, found-held, found-unknown}
-use Rattle.rules.specs.Hash.{hashAt, hashesAt}
-use Rattle.rules.specs.Order.{keep, every, member, ascend}
-use Rattle.rules.specs.Reach.{someBelow, reach}
-use Rattle.rules.specs.Sizes.{sizes}
+use Rattle.lists.proofs.Lists.{same-equal}
+use Rattle.lists.specs.Lists.{same}
+use Rattle.order.proofs.ReachLaws.{some-witness}
+use Rattle.order.specs.Order.{every, member, ascend}
+use Rattle.order.specs.Reach.{someBelow, reach}
 use Rattle.rules.proofs.Cases.{split, and-false, true-false}
-use Rattle.rules.proofs.ReachLaws.{some-witness}
-use Rattle.tables.specs.Bytes.{u16At, u16sAt, rowSize, rowsAt, GoodRows}
-use Rattle.tables.specs.Table.{Row, rows, hashOf, depsOf, GoodTable, indexIn, held}
+use Rattle.rules.specs.Hash.{hashAt, hashesAt}
+use Rattle.rules.specs.LittleEndian.{u16At}
+use Rattle.rules.specs.Sizes.{sizes}
 use Rattle.tables.proofs.TableLaws.{length-rows-at, held-row, number-of-row, hash-of-row}
+use Rattle.tables.specs.Bytes.{u16sAt, rowSize, rowsAt, GoodRows}
+use Rattle.tables.specs.Table.{Row, rows, hashOf, depsOf, GoodTable, indexIn, held}
 use Rattle.receiving.specs.Made.{HeadsMarked}
 
 -- ---- heads marked, and whether all are held

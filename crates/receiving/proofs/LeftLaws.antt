@@ -8,21 +8,21 @@ use native.Mathlib.Nat.{zero-add}
 use native.Mathlib.Omega.{arith}
 use lib.ListN.{length, getD}
 use lib.Seq.{sets, slice}
+use Rattle.graph.proofs.PutLaws.{put-one, put-same, put-none}
 use Rattle.graph.specs.Graph.{belowRow, below}
 use Rattle.graph.specs.Marks.{Marks}
-use Rattle.graph.proofs.PutLaws.{put-one, put-same, put-none}
 use Rattle.lists.proofs.CompareLaws.{onward, onward-starts, onward-first, onward-ends, found-held, found-unknown}
-use Rattle.rules.specs.Hash.{Bytes, AreHashes, hashAt, hashesAt, hashesBytes}
-use Rattle.rules.specs.Order.{keep}
-use Rattle.rules.specs.Output.{Gathered}
-use Rattle.rules.specs.Sizes.{sizes}
+use Rattle.order.proofs.KeepLaws.{keep-member, keep-most, keep-same, hashes-inside}
+use Rattle.order.specs.Order.{keep}
 use Rattle.rules.proofs.Cases.{split, both}
 use Rattle.rules.proofs.Hash.{length-hashes-at, hashes-are-hashes}
-use Rattle.rules.proofs.KeepLaws.{keep-member, keep-most, keep-same, hashes-inside}
 use Rattle.rules.proofs.Outputs.{written-gathered}
+use Rattle.rules.specs.Hash.{Bytes, AreHashes, hashAt, hashesAt, hashesBytes}
+use Rattle.rules.specs.Output.{Gathered}
+use Rattle.rules.specs.Sizes.{sizes}
+use Rattle.tables.proofs.TableLaws.{row-of-held, length-rows-at}
 use Rattle.tables.specs.Bytes.{rowsAt}
 use Rattle.tables.specs.Table.{rows, indexIn, rowNumber, held}
-use Rattle.tables.proofs.TableLaws.{row-of-held, length-rows-at}
 use Rattle.receiving.specs.Made.{heldMarked}
 
 -- ---- the row of a hash and its mark

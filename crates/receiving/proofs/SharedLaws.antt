@@ -10,23 +10,23 @@ use borrow.Author.Tests.{ltb-true, ltb-false, not-true, not-false}
 use lib.Dec.{ltb}
 use lib.ListN.{length, take, drop, replicate, length-replicate}
 use lib.Seq.{sets, slice}
-use Rattle.graph.specs.Graph.{heads}
 use Rattle.graph.proofs.HeadLaws.{heads-few}
+use Rattle.graph.specs.Graph.{heads}
 use Rattle.hearing.specs.Receive.{advance, join}
-use Rattle.lists.specs.Lists.{Joined, UpTo}
 use Rattle.lists.proofs.Lists.{up-to-nothing, joined-up-to}
-use Rattle.rules.specs.Hash.{Bytes, hashesAt, hashesBytes}
-use Rattle.rules.specs.Order.{member, keep, ascend}
-use Rattle.rules.specs.Output.{Gathered}
-use Rattle.rules.specs.Sizes.{sizes}
+use Rattle.lists.specs.Lists.{Joined, UpTo}
+use Rattle.order.proofs.KeepLaws.{keep-member, once-ascends, once-inside}
+use Rattle.order.proofs.OrderLaws.{member-append, ascend-ascends, ascend-members}
+use Rattle.order.specs.Order.{member, keep, ascend}
 use Rattle.rules.proofs.Cases.{split, both, either}
 use Rattle.rules.proofs.Hash.{take-drop, length-hashes-at, hashes-at-bytes, hashes-are-hashes}
-use Rattle.rules.proofs.KeepLaws.{keep-member, once-ascends, once-inside}
-use Rattle.rules.proofs.OrderLaws.{member-append, ascend-ascends, ascend-members}
 use Rattle.rules.proofs.Outputs.{written-gathered}
+use Rattle.rules.specs.Hash.{Bytes, hashesAt, hashesBytes}
+use Rattle.rules.specs.Output.{Gathered}
+use Rattle.rules.specs.Sizes.{sizes}
+use Rattle.tables.proofs.TableLaws.{length-rows-at, take-rows-at}
 use Rattle.tables.specs.Bytes.{rowsAt, GoodRows}
 use Rattle.tables.specs.Table.{Row, held}
-use Rattle.tables.proofs.TableLaws.{length-rows-at, take-rows-at}
 use Rattle.receiving.specs.Made.{sharedRoom, SharedMade}
 
 -- ---- lists of heads

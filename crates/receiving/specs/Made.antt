@@ -10,8 +10,8 @@ use Rattle.hearing.specs.Receive.{told}
 use Rattle.lists.specs.Lists.{UpTo}
 use Rattle.message.specs.Flags.{syncReset, readOnly, supportsSyncReset, hasFlag}
 use Rattle.message.specs.declared.flags.Section.{Section}
+use Rattle.order.specs.Order.{every}
 use Rattle.rules.specs.Hash.{hashesAt}
-use Rattle.rules.specs.Order.{every}
 use Rattle.rules.specs.Sizes.{sizes}
 use Rattle.state.specs.declared.session.Session.{Session}
 use Rattle.tables.specs.Bytes.{rowsAt}

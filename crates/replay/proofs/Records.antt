@@ -5,11 +5,12 @@ use mathlib.Core.Path.{_≡_, _∙_}
 use native.Mathlib.Omega.{arith}
 use borrow.Author.Tests.{lt-ltb, le-ltb, eq-eqb, ne-eqb}
 use lib.ListN.{length, getD, take, drop}
-use Rattle.wire_calls.specs.Answer.{numberWords, prefixedWords, hashListWords}
-use Rattle.wire.specs.Item.{prefixedAt, hashListAt}
 use Rattle.numbers.specs.Number.{numberAt, most64, mostFilter}
-use Rattle.replay.specs.Record.{sizeAt, answerAt, inputAt, agreeing, compare, verdictOf, recordOf, recordAt}
-use Rattle.replay.specs.Words.{u16At, wordsAt}
+use Rattle.rules.specs.LittleEndian.{u16At}
+use Rattle.wire.specs.Item.{prefixedAt, hashListAt}
+use Rattle.wire_calls.specs.Answer.{numberWords, prefixedWords, hashListWords}
+use Rattle.replay.specs.Record.{sizePlace, answerPlace, inputPlace, agreeing, compare, verdictOf, recordOf, recordAt}
+use Rattle.replay.specs.Words.{wordsAt}
 use Rattle.replay.specs.declared.record.Record.the-variants.{Bad}
 use Rattle.replay.specs.declared.record.Verdict.{Verdict}
 use Rattle.replay.specs.declared.record.Verdict.the-variants.{Same, Different, Unknown}
@@ -72,21 +73,21 @@ of-none kind input stored a b c d = rw (ne-eqb _ _ a, ne-eqb _ _ b, ne-eqb _ _ c
 -- ---- the record at a place
 
 module _ (s : List ℕ) (at : ℕ) where
-  pub header-cut : length s - at < inputAt → Bad ≡ recordAt s at
+  pub header-cut : length s - at < inputPlace → Bad ≡ recordAt s at
   unfolding recordAt
   header-cut h = rw (lt-ltb _ _ h)
 
-  module _ (h : inputAt ≤ length s - at) (size : ℕ) (e : size ≡ u16At s (at + sizeAt)) where
-    pub input-cut : length s - (at + inputAt) < size → Bad ≡ recordAt s at
+  module _ (h : inputPlace ≤ length s - at) (size : ℕ) (e : size ≡ u16At s (at + sizePlace)) where
+    pub input-cut : length s - (at + inputPlace) < size → Bad ≡ recordAt s at
     unfolding recordAt
     input-cut g = rw (le-ltb _ _ h, ← e, lt-ltb _ _ g)
 
-    pub judged : size ≤ length s - (at + inputAt) → (stored : List ℕ) → stored ≡ wordsAt s (at + answerAt) → (v w : Verdict)
-        → w ≡ verdictOf (getD s at 0) (take (at + inputAt + size - (at + inputAt)) (drop (at + inputAt) s)) stored
+    pub judged : size ≤ length s - (at + inputPlace) → (stored : List ℕ) → stored ≡ wordsAt s (at + answerPlace) → (v w : Verdict)
+        → w ≡ verdictOf (getD s at 0) (take (at + inputPlace + size - (at + inputPlace)) (drop (at + inputPlace) s)) stored
         → w ≡ v
-        → recordOf (getD s at 0) (at + inputAt + size) v ≡ recordAt s at
+        → recordOf (getD s at 0) (at + inputPlace + size) v ≡ recordAt s at
     unfolding recordAt
     judged g stored t v w d f =
-        let m : at + inputAt + size - (at + inputAt) ≡ size = omega arith in
-        let d₁ : w ≡ verdictOf (getD s at 0) (take size (drop (at + inputAt) s)) stored = rw m at d in
+        let m : at + inputPlace + size - (at + inputPlace) ≡ size = omega arith in
+        let d₁ : w ≡ verdictOf (getD s at 0) (take size (drop (at + inputPlace) s)) stored = rw m at d in
         rw (le-ltb _ _ h, ← e, le-ltb _ _ g, ← t, ← d₁, f)

@@ -10,9 +10,10 @@ use lib.Dec.{ltb, eqb}
 use lib.ListN.{length, getD, set, take, drop, replicate, length-set}
 use lib.Seq.{getD-set-same, getD-set-other}
 use Rattle.rules.proofs.Cases.{split}
-use Rattle.replay.specs.Record.{sizeAt, answerAt, inputAt, verdictOf, recordOf, recordAt}
-use Rattle.replay.specs.Walk.{kinds, Walk, stops, meets, afterRecord, walkFrom, walkOf, oneIf, recordsIn, agreeIn, stopOf, fresh, added, Room, Counted}
-use Rattle.replay.specs.Words.{u16At, wordsAt}
+use Rattle.rules.specs.LittleEndian.{u16At}
+use Rattle.replay.specs.Record.{sizePlace, answerPlace, inputPlace, verdictOf, recordOf, recordAt}
+use Rattle.replay.specs.Walk.{kinds, Replayed, stops, meets, afterRecord, walkFrom, walkOf, oneIf, recordsIn, agreeIn, stopOf, noneCounted, added, Room, SampleCounted}
+use Rattle.replay.specs.Words.{wordsAt}
 use Rattle.replay.specs.declared.record.Record.{Record}
 use Rattle.replay.specs.declared.record.Record.the-variants.{Read, Bad}
 use Rattle.replay.specs.declared.record.Verdict.{Verdict}
@@ -48,19 +49,19 @@ read-of k n Unknown kind same next q = never q
 
 pub whole : (s : List ℕ) (at kind : ℕ) (same : Bool) (next : ℕ) → at < length s → recordAt s at ≡ Read kind same next → Whole s at kind next
 whole s at kind same next here q =
-    split (ltb (length s - at) inputAt)
+    split (ltb (length s - at) inputPlace)
     (λ t. never (header-cut s at (ltb-true _ _ t) ∙ q))
     (λ t.
-    let h : inputAt ≤ length s - at = ltb-false _ _ t in
-    let size : ℕ = u16At s (at + sizeAt) in
-    split (ltb (length s - (at + inputAt)) size)
+    let h : inputPlace ≤ length s - at = ltb-false _ _ t in
+    let size : ℕ = u16At s (at + sizePlace) in
+    split (ltb (length s - (at + inputPlace)) size)
     (λ u. never (input-cut s at h size refl (ltb-true _ _ u) ∙ q))
     (λ u.
-    let g : size ≤ length s - (at + inputAt) = ltb-false _ _ u in
-    let input : List ℕ = take (at + inputAt + size - (at + inputAt)) (drop (at + inputAt) s) in
-    let v : Verdict = verdictOf (getD s at 0) input (wordsAt s (at + answerAt)) in
-    let r : recordOf (getD s at 0) (at + inputAt + size) v ≡ Read kind same next = judged s at h size refl g (wordsAt s (at + answerAt)) refl v v refl refl ∙ q in
-    let f : (getD s at 0 ≡ kind) × ((at + inputAt + size ≡ next) × (v ≡ Unknown → ⊥)) = read-of _ _ _ _ _ _ r in
+    let g : size ≤ length s - (at + inputPlace) = ltb-false _ _ u in
+    let input : List ℕ = take (at + inputPlace + size - (at + inputPlace)) (drop (at + inputPlace) s) in
+    let v : Verdict = verdictOf (getD s at 0) input (wordsAt s (at + answerPlace)) in
+    let r : recordOf (getD s at 0) (at + inputPlace + size) v ≡ Read kind same next = judged s at h size refl g (wordsAt s (at + answerPlace)) refl v v refl refl ∙ q in
+    let f : (getD s at 0 ≡ kind) × ((at + inputPlace + size ≡ next) × (v ≡ Unknown → ⊥)) = read-of _ _ _ _ _ _ r in
     let k : getD s at 0 < kinds = known-kind _ _ _ v refl (f .1 .1) in
     record { known = omega arith; onward = omega arith; inside = omega arith }))
 
@@ -84,7 +85,7 @@ module _ (s : List ℕ) (at : ℕ) where
 
 -- ---- no more records than steps
 
-steps : Walk → ℕ
+steps : Replayed → ℕ
 steps (stops at) = 0
 steps (meets kind same w) = suc (steps w)
 
@@ -96,17 +97,17 @@ one-at-most : (b : Bool) → oneIf b ≤ 1
 one-at-most true = omega arith
 one-at-most false = omega arith
 
-records-steps : (k : ℕ) (w : Walk) → recordsIn k w ≤ steps w
+records-steps : (k : ℕ) (w : Replayed) → recordsIn k w ≤ steps w
 unfolding recordsIn steps
 records-steps k (stops at) = omega arith
 records-steps k (meets kind same w) = omega (arith, at-most-one (eqb kind k) 1 (omega arith), records-steps k w)
 
-agree-steps : (k : ℕ) (w : Walk) → agreeIn k w ≤ steps w
+agree-steps : (k : ℕ) (w : Replayed) → agreeIn k w ≤ steps w
 unfolding agreeIn steps
 agree-steps k (stops at) = omega arith
 agree-steps k (meets kind same w) = omega (arith, at-most-one (eqb kind k) (oneIf same) (one-at-most same), agree-steps k w)
 
-after-steps : (r : Record) (n at : ℕ) (k : ℕ → Bool → ℕ → Walk) → ((a : ℕ) (b : Bool) (c : ℕ) → steps (k a b c) ≤ suc n)
+after-steps : (r : Record) (n at : ℕ) (k : ℕ → Bool → ℕ → Replayed) → ((a : ℕ) (b : Bool) (c : ℕ) → steps (k a b c) ≤ suc n)
     → steps (afterRecord r (stops at) k) ≤ suc n
 unfolding afterRecord steps
 after-steps (Read a b c) n at k h = h a b c
@@ -151,7 +152,7 @@ zeros zero k = refl
 zeros (suc m) zero = refl
 zeros (suc m) (suc k) = zeros m k
 
-pub starts : (s : List ℕ) → Going s 0 fresh
+pub starts : (s : List ℕ) → Going s 0 noneCounted
 unfolding walkOf
 starts s =
     record {
@@ -168,7 +169,7 @@ starts s =
 
 module _ (s : List ℕ) (at : ℕ) (c : Counts) (g : Going s at c) where
   -- where the walk stops, nothing is left to count
-  stopped : walkFrom (g .left) s at ≡ stops at → Counted (walkOf s) c
+  stopped : walkFrom (g .left) s at ≡ stops at → SampleCounted (walkOf s) c
   unfolding recordsIn agreeIn stopOf
   stopped e =
       record {
@@ -177,10 +178,10 @@ module _ (s : List ℕ) (at : ℕ) (c : Counts) (g : Going s at c) where
         end = let q : stopOf (stops at) ≡ stopOf (walkOf s) = rw e at (g .stop) in g .here ∙ q;
       }
 
-  pub ends : length s ≤ at → Counted (walkOf s) c
+  pub ends : length s ≤ at → SampleCounted (walkOf s) c
   ends h = stopped (walk-ends s at (g .left) h)
 
-  pub meets-bad : recordAt s at ≡ Bad → Counted (walkOf s) c
+  pub meets-bad : recordAt s at ≡ Bad → SampleCounted (walkOf s) c
   meets-bad e = stopped (walk-stops s at (g .left) e)
 
   module _ (kind : ℕ) (same : Bool) (next : ℕ) (here : at < length s) (e : recordAt s at ≡ Read kind same next) where

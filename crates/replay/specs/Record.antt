@@ -4,24 +4,25 @@ use mathlib.Core.Bool.{Bool, true, false, cond, not, _&&_, _||_}
 use mathlib.Core.List.{List}
 use lib.Dec.{ltb, eqb}
 use lib.ListN.{length, getD, take, drop}
-use Rattle.wire_calls.specs.Answer.{numberWords, prefixedWords, hashListWords}
-use Rattle.wire.specs.Item.{prefixedAt, hashListAt}
 use Rattle.numbers.specs.Number.{numberAt, most64, mostFilter}
-use Rattle.replay.specs.Words.{u16At, wordsAt}
+use Rattle.rules.specs.LittleEndian.{u16At}
+use Rattle.wire.specs.Item.{prefixedAt, hashListAt}
+use Rattle.wire_calls.specs.Answer.{numberWords, prefixedWords, hashListWords}
+use Rattle.replay.specs.Words.{wordsAt}
 use Rattle.replay.specs.declared.record.Record.{Record}
 use Rattle.replay.specs.declared.record.Record.the-variants.{Read, Bad}
 use Rattle.replay.specs.declared.record.Verdict.{Verdict}
 use Rattle.replay.specs.declared.record.Verdict.the-variants.{Same, Different, Unknown}
 
 -- Places within a record: of the size, of the answer, of the input.
-abbrev pub sizeAt : ℕ
-sizeAt = 1
+abbrev pub sizePlace : ℕ
+sizePlace = 1
 
-abbrev pub answerAt : ℕ
-answerAt = 3
+abbrev pub answerPlace : ℕ
+answerPlace = 3
 
-abbrev pub inputAt : ℕ
-inputAt = 35
+abbrev pub inputPlace : ℕ
+inputPlace = 35
 
 -- The first words are equal, and where they say that the input was accepted, so are the others. Of a refusal the original tells no more.
 unfoldable pub agreeing : List ℕ → List ℕ → Bool
@@ -54,10 +55,10 @@ recordOf kind next Unknown = Bad
 -- The record at a place, bad where the bytes end inside it.
 unfoldable pub recordAt : List ℕ → ℕ → Record
 recordAt s at =
-    let size = u16At s (at + sizeAt) in
-    let start = at + inputAt in
-    cond (ltb (length s - at) inputAt)
+    let size = u16At s (at + sizePlace) in
+    let start = at + inputPlace in
+    cond (ltb (length s - at) inputPlace)
     Bad
     (cond (ltb (length s - start) size)
     Bad
-    (recordOf (getD s at 0) (start + size) (verdictOf (getD s at 0) (take size (drop start s)) (wordsAt s (at + answerAt)))))
+    (recordOf (getD s at 0) (start + size) (verdictOf (getD s at 0) (take size (drop start s)) (wordsAt s (at + answerPlace)))))

@@ -15,17 +15,17 @@ abbrev pub kinds : ℕ
 kinds = 5
 
 -- A walk meets records, each of a kind, that agree or not, and stops at a place.
-pub data Walk : Type 0 where
-  stops : ℕ → Walk
-  meets : ℕ → Bool → Walk → Walk
+pub data Replayed : Type 0 where
+  stops : ℕ → Replayed
+  meets : ℕ → Bool → Replayed → Replayed
 
 -- What follows a record that was read.
-unfoldable pub afterRecord : Record → Walk → (ℕ → Bool → ℕ → Walk) → Walk
+unfoldable pub afterRecord : Record → Replayed → (ℕ → Bool → ℕ → Replayed) → Replayed
 afterRecord (Read kind same next) bad k = k kind same next
 afterRecord Bad bad k = bad
 
 -- The walk from a place, up to the end or the first bad record. The first argument bounds its steps.
-unfoldable pub walkFrom : ℕ → List ℕ → ℕ → Walk
+unfoldable pub walkFrom : ℕ → List ℕ → ℕ → Replayed
 walkFrom zero s at = stops at
 walkFrom (suc k) s at =
     cond (ltb at (length s))
@@ -33,7 +33,7 @@ walkFrom (suc k) s at =
     (stops at)
 
 -- A record has bytes, so there are no more records than bytes.
-unfoldable pub walkOf : List ℕ → Walk
+unfoldable pub walkOf : List ℕ → Replayed
 walkOf s = walkFrom (length s) s 0
 
 abbrev pub oneIf : Bool → ℕ
@@ -41,23 +41,23 @@ oneIf true = 1
 oneIf false = 0
 
 -- How many records of a kind a walk meets.
-unfoldable pub recordsIn : ℕ → Walk → ℕ
+unfoldable pub recordsIn : ℕ → Replayed → ℕ
 recordsIn k (stops at) = 0
 recordsIn k (meets kind same w) = cond (eqb kind k) 1 0 + recordsIn k w
 
 -- How many of them agree.
-unfoldable pub agreeIn : ℕ → Walk → ℕ
+unfoldable pub agreeIn : ℕ → Replayed → ℕ
 agreeIn k (stops at) = 0
 agreeIn k (meets kind same w) = cond (eqb kind k) (oneIf same) 0 + agreeIn k w
 
 -- Where it stops.
-unfoldable pub stopOf : Walk → ℕ
+unfoldable pub stopOf : Replayed → ℕ
 stopOf (stops at) = at
 stopOf (meets kind same w) = stopOf w
 
 -- The counts before any record, and those with one more.
-abbrev pub fresh : Counts
-fresh = record { records = replicate kinds 0; agree = replicate kinds 0; end = 0 }
+abbrev pub noneCounted : Counts
+noneCounted = record { records = replicate kinds 0; agree = replicate kinds 0; end = 0 }
 
 abbrev pub added : Counts → ℕ → Bool → ℕ → Counts
 added c kind same next =
@@ -74,7 +74,7 @@ pub record Room (c : Counts) (kind : ℕ) (same : Bool) : Type 0 where
   pub agree : getD (c .agree) kind 0 + oneIf same < 2 ^ 64
 
 -- The counts of a walk, for each kind.
-pub record Counted (w : Walk) (r : Counts) : Type 0 where
+pub record SampleCounted (w : Replayed) (r : Counts) : Type 0 where
   pub records : (k : ℕ) → getD (r .records) k 0 ≡ recordsIn k w
   pub agree : (k : ℕ) → getD (r .agree) k 0 ≡ agreeIn k w
   pub end : r .end ≡ stopOf w

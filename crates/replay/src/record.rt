@@ -1,8 +1,8 @@
 // One record: what the proved library answers to its input, held to the stored answer.
-use crate::little_endian::u16_at;
 use crate::little_endian::words_at;
 use numbers::leb128::leb128_u32;
 use numbers::leb128::leb128_u64;
+use rules::little_endian::u16_at;
 use wire::parse::length_prefixed_bytes;
 use wire::parse::length_prefixed_hashes;
 use wire_calls::answer::hash_list_words;
@@ -85,7 +85,7 @@ pub fn record_at(bytes: &[u8], at: usize) -> Record
         return Record::Bad;
     }
     let start = at + INPUT;
-    let size = u16_at(bytes, at + SIZE) as usize;
+    let size = u16_at(bytes, at + SIZE);
     if bytes.len() - start < size {
         return Record::Bad;
     }

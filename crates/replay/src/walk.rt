@@ -2,7 +2,7 @@
 use crate::record::Record;
 use crate::record::record_at;
 ghost use mathlib.Core.Path.{_≡_};
-ghost use Rattle.replay.specs.Walk.{oneIf, fresh, added, Room, walkOf, Counted};
+ghost use Rattle.replay.specs.Walk.{oneIf, noneCounted, added, Room, walkOf, SampleCounted};
 
 // Kinds are below this; 0 is none.
 const KINDS: usize = 5;
@@ -22,7 +22,7 @@ pub struct Counts {
 
 impl Counts {
     fn new() -> Self
-        ensures { λ r. ⌜ r ≡ fresh ⌝ }
+        ensures { λ r. ⌜ r ≡ noneCounted ⌝ }
     {
         Counts {
             records: [0; KINDS],
@@ -45,7 +45,7 @@ impl Counts {
 
 // Walks from record to record, and counts. It stops at a bad record, since nothing says where the next one starts.
 pub fn walk(bytes: &[u8]) -> Counts
-    ensures { λ r. ⌜ Counted (walkOf (now (bytes .entry))) r ⌝ }
+    ensures { λ r. ⌜ SampleCounted (walkOf (now (bytes .entry))) r ⌝ }
 {
     let mut counts = Counts::new();
     let mut at = 0;

@@ -15,7 +15,7 @@ use Rattle.rules.specs.declared.output.Write.{Write}
 use Rattle.rules.specs.declared.output.Write.the-variants.{Wrote, Refused}
 use Rattle.rules.specs.declared.refusal.Refusal.{Refusal}
 use Rattle.rules.specs.declared.refusal.Refusal.the-variants.{NoRoom}
-use Rattle.rules.proofs.Hash.{length-hashes-bytes, length-hashes-at, hashes-there-and-back, hashes-at-bytes}
+use Rattle.rules.proofs.Hash.{length-hashes-bytes, hashes-there-and-back, hashes-at-bytes}
 
 pub written-once : {o : Output} {before a₁ a₂ : List ℕ} {r₁ r₂ : Write} → Written o before a₁ r₁ → Written o before a₂ r₂ → (r₁ ≡ r₂) × (a₁ ≡ a₂)
 written-once w v = (w .answer ∙ sym (v .answer), w .content ∙ sym (v .content))

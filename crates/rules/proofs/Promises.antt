@@ -1,7 +1,4 @@
 -- What is promised of this crate and cited nowhere in it or above: a law that stands here can't be taken out or renamed unseen.
 pub use Rattle.rules.proofs.Hash.{equal-hashes, order-of-hashes}
-pub use Rattle.rules.proofs.Insert.{inserted-fits, inserted-ascends, inserted-members}
-pub use Rattle.rules.proofs.KeepLaws.{once-same}
 pub use Rattle.rules.proofs.Outputs.{written-once, written-gathered, gathered-bytes}
-pub use Rattle.rules.proofs.ReachLaws.{none-below}
 pub use Rattle.rules.proofs.Refusals.{refusals-differ}

@@ -1,7 +1,6 @@
 pub mod Hash
-pub mod Order
+pub mod LittleEndian
 pub mod Output
 pub mod Passed
-pub mod Reach
 pub mod Refusal
 pub mod Sizes

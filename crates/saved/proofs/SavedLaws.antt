@@ -36,7 +36,7 @@ use Rattle.wire.proofs.Item.{HashesInside, hash-list-inside, hash-list-written}
 use Rattle.numbers.proofs.Number.{put-then}
 use Rattle.state.specs.Counts.{restoredCounts}
 use Rattle.state.specs.Session.{restored}
-use Rattle.state.specs.Value.{Lent, valueOf}
+use Rattle.state.specs.Value.{Lent, stateOf}
 use Rattle.state.specs.declared.session.Session.{Session as Counts}
 use Rattle.state.proofs.ValueLaws.{restored-value}
 use Rattle.saved.specs.Saved.{stateType, stateOutput, stateAt, loadedWith, loadedInto, Restored}
@@ -204,7 +204,7 @@ saved-bytes s before saved count w good room v =
 pub record Loads (r : Loaded) (after : List ℕ) (count : ℕ) (hs : List ℕ) : Type 0 where
   pub session : r ≡ Session (restoredCounts count)
   pub heads : hashesAt after 0 count ≡ hs
-  pub value : (l : Lent) → l .shared ≡ after → valueOf (restoredCounts count) l ≡ restored hs
+  pub value : (l : Lent) → l .shared ≡ after → stateOf (restoredCounts count) l ≡ restored hs
 
 -- hashes that are copied to the start of a buffer are the list that it starts with
 loads : (before s after : List ℕ) (start count next : ℕ) (r : Loaded) → sizes .hash * count ≤ length before → stateAt s ≡ Items (run start count) next

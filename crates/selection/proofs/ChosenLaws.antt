@@ -10,22 +10,22 @@ use native.Mathlib.Omega.{arith}
 use lib.ListN.{length, getD, set, length-append}
 use lib.Seq.{sets}
 use Rattle.bloom.specs.Have.{Have, haveWords, havesFrom, havesOf}
-use Rattle.rules.specs.Hash.{hashAt, hashesAt, hashBytes, hashesBytes}
-use Rattle.rules.specs.Order.{member, keep}
-use Rattle.rules.specs.Sizes.{sizes}
-use Rattle.rules.proofs.Cases.{split}
-use Rattle.rules.proofs.Hash.{length-hashes-at, length-hashes-bytes, hashes-index}
-use Rattle.rules.proofs.KeepLaws.{keep-append, keep-keep, keep-same}
-use Rattle.rules.proofs.Outputs.{sets-append}
-use Rattle.tables.specs.Bytes.{rowsAt}
-use Rattle.tables.specs.Table.{Row, GoodTable, rows, hashOf, rowNumber, indexIn, held, rowsWhere}
-use Rattle.tables.proofs.TableLaws.{length-rows-at, row-of-held, hash-of-held, member-of-index, unknown-of-index, index-at-most}
-use Rattle.graph.specs.Marks.{Marks, Blank, marked, picked}
 use Rattle.graph.proofs.GraphMarks.{many-rows, marked-rows}
 use Rattle.graph.proofs.MarkLaws.{blank-or}
-use Rattle.graph.proofs.TurnLaws.{Turned, turn-set, turn-done}
 use Rattle.graph.proofs.PickLaws.{marks-picked, pick-keep, pick-none, keep-pick, rows-picked, rows-where, picked-count, pickLeft, left-all, left-taken, left-passed, left-none}
+use Rattle.graph.proofs.TurnLaws.{Turned, turn-set, turn-done}
+use Rattle.graph.specs.Marks.{Marks, Blank, marked, picked}
 use Rattle.members.specs.Members.{inTheS, theS}
+use Rattle.order.proofs.KeepLaws.{keep-append, keep-keep, keep-same}
+use Rattle.order.specs.Order.{member, keep}
+use Rattle.rules.proofs.Cases.{split}
+use Rattle.rules.proofs.Hash.{length-hashes-at, length-hashes-bytes, hashes-index}
+use Rattle.rules.proofs.Outputs.{sets-append}
+use Rattle.rules.specs.Hash.{hashAt, hashesAt, hashBytes, hashesBytes}
+use Rattle.rules.specs.Sizes.{sizes}
+use Rattle.tables.proofs.TableLaws.{length-rows-at, row-of-held, hash-of-held, member-of-index, unknown-of-index, index-at-most}
+use Rattle.tables.specs.Bytes.{rowsAt}
+use Rattle.tables.specs.Table.{Row, GoodTable, rows, hashOf, rowNumber, indexIn, held, rowsWhere}
 use Rattle.selection.specs.Chosen.{answeredRow, heldUnmarked, chosenBy, Chosen, Choosable}
 use Rattle.selection.specs.ToSend.{toSend, toSendLess}
 use Rattle.selection.proofs.SelectLaws.{less-none, less-most, sent-most}

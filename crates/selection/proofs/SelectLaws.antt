@@ -7,18 +7,18 @@ use mathlib.Core.Path.{_≡_, refl, sym, _∙_}
 use native.Mathlib.Omega.{arith}
 use borrow.Author.Tests.{not-true}
 use lib.ListN.{length, length-append}
-use Rattle.probe.specs.Contains.{anyContains}
 use Rattle.bloom.specs.Have.{Have}
-use Rattle.rules.specs.Hash.{AreHashes}
-use Rattle.rules.specs.Order.{member, keep, Once}
-use Rattle.rules.specs.Sizes.{sizes}
-use Rattle.rules.proofs.Cases.{both, either, or-left, or-right, and-true}
-use Rattle.rules.proofs.KeepLaws.{keep-all, keep-member, keep-most, every-one, once-keep, once-append, hashes-inside}
-use Rattle.rules.proofs.OrderLaws.{member-append}
-use Rattle.tables.specs.Table.{Row, GoodTable, rows, held}
 use Rattle.graph.specs.Graph.{below}
-use Rattle.members.specs.Members.{lastSyncs, filters, theS}
 use Rattle.members.proofs.SLaws.{s-held, s-once, s-empty, s-few}
+use Rattle.members.specs.Members.{lastSyncs, filters, theS}
+use Rattle.order.proofs.KeepLaws.{keep-all, keep-member, keep-most, every-one, once-keep, once-append, hashes-inside}
+use Rattle.order.proofs.OrderLaws.{member-append}
+use Rattle.order.specs.Order.{member, keep, Once}
+use Rattle.probe.specs.Contains.{anyContains}
+use Rattle.rules.proofs.Cases.{both, either, or-left, or-right, and-true}
+use Rattle.rules.specs.Hash.{AreHashes}
+use Rattle.rules.specs.Sizes.{sizes}
+use Rattle.tables.specs.Table.{Row, GoodTable, rows, held}
 use Rattle.selection.specs.ToSend.{toSend, toSendLess}
 
 -- ---- the order

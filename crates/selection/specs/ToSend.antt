@@ -5,15 +5,15 @@ use mathlib.Core.Bool.{cond, not, _&&_}
 use mathlib.Core.List.{List, [], _∷_, _++_}
 use Rattle.bloom.specs.Have.{Have, havesOf, passedGood, passedFew}
 use Rattle.index.specs.Index.{indexChecked}
+use Rattle.members.specs.Members.{theS}
+use Rattle.order.specs.Order.{member, keep}
 use Rattle.rules.specs.Hash.{hashesAt, hashesBytes}
-use Rattle.rules.specs.Order.{member, keep}
 use Rattle.rules.specs.Output.{Output}
 use Rattle.rules.specs.Passed.{passedHashes, afterPassed}
 use Rattle.rules.specs.declared.refusal.Refusal.the-variants.{PastSize, BadNumbers}
 use Rattle.tables.specs.Bytes.{tableOf}
 use Rattle.tables.specs.Calls.{afterCheck}
 use Rattle.tables.specs.Table.{Row, held}
-use Rattle.members.specs.Members.{theS}
 
 -- The answer.
 unfoldable pub toSend : List Row → List Have → List ℕ → List ℕ

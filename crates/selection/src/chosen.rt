@@ -6,7 +6,7 @@ use graph::marks::mark_list;
 use graph::marks::unmark;
 use index::look::look_up;
 use members::members::mark_s;
-use rules::hashes::put_hash;
+use order::hashes::put_hash;
 use rules::sizes::HASH_SIZE;
 use rules::sizes::ROWS;
 ghost use mathlib.Core.Path.{_≡_};

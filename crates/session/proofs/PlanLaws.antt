@@ -13,19 +13,19 @@ use Rattle.bloom.specs.Have.{Have}
 use Rattle.graph.specs.Graph.{heads}
 use Rattle.lists.specs.Lists.{same}
 use Rattle.missing.specs.Missing.{missing}
-use Rattle.rules.specs.Hash.{AreHashes}
-use Rattle.rules.specs.Order.{member, every, ascends}
-use Rattle.rules.specs.Sizes.{sizes}
-use Rattle.rules.specs.declared.refusal.Refusal.{Refusal}
-use Rattle.rules.specs.declared.refusal.Refusal.the-variants.{PastSize}
+use Rattle.order.proofs.KeepLaws.{every-one}
+use Rattle.order.proofs.OrderLaws.{ascend-ascends, ascend-members, member-append}
+use Rattle.order.specs.Order.{member, every, ascends}
 use Rattle.rules.proofs.Cases.{split, true-false, and-false}
-use Rattle.rules.proofs.KeepLaws.{every-one}
-use Rattle.rules.proofs.OrderLaws.{ascend-ascends, ascend-members, member-append}
-use Rattle.selection.specs.ToSend.{toSendLess}
+use Rattle.rules.specs.Hash.{AreHashes}
+use Rattle.rules.specs.Sizes.{sizes}
+use Rattle.rules.specs.declared.refusal.Refusal.the-variants.{PastSize}
+use Rattle.rules.specs.declared.refusal.Refusal.{Refusal}
 use Rattle.selection.proofs.SelectLaws.{less-few, less-held, less-hashes}
+use Rattle.selection.specs.ToSend.{toSendLess}
 use Rattle.state.specs.Session.{State}
-use Rattle.tables.specs.Table.{Row, GoodTable, rows, held}
 use Rattle.tables.proofs.TableLaws.{length-rows}
+use Rattle.tables.specs.Table.{Row, GoodTable, rows, held}
 use Rattle.waiting.specs.Waiting.{Waiting}
 use Rattle.session.specs.Plan.{
   Body,

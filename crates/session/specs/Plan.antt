@@ -12,14 +12,14 @@ use Rattle.graph.specs.Graph.{heads, beyond}
 use Rattle.lists.specs.Lists.{same}
 use Rattle.message.specs.Flags.{syncReset, readOnly, supportsSyncReset, flagsOf}
 use Rattle.message.specs.declared.flags.MessageFlags.{MessageFlags}
-use Rattle.message.specs.declared.version.MessageVersion.{MessageVersion}
 use Rattle.message.specs.declared.version.MessageVersion.the-variants.{V1, V2}
+use Rattle.message.specs.declared.version.MessageVersion.{MessageVersion}
 use Rattle.missing.specs.Missing.{missing}
+use Rattle.order.specs.Order.{member, every, ascend}
 use Rattle.probe.specs.Build.{filterOf}
-use Rattle.rules.specs.Order.{member, every, ascend}
 use Rattle.rules.specs.Sizes.{sizes}
-use Rattle.rules.specs.declared.refusal.Refusal.{Refusal}
 use Rattle.rules.specs.declared.refusal.Refusal.the-variants.{PastSize}
+use Rattle.rules.specs.declared.refusal.Refusal.{Refusal}
 use Rattle.selection.specs.ToSend.{toSendLess}
 use Rattle.state.specs.Session.{State}
 use Rattle.tables.specs.Table.{Row, rows, held}

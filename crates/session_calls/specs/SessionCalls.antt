@@ -7,15 +7,15 @@ use Rattle.answers.specs.Answer.{refusalWords}
 use Rattle.bloom.specs.Filter.{defaultBits, defaultProbes}
 use Rattle.message.specs.declared.version.MessageVersion.{MessageVersion}
 use Rattle.message.specs.declared.version.MessageVersion.the-variants.{V1, V2}
-use Rattle.planned.specs.Call.{Buffers, planWith, roomed, roomsIn, answerOf, putInto}
+use Rattle.planned.specs.Call.{Buffers, planWith, plannedRoomed, plannedRooms, plannedAnswer, putInto}
 use Rattle.planned.specs.declared.answer.Planned.{Planned}
 use Rattle.planned.specs.declared.answer.Planned.the-variants.{Refused, Silent, Reset, Says}
 use Rattle.planned.specs.declared.answer.Stated.{Stated}
-use Rattle.receive.specs.Call.{receiveWith, roomed as roomedFor, roomsIn as roomsOf, answerOf as answerFor, keptIn}
+use Rattle.receive.specs.Call.{receiveWith, receivedRoomed as roomedFor, receivedRooms as roomsOf, receivedAnswer as answerFor, keptIn}
 use Rattle.rules.specs.Refusal.{numberOf, valueOf}
 use Rattle.rules.specs.declared.refusal.Refusal.the-variants.{LoadFailed}
 use Rattle.session_words.specs.Words.{flagWord, sessionWords, sessionOf}
-use Rattle.state.specs.Value.{Lent, valueOf as sessionValue}
+use Rattle.state.specs.Value.{Lent, stateOf as sessionValue}
 use Rattle.taking.specs.declared.answer.Received.{Received}
 use Rattle.taking.specs.declared.answer.Received.the-variants.{Took, Failed, Refused as NotTaken}
 
@@ -70,11 +70,11 @@ receivedSession (NotTaken r) before = before
 
 -- What is planned for a session's words, with the filter of 01, once there is room.
 abbrev pub planFor : List ℕ → Lent → List ℕ → List ℕ → List ℕ → Buffers → Rattle.session.specs.Plan.Planned
-planFor words l table index waiting before = roomed (roomsIn before) (planWith defaultBits defaultProbes (sessionOf words) l table index waiting)
+planFor words l table index waiting before = plannedRoomed (plannedRooms before) (planWith defaultBits defaultProbes (sessionOf words) l table index waiting)
 
 pub record PlanAnswered (session₀ session₁ : List ℕ) (l : Lent) (table index waiting : List ℕ) (before after : Buffers) (words : List ℕ) : Type 0 where
-  pub answer : words ≡ plannedWords (answerOf (sessionOf session₀) (planFor session₀ l table index waiting before))
-  pub session : session₁ ≡ plannedSession (answerOf (sessionOf session₀) (planFor session₀ l table index waiting before)) session₀
+  pub answer : words ≡ plannedWords (plannedAnswer (sessionOf session₀) (planFor session₀ l table index waiting before))
+  pub session : session₁ ≡ plannedSession (plannedAnswer (sessionOf session₀) (planFor session₀ l table index waiting before)) session₀
   pub buffers : after ≡ putInto (planFor session₀ l table index waiting before) before
 
 abbrev pub receiveFor : List ℕ → Lent → List ℕ → List ℕ → ℕ → List ℕ → Bool → Rattle.hearing.specs.Receive.Received

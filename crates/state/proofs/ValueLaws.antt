@@ -14,7 +14,7 @@ use Rattle.rules.proofs.Cases.{split}
 use Rattle.rules.proofs.Hash.{length-hashes-at}
 use Rattle.state.specs.Counts.{freshCounts, freshReadOnlyCounts, restoredCounts, switchedOffCounts, setReadOnlyCounts}
 use Rattle.state.specs.Session.{fresh, freshReadOnly, restored, switchedOff, setReadOnly}
-use Rattle.state.specs.Value.{Lent, keptHaves, heardCount, heardHashes, heardHaves, valueOf, countHeard, countsOf}
+use Rattle.state.specs.Value.{Lent, keptHaves, heardCount, heardHashes, heardHaves, stateOf, countHeard, countsOf}
 use Rattle.state.specs.declared.session.Heard.{Heard}
 use Rattle.state.specs.declared.session.Heard.the-variants.{Nothing, Count}
 use Rattle.state.specs.declared.session.Session.{Session}
@@ -42,29 +42,29 @@ haves-there s haves h n e = rw e
 -- ---- the struct's functions
 
 module _ (l : Lent) where
-  pub fresh-value : valueOf freshCounts l ≡ fresh
+  pub fresh-value : stateOf freshCounts l ≡ fresh
   unfolding heardHashes heardHaves hashesAt
   fresh-value = refl
 
-  pub fresh-read-only-value : valueOf freshReadOnlyCounts l ≡ freshReadOnly
+  pub fresh-read-only-value : stateOf freshReadOnlyCounts l ≡ freshReadOnly
   unfolding heardHashes heardHaves hashesAt
   fresh-read-only-value = refl
 
-  pub restored-value : (n : ℕ) → valueOf (restoredCounts n) l ≡ restored (hashesAt (l .shared) 0 n)
+  pub restored-value : (n : ℕ) → stateOf (restoredCounts n) l ≡ restored (hashesAt (l .shared) 0 n)
   unfolding heardHashes heardHaves hashesAt havesOf havesFrom
   restored-value n = refl
 
-  switched-off-value : (s : Session) → valueOf (switchedOffCounts s) l ≡ switchedOff (valueOf s l)
+  switched-off-value : (s : Session) → stateOf (switchedOffCounts s) l ≡ switchedOff (stateOf s l)
   unfolding heardHashes heardHaves hashesAt
   switched-off-value s = refl
 
-  pub set-read-only-value : (s : Session) (on : Bool) → valueOf (setReadOnlyCounts s on) l ≡ setReadOnly (valueOf s l) on
+  pub set-read-only-value : (s : Session) (on : Bool) → stateOf (setReadOnlyCounts s on) l ≡ setReadOnly (stateOf s l) on
   set-read-only-value s true = split (s .«read_only»)
-      (λ w. rw (counts-same s true w, switch-same (valueOf s l) true w))
-      (λ w. rw (counts-on s w, switch-on (valueOf s l) w))
+      (λ w. rw (counts-same s true w, switch-same (stateOf s l) true w))
+      (λ w. rw (counts-on s w, switch-on (stateOf s l) w))
   set-read-only-value s false = split (s .«read_only»)
-      (λ w. rw (counts-off s w, switch-off (valueOf s l) w, switched-off-value s))
-      (λ w. rw (counts-same s false w, switch-same (valueOf s l) false w))
+      (λ w. rw (counts-off s w, switch-off (stateOf s l) w, switched-off-value s))
+      (λ w. rw (counts-same s false w, switch-same (stateOf s l) false w))
 
 -- ---- each list's length is its count
 
@@ -99,7 +99,7 @@ haves-counted s haves Nothing f = refl
 haves-counted s haves (Count n) f = ap Count (kept-length s haves n (f n refl))
 
 -- a session that was read from counts has these counts
-pub counts-back : (s : Session) (l : Lent) → HavesLent (l .haves) (s .«their_have») → countsOf (valueOf s l) ≡ s
+pub counts-back : (s : Session) (l : Lent) → HavesLent (l .haves) (s .«their_have») → countsOf (stateOf s l) ≡ s
 counts-back s l f =
     let shared = length-hashes-at (l .shared) 0 (s .«shared_heads») in
     let lastSent = length-hashes-at (l .lastSent) 0 (s .«last_sent_heads») in
@@ -110,7 +110,7 @@ counts-back s l f =
     rw (shared, lastSent, heads, need, haves, sent)
 
 -- Over the same lent lists two structs that are the same session are equal.
-pub same-counts : (s t : Session) (l : Lent) → HavesLent (l .haves) (s .«their_have») → HavesLent (l .haves) (t .«their_have») → valueOf s l ≡ valueOf t l
+pub same-counts : (s t : Session) (l : Lent) → HavesLent (l .haves) (s .«their_have») → HavesLent (l .haves) (t .«their_have») → stateOf s l ≡ stateOf t l
     → s ≡ t
 same-counts s t l f g e = sym (counts-back s l f) ∙ ap countsOf e ∙ counts-back t l g
 
@@ -125,7 +125,7 @@ room-lent h k le n e =
     rw long (omega arith)
 
 -- Two structs that are the same session whatever is lent are equal.
-pub value-once : (s t : Session) → ((l : Lent) → valueOf s l ≡ valueOf t l) → s ≡ t
+pub value-once : (s t : Session) → ((l : Lent) → stateOf s l ≡ stateOf t l) → s ≡ t
 value-once s t e =
     let k : ℕ = heardCount (s .«their_have») + heardCount (t .«their_have») in
     same-counts s t (room k) (room-lent (s .«their_have») k (omega arith)) (room-lent (t .«their_have») k (omega arith)) (e (room k))

@@ -38,8 +38,8 @@ unfoldable pub heardHaves : List ℕ → List ℕ → Heard → Option (List Hav
 heardHaves s haves Nothing = none
 heardHaves s haves (Count n) = some (havesOf s (keptHaves haves n))
 
-abbrev pub valueOf : Session → Lent → State
-valueOf s l =
+abbrev pub stateOf : Session → Lent → State
+stateOf s l =
     record {
       sharedHeads = hashesAt (l .shared) 0 (s .«shared_heads»);
       lastSentHeads = hashesAt (l .lastSent) 0 (s .«last_sent_heads»);

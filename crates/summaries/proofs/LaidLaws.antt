@@ -10,7 +10,7 @@ use borrow.Author.Tests.{le-leb, lt-leb, ltb-true, ltb-false}
 use Rattle.bloom.specs.Have.{haveWords}
 use Rattle.rules.proofs.Cases.{split}
 use Rattle.summaries.specs.Laid.{laidHaves, nothingLaid, withNext, laidOne, laidMany, laidSteps, usedWords}
-use Rattle.summaries.specs.Summary.{wordsOf, summaryWords, noHave}
+use Rattle.summaries.specs.Summary.{recordWords, summaryWords, noHave}
 use Rattle.summaries.specs.declared.laid.Laid.{Laid}
 use Rattle.summaries.specs.declared.summary.HaveSummary.{HaveSummary}
 
@@ -38,7 +38,7 @@ module _ (l : Laid) (total : ℕ) (h : HaveSummary) where
     next-full e = rw (lt-leb _ _ more, le-leb _ _ e)
 
     module _ (room : l .count < laidHaves) where
-      pub next-laid : withNext l total h ≡ record { words = sets (l .words) (l .count * haveWords) (wordsOf h); count = l .count + 1 }
+      pub next-laid : withNext l total h ≡ record { words = sets (l .words) (l .count * haveWords) (recordWords h); count = l .count + 1 }
       unfolding withNext
       next-laid = rw (lt-leb _ _ more, lt-leb _ _ room)
 
@@ -74,9 +74,9 @@ words-long (h ∷ hs) = let e = words-long hs in omega arith
 pub words-append : (hs more : List HaveSummary) → summaryWords (hs ++ more) ≡ summaryWords hs ++ summaryWords more
 unfolding summaryWords
 words-append [] more = refl
-words-append (h ∷ hs) more = ap (λ (r : List ℕ). wordsOf h ++ r) (words-append hs more)
+words-append (h ∷ hs) more = ap (λ (r : List ℕ). recordWords h ++ r) (words-append hs more)
 
-one-more : (hs : List HaveSummary) (k : ℕ) → k < length hs → summaryWords (take (k + 1) hs) ≡ summaryWords (take k hs) ++ wordsOf (getD hs k noHave)
+one-more : (hs : List HaveSummary) (k : ℕ) → k < length hs → summaryWords (take (k + 1) hs) ≡ summaryWords (take k hs) ++ recordWords (getD hs k noHave)
 unfolding summaryWords
 one-more hs k h =
     let e : k + 1 ≡ suc k = omega arith in
@@ -96,22 +96,22 @@ nothing-stands hs = record { room = omega arith; there = omega arith; long = ref
 
 module _ (hs : List HaveSummary) (l : Laid) (s : Stands hs l) where
   laid-stands : l .count < length hs → l .count < laidHaves
-      → Stands hs (record { words = sets (l .words) (l .count * haveWords) (wordsOf (getD hs (l .count) noHave)); count = l .count + 1 })
+      → Stands hs (record { words = sets (l .words) (l .count * haveWords) (recordWords (getD hs (l .count) noHave)); count = l .count + 1 })
   laid-stands more room =
       let h = getD hs (l .count) noHave in
       let at = l .count * haveWords in
       let fits : at + haveWords ≤ length (l .words) = omega (arith, s .long) in
       let first : length (take at (l .words)) ≡ at = length-take-le at (l .words) (omega arith) in
-      let seam : length (take at (l .words) ++ wordsOf h) ≡ (l .count + 1) * haveWords = length-append (take at (l .words)) (wordsOf h) ∙ omega (arith, first) in
+      let seam : length (take at (l .words) ++ recordWords h) ≡ (l .count + 1) * haveWords = length-append (take at (l .words)) (recordWords h) ∙ omega (arith, first) in
       record {
         room = omega arith;
         there = omega arith;
-        long = length-sets (l .words) at (wordsOf h) ∙ s .long;
+        long = length-sets (l .words) at (recordWords h) ∙ s .long;
         are =
-            ap (λ (w : List ℕ). take ((l .count + 1) * haveWords) w) (sets-eq (wordsOf h) (l .words) at fits)
-            ∙ ap (λ (n : ℕ). take n (take at (l .words) ++ wordsOf h ++ drop (at + haveWords) (l .words))) (sym seam)
-            ∙ take-append-seam (take at (l .words) ++ wordsOf h) (drop (at + haveWords) (l .words))
-            ∙ ap (λ (w : List ℕ). w ++ wordsOf h) (s .are)
+            ap (λ (w : List ℕ). take ((l .count + 1) * haveWords) w) (sets-eq (recordWords h) (l .words) at fits)
+            ∙ ap (λ (n : ℕ). take n (take at (l .words) ++ recordWords h ++ drop (at + haveWords) (l .words))) (sym seam)
+            ∙ take-append-seam (take at (l .words) ++ recordWords h) (drop (at + haveWords) (l .words))
+            ∙ ap (λ (w : List ℕ). w ++ recordWords h) (s .are)
             ∙ sym (one-more hs (l .count) more);
       }
 

@@ -7,17 +7,17 @@ use lib.ListN.{length, getD, drop, length-append, drop-of-length-le}
 use lib.Seq.{getD-append-add, drop-cons}
 use borrow.Author.Tests.{lt-leb}
 use Rattle.bloom.specs.Have.{Have, haveWords, haveCount, filterWith, haveIn, havesFrom, havesOf}
-use Rattle.summaries.specs.Summary.{wordsOf, summaryWords, haveOf, summaryIn, summariesFrom, summariesOf}
+use Rattle.summaries.specs.Summary.{recordWords, summaryWords, summaryHave, summaryIn, summariesFrom, summariesOf}
 use Rattle.summaries.specs.declared.summary.HaveSummary.{HaveSummary}
 use Rattle.summaries.proofs.LaidLaws.{words-long}
 
 module _ (s : List ℕ) where
   -- the record behind the words a, which are whole records
   one-means : (a : List ℕ) (i : ℕ) (h : HaveSummary) (hs : List HaveSummary) → length a ≡ haveWords * i
-      → haveIn s (a ++ (wordsOf h ++ summaryWords hs)) i ≡ haveOf s h
-  unfolding haveIn haveOf filterWith
+      → haveIn s (a ++ (recordWords h ++ summaryWords hs)) i ≡ summaryHave s h
+  unfolding haveIn summaryHave filterWith
   one-means a i h hs long =
-      let w = wordsOf h ++ summaryWords hs in
+      let w = recordWords h ++ summaryWords hs in
       let at : (k : ℕ) → i * haveWords + k ≡ length a + k = λ k. omega arith in
       let e0 : getD (a ++ w) (i * haveWords) 0 ≡ h .place = ap (λ (n : ℕ). getD (a ++ w) n 0) (omega arith) ∙ getD-append-add a w 0 0 in
       let e1 : getD (a ++ w) (i * haveWords + 1) 0 ≡ h .count = ap (λ (n : ℕ). getD (a ++ w) n 0) (at 1) ∙ getD-append-add a w 1 0 in
@@ -29,18 +29,18 @@ module _ (s : List ℕ) where
       rw (e0, e1, e2, e3, e4, e5, e6)
 
   all-mean : (hs : List HaveSummary) (a : List ℕ) (i : ℕ) → length a ≡ haveWords * i
-      → havesFrom s (a ++ summaryWords hs) i (length hs) ≡ map (haveOf s) hs
+      → havesFrom s (a ++ summaryWords hs) i (length hs) ≡ map (summaryHave s) hs
   unfolding havesFrom summaryWords
   all-mean [] a i long = refl
   all-mean (h ∷ hs) a i long =
       let here = one-means a i h hs long in
-      let next : length (a ++ wordsOf h) ≡ haveWords * suc i = length-append a (wordsOf h) ∙ omega arith in
-      let rest : havesFrom s (a ++ (wordsOf h ++ summaryWords hs)) (suc i) (length hs) ≡ map (haveOf s) hs =
-      ap (λ (w : List ℕ). havesFrom s w (suc i) (length hs)) (sym (append-assoc a (wordsOf h) (summaryWords hs)))
-      ∙ all-mean hs (a ++ wordsOf h) (suc i) next in
-      ap (λ (x : Have). x ∷ havesFrom s (a ++ (wordsOf h ++ summaryWords hs)) (suc i) (length hs)) here ∙ ap (λ (xs : List Have). haveOf s h ∷ xs) rest
+      let next : length (a ++ recordWords h) ≡ haveWords * suc i = length-append a (recordWords h) ∙ omega arith in
+      let rest : havesFrom s (a ++ (recordWords h ++ summaryWords hs)) (suc i) (length hs) ≡ map (summaryHave s) hs =
+      ap (λ (w : List ℕ). havesFrom s w (suc i) (length hs)) (sym (append-assoc a (recordWords h) (summaryWords hs)))
+      ∙ all-mean hs (a ++ recordWords h) (suc i) next in
+      ap (λ (x : Have). x ∷ havesFrom s (a ++ (recordWords h ++ summaryWords hs)) (suc i) (length hs)) here ∙ ap (λ (xs : List Have). summaryHave s h ∷ xs) rest
 
-  pub summaries-mean : (hs : List HaveSummary) → havesOf s (summaryWords hs) ≡ map (haveOf s) hs
+  pub summaries-mean : (hs : List HaveSummary) → havesOf s (summaryWords hs) ≡ map (summaryHave s) hs
   unfolding havesOf
   summaries-mean hs =
       let count : haveCount (summaryWords hs) ≡ length hs = let e = words-long hs in omega arith in

@@ -7,7 +7,7 @@ use lib.ListN.{length, getD, replicate, take}
 use lib.Seq.{sets}
 use Rattle.bloom.specs.Have.{haveWords}
 use Rattle.rules.specs.Sizes.{sizes}
-use Rattle.summaries.specs.Summary.{wordsOf, noHave}
+use Rattle.summaries.specs.Summary.{recordWords, noHave}
 use Rattle.summaries.specs.declared.laid.Laid.{Laid}
 use Rattle.summaries.specs.declared.summary.HaveSummary.{HaveSummary}
 
@@ -25,7 +25,7 @@ withNext l total h =
     l
     (cond (leb laidHaves (l .count))
     l
-    (record { words = sets (l .words) (l .count * haveWords) (wordsOf h); count = l .count + 1 }))
+    (record { words = sets (l .words) (l .count * haveWords) (recordWords h); count = l .count + 1 }))
 
 -- The next have of a list, and so many.
 unfoldable pub laidOne : List HaveSummary → Laid → Laid

@@ -12,17 +12,17 @@ use Rattle.rules.specs.Hash.{hashesAt}
 use Rattle.summaries.specs.declared.summary.HaveSummary.{HaveSummary}
 
 -- The words of a record, in their order.
-abbrev pub wordsOf : HaveSummary → List ℕ
-wordsOf h = h .place ∷ h .count ∷ h .entries ∷ h .bits ∷ h .probes ∷ h .field ∷ h .size ∷ []
+abbrev pub recordWords : HaveSummary → List ℕ
+recordWords h = h .place ∷ h .count ∷ h .entries ∷ h .bits ∷ h .probes ∷ h .field ∷ h .size ∷ []
 
 -- The words of a list of records.
 unfoldable pub summaryWords : List HaveSummary → List ℕ
 summaryWords [] = []
-summaryWords (h ∷ hs) = wordsOf h ++ summaryWords hs
+summaryWords (h ∷ hs) = recordWords h ++ summaryWords hs
 
 -- The have that a record names over the lent bytes: its last-sync hashes, and its filter with the field that stands there.
-unfoldable pub haveOf : List ℕ → HaveSummary → Have
-haveOf s h =
+unfoldable pub summaryHave : List ℕ → HaveSummary → Have
+summaryHave s h =
     record {
       lastSync = hashesAt s (h .place) (h .count);
       filter =

@@ -1,18 +1,18 @@
 -- A table with rows added at its end: the old rows keep their numbers, hashes and dependencies. A row that may stand there makes a good table of
 -- a good one, and the first rows of a good table are one.
 use Prim.Native.Nat.{ℕ, zero, suc, _+_, _≤_, _<_}
-use mathlib.Core.Bool.{Bool, true, false, _||_}
+use mathlib.Core.Bool.{true, false, _||_}
 use mathlib.Core.List.{List, [], _∷_, _++_, map}
-use mathlib.Core.Path.{_≡_, refl, sym, ap, ap₂, _∙_}
+use mathlib.Core.Path.{_≡_, refl, ap, ap₂, _∙_}
 use native.Mathlib.Omega.{arith}
 use borrow.Author.Tests.{ltb-true, ltb-false, eqb-true}
 use lib.Dec.{eqb, ltb}
 use lib.ListN.{length, getD, take, length-append, length-take, List·getD-append}
 use lib.Seq.{getD-append-seam, getD-take}
-use Rattle.rules.specs.Order.{member, ascends, often, Once}
+use Rattle.order.proofs.KeepLaws.{once-append, once-cons, once-none, once-take}
+use Rattle.order.proofs.OrderLaws.{member-append, member-here, member-there, member-none}
+use Rattle.order.specs.Order.{member, ascends}
 use Rattle.rules.proofs.Cases.{split, either, true-false}
-use Rattle.rules.proofs.KeepLaws.{once-append, once-cons, once-none, once-take}
-use Rattle.rules.proofs.OrderLaws.{member-append, member-here, member-there, member-none}
 use Rattle.tables.specs.Table.{Row, noRow, rows, hashOf, depsOf, GoodTable, indexIn, rowNumber, held, deps}
 use Rattle.tables.proofs.TableLaws.{length-rows, row-of-held}
 

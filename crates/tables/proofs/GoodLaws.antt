@@ -1,18 +1,18 @@
 -- What has been checked keeps the one precondition of what computes over it, and so do its first rows: dependencies stand before their row, no
 -- hash stands at two rows, and hashes of rows are hashes.
 use Prim.Native.Nat.{ℕ, zero, suc, _*_, _≤_, _<_}
-use mathlib.Core.Bool.{Bool, true}
+use mathlib.Core.Bool.{true}
 use mathlib.Core.List.{List}
-use mathlib.Core.Path.{_≡_, sym, ap, _∙_}
+use mathlib.Core.Path.{_≡_, sym, _∙_}
 use native.Mathlib.Omega.{arith}
 use lib.ListN.{length, take}
-use Rattle.rules.specs.Hash.{Bytes, AreHashes, hashAt}
-use Rattle.rules.specs.Order.{member}
-use Rattle.rules.specs.Sizes.{sizes}
+use Rattle.order.proofs.KeepLaws.{once-index}
+use Rattle.order.specs.Order.{member}
 use Rattle.rules.proofs.Hash.{hash-is-hash}
-use Rattle.rules.proofs.KeepLaws.{once-index}
+use Rattle.rules.specs.Hash.{Bytes, AreHashes, hashAt}
+use Rattle.rules.specs.Sizes.{sizes}
 use Rattle.tables.specs.Bytes.{rowSizeOf, rowOf, rowsOf, rowSize, usedAt, rowsAt, tableChecked, GoodRows}
-use Rattle.tables.specs.Table.{Row, GoodTable, rows, hashOf, depsOf}
+use Rattle.tables.specs.Table.{Row, rows, hashOf}
 use Rattle.tables.specs.declared.check.Checked.the-variants.{Good}
 use Rattle.tables.proofs.ExtendLaws.{good-take}
 use Rattle.tables.proofs.TableLaws.{table-good, row-has, length-rows, length-rows-at, deps-of-row, hash-of-row, take-rows-at}

@@ -9,13 +9,14 @@ use native.Mathlib.Omega.{arith}
 use borrow.Author.Tests.{ltb-true, leb-true, eqb-true, eqb-false, lt-ltb, le-ltb, le-leb, lt-leb, eq-eqb, ne-eqb}
 use lib.Dec.{ltb, leb, eqb}
 use lib.ListN.{length}
-use Rattle.rules.specs.Hash.{Bytes, hashAt}
-use Rattle.rules.specs.Order.{member, every, ascends}
-use Rattle.rules.specs.Sizes.{sizes}
+use Rattle.order.proofs.KeepLaws.{every-member, every-one}
+use Rattle.order.proofs.OrderLaws.{member-here, member-there, ascends-tail, ascends-first}
+use Rattle.order.specs.Order.{member, every, ascends}
 use Rattle.rules.proofs.Cases.{split, both, same-truth, and-true}
-use Rattle.rules.proofs.KeepLaws.{every-member, every-one}
-use Rattle.rules.proofs.OrderLaws.{member-here, member-there, ascends-tail, ascends-first}
-use Rattle.tables.specs.Bytes.{u16At, u16sAt, usedOf, unusedOf, rowGoodOf, rowSize, depCount, usedAt, rowsAt, numbersGood, zeros}
+use Rattle.rules.specs.Hash.{Bytes, hashAt}
+use Rattle.rules.specs.LittleEndian.{u16At}
+use Rattle.rules.specs.Sizes.{sizes}
+use Rattle.tables.specs.Bytes.{u16sAt, usedOf, unusedOf, rowGoodOf, rowSize, depCount, usedAt, rowsAt, numbersGood, zeros}
 use Rattle.tables.specs.Table.{rows, indexIn}
 use Rattle.tables.proofs.Today.{unusedAt, rowGood}
 use Rattle.tables.proofs.TableLaws.{numberAt, length-rows, length-rows-at, index-tells}

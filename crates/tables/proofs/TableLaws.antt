@@ -5,15 +5,16 @@ use mathlib.Core.List.{List, [], _∷_}
 use mathlib.Core.Path.{_≡_, refl, sym, _∙_, ap}
 use native.Mathlib.Nat.{add-zero, zero-add, not-suc-le-zero}
 use native.Mathlib.Omega.{arith}
-use borrow.Author.Tests.{ltb-true, ltb-false, leb-true, eqb-true, eqb-false, not-true, lt-ltb, eq-eqb, ne-eqb}
+use borrow.Author.Tests.{ltb-true, ltb-false, leb-true, eqb-true, eqb-false, not-true, eq-eqb, ne-eqb}
 use lib.Dec.{ltb, leb, eqb}
 use lib.ListN.{length, getD, take, length-map}
-use Rattle.rules.specs.Hash.{hashAt}
-use Rattle.rules.specs.Order.{member, every, ascends, Once}
-use Rattle.rules.specs.Sizes.{sizes}
+use Rattle.order.proofs.KeepLaws.{every-member, index-once, once-index}
+use Rattle.order.specs.Order.{member, every, ascends, Once}
 use Rattle.rules.proofs.Cases.{split, both}
-use Rattle.rules.proofs.KeepLaws.{every-member, index-once, once-index}
-use Rattle.tables.specs.Bytes.{u16At, u16sAt, rowSizeOf, countOf, usedOf, unusedOf, rowOf, rowsOf, wholeRowsOf, rowGoodOf, tableCheckedOf, rowSize, depCount, usedAt, rowsAt, tableOf, numbersGood, zeros, tableChecked}
+use Rattle.rules.specs.Hash.{hashAt}
+use Rattle.rules.specs.LittleEndian.{u16At}
+use Rattle.rules.specs.Sizes.{sizes}
+use Rattle.tables.specs.Bytes.{u16sAt, rowSizeOf, countOf, usedOf, unusedOf, rowOf, rowsOf, wholeRowsOf, rowGoodOf, tableCheckedOf, rowSize, depCount, usedAt, rowsAt, tableOf, numbersGood, zeros, tableChecked}
 use Rattle.tables.specs.Table.{Row, noRow, rows, hashOf, depsOf, GoodTable, indexIn, rowNumber, held}
 use Rattle.tables.specs.declared.check.Checked.the-variants.{Good, Refused}
 use Rattle.tables.proofs.Today.{rowAt, rowGood}

@@ -6,19 +6,17 @@ use Prim.Native.Nat.{ℕ, zero, suc, _+_, _-_, _*_, _/_, _%_, _≤_, _<_}
 use mathlib.Core.Bool.{Bool, true, cond, not, _&&_}
 use mathlib.Core.List.{List, [], _∷_}
 use lib.Dec.{ltb, leb, eqb}
-use lib.ListN.{length, getD}
+use lib.ListN.{length}
+use Rattle.order.specs.Order.{member, every, ascends}
 use Rattle.rules.specs.Hash.{hashAt}
-use Rattle.rules.specs.Order.{member, every, ascends}
+use Rattle.rules.specs.LittleEndian.{u16At}
 use Rattle.rules.specs.Sizes.{sizes}
 use Rattle.rules.specs.declared.refusal.Refusal.the-variants.{PastSize, BadRow}
 use Rattle.tables.specs.Table.{Row, GoodTable, rows}
 use Rattle.tables.specs.declared.check.Checked.{Checked}
 use Rattle.tables.specs.declared.check.Checked.the-variants.{Good, Refused}
 
--- The little-endian number that two bytes are, and so many of them one after the other.
-unfoldable pub u16At : List ℕ → ℕ → ℕ
-u16At s at = getD s at 0 + 256 * getD s (at + 1) 0
-
+-- So many numbers of two bytes, one after the other.
 unfoldable pub u16sAt : List ℕ → ℕ → ℕ → List ℕ
 u16sAt s at zero = []
 u16sAt s at (suc count) = u16At s at ∷ u16sAt s (at + 2) count

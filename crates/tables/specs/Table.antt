@@ -5,7 +5,7 @@ use mathlib.Core.List.{List, [], _∷_, map}
 use mathlib.Core.Path.{_≡_}
 use lib.Dec.{eqb}
 use lib.ListN.{length, getD}
-use Rattle.rules.specs.Order.{member, ascends, Once}
+use Rattle.order.specs.Order.{member, ascends, Once}
 
 -- A change: its hash, and its dependencies by row number. A table is a list of rows.
 pub record Row : Type 0 where

@@ -1,6 +1,6 @@
 // Rows found by their hashes.
 use crate::row::ROW_SIZE;
-use rules::hashes::same_hash;
+use order::hashes::same_hash;
 ghost use mathlib.Core.Path.{_≡_};
 ghost use Prim.Native.Nat.{_+_, _*_, _≤_};
 ghost use lib.ListN.{length};

@@ -8,15 +8,15 @@ use Rattle.rules.specs.Sizes.{sizes}
 use Rattle.rules.specs.declared.refusal.Refusal.{Refusal}
 use Rattle.rules.specs.declared.refusal.Refusal.the-variants.{PastSize, NoRoom}
 use Rattle.state.specs.declared.session.Session.{Session}
-use Rattle.taking.specs.Draft.{receivedCounts, shortWith, decided, noDraft, putsOf}
+use Rattle.taking.specs.Receipt.{receivedCounts, shortWith, receiptDecided, noReceipt, receiptPuts}
 use Rattle.taking.specs.declared.answer.Received.{Received as Answer}
 use Rattle.taking.specs.declared.answer.Received.the-variants.{Took, Failed, Refused}
-use Rattle.taking.specs.declared.answer.Rooms.{Rooms}
-use Rattle.taking.specs.declared.decide.Draft.{Draft}
+use Rattle.taking.specs.declared.answer.SessionRooms.{SessionRooms}
+use Rattle.taking.specs.declared.decide.Receipt.{Receipt}
 
 -- ---- room
 
-module _ (d : Draft) (r : Rooms) where
+module _ (d : Receipt) (r : SessionRooms) where
   pub shared-short : r .shared < sizes .hash * d .shared → sizes .hash * d .shared ≡ shortWith d r
   unfolding shortWith
   shared-short h = rw (lt-ltb _ _ h)
@@ -52,36 +52,36 @@ module _ (d : Draft) (r : Rooms) where
 
 -- ---- the answer
 
-module _ (flagged : Session) (failed : Bool) (d : Draft) (r : Rooms) where
-  pub is-failed : failed ≡ true → Failed flagged ≡ decided flagged failed d r
-  unfolding decided
+module _ (flagged : Session) (failed : Bool) (d : Receipt) (r : SessionRooms) where
+  pub is-failed : failed ≡ true → Failed flagged ≡ receiptDecided flagged failed d r
+  unfolding receiptDecided
   is-failed e = rw e
 
   module _ (fine : failed ≡ false) where
-    pub is-past : sizes .hashes < d .shared → Refused (PastSize 0) ≡ decided flagged failed d r
-    unfolding decided
+    pub is-past : sizes .hashes < d .shared → Refused (PastSize 0) ≡ receiptDecided flagged failed d r
+    unfolding receiptDecided
     is-past h = rw (fine, lt-ltb _ _ h)
 
     module _ (few : d .shared ≤ sizes .hashes) (wanted : ℕ) (short : wanted ≡ shortWith d r) where
-      pub is-short : 0 < wanted → Refused (NoRoom wanted) ≡ decided flagged failed d r
-      unfolding decided
+      pub is-short : 0 < wanted → Refused (NoRoom wanted) ≡ receiptDecided flagged failed d r
+      unfolding receiptDecided
       is-short h = rw (fine, le-ltb _ _ few, ← short, lt-ltb _ _ h)
 
-      pub is-taken : (next : Session) → wanted ≤ 0 → next ≡ receivedCounts flagged d → Took next ≡ decided flagged failed d r
-      unfolding decided
+      pub is-taken : (next : Session) → wanted ≤ 0 → next ≡ receivedCounts flagged d → Took next ≡ receiptDecided flagged failed d r
+      unfolding receiptDecided
       is-taken next h e = rw (fine, le-ltb _ _ few, ← short, le-ltb _ _ h) (ap Took e)
 
 -- ---- what an answer puts
 
-module _ (a : Answer) (d : Draft) where
-  pub took-puts : (s : Session) → a ≡ Took s → d ≡ putsOf a d
-  unfolding putsOf
+module _ (a : Answer) (d : Receipt) where
+  pub took-puts : (s : Session) → a ≡ Took s → d ≡ receiptPuts a d
+  unfolding receiptPuts
   took-puts s e = rw e
 
-  pub failed-puts : (s : Session) → a ≡ Failed s → noDraft ≡ putsOf a d
-  unfolding putsOf
+  pub failed-puts : (s : Session) → a ≡ Failed s → noReceipt ≡ receiptPuts a d
+  unfolding receiptPuts
   failed-puts s e = rw e
 
-  pub refused-puts : (r : Refusal) → a ≡ Refused r → noDraft ≡ putsOf a d
-  unfolding putsOf
+  pub refused-puts : (r : Refusal) → a ≡ Refused r → noReceipt ≡ receiptPuts a d
+  unfolding receiptPuts
   refused-puts r e = rw e

@@ -13,8 +13,8 @@ use native.Mathlib.Omega.{arith}
 use Rattle.lent.specs.Good.{lentOf}
 use Rattle.session.specs.Laid.{laidBytes}
 use Rattle.laying.specs.Made.{Layable, LaidPut}
-use Rattle.taking.specs.declared.decide.Draft.{Draft}
-use Rattle.taking.specs.Draft.{Parts, LaidFit, allPut}
+use Rattle.taking.specs.declared.decide.Receipt.{Receipt}
+use Rattle.taking.specs.Receipt.{ReceiptParts, LaidFit, receiptPut}
 
 pub part-put : (out s next : List ℕ) (a k : ℕ) → next ≡ sets out 0 (take (a + k - a) (drop a s)) → next ≡ sets out 0 (slice a (a + k) s)
 part-put out s next a k e = e ∙ ap (sets out 0) (ap (λ (j : ℕ). take j (drop a s)) (add-sub-cancel-left a k) ∙ take-drop k a s)
@@ -34,14 +34,14 @@ pub lents-same : {a a′ b b′ c c′ d d′ e e′ f f′ g g′ : List ℕ} �
 lents-same a b c d e f g = rw (a, b, c, d, e, f, g)
 
 -- one part after the other is all of it
-pub parts-put : (p : Draft) (message : List ℕ) (atHeads atNeed : ℕ) (ready : Parts) (l : Lent) {a b c d e f g : List ℕ}
+pub parts-put : (p : Receipt) (message : List ℕ) (atHeads atNeed : ℕ) (ready : ReceiptParts) (l : Lent) {a b c d e f g : List ℕ}
     → a ≡ sets (l .shared) 0 (slice 0 (0 + sizes .hash * p .shared) (ready .shared))
     → b ≡ sets (l .lastSent) 0 (slice atHeads (atHeads + sizes .hash * p .told) message)
     → c ≡ sets (l .theirHeads) 0 (slice atHeads (atHeads + sizes .hash * p .heads) message)
     → d ≡ sets (l .theirNeed) 0 (slice atNeed (atNeed + sizes .hash * p .need) message)
     → LaidPut (havesOf message (keptHaves (ready .words) (p .haves))) (l .haves) (l .bytes) e f
     → g ≡ sets (l .sent) 0 (slice 0 (0 + sizes .hash * p .sent) (ready .sent))
-    → lentOf a b c d e f g ≡ allPut p message atHeads atNeed ready l
+    → lentOf a b c d e f g ≡ receiptPut p message atHeads atNeed ready l
 parts-put p message atHeads atNeed ready l a b c d laid g =
     lents-same
     (a ∙ ap (λ (k : ℕ). sets (l .shared) 0 (take k (ready .shared))) (zero-add (sizes .hash * p .shared)))

@@ -12,7 +12,7 @@ pub enum Received {
 }
 
 // The lengths of the session's lists that are lent: bytes, and words for the records of haves.
-pub struct Rooms {
+pub struct SessionRooms {
     pub shared: usize,
     pub last_sent: usize,
     pub their_heads: usize,

@@ -1,6 +1,6 @@
 // What is decided once everything is computed: nothing is written before all of it is known.
 use crate::answer::Received;
-use crate::answer::Rooms;
+use crate::answer::SessionRooms;
 use bloom::have::HAVE_WORDS;
 use rules::refusal::Refusal;
 use rules::sizes::HASH_SIZE;
@@ -8,11 +8,11 @@ use rules::sizes::HASHES;
 use state::session::Heard;
 use state::session::Session;
 ghost use mathlib.Core.Path.{_≡_};
-ghost use Rattle.taking.specs.Draft.{SmallDraft, receivedCounts, shortWith, decided};
+ghost use Rattle.taking.specs.Receipt.{SmallReceipt, receivedCounts, shortWith, receiptDecided};
 
 // The numbers of a session after a message: how many shared heads, heads sent last and hashes sent it has, how many of the message's heads become
 // the ones sent last, how many heads, needs and haves the message has, and how many bytes the haves take.
-pub struct Draft {
+pub struct Receipt {
     pub shared: usize,
     pub last_sent: usize,
     pub told: usize,
@@ -24,7 +24,7 @@ pub struct Draft {
 }
 
 // The session after a message whose flags were taken.
-fn received_session(flagged: Session, d: Draft) -> Session
+fn received_session(flagged: Session, d: Receipt) -> Session
     ensures { λ r. ⌜ r ≡ receivedCounts flagged d ⌝ }
 {
     Session {
@@ -45,8 +45,8 @@ fn received_session(flagged: Session, d: Draft) -> Session
 }
 
 // The length that the first too short list wants, or 0: no list is too short for nothing.
-fn short_for(d: Draft, r: Rooms) -> usize
-    requires { ⌜ SmallDraft d ⌝ }
+fn short_for(d: Receipt, r: SessionRooms) -> usize
+    requires { ⌜ SmallReceipt d ⌝ }
     ensures { λ x. ⌜ x ≡ shortWith d r ⌝ }
 {
     let shared = HASH_SIZE * d.shared;
@@ -76,9 +76,9 @@ fn short_for(d: Draft, r: Rooms) -> usize
 }
 
 // Decides: 8 where changes were to be loaded and weren't, which leaves the flags taken; 4 for too many shared heads; 7.
-pub fn decide(flagged: Session, failed: bool, d: Draft, r: Rooms) -> Received
-    requires { ⌜ SmallDraft d ⌝ }
-    ensures { λ x. ⌜ x ≡ decided flagged failed d r ⌝ }
+pub fn decide(flagged: Session, failed: bool, d: Receipt, r: SessionRooms) -> Received
+    requires { ⌜ SmallReceipt d ⌝ }
+    ensures { λ x. ⌜ x ≡ receiptDecided flagged failed d r ⌝ }
 {
     if failed {
         return Received::Failed(flagged);

@@ -1,6 +1,6 @@
 // What was decided, put into the session's lists: copies, and no test.
 use crate::answer::Received;
-use crate::decide::Draft;
+use crate::decide::Receipt;
 use bloom::have::HAVE_WORDS;
 use laying::haves::lay_haves;
 use rules::put::copy_into;
@@ -14,13 +14,13 @@ ghost use Rattle.lent.specs.Good.{lentOf};
 ghost use Rattle.laying.specs.Made.{LaidPut};
 ghost use Rattle.rules.specs.Sizes.{sizes};
 ghost use Rattle.state.specs.Value.{keptHaves};
-ghost use Rattle.taking.specs.Draft.{putsOf, partsOf, LaidFit, Fits, allPut};
+ghost use Rattle.taking.specs.Receipt.{receiptPuts, receiptParts, LaidFit, ReceiptFits, receiptPut};
 
 // What is put for a draft: nothing after a refusal.
-pub fn puts_of(received: Received, d: Draft) -> Draft
-    ensures { λ r. ⌜ r ≡ putsOf received d ⌝ }
+pub fn receipt_puts(received: Received, d: Receipt) -> Receipt
+    ensures { λ r. ⌜ r ≡ receiptPuts received d ⌝ }
 {
-    let none = Draft {
+    let none = Receipt {
         shared: 0,
         last_sent: 0,
         told: 0,
@@ -56,7 +56,7 @@ fn put_laid(message: &[u8], words: &[u64], count: usize, haves: &mut [u64], byte
 
 // Copies what stands ready, and the message's heads and need from where they stand in it.
 pub fn put(
-    p: Draft,
+    p: Receipt,
     message: &[u8],
     at_heads: usize,
     at_need: usize,
@@ -71,12 +71,12 @@ pub fn put(
     bytes: &mut [u8],
     sent: &mut [u8],
 )
-    requires { ⌜ Fits p (now message) «at_heads» «at_need» (partsOf (now «ready_shared») (now «ready_sent») (now words))
+    requires { ⌜ ReceiptFits p (now message) «at_heads» «at_need» (receiptParts (now «ready_shared») (now «ready_sent») (now words))
         (lentOf (now shared) (now «last_sent») (now «their_heads») (now «their_need») (now haves) (now bytes) (now sent)) ⌝ }
     ensures { λ _. ⌜ lentOf (now (shared .exit)) (now («last_sent» .exit)) (now («their_heads» .exit)) (now («their_need» .exit))
         (now (haves .exit)) (now (bytes .exit)) (now (sent .exit))
-        ≡ allPut p (now (message .entry)) «at_heads» «at_need»
-        (partsOf (now («ready_shared» .entry)) (now («ready_sent» .entry)) (now (words .entry)))
+        ≡ receiptPut p (now (message .entry)) «at_heads» «at_need»
+        (receiptParts (now («ready_shared» .entry)) (now («ready_sent» .entry)) (now (words .entry)))
         (lentOf (now (shared .entry)) (now («last_sent» .entry)) (now («their_heads» .entry)) (now («their_need» .entry))
         (now (haves .entry)) (now (bytes .entry)) (now (sent .entry))) ⌝ }
 {

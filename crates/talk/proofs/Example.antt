@@ -7,34 +7,19 @@ use native.Mathlib.Omega.{arith}
 use lib.ListN.{length, replicate}
 use Rattle.bloom.specs.Filter.{defaultBits, defaultProbes}
 use Rattle.index.specs.Index.{fitsBy, fits, indexFits, indexChecked}
-use Rattle.memory.specs.Memory.{Fresh, Out, RoomyOut, Tabled, Beside}
 use Rattle.memory.proofs.AllBytes.{bytes-none, bytes-cons, bytes-append, zeros-bytes}
-use Rattle.rules.specs.Hash.{Bytes, bigEndian, bigEndianBytes, hashAt, hashesAt, hashBytes}
-use Rattle.rules.specs.Order.{member, every, ascends}
-use Rattle.rules.specs.Sizes.{sizes}
+use Rattle.memory.specs.Memory.{Fresh, Out, RoomyOut, Tabled, Beside}
+use Rattle.order.specs.Order.{member, every, ascends}
 use Rattle.rules.proofs.Hash.{big-endian-bytes-bytes}
-use Rattle.tables.specs.Bytes.{
-  u16At,
-  u16sAt,
-  countOf,
-  usedOf,
-  unusedOf,
-  rowOf,
-  rowsOf,
-  wholeRowsOf,
-  zeros,
-  numbersGood,
-  rowGoodOf,
-  firstBad,
-  checkedWith,
-  tableCheckedOf,
-  tableOf,
-}
+use Rattle.rules.specs.Hash.{Bytes, bigEndian, bigEndianBytes, hashAt, hashesAt, hashBytes}
+use Rattle.rules.specs.LittleEndian.{u16At}
+use Rattle.rules.specs.Sizes.{sizes}
+use Rattle.tables.specs.Bytes.{u16sAt, countOf, usedOf, unusedOf, rowOf, rowsOf, wholeRowsOf, zeros, numbersGood, rowGoodOf, firstBad, checkedWith, tableCheckedOf, tableOf}
 use Rattle.tables.specs.Calls.{passedOn}
 use Rattle.tables.specs.Table.{Row, rows, hashOf, held}
 use Rattle.tables.specs.declared.check.Checked.the-variants.{Good}
-use Rattle.turns.specs.Talk.{Reached, Granted}
 use Rattle.turns.proofs.TalkExample.{held-by-b, waiting-at-b, waiting-at-a, lent, all-granted}
+use Rattle.turns.specs.Talk.{Reached, Granted}
 use Rattle.waiting.specs.Bytes.{
   asksCountOf,
   waitingRowOf,

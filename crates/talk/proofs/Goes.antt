@@ -13,28 +13,28 @@ use lib.Seq.{slice, take-length}
 use Rattle.answers.specs.Answer.{writeWords}
 use Rattle.bloom.specs.Filter.{defaultBits, defaultProbes}
 use Rattle.bloom.specs.Have.{Have, haveCount, numbersIn, filterWith, haveIn, havesFrom, havesOf}
-use Rattle.decode.specs.Read.{Reading, messageAt, messageOf}
-use Rattle.hearing.specs.Receive.{saidIn, Received, received, receiveBytes}
+use Rattle.decode.specs.Read.{Reading, messageAt, messageIn}
 use Rattle.hearing.proofs.ReceiveLaws.{receive-taking, bytes-beyond, bytes-refused, bytes-read}
+use Rattle.hearing.specs.Receive.{saidIn, Received, received, receiveBytes}
 use Rattle.lent.specs.Good.{lentOf}
-use Rattle.memory.specs.Memory.{Memory, OfBytes, Holds, Fresh, Out, RoomyOut, Tabled, Beside, HostBytes}
 use Rattle.memory.proofs.AllBytes.{bytes-none, bytes-sets, hashes-bytes, field-bytes, FieldBytes, laid-bytes, plan-bytes}
+use Rattle.memory.specs.Memory.{Memory, OfBytes, Holds, Fresh, Out, RoomyOut, Tabled, Beside, HostBytes}
 use Rattle.message.specs.Message.{joined}
 use Rattle.message.specs.Sound.{Each}
 use Rattle.message.specs.Write.{partsOf, chunksFrom, messageOutput}
 use Rattle.message_calls.specs.MessageWords.{versionOf, sectionOf}
-use Rattle.planned.specs.Call.{Buffers, buffersOf, answerOf, putInto}
-use Rattle.receive.specs.Call.{answerOf as answerFor, keptIn}
+use Rattle.order.specs.Order.{member, every}
+use Rattle.planned.specs.Call.{Buffers, buffersOf, plannedAnswer, putInto}
+use Rattle.receive.specs.Call.{receivedAnswer as answerFor, keptIn}
+use Rattle.rules.proofs.Cases.{split}
+use Rattle.rules.proofs.Hash.{slice-parts, bytes-slice}
 use Rattle.rules.specs.Hash.{Bytes, hashesBytes}
-use Rattle.rules.specs.Order.{member, every}
 use Rattle.rules.specs.Output.{Output, answerOf as answerTo, contentOf}
 use Rattle.rules.specs.Sizes.{sizes}
 use Rattle.rules.specs.declared.refusal.Refusal.{Refusal}
-use Rattle.rules.proofs.Cases.{split}
-use Rattle.rules.proofs.Hash.{slice-parts, bytes-slice}
+use Rattle.session.proofs.PlanLaws.{have-one, have-none, plan-saying}
 use Rattle.session.specs.Laid.{laidBytes}
 use Rattle.session.specs.Plan.{Plan, Planned, heard, needOf, haveOf, planOf, resetOf, plan, after}
-use Rattle.session.proofs.PlanLaws.{have-one, have-none, plan-saying}
 use Rattle.session_calls.specs.SessionCalls.{plannedWords, plannedSession, planFor, receivedWords, receivedSession, receiveFor}
 use Rattle.session_words.specs.Words.{sessionOf}
 use Rattle.size.specs.Size.{total}
@@ -45,7 +45,7 @@ use Rattle.tables.specs.Table.{Row}
 use Rattle.turns.specs.Talk.{Host, chunksFor, bytesFor, left, pairAt}
 use Rattle.waiting.specs.Bytes.{waitingOf}
 use Rattle.waiting.specs.Waiting.{Waiting}
-use Rattle.talk.specs.Calls.{speaks, recordsIn, planIn, PlanMade, Speaks, Hears, Both, Round, TalkOfCalls, AreSessions, Lends, CallsGo}
+use Rattle.talk.specs.Calls.{speaks, haveWordsIn, planIn, PlanMade, Speaks, Hears, Both, Round, TalkOfCalls, AreSessions, Lends, CallsGo}
 use Rattle.talk.proofs.Planning.{held-good, reset-is}
 use Rattle.talk.proofs.Receiving.{receive-for, receive-holds}
 use Rattle.talk.proofs.Speaking.{speaking-holds, crossing}
@@ -117,7 +117,7 @@ module _ (table waiting : List ℕ) (tabled : Tabled table) (beside : Beside (ta
     abbrev then : Memory
     then =
         record {
-          words = plannedSession (answerOf (sessionOf (m .words)) (planFor (m .words) (m .lists) table (tabled .index) waiting given)) (m .words);
+          words = plannedSession (plannedAnswer (sessionOf (m .words)) (planFor (m .words) (m .lists) table (tabled .index) waiting given)) (m .words);
           lists =
               lentOf (m .lists .shared) (leaves .lastSent) (m .lists .theirHeads) (m .lists .theirNeed) (m .lists .haves) (m .lists .bytes) (leaves .sent);
         }
@@ -126,7 +126,7 @@ module _ (table waiting : List ℕ) (tabled : Tabled table) (beside : Beside (ta
     parts = record { heads = leaves .heads; need = leaves .need; have = leaves .have; list = leaves .list }
 
     abbrev answer : List ℕ
-    answer = plannedWords (answerOf (sessionOf (m .words)) (planFor (m .words) (m .lists) table (tabled .index) waiting given))
+    answer = plannedWords (plannedAnswer (sessionOf (m .words)) (planFor (m .words) (m .lists) table (tabled .index) waiting given))
 
     still-bytes : OfBytes (then .lists)
     unfolding putInto
@@ -149,7 +149,7 @@ module _ (table waiting : List ℕ) (tabled : Tabled table) (beside : Beside (ta
     abbrev output : Output
     output =
         messageOutput (partsOf (versionOf (getD answer 2 0)) (take (sizes .hash * getD answer 5 0) (parts .heads)) (take (sizes .hash * getD answer 6 0) (parts .need))
-        (parts .have) (recordsIn answer) (one-after lent) (lengths-of lent) (sectionOf (getD answer 3 0)))
+        (parts .have) (haveWordsIn answer) (one-after lent) (lengths-of lent) (sectionOf (getD answer 3 0)))
 
     abbrev written : List ℕ
     written = writeWords (answerTo output (length buffer))
@@ -207,7 +207,7 @@ module _ (before : ℕ) (t : List Row) (x : State) (message : List ℕ) (said : 
 
   read-heard : before ≤ length t → (y : Reading) → messageAt message ≡ y → (s : State) → receiveBytes true before t x message ≡ Received.took s
       → HeardFields (s .theirHave)
-  unfolding received saidIn messageOf havesOf
+  unfolding received saidIn messageIn havesOf
   read-heard inside (Reading.refused q) r s e = untaken (sym (bytes-refused true before t x message inside q r) ∙ e)
   read-heard inside (Reading.read p haves chunks) r s e =
       let taking = receive-taking true before t x _ s (sym (bytes-read true before t x message inside p haves chunks r) ∙ e) in

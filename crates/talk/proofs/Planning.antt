@@ -12,7 +12,7 @@ use lib.ListN.{length}
 use lib.Seq.{sets, length-sets}
 use Rattle.bloom.specs.Filter.{defaultBits, defaultProbes}
 use Rattle.bloom.proofs.Rules.{rules-none}
-use Rattle.planned.specs.Call.{Buffers, buffersOf, afterTables, planWith, plannedCounts, answerOf, roomed, roomsIn, said, lastSentPut, sentPut, putInto}
+use Rattle.planned.specs.Call.{Buffers, buffersOf, afterTables, planWith, plannedCounts, plannedAnswer, plannedRoomed, plannedRooms, said, lastSentPut, sentPut, putInto}
 use Rattle.graph.specs.Graph.{heads}
 use Rattle.index.proofs.CheckLaws.{checked-table}
 use Rattle.kept.specs.Kept.{plannedIn}
@@ -36,7 +36,7 @@ use Rattle.session_calls.specs.SessionCalls.{plannedWords, plannedSession, plan
 use Rattle.session_words.specs.Words.{sessionWords, sessionOf}
 use Rattle.session_words.proofs.WordLaws.{words-back}
 use Rattle.state.specs.Session.{State}
-use Rattle.state.specs.Value.{Lent, valueOf, countsOf}
+use Rattle.state.specs.Value.{Lent, stateOf, countsOf}
 use Rattle.state.specs.declared.session.Session.{Session}
 use Rattle.tables.specs.Bytes.{tableOf}
 use Rattle.tables.specs.Table.{Row, rows}
@@ -177,8 +177,8 @@ module _ (table waiting : List ℕ) (tabled : Tabled table) (beside : Beside (ta
       lent = buffersOf (o .heads) (o .need) (o .have) (o .list) (l .lastSent) (l .sent)
 
       -- 7 is never answered
-      has-room : (p : Planned) → plan defaultBits defaultProbes t w x ≡ p → roomed (roomsIn lent) p ≡ p
-      unfolding roomed
+      has-room : (p : Planned) → plan defaultBits defaultProbes t w x ≡ p → plannedRoomed (plannedRooms lent) p ≡ p
+      unfolding plannedRoomed
       has-room (Planned.refused r) e = refl
       has-room Planned.silent e = refl
       has-room (Planned.reset q) e = reset-roomed o l wide room q (rw (reset-is q e) reset-fine)
@@ -186,7 +186,7 @@ module _ (table waiting : List ℕ) (tabled : Tabled table) (beside : Beside (ta
           says-roomed o l wide room q s (says-fine q s e) (planned-good defaultBits defaultProbes t w x sound good q s e)
 
       -- what is planned for the words is the step's plan
-      plan-with : (c : Session) → c ≡ countsOf x → sessionGood (countsOf x) l ≡ true → valueOf (countsOf x) l ≡ x
+      plan-with : (c : Session) → c ≡ countsOf x → sessionGood (countsOf x) l ≡ true → stateOf (countsOf x) l ≡ x
           → planWith defaultBits defaultProbes c l table (tabled .index) waiting ≡ plan defaultBits defaultProbes t w x
       unfolding planWith tablesChecked passedOn afterTables
       plan-with c counts goods value = rw (counts, goods, tabled .good, beside .good, value)
@@ -202,16 +202,16 @@ module _ (table waiting : List ℕ) (tabled : Tabled table) (beside : Beside (ta
 
       plan-for : planFor (m .words) (m .lists) table (tabled .index) waiting given ≡ p
       plan-for =
-          ap (roomed (roomsIn given)) (plan-with o (m .lists) wide (h .room) (sessionOf (m .words)) (h .counts) (h .stays .good) (h .stays .value))
+          ap (plannedRoomed (plannedRooms given)) (plan-with o (m .lists) wide (h .room) (sessionOf (m .words)) (h .counts) (h .stays .good) (h .stays .value))
           ∙ has-room o (m .lists) wide (h .room) p refl
 
       -- it answers what the step plans
-      pub plan-answer : answer ≡ plannedWords (answerOf (countsOf x) p)
-      plan-answer = made .call .answer ∙ ap₂ (λ (c : Session) (q : Planned). plannedWords (answerOf c q)) (h .counts) plan-for
+      pub plan-answer : answer ≡ plannedWords (plannedAnswer (countsOf x) p)
+      plan-answer = made .call .answer ∙ ap₂ (λ (c : Session) (q : Planned). plannedWords (plannedAnswer c q)) (h .counts) plan-for
 
-      plan-words : m′ .words ≡ plannedSession (answerOf (countsOf x) p) (m .words)
+      plan-words : m′ .words ≡ plannedSession (plannedAnswer (countsOf x) p) (m .words)
       plan-words =
-          made .call .session ∙ ap₂ (λ (c : Session) (q : Planned). plannedSession (answerOf c q) (m .words)) (h .counts) plan-for
+          made .call .session ∙ ap₂ (λ (c : Session) (q : Planned). plannedSession (plannedAnswer c q) (m .words)) (h .counts) plan-for
 
       plan-buffers : buffersOf (o′ .heads) (o′ .need) (o′ .have) (o′ .list) (m′ .lists .lastSent) (m′ .lists .sent) ≡ putInto p given
       plan-buffers = made .call .buffers ∙ ap (λ (q : Planned). putInto q given) plan-for
@@ -225,7 +225,7 @@ module _ (table waiting : List ℕ) (tabled : Tabled table) (beside : Beside (ta
       list-sent = ap (λ (b : Buffers). b .sent) plan-buffers
 
       -- what isn't a message leaves the memory as it was
-      unchanged : lastSentPut p ≡ [] → sentPut p ≡ [] → plannedSession (answerOf (countsOf x) p) (m .words) ≡ m .words → Holds x m′
+      unchanged : lastSentPut p ≡ [] → sentPut p ≡ [] → plannedSession (plannedAnswer (countsOf x) p) (m .words) ≡ m .words → Holds x m′
       unfolding hashesBytes
       unchanged e f g =
           let last : m′ .lists .lastSent ≡ m .lists .lastSent = list-last ∙ ap (λ (l : List ℕ). sets (m .lists .lastSent) 0 (hashesBytes l)) e in
@@ -241,7 +241,7 @@ module _ (table waiting : List ℕ) (tabled : Tabled table) (beside : Beside (ta
 
       -- a message leaves the session that is planned
       changed : (q : Plan) (s : State) → p ≡ Planned.says q s → Holds s m′
-      unfolding planned answerOf
+      unfolding planned plannedAnswer
       changed q s e =
           let l : Lent = m .lists in
           let saying = plan-saying defaultBits defaultProbes t w x q s e in
@@ -251,7 +251,7 @@ module _ (table waiting : List ℕ) (tabled : Tabled table) (beside : Beside (ta
           let lists : m′ .lists ≡ plannedIn s l = made .others ∙ rw (last, sent) in
           let counts : plannedCounts (countsOf x) (length (s .lastSentHeads)) (length (s .sentHashes)) ≡ countsOf s = rw (saying .session) in
           let words : m′ .words ≡ sessionWords (plannedCounts (countsOf x) (length (s .lastSentHeads)) (length (s .sentHashes))) = rw e at plan-words in
-          let before : plan defaultBits defaultProbes t w (valueOf (countsOf x) l) ≡ Planned.says q s = rw (h .stays .value) e in
+          let before : plan defaultBits defaultProbes t w (stateOf (countsOf x) l) ≡ Planned.says q s = rw (h .stays .value) e in
           record {
             counts = ap sessionOf words ∙ words-back _ ∙ counts;
             stays =
@@ -263,7 +263,7 @@ module _ (table waiting : List ℕ) (tabled : Tabled table) (beside : Beside (ta
           }
 
       after-call : (p′ : Planned) → p ≡ p′ → Holds (after p′ x) m′
-      unfolding answerOf
+      unfolding plannedAnswer
       after-call (Planned.refused r) e = unchanged (rw e) (rw e) (rw e)
       after-call Planned.silent e = unchanged (rw e) (rw e) (rw e)
       after-call (Planned.reset q) e = unchanged (rw e) (rw e) (rw e)

@@ -18,7 +18,7 @@ use Rattle.kept.specs.Kept.{receivedIn}
 use Rattle.kept.proofs.Calls.{receive-stays-good, refuse-stays-good}
 use Rattle.memory.specs.Memory.{Memory, Roomy, Holds, Tabled}
 use Rattle.memory.proofs.Rooms.{received-room, took-roomed}
-use Rattle.receive.specs.Call.{afterTable, receiveWith, roomed, roomsIn, refusalAnswer, answerOf, keptIn}
+use Rattle.receive.specs.Call.{afterTable, receiveWith, receivedRoomed, receivedRooms, refusalAnswer, receivedAnswer, keptIn}
 use Rattle.rules.specs.Hash.{Bytes, AreHashes, hashesBytes}
 use Rattle.rules.specs.Refusal.{numberOf}
 use Rattle.rules.specs.declared.refusal.Refusal.{Refusal}
@@ -30,7 +30,7 @@ use Rattle.session_calls.specs.SessionCalls.{receivedWords, receivedSession, re
 use Rattle.session_words.specs.Words.{sessionWords, sessionOf}
 use Rattle.session_words.proofs.WordLaws.{words-back}
 use Rattle.state.specs.Session.{State}
-use Rattle.state.specs.Value.{Lent, valueOf, countsOf}
+use Rattle.state.specs.Value.{Lent, stateOf, countsOf}
 use Rattle.state.specs.declared.session.Session.{Session}
 use Rattle.tables.specs.Bytes.{tableOf}
 use Rattle.tables.specs.Table.{Row, rows}
@@ -61,14 +61,14 @@ module _ (table : List ℕ) (tabled : Tabled table) (before : ℕ) (message : Li
   are = table-sound table tabled .are
 
   abbrev was : State
-  was = valueOf (countsOf x) (m .lists)
+  was = stateOf (countsOf x) (m .lists)
 
   taken-good : (s : State) → r ≡ Received.took s → GoodState s
   taken-good s e = bytes-good true before t x message said are (held-good x m h) .took s e
 
   -- 7 is never answered
-  has-room : (old : State) (y : Received) → r ≡ y → roomed (roomsIn (m .lists)) old y ≡ y
-  unfolding roomed
+  has-room : (old : State) (y : Received) → r ≡ y → receivedRoomed (receivedRooms (m .lists)) old y ≡ y
+  unfolding receivedRoomed
   has-room old (Received.took s) e = took-roomed s (m .lists) (taken-good s e) (h .room) old
   has-room old (Received.refused q s) e = refl
 
@@ -78,22 +78,22 @@ module _ (table : List ℕ) (tabled : Tabled table) (before : ℕ) (message : Li
 
   pub receive-for : receiveFor (m .words) (m .lists) table (tabled .index) before message true ≡ r
   receive-for =
-      ap (roomed (roomsIn (m .lists)) (valueOf (sessionOf (m .words)) (m .lists))) (receive-with (sessionOf (m .words)) (h .counts))
+      ap (receivedRoomed (receivedRooms (m .lists)) (stateOf (sessionOf (m .words)) (m .lists))) (receive-with (sessionOf (m .words)) (h .counts))
       ∙ has-room _ r refl
 
   module _ (m′ : Memory) (made : Hears table (tabled .index) before message m m′) where
     -- it answers what the step gives
-    pub receive-answer : made .answer ≡ receivedWords (answerOf r)
-    receive-answer = made .call .answer ∙ ap (λ (y : Received). receivedWords (answerOf y)) receive-for
+    pub receive-answer : made .answer ≡ receivedWords (receivedAnswer r)
+    receive-answer = made .call .answer ∙ ap (λ (y : Received). receivedWords (receivedAnswer y)) receive-for
 
-    receive-words : m′ .words ≡ receivedSession (answerOf r) (m .words)
-    receive-words = made .call .session ∙ ap (λ (y : Received). receivedSession (answerOf y) (m .words)) receive-for
+    receive-words : m′ .words ≡ receivedSession (receivedAnswer r) (m .words)
+    receive-words = made .call .session ∙ ap (λ (y : Received). receivedSession (receivedAnswer y) (m .words)) receive-for
 
     receive-lists : m′ .lists ≡ keptIn r (m .lists)
     receive-lists = made .call .lists ∙ ap (λ (y : Received). keptIn y (m .lists)) receive-for
 
     taken : (s : State) → r ≡ Received.took s → Holds s m′
-    unfolding keptIn answerOf
+    unfolding keptIn receivedAnswer
     taken s e =
         let l : Lent = m .lists in
         let lists : m′ .lists ≡ receivedIn s l = receive-lists ∙ rw e in
@@ -111,7 +111,7 @@ module _ (table : List ℕ) (tabled : Tabled table) (before : ℕ) (message : Li
 
     -- only 8 changes the words
     refused-counts : (q : Refusal) (s : State) → r ≡ Received.refused q s → sessionOf (m′ .words) ≡ countsOf s
-    unfolding answerOf refusalAnswer
+    unfolding receivedAnswer refusalAnswer
     refused-counts q s e =
         split (eqb (numberOf q) (numberOf LoadFailed))
         (λ f.

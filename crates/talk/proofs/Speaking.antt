@@ -14,7 +14,7 @@ use Rattle.hearing.specs.Receive.{receiveBytes}
 use Rattle.memory.specs.Memory.{Memory, Holds, Tabled, Beside}
 use Rattle.memory.proofs.Rooms.{Fine}
 use Rattle.message.specs.Message.{messageBytes}
-use Rattle.planned.specs.Call.{statedOf, answerOf, said}
+use Rattle.planned.specs.Call.{statedOf, plannedAnswer, said}
 use Rattle.rules.specs.Sizes.{sizes}
 use Rattle.rules.proofs.Cases.{split}
 use Rattle.session.specs.Plan.{Plan, Planned, plan, after}
@@ -49,7 +49,7 @@ module _ (host : Host) (table waiting : List ℕ) (tabled : Tabled table) (besid
   pub speaking-holds : Holds (after p x) m′
   speaking-holds = plan-holds table waiting tabled beside x good m m′ (speech .out) (speech .out′) (speech .answer) h (speech .room) (speech .plans)
 
-  words : speech .answer ≡ plannedWords (answerOf (countsOf x) p)
+  words : speech .answer ≡ plannedWords (plannedAnswer (countsOf x) p)
   words = plan-answer table waiting tabled beside x good m m′ (speech .out) (speech .out′) (speech .answer) h (speech .room) (speech .plans)
 
   put : Put (said p) (speech .out) (speech .out′)
@@ -81,7 +81,7 @@ module _ (host : Host) (table waiting : List ℕ) (tabled : Tabled table) (besid
         }
 
   pub crossing : (y : Planned) → p ≡ y → Crosses (bytesFor host y) message
-  unfolding answerOf bytesFor
+  unfolding plannedAnswer bytesFor
   crossing (Planned.refused r) e = nothing-crosses message (speech .silent (rw (words, e, number-some r)))
   crossing Planned.silent e = nothing-crosses message (speech .silent (rw (words, e)))
   crossing (Planned.reset q) e =
@@ -114,7 +114,7 @@ module _ (host : Host) (table waiting : List ℕ) (tabled : Tabled table) (besid
         → (message ≡ messageBytes (messageFor host q)) × (getD (speech .written) 0 0 ≡ 0)
 
   pub speaking-said : (q : Plan) (s : State) → p ≡ Planned.says q s → Said q
-  unfolding answerOf
+  unfolding plannedAnswer
   speaking-said q s e =
       let is : speech .answer ≡ statedWords 2 (statedOf q) = rw e at words in
       let fine : Fine q = says-fine table waiting tabled beside x good q s e in

@@ -15,7 +15,7 @@ use Rattle.hearing.proofs.ReceiveLaws.{bytes-beyond, bytes-refused}
 use Rattle.lent.proofs.GoodSessions.{fresh-good}
 use Rattle.memory.specs.Memory.{Memory, Holds, Tabled, Beside, Fresh}
 use Rattle.message.specs.Message.{messageBytes}
-use Rattle.receive.specs.Call.{answerOf}
+use Rattle.receive.specs.Call.{receivedAnswer}
 use Rattle.rules.specs.Hash.{hashesAt}
 use Rattle.rules.specs.Sizes.{sizes}
 use Rattle.rules.specs.declared.refusal.Refusal.{Refusal}
@@ -87,7 +87,7 @@ module _ (host : Host) (table waiting : List ℕ) (tabled : Tabled table) (besid
     (theirs : List ℕ) (accepted : Tabled theirs) (before : ℕ) (y z : State) (l l′ : Memory) (held : Holds y l) (hearing : Hears theirs (accepted .index) before message l l′)
     (took : receiveBytes true before (tableOf theirs) y (messageBytes (messageFor host q)) ≡ Received.took z) where
   answered-so : SaidSo (speech .answer) (speech .written) (speech .out′) (q .body .hashes) × (getD (hearing .answer) 0 0 ≡ 0)
-  unfolding answerOf
+  unfolding receivedAnswer
   answered-so =
       let done = speaking-said host table waiting tabled beside x m m′ h message speech q s says in
       let wrote = done .crosses (taken-small before (tableOf theirs) y z _ took) in

@@ -59,7 +59,7 @@ use Rattle.size.proofs.SizeLaws.{chunks-long}
 use Rattle.state.specs.Value.{keptHaves}
 use Rattle.turns.specs.Talk.{Host, chunksFor, messageFor}
 use Rattle.turns.proofs.Message.{chunks-few}
-use Rattle.talk.specs.Calls.{recordsIn, planIn, WriteMade}
+use Rattle.talk.specs.Calls.{haveWordsIn, planIn, WriteMade}
 use Rattle.talk.proofs.Planning.{Put}
 
 -- ---- words
@@ -89,7 +89,7 @@ number-some BadRowsBefore = refl
 number-some BadIndex = refl
 
 -- the words of the have are its record
-records-read : (what : ℕ) (q : Plan) (vs : List Have) → q .haves ≡ vs → length vs ≤ 1 → recordsIn (statedWords what (statedOf q)) ≡ laidWords vs
+records-read : (what : ℕ) (q : Plan) (vs : List Have) → q .haves ≡ vs → length vs ≤ 1 → haveWordsIn (statedWords what (statedOf q)) ≡ laidWords vs
 unfolding laidWords laidFrom
 records-read what q [] e one = rw e
 records-read what q (v ∷ []) e one = rw (e, zero-add (sizes .hash * length (v .lastSync)))
@@ -125,10 +125,10 @@ module _ (q : Plan) (fine : Fine q) (o o′ : Out) (wide : RoomyOut o) (put : Pu
       (stand-haves-sets (laidWords (q .haves)) (o .have) (q .haves) (fine .haves) (omega (arith, laid-length-words (q .haves)))
       (omega (arith, laid-small (q .haves) (fine .haves .each), fine .one, wide .have)))
 
-  records-are : recordsIn answer ≡ keptHaves (sets (laidWords (q .haves)) 0 (laidWords (q .haves))) (length (q .haves))
+  records-are : haveWordsIn answer ≡ keptHaves (sets (laidWords (q .haves)) 0 (laidWords (q .haves))) (length (q .haves))
   records-are = rw (is, laid-again (q .haves)) (records-read what q (q .haves) refl (fine .one))
 
-  haves-are : havesOf (o′ .have) (recordsIn answer) ≡ q .haves
+  haves-are : havesOf (o′ .have) (haveWordsIn answer) ≡ q .haves
   haves-are = rw records-are (haves-stand .are)
 
   heads-fit : sizes .hash * length (q .heads) ≤ length (o .heads)
@@ -160,11 +160,11 @@ module _ (q : Plan) (fine : Fine q) (o o′ : Out) (wide : RoomyOut o) (put : Pu
     abbrev passed : Parts
     passed =
         partsOf (versionOf (getD answer 2 0)) (take (sizes .hash * getD answer 5 0) (o′ .heads)) (take (sizes .hash * getD answer 6 0) (o′ .need)) (o′ .have)
-        (recordsIn answer) (made .chunks) (made .lengths) (sectionOf (getD answer 3 0))
+        (haveWordsIn answer) (made .chunks) (made .lengths) (sectionOf (getD answer 3 0))
 
     abbrev parts : Parts
     parts =
-        partsOf (q .version) (hashesBytes (q .heads)) (hashesBytes (q .need)) (o′ .have) (recordsIn answer) (made .chunks) (made .lengths) (Present (q .flags))
+        partsOf (q .version) (hashesBytes (q .heads)) (hashesBytes (q .need)) (o′ .have) (haveWordsIn answer) (made .chunks) (made .lengths) (Present (q .flags))
 
     version-is : versionOf (getD answer 2 0) ≡ q .version
     version-is = rw is (version-read (q .version))

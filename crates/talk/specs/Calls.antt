@@ -36,8 +36,8 @@ abbrev pub speaks : List ℕ → Bool
 speaks answer = eqb (getD answer 0 0) 0 && not (eqb (getD answer 1 0) 0)
 
 -- The record of the have, if there is one.
-abbrev pub recordsIn : List ℕ → List ℕ
-recordsIn answer = take (haveWords * getD answer 7 0) (drop 8 answer)
+abbrev pub haveWordsIn : List ℕ → List ℕ
+haveWordsIn answer = take (haveWords * getD answer 7 0) (drop 8 answer)
 
 -- The plan that words and buffers are; `statedWords` (session_calls SessionCalls) has the order of the words.
 abbrev pub planIn : List ℕ → Out → Plan
@@ -46,7 +46,7 @@ planIn answer o =
       version = versionOf (getD answer 2 0);
       heads = hashesAt (o .heads) 0 (getD answer 5 0);
       need = hashesAt (o .need) 0 (getD answer 6 0);
-      haves = havesOf (o .have) (recordsIn answer);
+      haves = havesOf (o .have) (haveWordsIn answer);
       body = record { document = flagOf (getD answer 4 0); hashes = hashesAt (o .list) 0 (getD answer 15 0) };
       flags = flagsOf (getD answer 3 0);
     }
@@ -73,7 +73,7 @@ pub record WriteMade (host : Host) (plan : List ℕ) (o : Out) (answer message :
   pub after : List ℕ
   pub room : sizes .message ≤ length before
   pub call : Answered (messageOutput (partsOf (versionOf (getD plan 2 0)) (take (sizes .hash * getD plan 5 0) (o .heads))
-      (take (sizes .hash * getD plan 6 0) (o .need)) (o .have) (recordsIn plan) chunks lengths (sectionOf (getD plan 3 0)))) before after answer
+      (take (sizes .hash * getD plan 6 0) (o .need)) (o .have) (haveWordsIn plan) chunks lengths (sectionOf (getD plan 3 0)))) before after answer
   pub message-is : message ≡ cond (eqb (getD answer 0 0) 0) (take (getD answer 1 0) after) []
 
 -- A unit speaks: it plans, and where something is said the message is written.

@@ -10,21 +10,21 @@ use native.Mathlib.Omega.{arith}
 use borrow.Author.Tests.{le-ltb}
 use lib.ListN.{length}
 use Rattle.bloom.specs.Have.{Have}
-use Rattle.graph.specs.Graph.{heads, below}
 use Rattle.graph.proofs.HeadLaws.{head-held}
+use Rattle.graph.specs.Graph.{heads, below}
+use Rattle.hearing.specs.Good.{GoodState}
 use Rattle.lists.specs.Lists.{same}
 use Rattle.message.specs.Message.{counted, messageBytes}
 use Rattle.message.specs.Sound.{SoundHashes}
-use Rattle.missing.specs.Missing.{missing}
 use Rattle.missing.proofs.MissingLaws.{missing-held}
-use Rattle.rules.specs.Hash.{AreHashes}
-use Rattle.rules.specs.Order.{member, every}
-use Rattle.rules.specs.Sizes.{sizes}
+use Rattle.missing.specs.Missing.{missing}
+use Rattle.order.proofs.KeepLaws.{keep-member, keep-same, every-member, every-one}
+use Rattle.order.proofs.OrderLaws.{member-append}
+use Rattle.order.specs.Order.{member, every}
 use Rattle.rules.proofs.Cases.{either, true-false, and-false}
-use Rattle.rules.proofs.KeepLaws.{keep-member, keep-same, every-member, every-one}
-use Rattle.rules.proofs.OrderLaws.{member-append}
+use Rattle.rules.specs.Hash.{AreHashes}
+use Rattle.rules.specs.Sizes.{sizes}
 use Rattle.selection.specs.ToSend.{toSend, toSendLess}
-use Rattle.hearing.specs.Good.{GoodState}
 use Rattle.session.specs.Plan.{
   Body,
   Plan,

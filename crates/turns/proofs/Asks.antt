@@ -9,23 +9,23 @@ use native.Mathlib.Omega.{arith}
 use borrow.Author.Tests.{le-ltb}
 use lib.ListN.{length}
 use Rattle.bloom.specs.Have.{Have}
-use Rattle.graph.specs.Graph.{heads}
 use Rattle.graph.proofs.BelowLaws.{not-below-beyond}
 use Rattle.graph.proofs.HeadLaws.{head-held}
+use Rattle.graph.specs.Graph.{heads}
+use Rattle.hearing.proofs.GoodLaws.{planned-good}
 use Rattle.hearing.specs.Good.{GoodState}
 use Rattle.hearing.specs.Receive.{receive, receiveBytes}
-use Rattle.hearing.proofs.GoodLaws.{planned-good}
 use Rattle.members.proofs.SLaws.{last-syncs-one, filters-one}
 use Rattle.message.specs.Message.{messageBytes}
 use Rattle.message.specs.Sound.{SoundHashes}
 use Rattle.missing.specs.Missing.{missing}
+use Rattle.order.proofs.KeepLaws.{every-one}
+use Rattle.order.proofs.OrderLaws.{member-none}
+use Rattle.order.specs.Order.{member, every, ascend}
 use Rattle.probe.specs.Contains.{contains, anyContains}
-use Rattle.rules.specs.Order.{member, every, ascend}
 use Rattle.rules.proofs.Cases.{split, or-left, and-false}
-use Rattle.rules.proofs.KeepLaws.{every-one}
-use Rattle.rules.proofs.OrderLaws.{member-none}
-use Rattle.selection.specs.ToSend.{toSendLess}
 use Rattle.selection.proofs.SelectLaws.{sent-empty, less-none}
+use Rattle.selection.specs.ToSend.{toSendLess}
 use Rattle.session.specs.Plan.{
   Plan,
   Planned,

@@ -7,14 +7,14 @@ use mathlib.Core.Logic.{_⊎_, inl, inr}
 use mathlib.Core.Path.{_≡_, sym, ap, _∙_}
 use native.Mathlib.Omega.{arith}
 use lib.ListN.{length}
-use Rattle.rules.specs.Order.{member}
+use Rattle.order.proofs.ReachLaws.{below-suc}
+use Rattle.order.specs.Order.{member}
 use Rattle.rules.proofs.Cases.{split, true-false}
-use Rattle.rules.proofs.ReachLaws.{below-suc}
 use Rattle.tables.specs.Table.{Row}
 use Rattle.waiting.specs.Waiting.{Waiting}
-use Rattle.walk.specs.Walk.{Demand3, Walk, holdsAll, lacking}
 use Rattle.walk.proofs.Theorem1.{theorem-1}
 use Rattle.walk.proofs.Walk01.{walk01-walks}
+use Rattle.walk.specs.Walk.{Demand3, Walk, holdsAll, lacking}
 use Rattle.turns.specs.Talk.{Host, pairAt, Reached, Granted, Inside, Tables, Ended, Corollary}
 use Rattle.turns.proofs.Talk.{Standing, reached-going, inside-standing, next, statement-2}
 

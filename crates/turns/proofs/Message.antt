@@ -8,24 +8,24 @@ use native.Mathlib.Omega.{arith}
 use borrow.Author.Tests.{eqb-false, ltb-true, ltb-false}
 use lib.Dec.{eqb, ltb}
 use lib.ListN.{length, length-map}
+use Rattle.bloom.proofs.Rules.{rules-none}
 use Rattle.bloom.specs.Filter.{Filter, filterOf4, filterBytes, defaultBits, defaultProbes}
 use Rattle.bloom.specs.Have.{Have}
-use Rattle.bloom.proofs.Rules.{rules-none}
 use Rattle.decode.proofs.RoundTrip.{message-there-and-back}
 use Rattle.graph.specs.Graph.{belowRow}
-use Rattle.hearing.specs.Receive.{Said, someChunk, saidIn, carries, receive, receiveBytes}
 use Rattle.hearing.proofs.ReceiveLaws.{bytes-read}
+use Rattle.hearing.specs.Receive.{Said, someChunk, saidIn, carries, receive, receiveBytes}
 use Rattle.members.specs.Members.{lastSyncs, filters, candidate, missed, inTheS, theS}
 use Rattle.message.specs.Message.{Message, joined, counted, haveBytes, messageBytes}
 use Rattle.message.specs.Sound.{Each, SoundHave, SoundMessage, SaidFilter, SaidHave}
 use Rattle.message.specs.declared.flags.Section.the-variants.{Present}
-use Rattle.message.specs.declared.version.MessageVersion.{MessageVersion}
 use Rattle.message.specs.declared.version.MessageVersion.the-variants.{V1, V2}
+use Rattle.message.specs.declared.version.MessageVersion.{MessageVersion}
+use Rattle.order.specs.Order.{member}
+use Rattle.order.specs.Reach.{reach}
 use Rattle.probe.specs.Contains.{contains, anyContains}
-use Rattle.rules.specs.Order.{member}
-use Rattle.rules.specs.Reach.{reach}
-use Rattle.rules.specs.Sizes.{sizes}
 use Rattle.rules.proofs.Cases.{split}
+use Rattle.rules.specs.Sizes.{sizes}
 use Rattle.selection.specs.ToSend.{toSend, toSendLess}
 use Rattle.session.specs.Plan.{Plan, listOf, empty}
 use Rattle.state.specs.Session.{State}

@@ -8,26 +8,26 @@ use mathlib.Core.Path.{_≡_, refl, sym, ap, _∙_}
 use native.Mathlib.Nat.{le-trans}
 use native.Mathlib.Omega.{arith}
 use lib.ListN.{length, take}
-use Rattle.graph.specs.Graph.{heads, below, beyond}
 use Rattle.graph.proofs.BelowLaws.{beyond-few, beyond-held, beyond-not-below, not-below-beyond}
 use Rattle.graph.proofs.HeadLaws.{head-held, rows-below-heads}
-use Rattle.hearing.specs.Good.{GoodState}
-use Rattle.hearing.specs.Receive.{Said, Received, sharedLoaded, sharedAfter, sentLeft, join, loads, received, receive}
+use Rattle.graph.specs.Graph.{heads, below, beyond}
 use Rattle.hearing.proofs.GoodLaws.{received-good}
 use Rattle.hearing.proofs.ReceiveLaws.{join-members, join-ascends, advance-members, shared-taken, shared-joined, left-inside, receive-is}
-use Rattle.probe.specs.Build.{filterOf}
+use Rattle.hearing.specs.Good.{GoodState}
+use Rattle.hearing.specs.Receive.{Said, Received, sharedLoaded, sharedAfter, sentLeft, join, loads, received, receive}
+use Rattle.order.proofs.KeepLaws.{no-members, every-member}
+use Rattle.order.proofs.OrderLaws.{member-none}
+use Rattle.order.specs.Order.{member, every}
 use Rattle.probe.proofs.FieldLaws.{accepted-contained}
-use Rattle.rules.specs.Order.{member, every}
-use Rattle.rules.specs.Sizes.{sizes}
+use Rattle.probe.specs.Build.{filterOf}
 use Rattle.rules.proofs.Cases.{split, both, either, true-false, and-false}
-use Rattle.rules.proofs.KeepLaws.{no-members, every-member}
-use Rattle.rules.proofs.OrderLaws.{member-none}
+use Rattle.rules.specs.Sizes.{sizes}
 use Rattle.session.specs.Plan.{haveOf, sentAfter, planned}
 use Rattle.state.specs.Session.{State}
 use Rattle.tables.specs.Table.{Row, held}
 use Rattle.waiting.specs.Waiting.{Waiting}
-use Rattle.walk.specs.Round.{Part, Covers}
 use Rattle.walk.proofs.Parts.{part-itself, below-heads, below-there}
+use Rattle.walk.specs.Round.{Part, Covers}
 use Rattle.turns.proofs.Message.{heardHave, heardHaves, heard-contains}
 use Rattle.turns.proofs.Sides.{Fixed, said, SideB}
 use Rattle.turns.proofs.Spoken.{plain-writes, Hears}

@@ -9,17 +9,17 @@ use Rattle.bloom.specs.Filter.{fieldSize, filterRules}
 use Rattle.bloom.specs.Have.{Have}
 use Rattle.graph.specs.Graph.{heads}
 use Rattle.hearing.specs.Good.{SoundTable, GoodState}
-use Rattle.lists.specs.Lists.{same}
 use Rattle.lists.proofs.Lists.{same-equal}
-use Rattle.rules.specs.Order.{member}
+use Rattle.lists.specs.Lists.{same}
+use Rattle.order.proofs.KeepLaws.{every-one}
+use Rattle.order.specs.Order.{member}
 use Rattle.rules.proofs.Cases.{split, true-false}
-use Rattle.rules.proofs.KeepLaws.{every-one}
 use Rattle.state.specs.Session.{State}
 use Rattle.tables.specs.Table.{Row, GoodTable, rows, held}
 use Rattle.waiting.specs.Waiting.{Waiting}
+use Rattle.walk.proofs.Parts.{part-itself, heads-all}
 use Rattle.walk.specs.Round.{Part, Covers}
 use Rattle.walk.specs.Walk.{holdsAll}
-use Rattle.walk.proofs.Parts.{part-itself, heads-all}
 use Rattle.turns.proofs.Waits.{Waits}
 
 -- What never changes: a sound table A, and bits and probes with which filters over no more rows than A's keep the rules.

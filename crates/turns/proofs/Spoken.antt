@@ -7,24 +7,24 @@ use native.Mathlib.Nat.{le-trans}
 use native.Mathlib.Omega.{arith}
 use lib.ListN.{length, length-replicate}
 use Rattle.bloom.specs.Have.{Have}
-use Rattle.graph.specs.Graph.{heads, beyond}
 use Rattle.graph.proofs.BelowLaws.{beyond-few}
+use Rattle.graph.specs.Graph.{heads, beyond}
+use Rattle.hearing.proofs.GoodLaws.{heads-sound, body-few}
 use Rattle.hearing.specs.Good.{SoundTable, SoundHaves, GoodState, SoundSaid}
 use Rattle.hearing.specs.Receive.{Said, receive, receiveBytes}
-use Rattle.hearing.proofs.GoodLaws.{heads-sound, body-few}
 use Rattle.message.specs.Flags.{syncReset, readOnly, hasFlag}
 use Rattle.message.specs.Message.{counted, messageBytes}
 use Rattle.message.specs.Sound.{Each, SoundHashes, SoundHave, SoundMessage}
 use Rattle.message.specs.declared.flags.MessageFlags.{MessageFlags}
 use Rattle.message.specs.declared.flags.Section.the-variants.{Present}
 use Rattle.missing.specs.Missing.{missing}
-use Rattle.probe.specs.Build.{filterOf}
+use Rattle.order.specs.Order.{member, every}
 use Rattle.probe.proofs.FieldLaws.{length-add-hashes}
-use Rattle.rules.specs.Order.{member, every}
-use Rattle.rules.specs.Sizes.{sizes}
+use Rattle.probe.specs.Build.{filterOf}
 use Rattle.rules.proofs.Cases.{split}
-use Rattle.session.specs.Plan.{Plan, heard, haveOf, havesFor, listOf, bodyOf, headsFor, flagsFor, needOf, planOf}
+use Rattle.rules.specs.Sizes.{sizes}
 use Rattle.session.proofs.PlanLaws.{have-one, have-none, have-or-none, said-flags}
+use Rattle.session.specs.Plan.{Plan, heard, haveOf, havesFor, listOf, bodyOf, headsFor, flagsFor, needOf, planOf}
 use Rattle.state.specs.Session.{State}
 use Rattle.tables.specs.Table.{Row}
 use Rattle.waiting.specs.Waiting.{Waiting}

@@ -7,28 +7,28 @@ use mathlib.Core.Path.{_≡_, refl, sym, ap, ap₂, _∙_}
 use native.Mathlib.Nat.{le-trans}
 use native.Mathlib.Omega.{arith}
 use lib.ListN.{length}
+use Rattle.bloom.proofs.Rules.{rules-default}
 use Rattle.bloom.specs.Filter.{fieldSize, filterRules, defaultBits, defaultProbes}
 use Rattle.bloom.specs.Have.{Have}
-use Rattle.bloom.proofs.Rules.{rules-default}
-use Rattle.graph.specs.Graph.{heads, beyond}
 use Rattle.graph.proofs.BelowLaws.{beyond-few}
-use Rattle.hearing.specs.Receive.{Said, Received, sharedAfter, received, receiveBytes}
+use Rattle.graph.specs.Graph.{heads, beyond}
 use Rattle.hearing.proofs.GoodLaws.{fresh-good}
+use Rattle.hearing.specs.Receive.{Said, Received, sharedAfter, received, receiveBytes}
 use Rattle.message.specs.Message.{counted, messageBytes}
 use Rattle.message.specs.declared.version.MessageVersion.{MessageVersion}
 use Rattle.missing.specs.Missing.{missing}
+use Rattle.order.proofs.OrderLaws.{member-none}
 use Rattle.rules.specs.Sizes.{sizes}
-use Rattle.rules.proofs.OrderLaws.{member-none}
 use Rattle.selection.specs.ToSend.{toSendLess}
 use Rattle.session.specs.Plan.{Body, Plan, Planned, documentPart, empty, havesFor, bodyOf, planOf, planned, plan, after}
 use Rattle.state.specs.Session.{State}
 use Rattle.tables.specs.Table.{Row}
 use Rattle.waiting.specs.Waiting.{Waiting}
-use Rattle.walk.specs.Round.{Part, Loads, trim}
-use Rattle.walk.specs.Walk.{At, accepted, Walk01, heardIn}
 use Rattle.walk.proofs.Loaded.{loads-more}
 use Rattle.walk.proofs.Theorem1.{theorem-1}
 use Rattle.walk.proofs.Walk01.{walk01-walks}
+use Rattle.walk.specs.Round.{Part, Loads, trim}
+use Rattle.walk.specs.Walk.{At, accepted, Walk01, heardIn}
 use Rattle.wire.specs.Item.{prefixedBytes}
 use Rattle.turns.specs.Talk.{
   Host,

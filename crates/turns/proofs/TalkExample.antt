@@ -9,29 +9,29 @@ use borrow.Author.Tests.{ltb-true}
 use lib.ListN.{length, take, length-append}
 use Rattle.bloom.specs.Filter.{defaultBits, defaultProbes}
 use Rattle.graph.specs.Graph.{needed, heads}
-use Rattle.hearing.specs.Receive.{Said, sharedLoaded, sharedAfter, loads}
 use Rattle.hearing.proofs.ReceiveLaws.{join-members, advance-members, shared-taken, shared-joined}
+use Rattle.hearing.specs.Receive.{Said, sharedLoaded, sharedAfter, loads}
 use Rattle.message.specs.Message.{joined, counted}
-use Rattle.message.specs.declared.version.MessageVersion.{MessageVersion}
 use Rattle.message.specs.declared.version.MessageVersion.the-variants.{V1, V2}
+use Rattle.message.specs.declared.version.MessageVersion.{MessageVersion}
 use Rattle.missing.specs.Missing.{missing}
-use Rattle.numbers.specs.Number.{shortest}
 use Rattle.numbers.proofs.Number.{shortest-ten}
-use Rattle.rules.specs.Hash.{bigEndian, AreHashes}
-use Rattle.rules.specs.Order.{member, keep, every, insertOnce, ascend}
-use Rattle.rules.specs.Reach.{someBelow}
-use Rattle.rules.specs.Sizes.{sizes}
+use Rattle.numbers.specs.Number.{shortest}
+use Rattle.order.proofs.KeepLaws.{no-members, every-member}
+use Rattle.order.proofs.OrderLaws.{member-none}
+use Rattle.order.specs.Order.{member, keep, every, insertOnce, ascend}
+use Rattle.order.specs.Reach.{someBelow}
 use Rattle.rules.proofs.Cases.{split, both, either, true-false}
-use Rattle.rules.proofs.KeepLaws.{no-members, every-member}
-use Rattle.rules.proofs.OrderLaws.{member-none}
+use Rattle.rules.specs.Hash.{bigEndian, AreHashes}
+use Rattle.rules.specs.Sizes.{sizes}
 use Rattle.selection.specs.ToSend.{toSendLess}
 use Rattle.session.specs.Plan.{empty, havesFor, planned}
 use Rattle.state.specs.Session.{State}
 use Rattle.tables.specs.Table.{Row, rows, depsOf, held, rowsFrom, rowsWhere}
 use Rattle.waiting.specs.Waiting.{Waiting}
+use Rattle.walk.proofs.Example.{a, b, c, one, three, cWaits, only, good-three, part-one, load-none, load-c, load-both, computed}
 use Rattle.walk.specs.Round.{Loads, trim}
 use Rattle.walk.specs.Walk.{heardIn, holdsAll, lacking}
-use Rattle.walk.proofs.Example.{a, b, c, one, three, cWaits, only, good-three, part-one, load-none, load-c, load-both, computed}
 use Rattle.wire.specs.Item.{prefixedBytes}
 use Rattle.turns.specs.Talk.{Host, listChunks, pairAt, Reached, Granted, Tables, Ended}
 use Rattle.turns.proofs.Corollary.{corollary}

@@ -7,20 +7,20 @@ use mathlib.Core.Path.{_≡_, sym, ap, _∙_}
 use native.Mathlib.Nat.{le-trans}
 use native.Mathlib.Omega.{arith}
 use lib.ListN.{length, length-append}
-use Rattle.message.specs.Sound.{SoundHashes}
-use Rattle.missing.specs.Missing.{missing}
-use Rattle.missing.proofs.MissingLaws.{missing-ascends, missing-induction}
-use Rattle.rules.specs.Order.{member, ascends, often, Once}
-use Rattle.rules.specs.Sizes.{sizes}
-use Rattle.rules.proofs.KeepLaws.{once-ascends, once-inside, hashes-inside}
-use Rattle.rules.proofs.OrderLaws.{member-none}
 use Rattle.graph.proofs.BelowLaws.{deps-held}
 use Rattle.hearing.specs.Good.{SoundTable}
-use Rattle.tables.specs.Table.{Row, rows, held}
+use Rattle.message.specs.Sound.{SoundHashes}
+use Rattle.missing.proofs.MissingLaws.{missing-ascends, missing-induction}
+use Rattle.missing.specs.Missing.{missing}
+use Rattle.order.proofs.KeepLaws.{once-ascends, once-inside, hashes-inside}
+use Rattle.order.proofs.OrderLaws.{member-none}
+use Rattle.order.specs.Order.{member, ascends, often, Once}
+use Rattle.rules.specs.Sizes.{sizes}
 use Rattle.tables.proofs.TableLaws.{length-rows}
+use Rattle.tables.specs.Table.{Row, rows, held}
 use Rattle.waiting.specs.Waiting.{Waiting, waiting}
-use Rattle.walk.specs.Round.{Part, Settles, done, step, Loads}
 use Rattle.walk.proofs.Loading.{Asked, settles-asked}
+use Rattle.walk.specs.Round.{Part, Settles, done, step, Loads}
 
 -- ---- loading
 

@@ -8,18 +8,18 @@ use mathlib.Core.Path.{_≡_}
 use lib.ListN.{length}
 use Rattle.bloom.specs.Filter.{filterRules, fieldSize}
 use Rattle.graph.specs.Graph.{heads}
+use Rattle.hearing.specs.Receive.{Received, receiveBytes}
 use Rattle.message.specs.Message.{Message, messageBytes, joined}
 use Rattle.message.specs.declared.flags.Section.the-variants.{Present}
-use Rattle.message.specs.declared.version.MessageVersion.{MessageVersion}
 use Rattle.message.specs.declared.version.MessageVersion.the-variants.{V1, V2}
+use Rattle.message.specs.declared.version.MessageVersion.{MessageVersion}
 use Rattle.missing.specs.Missing.{missing}
+use Rattle.order.specs.Order.{member}
 use Rattle.rules.specs.Hash.{AreHashes}
-use Rattle.rules.specs.Order.{member}
 use Rattle.rules.specs.Sizes.{sizes}
-use Rattle.session.specs.Plan.{Plan, Planned, listOf, plan, after, havesFor}
-use Rattle.hearing.specs.Receive.{Received, receiveBytes}
-use Rattle.state.specs.Session.{State, fresh}
 use Rattle.selection.specs.ToSend.{toSendLess}
+use Rattle.session.specs.Plan.{Plan, Planned, listOf, plan, after, havesFor}
+use Rattle.state.specs.Session.{State, fresh}
 use Rattle.tables.specs.Table.{Row, GoodTable, rows, held}
 use Rattle.waiting.specs.Waiting.{Waiting}
 use Rattle.walk.specs.Round.{Part, Loads, trim}

@@ -8,14 +8,14 @@ use mathlib.Core.Path.{_≡_}
 use lib.Dec.{leb}
 use lib.ListN.{length, getD}
 use Rattle.index.specs.Index.{fitsBy, recordHash}
+use Rattle.order.specs.Order.{member}
 use Rattle.rules.specs.Hash.{hashAt, hashesAt}
-use Rattle.rules.specs.Order.{member}
 use Rattle.rules.specs.Sizes.{sizes}
 use Rattle.rules.specs.declared.refusal.Refusal.the-variants.{BadWaitingRow}
 use Rattle.tables.specs.Bytes.{u16sAt, zeros, firstBad, checkedWith}
 use Rattle.tables.specs.Table.{Row, held}
-use Rattle.tables.specs.declared.check.Checked.{Checked}
 use Rattle.tables.specs.declared.check.Checked.the-variants.{Good, Refused}
+use Rattle.tables.specs.declared.check.Checked.{Checked}
 use Rattle.waiting.specs.Waiting.{Waiting, waiting}
 
 -- Waiting row: hash, count byte and zeros up to the size of a hash, and d hashes.

@@ -10,30 +10,31 @@ use native.Mathlib.Omega.{arith}
 use borrow.Author.Tests.{eqb-true}
 use lib.Dec.{eqb}
 use lib.ListN.{length, replicate}
+use Rattle.bloom.proofs.Rules.{rules-default}
 use Rattle.bloom.specs.Filter.{fieldSize, defaultBits, defaultProbes}
 use Rattle.bloom.specs.Have.{Have}
-use Rattle.bloom.proofs.Rules.{rules-default}
 use Rattle.graph.proofs.BelowLaws.{beyond-few}
 use Rattle.graph.specs.Graph.{belowRow, below, beyond, needed, heads}
 use Rattle.members.specs.Members.{lastSyncs, filters, candidate, missed, inTheS, theS}
 use Rattle.missing.specs.Missing.{unknown, askedRow, asksFrom, missing}
+use Rattle.order.proofs.KeepLaws.{once-none, once-cons}
+use Rattle.order.proofs.OrderLaws.{member-none}
+use Rattle.order.specs.Order.{member, keep, every, often, ascends, insertOnce, ascend}
+use Rattle.order.specs.Reach.{someBelow, reachIn, reach}
 use Rattle.probe.specs.Build.{setBit, setBits, addHash, addHashes, filterOf}
 use Rattle.probe.specs.Contains.{clearAt, noneClear, contains, anyContains}
-use Rattle.probe.specs.Probes.{u32At, probesFrom, probesOf, bitAt}
-use Rattle.rules.specs.Hash.{bigEndian, bigEndianBytes, hashBytes}
-use Rattle.rules.specs.Order.{member, keep, every, often, ascends, insertOnce, ascend}
-use Rattle.rules.specs.Sizes.{sizes}
-use Rattle.rules.specs.Reach.{someBelow, reachIn, reach}
+use Rattle.probe.specs.Probes.{probesFrom, probesOf, bitAt}
 use Rattle.rules.proofs.Cases.{split, either, true-false}
-use Rattle.rules.proofs.KeepLaws.{once-none, once-cons}
-use Rattle.rules.proofs.OrderLaws.{member-none}
+use Rattle.rules.specs.Hash.{bigEndian, bigEndianBytes, hashBytes}
+use Rattle.rules.specs.LittleEndian.{u32At}
+use Rattle.rules.specs.Sizes.{sizes}
 use Rattle.selection.specs.ToSend.{toSend, toSendLess}
 use Rattle.session.specs.Plan.{haveOf, havesFor}
-use Rattle.tables.specs.Table.{Row, rows, hashOf, depsOf, GoodTable, indexIn, rowNumber, held, deps, rowsFrom, rowsWhere}
 use Rattle.tables.proofs.ExtendLaws.{good-append}
+use Rattle.tables.specs.Table.{Row, rows, hashOf, depsOf, GoodTable, indexIn, rowNumber, held, deps, rowsFrom, rowsWhere}
 use Rattle.waiting.specs.Waiting.{Waiting, waiting, asks, asksOf}
 use Rattle.walk.specs.Round.{Part, trim, Moves, done, step, Loads}
-use Rattle.walk.specs.Walk.{At, starting, Walk01, heardIn, needAt, offerTo, holdsAll, lacking}
+use Rattle.walk.specs.Walk.{At, starting, Walk01, heardIn, walkNeed, offerTo, holdsAll, lacking}
 
 -- The hash whose first three words are these bytes, and whose other bytes are 0.
 abbrev pub wordsHash : ℕ → ℕ → ℕ → ℕ
@@ -218,7 +219,7 @@ abbrev pub OfThree : ℕ → At → Type 0
 OfThree = Walk01 (λ k. defaultBits) (λ k. defaultProbes) (λ k. []) three one
 
 abbrev given : ℕ → At → List Have
-given k s = havesFor defaultBits defaultProbes (s .table) (needAt (heardIn k three) s) (heardIn k three) []
+given k s = havesFor defaultBits defaultProbes (s .table) (walkNeed (heardIn k three) s) (heardIn k three) []
 
 -- What is offered in each round, and what stays in T.
 pub computed :

@@ -7,22 +7,22 @@ use mathlib.Core.List.{List, [], _∷_}
 use mathlib.Core.Path.{_≡_, refl, sym, ap, _∙_}
 use native.Mathlib.Omega.{arith}
 use Rattle.bloom.specs.Have.{Have}
+use Rattle.graph.proofs.BelowLaws.{not-below-beyond}
+use Rattle.graph.specs.Graph.{heads, below}
+use Rattle.members.proofs.SLaws.{last-syncs-one, filters-one, s-least}
+use Rattle.members.specs.Members.{lastSyncs, filters, theS}
+use Rattle.missing.proofs.MissingLaws.{unknown-not-held, unknown-not-waiting, missing-unknown, missing-ascends, missing-induction}
+use Rattle.missing.specs.Missing.{missing}
+use Rattle.order.proofs.KeepLaws.{keep-member, often-none, often-some, once-ascends}
+use Rattle.order.specs.Order.{member, often, Once}
 use Rattle.probe.specs.Contains.{contains, anyContains}
-use Rattle.rules.specs.Order.{member, often, Once}
 use Rattle.rules.proofs.Cases.{split, both, true-false, either, or-left, and-true}
-use Rattle.rules.proofs.KeepLaws.{keep-member, often-none, often-some, once-ascends}
+use Rattle.selection.proofs.SelectLaws.{named-none, named, need-named, sent-held, less-named, less-new, less-sent, less-once}
+use Rattle.selection.specs.ToSend.{toSend}
 use Rattle.tables.specs.Table.{Row, held}
 use Rattle.waiting.specs.Waiting.{Waiting, waiting}
-use Rattle.graph.specs.Graph.{heads, below}
-use Rattle.graph.proofs.BelowLaws.{not-below-beyond}
-use Rattle.members.specs.Members.{lastSyncs, filters, theS}
-use Rattle.members.proofs.SLaws.{last-syncs-one, filters-one, s-least}
-use Rattle.missing.specs.Missing.{missing}
-use Rattle.missing.proofs.MissingLaws.{unknown-not-held, unknown-not-waiting, missing-unknown, missing-ascends, missing-induction}
-use Rattle.selection.specs.ToSend.{toSend}
-use Rattle.selection.proofs.SelectLaws.{named-none, named, need-named, sent-held, less-named, less-new, less-sent, less-once}
 use Rattle.walk.specs.Round.{Part, Covers, Gives, one, none, trim, Picks}
-use Rattle.walk.specs.Walk.{At, needAt, offerTo}
+use Rattle.walk.specs.Walk.{At, walkNeed, offerTo}
 use Rattle.walk.proofs.Between.{Between}
 use Rattle.walk.proofs.Parts.{part-closed, parts-closed, below-heads, below-there}
 
@@ -48,7 +48,7 @@ module _ {J X : List Row} (partX : Part J X) (s : At) (inv : Between J (s .table
   -- ---- needs
 
   abbrev need : List ℕ
-  need = needAt heard s
+  need = walkNeed heard s
 
   -- what is missing from what was heard is needed, and nothing else
   need-is : (x : ℕ) → member x need ≡ member x (missing b w heard)

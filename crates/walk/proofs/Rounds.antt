@@ -10,14 +10,14 @@ use mathlib.Core.Path.{_≡_, refl, sym, ap, _∙_}
 use native.Mathlib.Omega.{arith}
 use lib.ListN.{length, length-append}
 use Rattle.bloom.specs.Have.{Have}
-use Rattle.graph.specs.Graph.{heads}
 use Rattle.graph.proofs.MarkLaws.{or-false}
+use Rattle.graph.specs.Graph.{heads}
 use Rattle.members.specs.Members.{lastSyncs}
 use Rattle.missing.specs.Missing.{missing}
-use Rattle.rules.specs.Order.{member, keep, Once}
+use Rattle.order.proofs.KeepLaws.{member-long, keep-member, keep-keep, keep-same, keep-parts, keep-none, once-none, once-keep, once-append, once-same}
+use Rattle.order.proofs.OrderLaws.{member-append, member-none}
+use Rattle.order.specs.Order.{member, keep, Once}
 use Rattle.rules.proofs.Cases.{split, both, true-false, same-truth, either, and-true, or-right}
-use Rattle.rules.proofs.KeepLaws.{member-long, keep-member, keep-keep, keep-same, keep-parts, keep-none, once-none, once-keep, once-append, once-same}
-use Rattle.rules.proofs.OrderLaws.{member-append, member-none}
 use Rattle.tables.specs.Table.{Row, GoodTable, rows, held}
 use Rattle.waiting.specs.Waiting.{Waiting, waiting}
 use Rattle.walk.specs.Round.{Part, Gives, trim, Picks, Loads}

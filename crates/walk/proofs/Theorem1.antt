@@ -7,14 +7,14 @@ use mathlib.Core.Path.{_≡_, refl, ap, _∙_}
 use native.Mathlib.Omega.{arith}
 use lib.ListN.{length}
 use Rattle.bloom.specs.Have.{Have}
-use Rattle.graph.specs.Graph.{heads}
 use Rattle.graph.proofs.HeadLaws.{head-held}
-use Rattle.members.specs.Members.{lastSyncs}
+use Rattle.graph.specs.Graph.{heads}
 use Rattle.members.proofs.SLaws.{last-syncs-one}
-use Rattle.rules.specs.Order.{member}
+use Rattle.members.specs.Members.{lastSyncs}
+use Rattle.order.proofs.KeepLaws.{every-member, every-one}
+use Rattle.order.proofs.OrderLaws.{member-none}
+use Rattle.order.specs.Order.{member}
 use Rattle.rules.proofs.Cases.{same-truth, either, or-right}
-use Rattle.rules.proofs.KeepLaws.{every-member, every-one}
-use Rattle.rules.proofs.OrderLaws.{member-none}
 use Rattle.tables.specs.Table.{Row, GoodTable, rows, held}
 use Rattle.waiting.specs.Waiting.{Waiting, waiting}
 use Rattle.walk.specs.Round.{Part, Gives, one, none, trim}

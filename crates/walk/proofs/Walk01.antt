@@ -8,14 +8,14 @@ use lib.ListN.{length}
 use Rattle.bloom.specs.Have.{Have}
 use Rattle.graph.specs.Graph.{heads, beyond}
 use Rattle.missing.specs.Missing.{missing}
+use Rattle.order.specs.Order.{member, every}
 use Rattle.probe.proofs.FieldLaws.{accepted-contained}
-use Rattle.rules.specs.Order.{member, every}
 use Rattle.rules.proofs.Cases.{split}
 use Rattle.session.specs.Plan.{haveOf, havesFor}
 use Rattle.tables.specs.Table.{Row, GoodTable, held}
 use Rattle.waiting.specs.Waiting.{Waiting}
 use Rattle.walk.specs.Round.{Part, Covers, Gives, one, none, trim, Picks}
-use Rattle.walk.specs.Walk.{At, Round, Walk, accepted, Round01, Walk01, Walk01Walks, heardIn, needAt, offerTo, holdsAll, lacking}
+use Rattle.walk.specs.Walk.{At, Round, Walk, accepted, Round01, Walk01, Walk01Walks, heardIn, walkNeed, offerTo, holdsAll, lacking}
 use Rattle.walk.proofs.Loading.{loads-outcome}
 use Rattle.walk.proofs.Offers.{picks-whole}
 use Rattle.walk.proofs.Theorem1.{theorem-1}
@@ -67,7 +67,7 @@ pub walk01-goes : (bits probes : ℕ → ℕ) (L : ℕ → List ℕ) (A B : List
     → ((h : ℕ) → member h (L k) ≡ true → held (s .table) h ≡ true)
     → (s′ : At) × Walk01 bits probes L A B (suc k) s′
 walk01-goes bits probes L A B k s walk rules holds =
-    let haves : List Have = havesFor (bits k) (probes k) (s .table) (needAt (heardIn k A) s) (heardIn k A) (L k) in
+    let haves : List Have = havesFor (bits k) (probes k) (s .table) (walkNeed (heardIn k A) s) (heardIn k A) (L k) in
     let reply : List ℕ = offerTo A (heardIn k A) s haves in
     let (b′, w′, l) = loads-outcome A (s .table) (s .waits) reply in (
       record { table = b′; waits = w′; sent = trim A (heads (s .table)) (s .sent) ++ reply; named = s .named ++ reply },

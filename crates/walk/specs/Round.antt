@@ -9,8 +9,8 @@ use lib.ListN.{length}
 use Rattle.bloom.specs.Have.{Have}
 use Rattle.graph.specs.Graph.{below, beyond}
 use Rattle.missing.specs.Missing.{missing}
+use Rattle.order.specs.Order.{member, keep, every, often, ascends}
 use Rattle.probe.specs.Contains.{contains}
-use Rattle.rules.specs.Order.{member, keep, every, often, ascends}
 use Rattle.tables.specs.Table.{Row, GoodTable, hashOf, held, deps}
 use Rattle.waiting.specs.Waiting.{Waiting, waiting, asks}
 

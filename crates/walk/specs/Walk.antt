@@ -9,7 +9,7 @@ use Rattle.bloom.specs.Filter.{fieldSize, filterRules}
 use Rattle.bloom.specs.Have.{Have}
 use Rattle.graph.specs.Graph.{heads, beyond}
 use Rattle.missing.specs.Missing.{missing}
-use Rattle.rules.specs.Order.{member, keep, every, often}
+use Rattle.order.specs.Order.{member, keep, every, often}
 use Rattle.selection.specs.ToSend.{toSendLess}
 use Rattle.session.specs.Plan.{havesFor}
 use Rattle.tables.specs.Table.{Row, GoodTable, rows, held}
@@ -32,12 +32,12 @@ heardIn zero A = []
 heardIn (suc k) A = heads A
 
 -- Step 1: B's need, what is missing from the heads heard.
-abbrev pub needAt : List ℕ → At → List ℕ
-needAt heard s = missing (s .table) (s .waits) heard
+abbrev pub walkNeed : List ℕ → At → List ℕ
+walkNeed heard s = missing (s .table) (s .waits) heard
 
 -- Steps 3 and 4: what A offers to B's heads, haves and need.
 abbrev pub offerTo : List Row → List ℕ → At → List Have → List ℕ
-offerTo A heard s haves = toSendLess A haves (needAt heard s) (trim A (heads (s .table)) (s .sent))
+offerTo A heard s haves = toSendLess A haves (walkNeed heard s) (trim A (heads (s .table)) (s .sent))
 
 -- A round in which these haves are given and this reply goes.
 pub record Round (A : List Row) (heard : List ℕ) (s : At) (haves : List Have) (reply : List ℕ) (s′ : At) : Type 0 where
@@ -61,7 +61,7 @@ accepted bits probes t l = filterRules (length (beyond t l)) bits probes (fieldS
 pub record Round01 (bits probes : ℕ) (A : List Row) (heard l : List ℕ) (s : At) (haves : List Have) (reply : List ℕ) (s′ : At) : Type 0 where
   pub holds : (h : ℕ) → member h l ≡ true → held (s .table) h ≡ true
   pub setting : accepted bits probes (s .table) l ≡ true
-  pub have : haves ≡ havesFor bits probes (s .table) (needAt heard s) heard l
+  pub have : haves ≡ havesFor bits probes (s .table) (walkNeed heard s) heard l
   pub whole : reply ≡ offerTo A heard s haves
   pub loads : Loads A (s .table) (s .waits) reply (s′ .table) (s′ .waits)
   pub sends : s′ .sent ≡ trim A (heads (s .table)) (s .sent) ++ reply

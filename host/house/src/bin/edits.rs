@@ -94,7 +94,7 @@ const READ: &[(&str, &str)] = &[
     ),
     ("replay/all_agree", "`loop-again` of `walk::walk`"),
     (
-        "rules/insert_repeats",
+        "order/insert_repeats",
         "`returns-3` of `hashes::insert_hash`",
     ),
     ("rules/limits_order", "`returns` of `sizes::limits`"),

@@ -3,7 +3,6 @@ use mathlib.Core.Path.{refl, sym, _∙_}
 use Rattle.draft.proofs.MakeLaws.{count-ready}
 use Rattle.planning.proofs.FieldLaws.{setting-numbers}
 use Rattle.asked.proofs.AskedLaws.{blank-marks, carried-few, sent-few, few-rooms, many-rooms}
-use borrow.Author.Needs.{needs}
 use Rattle.asked.proofs.asked.plan_asked.Statement.{statement}
 use Rattle.asked.proofs.asked.plan_asked.Tie as tie
 
@@ -26,8 +25,8 @@ bits-capacity-requires c κs =
     let pre = c .before .before .before .before .before .before .before .before .before .before .before .before .before .before .before .before .before .before .before .before .before .before .pre in
     setting-numbers _ _ _ (pre .2) (pre .0 .rows .few)
 
-is-few-requires : tie.Need-is-few-requires
-is-few-requires c κs =
+asks-few-requires : tie.Need-asks-few-requires
+asks-few-requires c κs =
     let counted = c .before .before .before .before in
     let pre = counted .before .before .before .before .before .before .before .before .before .before .before .before .before .before .before .before .before .before .before .pre in
     (carried-few _ _ (pre .0) (pre .1) (counted .count-plan .ensures), sent-few _ _ (pre .0) (pre .1) (counted .count-plan .ensures))
@@ -65,7 +64,7 @@ plan-in-requires c κs =
       pre .2,
       count,
       pre .3,
-      few-rooms _ _ (pre .0) (pre .1) count _ _ _ _ _ _ (size .bits-capacity .ensures) refl refl refl refl (sym (few .before .is-few .ensures) ∙ few .if1 .taken),
+      few-rooms _ _ (pre .0) (pre .1) count _ _ _ _ _ _ (size .bits-capacity .ensures) refl refl refl refl (sym (few .before .asks-few .ensures) ∙ few .if1 .taken),
     )
 
 same-length : tie.Need-same-length
@@ -147,7 +146,7 @@ plan-asked-spec =
     slice-aggregate-count-plan-3
     count-plan-requires
     bits-capacity-requires
-    is-few-requires
+    asks-few-requires
     slice-aggregate-plan-in
     slice-aggregate-plan-in-2
     slice-aggregate-plan-in-3

@@ -3,7 +3,6 @@ use mathlib.Core.Path.{refl, sym}
 use native.Mathlib.Omega.{arith}
 use Rattle.draft.proofs.MakeLaws.{heads-good}
 use Rattle.asked.proofs.AskedLaws.{need-room, few-found}
-use borrow.Author.Needs.{needs}
 use Rattle.asked.proofs.asked.plan_checked.Statement.{statement}
 use Rattle.asked.proofs.asked.plan_checked.Tie as tie
 

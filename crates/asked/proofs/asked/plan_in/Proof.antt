@@ -2,7 +2,6 @@
 -- Assumes nothing.
 use mathlib.Core.Path.{refl}
 use Rattle.asked.proofs.AskedLaws.{small-asked, asked-called}
-use borrow.Author.Needs.{needs}
 use Rattle.asked.proofs.asked.plan_in.Statement.{statement}
 use Rattle.asked.proofs.asked.plan_in.Tie as tie
 

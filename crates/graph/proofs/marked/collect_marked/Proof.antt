@@ -1,7 +1,6 @@
 -- `graph::marked::collect_marked` meets its contract: what has been put and what is left make the whole, and the index has the rows in ascending
 -- order of hash (CollectLaws). Assumes nothing.
 use Prim.Native.Nat.{_-_, _<_}
-use mathlib.Core.Path.{_≡_}
 use native.Mathlib.Omega.{arith}
 use borrow.Author.Tests.{not-true, not-false}
 use Rattle.index.proofs.HalveLaws.{entry-below, look-ordered, fit-records}

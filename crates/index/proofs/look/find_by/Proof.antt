@@ -1,6 +1,6 @@
 -- `index::look::find_by` meets its contract: the record at the hash's place has it, or none has it, since each is named (HalveLaws). Assumes
 -- nothing.
-use Prim.Native.Nat.{_+_, _*_, _≤_, _<_}
+use Prim.Native.Nat.{_+_, _*_, _≤_}
 use mathlib.Core.Path.{sym, _∙_}
 use native.Mathlib.Omega.{arith}
 use borrow.Author.Tests.{eqb-true, eqb-false}

@@ -1,8 +1,6 @@
 -- `index::look::look_up` meets its contract: change rows are records that begin with their hash (HalveLaws). Assumes nothing.
-use mathlib.Core.Path.{sym, ap, _∙_}
 use native.Mathlib.Omega.{arith}
 use Rattle.index.proofs.HalveLaws.{fit-records, rows-are-records}
-use borrow.Author.Needs.{needs}
 use Rattle.index.proofs.look.look_up.Statement.{statement}
 use Rattle.index.proofs.look.look_up.Tie as tie
 

@@ -5,8 +5,8 @@ use mathlib.Core.List.{map}
 use mathlib.Core.Path.{sym, _∙_}
 use denote.Ref.{now}
 use lib.ListN.{length}
+use Rattle.order.specs.Order.{placeOf}
 use Rattle.rules.specs.Hash.{hashAt}
-use Rattle.rules.specs.Order.{placeOf}
 use Rattle.rules.specs.Sizes.{sizes}
 use Rattle.tables.specs.Bytes.{u16sAt}
 use Rattle.index.specs.Index.{recordHash}

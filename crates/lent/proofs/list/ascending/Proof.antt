@@ -4,8 +4,8 @@ use mathlib.Core.Path.{_≡_, sym, _∙_}
 use native.Mathlib.Omega.{arith}
 use borrow.Author.Needs.{needs}
 use borrow.Author.Tests.{not-true, not-false}
+use Rattle.order.specs.Order.{ascends}
 use Rattle.rules.specs.Hash.{hashesAt}
-use Rattle.rules.specs.Order.{ascends}
 use Rattle.lent.proofs.GoodLaws.{climbing, climbing-starts, climbing-fails, climbing-on, climbing-ends}
 use Rattle.lent.proofs.list.ascending.Statement.{statement}
 use Rattle.lent.proofs.list.ascending.Tie as tie

@@ -4,8 +4,8 @@ use Prim.Native.Nat.{_-_, _≤_}
 use mathlib.Core.Path.{_≡_, sym, _∙_}
 use native.Mathlib.Omega.{arith}
 use borrow.Author.Needs.{needs}
+use Rattle.order.specs.Order.{every}
 use Rattle.rules.specs.Hash.{hashesAt}
-use Rattle.rules.specs.Order.{every}
 use Rattle.tables.specs.Bytes.{rowsAt}
 use Rattle.tables.specs.Table.{held}
 use Rattle.lists.proofs.CompareLaws.{onward, test-starts, test-fails, test-on, test-ends, found-held, found-unknown}

@@ -3,8 +3,8 @@ use Prim.Native.Nat.{_-_, _≤_}
 use mathlib.Core.Path.{_≡_, sym, _∙_}
 use native.Mathlib.Omega.{arith}
 use borrow.Author.Needs.{needs}
+use Rattle.order.specs.Order.{member, every}
 use Rattle.rules.specs.Hash.{hashesAt}
-use Rattle.rules.specs.Order.{member, every}
 use Rattle.lists.proofs.CompareLaws.{onward, test-starts, test-fails, test-on, test-ends, told-in, told-out}
 use Rattle.lists.proofs.compare.all_in.Statement.{statement}
 use Rattle.lists.proofs.compare.all_in.Tie as tie

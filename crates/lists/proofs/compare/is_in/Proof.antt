@@ -3,8 +3,8 @@ use Prim.Native.Nat.{_-_, _≤_}
 use mathlib.Core.Path.{_≡_, sym, _∙_}
 use native.Mathlib.Omega.{arith}
 use borrow.Author.Needs.{needs}
+use Rattle.order.specs.Order.{member}
 use Rattle.rules.specs.Hash.{hashAt, hashesAt}
-use Rattle.rules.specs.Order.{member}
 use Rattle.lists.proofs.CompareLaws.{onward, seek-starts, seek-here, seek-on, seek-ends}
 use Rattle.lists.proofs.compare.is_in.Statement.{statement}
 use Rattle.lists.proofs.compare.is_in.Tie as tie

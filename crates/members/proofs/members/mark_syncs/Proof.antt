@@ -6,7 +6,7 @@ use mathlib.Core.Path.{_≡_, refl, sym, _∙_}
 use native.Mathlib.Omega.{arith}
 use lib.ListN.{length, getD}
 use Rattle.bloom.specs.Have.{havesOf}
-use Rattle.rules.specs.Order.{member}
+use Rattle.order.specs.Order.{member}
 use Rattle.tables.specs.Bytes.{rowsAt}
 use Rattle.tables.specs.Table.{hashOf}
 use Rattle.members.specs.Members.{lastSyncs}

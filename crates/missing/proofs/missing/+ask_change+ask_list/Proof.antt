@@ -26,7 +26,7 @@ use Rattle.missing.proofs.missing.ask_change.Kinds as ask-change-kinds
 use Rattle.missing.proofs.missing.+ask_change+ask_list.Lts-ask_change as ask-change-lts
 use Rattle.missing.proofs.missing.ask_list.Reads as ask-list
 use Rattle.missing.proofs.missing.ask_list.Kinds as ask-list-kinds
-use Rattle.rules.proofs.hashes.insert_hash.Reads as insert-hash-reads
+use Rattle.order.proofs.hashes.insert_hash.Reads as insert-hash-reads
 use Rattle.missing.proofs.missing.+ask_change+ask_list.Lts-ask_list as ask-list-lts
 use Rattle.missing.proofs.missing.+ask_change+ask_list.{statement}
 use Rattle.missing.proofs.missing.+ask_change+ask_list.Tie.{close}

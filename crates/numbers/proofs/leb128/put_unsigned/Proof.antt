@@ -1,7 +1,6 @@
 -- `numbers::leb128::put_unsigned` meets its contract: putting the shortest form of what is left at `i` gives the buffer that putting all of it
 -- at `at` gives. Assumes nothing.
 use Prim.Native.Nat.{_+_, _^_, _<_}
-use borrow.Author.Needs.{needs}
 use mathlib.Core.Path.{_≡_, refl, _∙_}
 use native.Mathlib.Omega.{arith}
 use lib.ListN.{length, length-set}

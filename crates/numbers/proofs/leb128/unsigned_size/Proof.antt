@@ -1,7 +1,6 @@
 -- `numbers::leb128::unsigned_size` meets its contract: the bytes counted and those of what is left are one more than the number's. Assumes
 -- nothing.
 use Prim.Native.Nat.{suc, _+_, _^_, _<_}
-use borrow.Author.Needs.{needs}
 use mathlib.Core.Path.{_≡_}
 use native.Mathlib.Omega.{arith}
 use lib.ListN.{length}

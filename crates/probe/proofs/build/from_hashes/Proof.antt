@@ -1,6 +1,6 @@
 -- `probe::build::from_hashes` meets its contract: its tests are those of the definition, in its order, and an accepted list has as many hashes
 -- as the filter rules were asked for. Assumes nothing.
-use Prim.Native.Nat.{_*_, _/_}
+use Prim.Native.Nat.{_/_}
 use mathlib.Core.Bool.{true}
 use mathlib.Core.Path.{_≡_, sym, _∙_}
 use native.Mathlib.Omega.{arith}

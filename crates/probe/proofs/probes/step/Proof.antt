@@ -1,6 +1,6 @@
 -- `probe::probes::step` meets its contract: a sum below m is its own remainder, and one that isn't is still below twice m, so m taken off once
 -- leaves the remainder. Assumes nothing.
-use Prim.Native.Nat.{ℕ, _+_, _-_, _%_, _≤_, _<_}
+use Prim.Native.Nat.{ℕ, _-_, _%_, _≤_, _<_}
 use mathlib.Core.Path.{_≡_, sym, _∙_}
 use native.Mathlib.Nat.{mod-eq-of-lt, mod-eq-sub-mod}
 use native.Mathlib.Omega.{arith}

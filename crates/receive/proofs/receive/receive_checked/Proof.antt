@@ -36,8 +36,8 @@ decide-requires c κs =
     let s = f .before .before .before .before .before .before .before .before .before .before .before .before .before .before .before .before .before in
     is-small _ _ _ _ _ _ _ _ (s .pre .0) _ _ _ _ (f .take-flags .ensures) (g .loads-changes .ensures) (m .make-received .ensures .0)
 
-puts-of-requires : tie.Need-puts-of-requires
-puts-of-requires c κs = search needs
+receipt-puts-requires : tie.Need-receipt-puts-requires
+receipt-puts-requires c κs = search needs
 
 slice-aggregate-put : tie.Need-slice-aggregate-put
 slice-aggregate-put c = search needs
@@ -54,7 +54,7 @@ put-requires c κs =
     let s = k .before .before .before in
     has-room _ _ _ _ _ _ _ _ (s .pre .0) _ _ _ _ (f .take-flags .ensures) (g .loads-changes .ensures) (m .make-received .ensures .0)
     (s .args .loaded) _ _ (e .load-failed .ensures) (d .decide .ensures) (m .make-received .ensures .1)
-    (λ i. k .shared-slice-known3 .given i .fits) (u .puts-of .result) (u .puts-of .ensures)
+    (λ i. k .shared-slice-known3 .given i .fits) (u .receipt-puts .result) (u .receipt-puts .ensures)
 
 same-length : tie.Need-same-length
 same-length c =
@@ -101,7 +101,7 @@ returns c =
     let s = k .before .before .before in
     received-called _ _ _ _ _ _ _ _ (s .pre .0) _ _ _ _ (f .take-flags .ensures) (g .loads-changes .ensures) (m .make-received .ensures .0) _ _ _
     (e .load-failed .ensures) (d .decide .ensures) (m .make-received .ensures .1) (λ i. k .shared-slice-known3 .given i .fits) _ _
-    (λ i. k4 .slice-known4 .given i .fits) (u .puts-of .ensures) (p .put .ensures)
+    (λ i. k4 .slice-known4 .given i .fits) (u .receipt-puts .ensures) (p .put .ensures)
 
 pub receive-checked-spec : {M : Type 1} → statement M
 receive-checked-spec =
@@ -113,7 +113,7 @@ receive-checked-spec =
     make-received-requires
     load-failed-requires
     decide-requires
-    puts-of-requires
+    receipt-puts-requires
     slice-aggregate-put
     put-requires
     same-length

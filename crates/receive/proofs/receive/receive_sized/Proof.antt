@@ -13,8 +13,8 @@ mark-known-requires c κs =
     let s = c .before .before .before .before .before .before .before .before .before .before .before .before in
     can-mark _ _ _ _ _ _ _ _ (s .pre)
 
-is-few-requires : tie.Need-is-few-requires
-is-few-requires c κs = search needs
+hears-few-requires : tie.Need-hears-few-requires
+hears-few-requires c κs = search needs
 
 slice-aggregate-receive-checked : tie.Need-slice-aggregate-receive-checked
 slice-aggregate-receive-checked c = search needs
@@ -31,7 +31,7 @@ receive-checked-requires c κs =
     let f = t .before in
     let h = f .before .before in
     let s = h .before .before .before .before .before .before .before .before .before .before .before .before .before in
-    (s .pre, few-prepared _ _ _ _ _ _ _ _ (s .pre) _ _ (h .mark-known .kept .1 .1 .1 .1 .1 .1 .1 .0) (h .mark-known .ensures) (sym (f .is-few .ensures) ∙ t .if1 .taken))
+    (s .pre, few-prepared _ _ _ _ _ _ _ _ (s .pre) _ _ (h .mark-known .kept .1 .1 .1 .1 .1 .1 .1 .0) (h .mark-known .ensures) (sym (f .hears-few .ensures) ∙ t .if1 .taken))
 
 same-length : tie.Need-same-length
 same-length c = search needs
@@ -107,7 +107,7 @@ receive-sized-spec =
     (tie.spec
     slice-aggregate-mark-known
     mark-known-requires
-    is-few-requires
+    hears-few-requires
     slice-aggregate-receive-checked
     slice-aggregate-receive-checked-2
     slice-aggregate-receive-checked-3

@@ -26,7 +26,7 @@ sub-if2 : tie.Need-sub-if2
 sub-if2 c = search needs
 
 returns-2 : tie.Need-returns-2
-returns-2 c = input-cut _ _ (c .before .before .if1 .left) _ (c .before .u16-at .ensures .value) (c .if2 .taken)
+returns-2 c = input-cut _ _ (c .before .before .if1 .left) _ (c .before .u16-at .ensures) (c .if2 .taken)
 
 add-next : tie.Need-add-next
 add-next c = search needs
@@ -69,21 +69,21 @@ unfolding recordOf
 returns-3 c = let r = c .before .before in
     let w = r .before in
     let i = w .before .before .before in
-    judged _ _ (i .before .before .if1 .left) _ (i .before .u16-at .ensures .value) (i .if2 .left) _ (w .words-at .ensures) Same _ (r .replayed .ensures) (c .enum-told .given .1)
+    judged _ _ (i .before .before .if1 .left) _ (i .before .u16-at .ensures) (i .if2 .left) _ (w .words-at .ensures) Same _ (r .replayed .ensures) (c .enum-told .given .1)
 
 returns-4 : tie.Need-returns-4
 unfolding recordOf
 returns-4 c = let r = c .before .before in
     let w = r .before in
     let i = w .before .before .before in
-    judged _ _ (i .before .before .if1 .left) _ (i .before .u16-at .ensures .value) (i .if2 .left) _ (w .words-at .ensures) Different _ (r .replayed .ensures) (c .enum-told2 .given .1)
+    judged _ _ (i .before .before .if1 .left) _ (i .before .u16-at .ensures) (i .if2 .left) _ (w .words-at .ensures) Different _ (r .replayed .ensures) (c .enum-told2 .given .1)
 
 returns-5 : tie.Need-returns-5
 unfolding recordOf
 returns-5 c = let r = c .before .before in
     let w = r .before in
     let i = w .before .before .before in
-    judged _ _ (i .before .before .if1 .left) _ (i .before .u16-at .ensures .value) (i .if2 .left) _ (w .words-at .ensures) Unknown _ (r .replayed .ensures) (c .enum-told3 .given .1)
+    judged _ _ (i .before .before .if1 .left) _ (i .before .u16-at .ensures) (i .if2 .left) _ (w .words-at .ensures) Unknown _ (r .replayed .ensures) (c .enum-told3 .given .1)
 
 pub record-at-spec : {M : Type 1} → statement M
 record-at-spec =

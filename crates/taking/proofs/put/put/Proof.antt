@@ -2,7 +2,7 @@
 use native.Mathlib.Omega.{arith}
 use denote.Ref.{now}
 use Rattle.lent.specs.Good.{lentOf}
-use Rattle.taking.specs.Draft.{partsOf}
+use Rattle.taking.specs.Receipt.{receiptParts}
 use Rattle.taking.proofs.PutLaws.{parts-put}
 use borrow.Author.Needs.{needs}
 use Rattle.taking.proofs.put.put.Statement.{statement}
@@ -61,7 +61,7 @@ returns c =
     let h2 = h3 .before .before .before .before in
     let h1 = h2 .before .before .before .before in
     let a = h1 .before .before .before .before .before .before .before .before .before .before .before .before .before .args in
-    parts-put (a .p) _ (a .at-heads) (a .at-need) (partsOf (now (a .ready-shared)) (now (a .ready-sent)) (now (a .words)))
+    parts-put (a .p) _ (a .at-heads) (a .at-need) (receiptParts (now (a .ready-shared)) (now (a .ready-sent)) (now (a .words)))
     (lentOf (now (a .shared)) (now (a .last-sent)) (now (a .their-heads)) (now (a .their-need)) (now (a .haves)) (now (a .bytes)) (now (a .sent)))
     (h1 .put-hashes .ensures) (h2 .put-hashes2 .ensures) (h3 .put-hashes3 .ensures) (h4 .put-hashes4 .ensures)
     (l .put-laid .ensures) (h5 .put-hashes5 .ensures)

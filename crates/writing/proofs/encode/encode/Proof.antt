@@ -5,7 +5,7 @@ use mathlib.Core.Path.{_≡_, ap, _∙_}
 use native.Mathlib.Omega.{arith}
 use denote.Ref.{now}
 use lib.ListN.{length, length-append}
-use Rattle.rules.proofs.Outputs.{written-bytes, no-room, sets-append}
+use Rattle.rules.proofs.Outputs.{written-bytes, no-room}
 use Rattle.numbers.specs.Number.{shortest}
 use Rattle.numbers.proofs.Number.{shortest-ten, put-then}
 use borrow.Author.Needs.{needs}

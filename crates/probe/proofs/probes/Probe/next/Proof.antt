@@ -1,5 +1,4 @@
 -- `probe::probes::Probe::next` meets its contract: both steps return their remainders, x by the y before it. Assumes nothing.
-use native.Mathlib.Omega.{arith}
 use borrow.Author.Needs.{needs}
 use Rattle.probe.proofs.probes.Probe.next.Statement.{statement}
 use Rattle.probe.proofs.probes.Probe.next.Tie as tie
