@@ -9,7 +9,7 @@ use native.Mathlib.Numerals.{add-one}
 use native.Mathlib.Omega.{arith}
 use borrow.Author.Tests.{eqb-true, eq-eqb}
 use lib.Dec.{eqb}
-use lib.ListN.{length, getD, drop, length-drop, drop-of-length-le}
+use lib.ListN.{length, getD, drop, drop-of-length-le}
 use lib.Seq.{drop-cons}
 use Rattle.order.proofs.KeepLaws.{once-none, once-first, once-tail, once-cons, hashes-inside}
 use Rattle.order.proofs.OrderLaws.{index-member}
@@ -192,10 +192,6 @@ module _ (l : List ℕ) (m : List Bool) where
   pub left-none : (i : ℕ) → length l ≤ i → pickLeft l m i ≡ []
   unfolding pickLeft pickFrom
   left-none i h = rw (drop-of-length-le l {i = i} h)
-
-  pub left-most : (i : ℕ) → length (pickLeft l m i) ≤ length l - i
-  unfolding pickLeft
-  left-most i = omega (arith, pick-most (drop i l) (λ k. getD m k false) i, length-drop i l)
 
 -- ---- marks that are known
 

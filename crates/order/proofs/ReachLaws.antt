@@ -107,9 +107,6 @@ module _ (n : ℕ) (from : ℕ → Bool) (to : ℕ → ℕ → Bool) where
   unfolding reachIn
   reach-step s i = refl
 
-  step-holds : (s i k : ℕ) → k < n → reachIn s n from to k ≡ true → to k i ≡ true → reachIn (suc s) n from to i ≡ true
-  step-holds s i k h p q = reach-step s i ∙ or-right (from i) _ (some-below n _ k h (and-true _ _ p q))
-
   longer : (s i : ℕ) → reachIn s n from to i ≡ true → reachIn (suc s) n from to i ≡ true
   unfolding reachIn
   longer zero i e = absurd (true-false false e refl)
