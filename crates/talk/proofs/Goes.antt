@@ -19,7 +19,7 @@ use Rattle.hearing.proofs.ReceiveLaws.{receive-taking, bytes-beyond, bytes-refu
 use Rattle.lent.specs.Good.{lentOf}
 use Rattle.memory.specs.Memory.{Memory, OfBytes, Holds, Fresh, Out, RoomyOut, Tabled, Beside, HostBytes}
 use Rattle.memory.proofs.AllBytes.{bytes-none, bytes-sets, hashes-bytes, field-bytes, FieldBytes, laid-bytes, plan-bytes}
-use Rattle.message.specs.Message.{joined}
+use Rattle.message.specs.Message.{joined, total}
 use Rattle.message.specs.Sound.{Each}
 use Rattle.message.specs.Write.{partsOf, chunksFrom, messageOutput}
 use Rattle.message_calls.specs.MessageWords.{versionOf, sectionOf}
@@ -37,7 +37,6 @@ use Rattle.session.specs.Plan.{Plan, Planned, heard, needOf, haveOf, planOf, re
 use Rattle.session.proofs.PlanLaws.{have-one, have-none, plan-saying}
 use Rattle.session_calls.specs.SessionCalls.{plannedWords, plannedSession, planFor, receivedWords, receivedSession, receiveFor}
 use Rattle.session_words.specs.Words.{sessionOf}
-use Rattle.size.specs.Size.{total}
 use Rattle.state.specs.Session.{State}
 use Rattle.state.specs.Value.{Lent}
 use Rattle.tables.specs.Bytes.{tableOf}
