@@ -22,7 +22,7 @@ messages-bind =
       parse-section = λ κs a x y u v p q. (once p q, refl);
       parse = λ κs a x y u v p q. (once p q, refl);
       peek-heads = λ κs a x y u v p q. (once (p .answer) (q .answer), skip (joined (once (p .content) (q .content)) refl));
-      message-size = λ κs a x y u v p q. (once (p .each V1) (q .each V1), refl);
+      message-size = λ κs a x y u v p q. (once (p V1) (q V1), refl);
       encode = λ κs a x y u v p q. (once (p .answer) (q .answer), joined (once (p .content) (q .content)) refl);
       reader-hashes-at = λ κs a x y u v p q. (once p q, refl);
     }

@@ -102,6 +102,11 @@ syncsFew haves i (suc count) = leb (syncCount haves i) (sizes .hashes) && syncsF
 unfoldable pub passedFew : List ℕ → Bool
 passedFew haves = leb (haveCount haves) (sizes .haves) && syncsFew haves 0 (haveCount haves)
 
+-- Haves that pass both tests.
+pub record GoodHaves (s haves : List ℕ) : Type 0 where
+  pub good : passedGood s haves ≡ true
+  pub few : passedFew haves ≡ true
+
 -- Every record's filter is good.
 pub record GoodFilters (s haves : List ℕ) : Type 0 where
   pub each : (i : ℕ) → i < haveCount haves → filterGood s (numbersIn haves i) ≡ true

@@ -10,7 +10,7 @@ use lib.ListN.{length, getD}
 use lib.Seq.{slice, length-slice, take-length}
 use Rattle.bloom.specs.Have.{Have, havesOf}
 use Rattle.message.specs.Flags.{flagsOf, addFlags, flagsIn, sectionBytes}
-use Rattle.message.specs.Message.{Message, typeOf, counted, haveBytes, messageBytes}
+use Rattle.message.specs.Message.{Message, typeOf, counted, total, haveBytes, messageBytes}
 use Rattle.message.specs.Sound.{SoundMessage, SaidFlags, SaidMessage}
 use Rattle.message.specs.declared.flags.Section.{Section}
 use Rattle.message.specs.declared.flags.Section.the-variants.{Absent, Present}
@@ -23,7 +23,6 @@ use Rattle.numbers.specs.Number.{shortest}
 use Rattle.wire.specs.declared.parse.Run.{Run}
 use Rattle.wire.proofs.Item.{left-is, prefixed-inside, prefixed-written, hash-list-inside, hash-list-written}
 use Rattle.numbers.proofs.Number.{shortest-one}
-use Rattle.items.specs.Ignored.{total}
 use Rattle.items.specs.Items.{chunksOf}
 use Rattle.items.proofs.RoundTrip.{onward, haves-written, chunks-written}
 use Rattle.decode.specs.Ignored.{ignoredOf, behindOf}

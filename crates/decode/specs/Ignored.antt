@@ -5,7 +5,8 @@ use mathlib.Core.List.{List}
 use mathlib.Core.Path.{_≡_}
 use lib.ListN.{length}
 use lib.Seq.{sets}
-use Rattle.items.specs.Ignored.{ignoredFrom, total}
+use Rattle.items.specs.Ignored.{ignoredFrom}
+use Rattle.message.specs.Message.{total}
 use Rattle.message.specs.declared.flags.Section.{Section}
 use Rattle.message.specs.declared.flags.Section.the-variants.{Absent, Present}
 use Rattle.wire.specs.Item.{leftAt}

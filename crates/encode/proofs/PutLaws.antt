@@ -20,7 +20,6 @@ use Rattle.rules.specs.Sizes.{sizes}
 use Rattle.wire.specs.Item.{prefixedBytes, hashListBytes}
 use Rattle.numbers.specs.Number.{shortest, Put}
 use Rattle.numbers.proofs.Number.{put-then, put-joined}
-use Rattle.size.specs.Size.{total}
 use Rattle.message.specs.Write.{chunksFrom}
 use Rattle.size.proofs.SizeLaws.{part-is, part-long, hash-list-is, have-is, haves-next, haves-end, haves-long, chunks-long, counted-is}
 
@@ -224,9 +223,3 @@ module _ (s lengths : List ℕ) where
   pub chunks-counted : counted prefixedBytes (chunksFrom s 0 lengths) ≡ shortest (length lengths) ++ chunksLeft 0 0
   unfolding chunksLeft
   chunks-counted = counted-is prefixedBytes (chunksFrom s 0 lengths) (length lengths) (chunks-long s lengths 0)
-
--- how many bytes the chunks still have
-module _ (lengths : List ℕ) where
-  pub chunks-total : (i : ℕ) → i < length lengths → total (drop i lengths) ≡ getD lengths i 0 + total (drop (i + 1) lengths)
-  unfolding total
-  chunks-total i h = rw (drop-cons lengths i 0 h, add-one)

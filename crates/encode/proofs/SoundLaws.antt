@@ -9,9 +9,8 @@ use Rattle.rules.specs.Output.{bytes}
 use Rattle.rules.specs.Sizes.{sizes}
 use Rattle.rules.proofs.Hash.{length-hashes-at, hashes-are-hashes}
 use Rattle.rules.proofs.PassedLaws.{passed-is}
-use Rattle.bloom.specs.Have.{haveCount, haveIn, havesFrom, havesOf, syncPlace, syncCount, numbersIn, filterWith}
+use Rattle.bloom.specs.Have.{haveCount, haveIn, havesFrom, havesOf, syncPlace, syncCount, numbersIn, filterWith, GoodHaves}
 use Rattle.message.specs.Sound.{Each, SoundHashes, SoundHave, SoundMessage}
-use Rattle.size.specs.Size.{GoodHaves}
 use Rattle.message.specs.Write.{Parts, messageOf, messageOutput}
 use Rattle.size.proofs.SizeLaws.{part-long, have-fits, haves-long, haves-few, chunks-long}
 use Rattle.size.proofs.WriteLaws.{message-written}

@@ -2,9 +2,9 @@
 use crate::put::put_message;
 use message::flags::Section;
 use message::version::MessageVersion;
+use rules::output::Size;
 use rules::output::Write;
 use rules::refusal::Refusal;
-use size::size::Size;
 use size::size::message_size;
 ghost use Rattle.message.specs.Write.{partsOf, messageOutput};
 ghost use Rattle.rules.specs.Output.{Written};

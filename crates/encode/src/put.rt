@@ -17,12 +17,12 @@ ghost use Prim.Native.Nat.{_+_, _*_, _≤_, _<_};
 ghost use lib.ListN.{length};
 ghost use lib.Seq.{sets};
 ghost use Rattle.bloom.specs.Filter.{filterBytes, filterOf4};
-ghost use Rattle.bloom.specs.Have.{haveCount, haveIn, havesOf};
-ghost use Rattle.size.specs.Size.{GoodHaves, Placed, total};
-ghost use Rattle.message.specs.Write.{partsOf, messageOf, chunksFrom};
+ghost use Rattle.bloom.specs.Have.{haveCount, haveIn, havesOf, GoodHaves};
+ghost use Rattle.message.specs.Write.{partsOf, messageOf, chunksFrom, messageOutput};
 ghost use Rattle.message.specs.Flags.{sectionBytes};
-ghost use Rattle.message.specs.Message.{haveBytes, counted, messageBytes};
+ghost use Rattle.message.specs.Message.{haveBytes, counted, total, messageBytes};
 ghost use Rattle.rules.specs.Hash.{hashesAt};
+ghost use Rattle.rules.specs.Output.{Output};
 ghost use Rattle.rules.specs.Sizes.{sizes};
 ghost use Rattle.wire.specs.Item.{prefixedBytes, hashListBytes};
 ghost use Rattle.numbers.specs.Number.{Put};
@@ -148,7 +148,10 @@ pub fn put_message(
     lengths: &[u64],
     flags: Section,
 )
-    requires { ⌜ Placed (partsOf version (now heads) (now need) (now bytes) (now haves) (now chunks) (now lengths) flags) (now out) ⌝ }
+    requires { ⌜ (messageOutput (partsOf version (now heads) (now need) (now bytes) (now haves) (now chunks) (now lengths) flags)
+        ≡ Output.bytes (messageBytes (messageOf (partsOf version (now heads) (now need) (now bytes) (now haves) (now chunks) (now lengths) flags))))
+        × (length (messageBytes (messageOf (partsOf version (now heads) (now need) (now bytes) (now haves) (now chunks) (now lengths) flags)))
+        ≤ length (now out)) ⌝ }
     ensures { λ _. ⌜ now (out .exit) ≡ sets (now (out .entry)) 0 (messageBytes (messageOf (partsOf version (now (heads .entry)) (now (need .entry))
         (now (bytes .entry)) (now (haves .entry)) (now (chunks .entry)) (now (lengths .entry)) flags))) ⌝ }
 {

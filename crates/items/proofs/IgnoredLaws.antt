@@ -4,16 +4,17 @@ use Prim.Native.Nat.{ℕ, zero, suc, _+_, _-_, _≤_, _<_}
 use mathlib.Core.List.{List, [], _∷_, _++_}
 use mathlib.Core.Path.{_≡_, refl, sym, _∙_, ap}
 use native.Mathlib.Omega.{arith}
-use lib.ListN.{length, getD, set, length-set}
+use lib.ListN.{length, set, length-set}
 use lib.Seq.{sets}
 use Rattle.bloom.specs.Ignored.{ignoredAt}
 use Rattle.bloom.specs.declared.have.FilterNumbers.{FilterNumbers}
 use Rattle.bloom.proofs.Filters.{filter-inside}
 use Rattle.bloom.proofs.IgnoredLaws.{ignored-stands}
+use Rattle.message.specs.Message.{total}
 use Rattle.wire.specs.Item.{afterPart, afterListed}
 use Rattle.wire.specs.declared.parse.Run.{Run}
 use Rattle.wire.proofs.Item.{prefixed-inside, hash-list-inside}
-use Rattle.items.specs.Ignored.{haveIgnored, ignoredFrom, total}
+use Rattle.items.specs.Ignored.{haveIgnored, ignoredFrom}
 use Rattle.items.specs.Items.{item, afterItem, haveAt, haveWordList, haveItem, manyAt}
 use Rattle.items.specs.declared.haves.HaveRead.the-variants.{Have}
 use Rattle.items.proofs.ItemLaws.{have-item, have-behind, many-behind, none-behind}
@@ -90,13 +91,6 @@ ignored-each s (suc count) at words next e =
     let are : words ≡ haveWordList (b .sync) (b .numbers) ++ m .more = sym (m .are) ∙ ap (λ (w : List ℕ). w ++ m .more) (b .are) in
     let more = ignored-each s count (m .after) (m .more) next (m .rest) in
     (b .sync, b .numbers, m .more, ignoredFrom s count (m .after), m .after, are, ignored-on s count at (m .first) (m .after) (m .is), stands, more)
-
--- A sum is 0 where each number is, and nowhere else.
-pub total-none : (l : List ℕ) → total l ≡ 0 → (i : ℕ) → getD l i 0 ≡ 0
-unfolding total
-total-none [] e i = refl
-total-none (n ∷ ns) e zero = omega arith
-total-none (n ∷ ns) e (suc i) = total-none ns (omega arith) i
 
 -- ---- putting them
 

@@ -15,7 +15,7 @@ use Rattle.bloom.specs.Ignored.{ignoredAt}
 use Rattle.bloom.specs.Read.{filterAt}
 use Rattle.bloom.proofs.Filters.{no-bytes, filter-written, default-written}
 use Rattle.bloom.proofs.IgnoredLaws.{ignored-none, ignored-written}
-use Rattle.message.specs.Message.{joined, counted, haveBytes}
+use Rattle.message.specs.Message.{joined, counted, total, haveBytes}
 use Rattle.message.specs.Sound.{Each, SoundHave, SaidFilter, entries, default, SaidHave}
 use Rattle.rules.specs.Hash.{hashesAt}
 use Rattle.rules.specs.Sizes.{sizes}
@@ -29,7 +29,7 @@ use Rattle.wire.proofs.Item.{count-checks, prefixed-inside, prefixed-written, h
 use Rattle.numbers.proofs.Meaning.{number-inside, number-written}
 use Rattle.numbers.proofs.Number.{slice-past}
 use Rattle.items.specs.Items.{Item, item, afterItem, haveWordList, haveItem, chunkItem, manyAt, list, listFrom, listAt, havesAt, chunksAt, chunksOf}
-use Rattle.items.specs.Ignored.{haveIgnored, ignoredFrom, total}
+use Rattle.items.specs.Ignored.{haveIgnored, ignoredFrom}
 use Rattle.items.proofs.IgnoredLaws.{ignored-on}
 use Rattle.items.proofs.ItemLaws.{have-read, have-item, chunk-item, many-read, many-sized, have-sized, have-below, chunk-below, list-read}
 use Rattle.items.proofs.Words.{first-word, word}

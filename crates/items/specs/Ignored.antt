@@ -1,11 +1,12 @@
 -- What is ignored of the haves of a message. 02, M-103: each have carries the number of bytes behind its filter's field, the message their sum. What is
 -- read stays `havesAt`; here is counted what it leaves.
-use Prim.Native.Nat.{ℕ, zero, suc, _+_}
+use Prim.Native.Nat.{ℕ, zero, suc}
 use mathlib.Core.List.{List, [], _∷_}
 use mathlib.Core.Path.{_≡_}
 use lib.ListN.{length}
 use lib.Seq.{sets}
 use Rattle.bloom.specs.Ignored.{ignoredAt}
+use Rattle.message.specs.Message.{total}
 use Rattle.wire.specs.Item.{afterPart, afterListed, prefixedAt, hashListAt}
 use Rattle.items.specs.Items.{afterItem, haveItem, manyAt, wordsOf}
 
@@ -20,11 +21,6 @@ haveIgnored s at =
 unfoldable pub ignoredFrom : List ℕ → ℕ → ℕ → List ℕ
 ignoredFrom s zero at = []
 ignoredFrom s (suc count) at = afterItem (haveItem s at) (λ r. []) (λ words next. haveIgnored s at ∷ ignoredFrom s count next)
-
--- Their sum.
-unfoldable pub total : List ℕ → ℕ
-total [] = 0
-total (n ∷ ns) = n + total ns
 
 -- Haves that are put with their numbers: the words at the start of one list, the numbers at the start of another, and the sum.
 pub record CountedPut (s : List ℕ) (start count : ℕ) (out₀ out₁ ignored₀ ignored₁ : List ℕ) (r : ℕ) : Type 0 where

@@ -1,5 +1,5 @@
 -- Messages as values and as bytes. 01, Wire, Message: a first byte for the version, heads, need, haves, chunks, and the flags section where there is one.
-use Prim.Native.Nat.{ℕ}
+use Prim.Native.Nat.{ℕ, _+_}
 use mathlib.Core.List.{List, [], _∷_, _++_}
 use lib.ListN.{length}
 use Rattle.bloom.specs.Filter.{filterBytes}
@@ -32,6 +32,11 @@ joined bytes (x ∷ xs) = bytes x ++ joined bytes xs
 
 unfoldable pub counted : {A : Type 0} → (A → List ℕ) → List A → List ℕ
 counted bytes xs = shortest (length xs) ++ joined bytes xs
+
+-- The sum of numbers.
+unfoldable pub total : List ℕ → ℕ
+total [] = 0
+total (n ∷ ns) = n + total ns
 
 -- A have: a hash list and a prefixed filter.
 unfoldable pub haveBytes : Have → List ℕ

@@ -7,6 +7,8 @@ use lib.Dec.{ltb}
 use lib.ListN.{length}
 use lib.Seq.{sets}
 use Rattle.rules.specs.Hash.{hashesAt}
+use Rattle.rules.specs.declared.output.Size.{Size}
+use Rattle.rules.specs.declared.output.Size.the-variants.{Bytes, Refused as NotSized}
 use Rattle.rules.specs.declared.output.Write.{Write}
 use Rattle.rules.specs.declared.output.Write.the-variants.{Wrote, Refused}
 use Rattle.rules.specs.declared.refusal.Refusal.{Refusal}
@@ -16,6 +18,11 @@ use Rattle.rules.specs.declared.refusal.Refusal.the-variants.{NoRoom}
 pub data Output : Type 0 where
   bytes : List ℕ → Output
   refuse : Refusal → Output
+
+-- How long what is to be written is, or the refusal that comes before.
+unfoldable pub sizeOf : Output → Size
+sizeOf (bytes l) = Bytes (length l)
+sizeOf (refuse r) = NotSized r
 
 -- 7 with the length wanted where the room is less than that, else how many bytes were written.
 abbrev pub answerOf : Output → ℕ → Write

@@ -7,3 +7,9 @@ pub enum Write {
     // Nothing was written.
     Refused(Refusal),
 }
+
+// How long what is to be written is, or the refusal that comes before.
+pub enum Size {
+    Bytes(usize),
+    Refused(Refusal),
+}

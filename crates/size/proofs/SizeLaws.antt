@@ -6,10 +6,10 @@ use mathlib.Core.Path.{_≡_, refl, ap}
 use native.Mathlib.Nat.{add-sub-cancel-left}
 use native.Mathlib.Numerals.{add-one}
 use native.Mathlib.Omega.{arith}
-use borrow.Author.Tests.{lt-ltb, le-ltb, ltb-false, leb-true, eqb-true, eqb-false}
-use lib.Dec.{ltb, leb, eqb}
+use borrow.Author.Tests.{leb-true, eqb-true, eqb-false}
+use lib.Dec.{leb, eqb}
 use lib.ListN.{length, getD, take, drop, length-append}
-use lib.Seq.{slice, length-slice, drop-cons, drop-length}
+use lib.Seq.{slice, length-slice, drop-cons}
 use Rattle.rules.specs.Hash.{Bytes, hashesAt}
 use Rattle.rules.specs.Sizes.{sizes}
 use Rattle.rules.proofs.Cases.{split, both}
@@ -18,15 +18,13 @@ use Rattle.wire.specs.Item.{prefixedBytes, hashListBytes}
 use Rattle.numbers.specs.Number.{shortest, mostFilter}
 use Rattle.numbers.proofs.Number.{shortest-ten}
 use Rattle.bloom.specs.Filter.{filterBytes, filterOf4, filterRules}
-use Rattle.bloom.specs.Have.{haveCount, haveIn, havesFrom, havesOf, syncPlace, syncCount, numbersIn, filterGood, filterWith}
+use Rattle.bloom.specs.Have.{haveCount, haveIn, havesFrom, havesOf, syncPlace, syncCount, numbersIn, filterGood, filterWith, GoodHaves}
 use Rattle.bloom.specs.declared.have.FilterNumbers.{FilterNumbers}
 use Rattle.bloom.proofs.Filters.{no-bytes, bytes-length}
 use Rattle.bloom.proofs.HaveLaws.{passed-haves}
 use Rattle.bloom.proofs.Rules.{ruled, capacity-none}
-use Rattle.message.specs.Message.{joined, counted, haveBytes}
-use Rattle.size.specs.Size.{GoodHaves, total, chunksCut}
+use Rattle.message.specs.Message.{joined, counted, total, haveBytes}
 use Rattle.message.specs.Write.{chunksFrom}
-use Rattle.size.specs.declared.size.Chunks.the-variants.{Whole, Short}
 
 -- ---- how long the parts can be, where a number has at most ten bytes
 
@@ -41,12 +39,6 @@ most-have = most-list + (10 + most-filter)
 
 abbrev pub most-haves : ℕ
 most-haves = 10 + most-have * sizes .haves
-
-abbrev pub most-numbers : ℕ
-most-numbers = 10 * sizes .chunks
-
-abbrev pub most-chunks : ℕ
-most-chunks = 10 + most-numbers + sizes .message
 
 -- the bytes of chunks' lengths
 unfoldable pub numbersTotal : List ℕ → ℕ
@@ -280,37 +272,12 @@ module _ (s : List ℕ) where
       let l : length (slice at (at + n) s) ≡ n = part-long s at n (omega arith) in
       rw (length-append, prefixed-long, l) (omega (arith, chunks-bytes ns (at + n) (omega arith)))
 
-  -- the loop that cuts
-  module _ (ns : List ℕ) (end numbers i : ℕ) where
-    pub cutting-short : i < length ns → length s - end < getD ns i 0 → chunksCut s end numbers (drop i ns) ≡ Short end
-    unfolding chunksCut
-    cutting-short h l = rw (drop-cons ns i 0 h, lt-ltb _ _ l)
+-- how many bytes chunks still have from the i-th on, and their lengths as numbers
+module _ (lengths : List ℕ) (i : ℕ) (h : i < length lengths) where
+  pub total-next : total (drop i lengths) ≡ getD lengths i 0 + total (drop (i + 1) lengths)
+  unfolding total
+  total-next = rw (drop-cons lengths i 0 h, add-one)
 
-    pub cutting-on : i < length ns → getD ns i 0 ≤ length s - end
-        → chunksCut s end numbers (drop i ns) ≡ chunksCut s (end + getD ns i 0) (numbers + length (shortest (getD ns i 0))) (drop (i + 1) ns)
-    unfolding chunksCut
-    cutting-on h l = rw (drop-cons ns i 0 h, le-ltb _ _ l, add-one)
-
-    pub cutting-ends : i ≡ length ns → chunksCut s end numbers (drop i ns) ≡ Whole end numbers
-    unfolding chunksCut
-    cutting-ends e = rw (e, drop-length ns)
-
-  -- what stands behind chunks that were cut
-  pub record CutWhole (ns : List ℕ) (at k end numbers : ℕ) : Type 0 where
-    pub ends : end ≡ at + total ns
-    pub long : numbers ≡ k + numbersTotal ns
-    pub there : at ≤ length s → end ≤ length s
-
-  pub cut-whole : (ns : List ℕ) (at k end numbers : ℕ) → chunksCut s at k ns ≡ Whole end numbers → CutWhole ns at k end numbers
-  unfolding chunksCut total numbersTotal
-  cut-whole [] at k end numbers e =
-      let a : at ≡ end = cc in
-      let b : k ≡ numbers = cc in
-      record { ends = omega arith; long = omega arith; there = λ h. omega arith }
-  cut-whole (n ∷ ns) at k end numbers e =
-      split (ltb (length s - at) n)
-      (λ t. absurd (let z : _≡_ {A = ℕ} 0 1 = cc (rw t at e) in omega arith))
-      (λ t.
-      let left : n ≤ length s - at = ltb-false _ _ t in
-      let r = cut-whole ns (at + n) (k + length (shortest n)) end numbers (rw t at e) in
-      record { ends = omega (arith, r .ends); long = omega (arith, r .long); there = λ h. r .there (omega arith) })
+  pub numbers-next : numbersTotal (drop i lengths) ≡ length (shortest (getD lengths i 0)) + numbersTotal (drop (i + 1) lengths)
+  unfolding numbersTotal
+  numbers-next = rw (drop-cons lengths i 0 h, add-one)

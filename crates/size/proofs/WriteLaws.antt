@@ -1,48 +1,47 @@
 -- A message written: one law for each way through the tests, in their order; and what stands behind a message that is written.
-use Prim.Native.Nat.{ℕ, _+_, _-_, _*_, _/_, _≤_, _<_}
+use Prim.Native.Nat.{ℕ, suc, _+_, _-_, _*_, _/_, _≤_, _<_}
 use mathlib.Core.Bool.{true, false}
 use mathlib.Core.List.{List, [], _∷_, _++_}
 use mathlib.Core.Path.{_≡_, refl, sym, _∙_, ap}
+use native.Mathlib.Numerals.{add-one}
 use native.Mathlib.Omega.{arith}
 use borrow.Author.Tests.{lt-ltb, le-ltb, ltb-true, ltb-false}
 use lib.Dec.{ltb}
-use lib.ListN.{length, length-append}
-use lib.Seq.{sets}
-use Rattle.bloom.specs.Have.{havesOf, passedGood, passedFew}
+use lib.ListN.{length, getD, drop, length-append}
+use lib.Seq.{sets, drop-cons, drop-length}
+use Rattle.bloom.specs.Have.{havesOf, passedGood, passedFew, GoodHaves}
 use Rattle.message.specs.Flags.{sectionBytes}
-use Rattle.message.specs.Message.{Message, counted, haveBytes, messageBytes}
+use Rattle.message.specs.Message.{Message, counted, total, haveBytes, messageBytes}
 use Rattle.message.specs.declared.flags.Section.{Section}
 use Rattle.message.specs.declared.flags.Section.the-variants.{Absent, Present}
-use Rattle.rules.specs.Output.{Output, bytes, refuse, Written}
+use Rattle.message.specs.declared.version.MessageVersion.{MessageVersion}
+use Rattle.rules.specs.Output.{Output, bytes, refuse, sizeOf, Written}
 use Rattle.rules.specs.Passed.{passedHashes, afterPassed}
 use Rattle.rules.specs.Sizes.{sizes}
 use Rattle.rules.specs.declared.passed.Passed.{Passed}
 use Rattle.rules.specs.declared.passed.Passed.the-variants.{Hashes, Refused as NotPassed}
 use Rattle.rules.specs.declared.refusal.Refusal.{Refusal}
 use Rattle.rules.specs.declared.refusal.Refusal.the-variants.{Cut, PastSize, NoRoom, BadNumbers}
+use Rattle.rules.specs.declared.output.Size.{Size}
+use Rattle.rules.specs.declared.output.Size.the-variants.{Bytes, Refused}
 use Rattle.rules.specs.declared.output.Write.the-variants.{Wrote, Refused as NotWritten}
 use Rattle.rules.proofs.Cases.{split}
 use Rattle.rules.proofs.Outputs.{written-bytes, no-room, refused}
 use Rattle.rules.proofs.PassedLaws.{passed-is}
 use Rattle.wire.specs.Item.{prefixedBytes, hashListBytes}
 use Rattle.numbers.specs.Number.{shortest}
-use Rattle.size.specs.Size.{sizeOf, SizedAs, GoodHaves, total, chunksCut, listsOutput, chunksWithin, chunksOutput, Accepted}
 use Rattle.message.specs.Write.{Parts, partsOf, hashesOf, chunksFrom, messageOf, testHaves, testHashes, testFew, testChunks, withinSize, messageOutput}
-use Rattle.size.specs.declared.size.Chunks.the-variants.{Whole, Short}
-use Rattle.size.specs.declared.size.Size.the-variants.{Bytes, Refused}
 use Rattle.size.proofs.SizeLaws.{
   most-list,
   most-haves,
-  most-numbers,
-  most-chunks,
   numbersTotal,
   hash-list-long,
   ten,
   counted-is,
   chunks-long,
   chunks-bytes,
-  CutWhole,
-  cut-whole,
+  total-next,
+  numbers-next,
   haves-small,
 }
 
@@ -178,28 +177,21 @@ module _ (s : List ℕ) where
         let r = chunks-apart ns (at + n) l (omega arith) (rw t at e) in
         (omega (arith, r .0), r .1))
 
-    -- what cutting answered
-    chunks-short : (ns : List ℕ) (at k place : ℕ) → chunksCut s at k ns ≡ Short place → testChunks s at ns o ≡ refuse (Cut place)
-    unfolding testChunks chunksCut
-    chunks-short [] at k place e = absurd (let z : _≡_ {A = ℕ} 0 1 = cc in omega arith)
-    chunks-short (n ∷ ns) at k place e =
-        split (ltb (length s - at) n)
-        (λ t. let d : at ≡ place = cc (rw t at e) in rw (t, d))
-        (λ t. rw t (chunks-short ns (at + n) (k + length (shortest n)) place (rw t at e)))
+    -- the first chunk for which there aren't enough bytes, after those for which there are
+    chunks-short : (done : List ℕ) (n : ℕ) (more : List ℕ) (at : ℕ) → at + total done ≤ length s → length s - (at + total done) < n
+        → testChunks s at (done ++ n ∷ more) o ≡ refuse (Cut (at + total done))
+    unfolding testChunks total
+    chunks-short [] n more at h l = rw (lt-ltb (length s - at) n (omega arith)) (ap (λ (k : ℕ). refuse (Cut k)) (omega arith))
+    chunks-short (d ∷ done) n more at h l =
+        rw (le-ltb (length s - at) d (omega arith))
+        (chunks-short done n more (at + d) (omega arith) (omega arith) ∙ ap (λ (k : ℕ). refuse (Cut k)) (omega arith))
 
-  -- what follows may count on whole chunks
-  chunks-refused : (o q : Output) (r : Refusal) (ns : List ℕ) (at : ℕ) → at ≤ length s
-      → (at + total ns ≤ length s → o ≡ refuse r → q ≡ refuse r)
-      → testChunks s at ns o ≡ refuse r
+  chunks-refused : (o q : Output) (r : Refusal) (ns : List ℕ) (at : ℕ) → (o ≡ refuse r → q ≡ refuse r) → testChunks s at ns o ≡ refuse r
       → testChunks s at ns q ≡ refuse r
-  unfolding testChunks total
-  chunks-refused o q r [] at h f e = f (omega arith) e
-  chunks-refused o q r (n ∷ ns) at h f e =
-      split (ltb (length s - at) n)
-      (λ t. rw t (rw t at e))
-      (λ t.
-      let left : n ≤ length s - at = ltb-false _ _ t in
-      rw t (chunks-refused o q r ns (at + n) (omega arith) (λ w. f (omega arith)) (rw t at e)))
+  unfolding testChunks
+  chunks-refused o q r [] at f e = f e
+  chunks-refused o q r (n ∷ ns) at f e =
+      split (ltb (length s - at) n) (λ t. rw t (rw t at e)) (λ t. rw t (chunks-refused o q r ns (at + n) f (rw t at e)))
 
 module _ (l : List ℕ) where
   within-past : sizes .message < length l → withinSize l ≡ refuse (PastSize 0)
@@ -220,6 +212,15 @@ module _ (l : List ℕ) where
       let same : l ≡ m = cc in
       (same, rw same at h))
 
+-- what is longer than bytes that pass the size passes it too
+within-refused : (l m : List ℕ) (r : Refusal) → length l ≤ length m → withinSize l ≡ refuse r → withinSize m ≡ refuse r
+within-refused l m r h e =
+    split (ltb (sizes .message) (length l))
+    (λ t.
+    let past : sizes .message < length l = ltb-true _ _ t in
+    within-past m (omega arith) ∙ sym (within-past l past) ∙ e)
+    (λ t. not-refused _ _ (sym (within l (ltb-false _ _ t)) ∙ e))
+
 -- ---- heads and need
 
 module _ (heads need s haves : List ℕ) where
@@ -227,27 +228,28 @@ module _ (heads need s haves : List ℕ) where
   abbrev listsBytes : List ℕ
   listsBytes = hashListBytes (hashesOf heads) ++ hashListBytes (hashesOf need)
 
-  pub lists-bad : passedGood s haves ≡ false → listsOutput heads need s haves ≡ refuse BadNumbers
-  unfolding listsOutput
+  -- with the first tests
+  abbrev pub listsOutput : Output
+  listsOutput = testHaves s haves (testHashes heads (testHashes need (bytes listsBytes)))
+
+  pub lists-bad : passedGood s haves ≡ false → listsOutput ≡ refuse BadNumbers
   lists-bad e = haves-bad s haves _ e
 
   module _ (good : passedGood s haves ≡ true) where
-    pub lists-heads : (r : Refusal) → passedHashes heads ≡ NotPassed r → listsOutput heads need s haves ≡ refuse r
-    unfolding listsOutput
+    pub lists-heads : (r : Refusal) → passedHashes heads ≡ NotPassed r → listsOutput ≡ refuse r
     lists-heads r e = haves-pass s haves _ good ∙ hashes-stop heads _ r e
 
     module _ (h : ℕ) (first : passedHashes heads ≡ Hashes h) where
-      pub lists-need : (r : Refusal) → passedHashes need ≡ NotPassed r → listsOutput heads need s haves ≡ refuse r
-      unfolding listsOutput
+      pub lists-need : (r : Refusal) → passedHashes need ≡ NotPassed r → listsOutput ≡ refuse r
       lists-need r e = haves-pass s haves _ good ∙ hashes-pass heads _ h first ∙ hashes-stop need _ r e
 
       pub lists-sized : (n x y : ℕ) → passedHashes need ≡ Hashes n
           → x ≡ length (shortest h) + sizes .hash * h
           → y ≡ length (shortest n) + sizes .hash * n
-          → Bytes (x + y) ≡ sizeOf (listsOutput heads need s haves)
-      unfolding sizeOf listsOutput
+          → Bytes (x + y) ≡ sizeOf listsOutput
+      unfolding sizeOf
       lists-sized n x y e p q =
-          let all : listsOutput heads need s haves ≡ bytes listsBytes =
+          let all : listsOutput ≡ bytes listsBytes =
           haves-pass s haves _ good ∙ hashes-pass heads _ h first ∙ hashes-pass need _ n e
           in
           let i : length heads / sizes .hash ≡ h = omega (arith, passed-is heads h first .whole) in
@@ -261,8 +263,7 @@ module _ (heads need s haves : List ℕ) where
     pub second : passedHashes need ≡ Hashes (length need / sizes .hash)
     pub long : a ≡ length (hashListBytes (hashesOf heads)) + length (hashListBytes (hashesOf need))
 
-  pub lists-are : (a : ℕ) → sizeOf (listsOutput heads need s haves) ≡ Bytes a → ListsAre a
-  unfolding listsOutput
+  pub lists-are : (a : ℕ) → sizeOf listsOutput ≡ Bytes a → ListsAre a
   lists-are a e =
       let b = size-bytes _ a e in
       let x = haves-apart s haves _ (b .list) (b .is) in
@@ -276,7 +277,7 @@ module _ (heads need s haves : List ℕ) where
         long = b .long ∙ ap length (sym same) ∙ length-append (hashListBytes (hashesOf heads)) (hashListBytes (hashesOf need));
       }
 
-  pub first-small : (a : ℕ) → sizeOf (listsOutput heads need s haves) ≡ Bytes a → a ≤ most-list + most-list
+  pub first-small : (a : ℕ) → sizeOf listsOutput ≡ Bytes a → a ≤ most-list + most-list
   first-small a e =
       let b = lists-are a e in
       let h : ℕ = length heads / sizes .hash in
@@ -296,11 +297,6 @@ module _ (heads need s haves : List ℕ) where
 
 -- ---- chunks
 
-numbers-small : (ns : List ℕ) → total ns ≤ sizes .message → numbersTotal ns ≤ 10 * length ns
-unfolding total numbersTotal
-numbers-small [] h = omega arith
-numbers-small (n ∷ ns) h = omega (arith, ten n (omega arith), numbers-small ns (omega arith))
-
 -- how long the chunks are, with their count
 chunks-length : (chunks lengths : List ℕ) → total lengths ≤ length chunks
     → length (counted prefixedBytes (chunksFrom chunks 0 lengths)) ≡ length (shortest (length lengths)) + numbersTotal lengths + total lengths
@@ -309,90 +305,118 @@ chunks-length chunks lengths h =
     (omega (arith, chunks-bytes chunks lengths 0 (omega arith)))
 
 module _ (chunks lengths : List ℕ) where
-  over : sizes .message < total lengths → chunksWithin chunks lengths ≡ refuse (PastSize 0)
-  unfolding chunksWithin
-  over h = rw (lt-ltb _ _ h)
+  -- what is written of them
+  abbrev chunksBytes : List ℕ
+  chunksBytes = counted prefixedBytes (chunksFrom chunks 0 lengths)
 
-  under : total lengths ≤ sizes .message → chunksWithin chunks lengths ≡ bytes (counted prefixedBytes (chunksFrom chunks 0 lengths))
-  unfolding chunksWithin
-  under h = rw (le-ltb _ _ h)
+  -- with the test of each, and that of the size
+  abbrev pub cutOutput : Output
+  cutOutput = testChunks chunks 0 lengths (withinSize chunksBytes)
+
+  -- the chunks before the i-th are whole and end at `end`; their lengths and the count have so many bytes; cutting the rest is cutting all of them
+  pub record Cutting (end numbers i : ℕ) : Type 0 where
+    pub upto : i ≤ length lengths
+    pub inside : end ≤ length chunks
+    pub small : numbers ≤ 10 * (i + 1)
+    pub ends : end + total (drop i lengths) ≡ total lengths
+    pub long : numbers + numbersTotal (drop i lengths) ≡ length (shortest (length lengths)) + numbersTotal lengths
+    pub rest : testChunks chunks end (drop i lengths) (withinSize chunksBytes) ≡ cutOutput
+
+  pub cutting-starts : (x : ℕ) → length lengths ≤ sizes .chunks → x ≡ length (shortest (length lengths)) → Cutting 0 x 0
+  cutting-starts x many e =
+      record {
+        upto = omega arith;
+        inside = omega arith;
+        small = omega (arith, e, ten (length lengths) (omega (arith, many)));
+        ends = omega arith;
+        long = ap (λ (k : ℕ). k + numbersTotal lengths) e;
+        rest = refl;
+      }
+
+  module _ (end numbers i : ℕ) (p : Cutting end numbers i) where
+    module _ (here : i < length lengths) where
+      pub cutting-short : length chunks - end < getD lengths i 0 → Refused (Cut end) ≡ sizeOf cutOutput
+      cutting-short l =
+          refused-size _ _
+          (sym (p .rest) ∙ rw (drop-cons lengths i 0 here) (chunks-cut chunks (withinSize chunksBytes) (getD lengths i 0) end (drop (suc i) lengths) l))
+
+      pub cutting-on : (x : ℕ) → getD lengths i 0 ≤ length chunks - end → x ≡ length (shortest (getD lengths i 0)) → x ≤ 10
+          → Cutting (end + getD lengths i 0) (numbers + x) (i + 1)
+      cutting-on x l e few =
+          let o : Output = withinSize chunksBytes in
+          let next : testChunks chunks end (drop i lengths) o ≡ testChunks chunks (end + getD lengths i 0) (drop (i + 1) lengths) o =
+          rw (drop-cons lengths i 0 here, add-one) (chunks-next chunks o (getD lengths i 0) end (drop (suc i) lengths) l)
+          in
+          record {
+            upto = omega arith;
+            inside = omega (arith, p .inside);
+            small = omega (arith, p .small);
+            ends = omega (arith, p .ends, total-next lengths i here);
+            long = omega (arith, e, p .long, numbers-next lengths i here);
+            rest = sym next ∙ p .rest;
+          }
+
+    module _ (done : length lengths ≤ i) where
+      none-left : drop i lengths ≡ []
+      none-left =
+          let all : i ≡ length lengths = omega (arith, p .upto) in
+          rw all (drop-length lengths)
+
+      -- all are whole, and what is written of them has that size
+      cut-long : length chunksBytes ≡ numbers + end
+      unfolding total numbersTotal
+      cut-long =
+          let e : end + total [] ≡ total lengths = rw none-left at (p .ends) in
+          let n : numbers + numbersTotal [] ≡ length (shortest (length lengths)) + numbersTotal lengths = rw none-left at (p .long) in
+          omega (arith, chunks-length chunks lengths (omega (arith, p .inside)))
+
+      cut-within : cutOutput ≡ withinSize chunksBytes
+      unfolding testChunks
+      cut-within = sym (p .rest) ∙ rw none-left
+
+      pub cutting-past : sizes .message < numbers + end → Refused (PastSize 0) ≡ sizeOf cutOutput
+      cutting-past h = refused-size _ _ (cut-within ∙ within-past chunksBytes (omega (arith, cut-long)))
+
+      pub cutting-all : numbers + end ≤ sizes .message → Bytes (numbers + end) ≡ sizeOf cutOutput
+      unfolding sizeOf
+      cutting-all h = rw (cut-within ∙ within chunksBytes (omega (arith, cut-long))) (ap Bytes (sym cut-long))
 
 module _ (haves chunks lengths : List ℕ) where
-  pub chunks-haves : passedFew haves ≡ false → chunksOutput haves chunks lengths ≡ refuse (PastSize 0)
-  unfolding chunksOutput
+  -- with the tests before
+  abbrev pub chunksOutput : Output
+  chunksOutput = testFew haves lengths (cutOutput chunks lengths)
+
+  pub chunks-haves : passedFew haves ≡ false → chunksOutput ≡ refuse (PastSize 0)
   chunks-haves e = few-haves haves lengths _ e
 
   module _ (few : passedFew haves ≡ true) where
-    pub chunks-many : sizes .chunks < length lengths → chunksOutput haves chunks lengths ≡ refuse (PastSize 0)
-    unfolding chunksOutput
+    pub chunks-many : sizes .chunks < length lengths → chunksOutput ≡ refuse (PastSize 0)
     chunks-many h = few-chunks haves lengths _ few h
 
-    module _ (many : length lengths ≤ sizes .chunks) where
-      pub cut-short : (place : ℕ) → chunksCut chunks 0 0 lengths ≡ Short place → chunksOutput haves chunks lengths ≡ refuse (Cut place)
-      unfolding chunksOutput
-      cut-short place e = few-pass haves lengths _ few many ∙ chunks-short chunks _ lengths 0 0 place e
-
-      module _ (end numbers : ℕ) (e : chunksCut chunks 0 0 lengths ≡ Whole end numbers) where
-        whole : CutWhole chunks lengths 0 0 end numbers
-        whole = cut-whole chunks lengths 0 0 end numbers e
-
-        chunks-whole : chunksOutput haves chunks lengths ≡ chunksWithin chunks lengths
-        unfolding chunksOutput
-        chunks-whole =
-            let w = whole in
-            few-pass haves lengths _ few many ∙ chunks-pass chunks _ lengths 0 (omega (arith, w .ends, w .there (omega arith)))
-
-        pub cut-past : sizes .message < end → chunksOutput haves chunks lengths ≡ refuse (PastSize 0)
-        cut-past h = chunks-whole ∙ over chunks lengths (omega (arith, whole .ends))
-
-        pub cut-numbers : end ≤ sizes .message → numbers ≤ most-numbers
-        cut-numbers h =
-            let w = whole in
-            omega (arith, w .long, many, numbers-small lengths (omega (arith, w .ends)))
-
-        pub cut-sized : (x : ℕ) → end ≤ sizes .message → x ≡ length (shortest (length lengths))
-            → Bytes (x + numbers + end) ≡ sizeOf (chunksOutput haves chunks lengths)
-        unfolding sizeOf
-        cut-sized x h d =
-            let w = whole in
-            let fits : total lengths ≤ length chunks = omega (arith, w .ends, w .there (omega arith)) in
-            rw (chunks-whole ∙ under chunks lengths (omega (arith, w .ends)), chunks-length chunks lengths fits)
-            (ap Bytes (omega (arith, w .ends, w .long)))
+    pub chunks-sized : (x : Size) → length lengths ≤ sizes .chunks → x ≡ sizeOf (cutOutput chunks lengths) → x ≡ sizeOf chunksOutput
+    chunks-sized x many e = e ∙ ap sizeOf (sym (few-pass haves lengths _ few many))
 
   -- what stands behind chunks that are accepted
   pub record ChunksAre (b : ℕ) : Type 0 where
     pub few : passedFew haves ≡ true
     pub many : length lengths ≤ sizes .chunks
     pub whole : total lengths ≤ length chunks
-    pub small : total lengths ≤ sizes .message
-    pub long : b ≡ length (counted prefixedBytes (chunksFrom chunks 0 lengths))
+    pub small : b ≤ sizes .message
+    pub long : b ≡ length (chunksBytes chunks lengths)
 
-  pub chunks-are : (b : ℕ) → sizeOf (chunksOutput haves chunks lengths) ≡ Bytes b → ChunksAre b
-  unfolding chunksOutput
+  pub chunks-are : (b : ℕ) → sizeOf chunksOutput ≡ Bytes b → ChunksAre b
   chunks-are b e =
       let l = size-bytes _ b e in
       let x = few-apart haves lengths _ (l .list) (l .is) in
       let y = chunks-apart chunks _ lengths 0 (l .list) (omega arith) (x .2) in
-      split (ltb (sizes .message) (total lengths))
-      (λ t. no-bytes-refused _ _ (sym (over chunks lengths (ltb-true _ _ t)) ∙ y .1))
-      (λ t.
-      let small : total lengths ≤ sizes .message = ltb-false _ _ t in
-      let q : bytes (counted prefixedBytes (chunksFrom chunks 0 lengths)) ≡ bytes (l .list) = sym (under chunks lengths small) ∙ y .1 in
-      let same : counted prefixedBytes (chunksFrom chunks 0 lengths) ≡ l .list = cc in
-      record { few = x .0; many = x .1; whole = omega (arith, y .0); small = small; long = l .long ∙ ap length (sym same) })
-
-  pub last-small : (b : ℕ) → sizeOf (chunksOutput haves chunks lengths) ≡ Bytes b → b ≤ most-chunks
-  last-small b e =
-      let a = chunks-are b e in
-      omega (
-        arith,
-        a .long,
-        chunks-length chunks lengths (a .whole),
-        a .small,
-        a .many,
-        numbers-small lengths (a .small),
-        ten (length lengths) (omega (arith, a .many)),
-      )
+      let w = within-apart (chunksBytes chunks lengths) (l .list) (y .1) in
+      record {
+        few = x .0;
+        many = x .1;
+        whole = omega (arith, y .0);
+        small = omega (arith, l .long, w .1);
+        long = l .long ∙ ap length (sym (w .0));
+      }
 
 -- ---- the whole message
 
@@ -406,7 +430,7 @@ message-long m = simp length-append (omega arith)
 
 module _ (p : Parts) where
   message-lists : (r : Refusal) → listsOutput (p .heads) (p .need) (p .bytes) (p .haves) ≡ refuse r → messageOutput p ≡ refuse r
-  unfolding messageOutput listsOutput
+  unfolding messageOutput
   message-lists r e =
       haves-refused (p .bytes) (p .haves) _ _ r
       (hashes-refused (p .heads) _ _ r (hashes-refused (p .need) _ _ r (λ d. not-refused _ _ d)))
@@ -423,23 +447,12 @@ module _ (p : Parts) where
     message-rest = haves-pass (p .bytes) (p .haves) _ good ∙ hashes-pass (p .heads) _ h first ∙ hashes-pass (p .need) _ n second
 
     message-chunks : (r : Refusal) → chunksOutput (p .haves) (p .chunks) (p .lengths) ≡ refuse r → messageOutput p ≡ refuse r
-    unfolding chunksOutput
     message-chunks r e =
         message-rest
         ∙ few-refused (p .haves) (p .lengths) _ _ r
-        (chunks-refused (p .chunks) (chunksWithin (p .chunks) (p .lengths)) (withinSize (messageBytes (messageOf p))) r (p .lengths) 0 (omega arith) after)
+        (chunks-refused (p .chunks) _ _ r (p .lengths) 0
+        (within-refused (chunksBytes (p .chunks) (p .lengths)) (messageBytes (messageOf p)) r (omega (arith, message-long (messageOf p)))))
         e
-      where
-        after : 0 + total (p .lengths) ≤ length (p .chunks) → chunksWithin (p .chunks) (p .lengths) ≡ refuse r
-            → withinSize (messageBytes (messageOf p)) ≡ refuse r
-        after w d =
-            split (ltb (sizes .message) (total (p .lengths)))
-            (λ t.
-            let past : sizes .message < total (p .lengths) = ltb-true _ _ t in
-            let long = chunks-length (p .chunks) (p .lengths) (omega (arith, w)) in
-            let o : sizes .message < length (messageBytes (messageOf p)) = omega (arith, message-long (messageOf p), long) in
-            within-past _ o ∙ sym (over (p .chunks) (p .lengths) past) ∙ d)
-            (λ t. not-refused _ _ (sym (under (p .chunks) (p .lengths) (ltb-false _ _ t)) ∙ d))
 
     message-within : passedFew (p .haves) ≡ true → length (p .lengths) ≤ sizes .chunks → total (p .lengths) ≤ length (p .chunks)
         → messageOutput p ≡ withinSize (messageBytes (messageOf p))
@@ -463,60 +476,52 @@ section-small (Present f) y e = omega arith
 
 module _ (heads need s haves chunks lengths : List ℕ) (flags : Section) where
   pub sized-lists : (r : Refusal) → sizeOf (listsOutput heads need s haves) ≡ Refused r
-      → SizedAs (λ v. messageOutput (partsOf v heads need s haves chunks lengths flags)) (Refused r)
-  unfolding sizeOf
-  sized-lists r e =
-      record { each = λ v. sym (ap sizeOf (message-lists (partsOf v heads need s haves chunks lengths flags) r (size-refused _ r e))) }
+      → (v : MessageVersion) → Refused r ≡ sizeOf (messageOutput (partsOf v heads need s haves chunks lengths flags))
+  sized-lists r e v = refused-size _ r (message-lists (partsOf v heads need s haves chunks lengths flags) r (size-refused _ r e))
 
   module _ (a : ℕ) (first : sizeOf (listsOutput heads need s haves) ≡ Bytes a) where
     pub sized-chunks : (r : Refusal) → sizeOf (chunksOutput haves chunks lengths) ≡ Refused r
-        → SizedAs (λ v. messageOutput (partsOf v heads need s haves chunks lengths flags)) (Refused r)
-    unfolding sizeOf
-    sized-chunks r e =
+        → (v : MessageVersion) → Refused r ≡ sizeOf (messageOutput (partsOf v heads need s haves chunks lengths flags))
+    sized-chunks r e v =
         let l = lists-are heads need s haves a first in
-        record {
-          each =
-              λ v.
-              sym
-              (ap sizeOf
-              (message-chunks (partsOf v heads need s haves chunks lengths flags) (l .good) _ _ (l .first) (l .second) r (size-refused _ r e)));
-        }
+        refused-size _ r
+        (message-chunks (partsOf v heads need s haves chunks lengths flags) (l .good) _ _ (l .first) (l .second) r (size-refused _ r e))
 
     module _ (b : ℕ) (last : sizeOf (chunksOutput haves chunks lengths) ≡ Bytes b) where
       module _ (x y : ℕ) (middle : x ≡ length (counted haveBytes (havesOf s haves))) (section : y ≡ length (sectionBytes flags)) where
         pub sized-past : sizes .message < 1 + a + x + b + y
-            → SizedAs (λ v. messageOutput (partsOf v heads need s haves chunks lengths flags)) (Refused (PastSize 0))
-        unfolding sizeOf
-        sized-past h =
+            → (v : MessageVersion) → Refused (PastSize 0) ≡ sizeOf (messageOutput (partsOf v heads need s haves chunks lengths flags))
+        sized-past h v =
             let l = lists-are heads need s haves a first in
             let c = chunks-are haves chunks lengths b last in
-            record {
-              each =
-                  λ v.
-                  let p = partsOf v heads need s haves chunks lengths flags in
-                  let all = message-within p (l .good) _ _ (l .first) (l .second) (c .few) (c .many) (c .whole) in
-                  sym (ap sizeOf (all ∙ within-past _ (omega (arith, message-long (messageOf p), l .long, c .long, middle, section))));
-            }
+            let p = partsOf v heads need s haves chunks lengths flags in
+            refused-size _ _
+            (message-within p (l .good) _ _ (l .first) (l .second) (c .few) (c .many) (c .whole)
+            ∙ within-past _ (omega (arith, message-long (messageOf p), l .long, c .long, middle, section)))
 
         pub sized-all : 1 + a + x + b + y ≤ sizes .message
-            → SizedAs (λ v. messageOutput (partsOf v heads need s haves chunks lengths flags)) (Bytes (1 + a + x + b + y))
+            → (v : MessageVersion) → Bytes (1 + a + x + b + y) ≡ sizeOf (messageOutput (partsOf v heads need s haves chunks lengths flags))
         unfolding sizeOf
-        sized-all h =
+        sized-all h v =
             let l = lists-are heads need s haves a first in
             let c = chunks-are haves chunks lengths b last in
-            record {
-              each =
-                  λ v.
-                  let p = partsOf v heads need s haves chunks lengths flags in
-                  let long = message-long (messageOf p) in
-                  let all =
-                  message-within p (l .good) _ _ (l .first) (l .second) (c .few) (c .many) (c .whole)
-                  ∙ within _ (omega (arith, long, l .long, c .long, middle, section))
-                  in
-                  rw all (ap Bytes (omega (arith, long, l .long, c .long, middle, section)));
-            }
+            let p = partsOf v heads need s haves chunks lengths flags in
+            let long = message-long (messageOf p) in
+            let all =
+            message-within p (l .good) _ _ (l .first) (l .second) (c .few) (c .many) (c .whole)
+            ∙ within _ (omega (arith, long, l .long, c .long, middle, section))
+            in
+            rw all (ap Bytes (omega (arith, long, l .long, c .long, middle, section)))
 
 -- ---- what was written
+
+-- Parts that pass every test but that of the message's size.
+pub record Accepted (p : Parts) : Type 0 where
+  pub haves : GoodHaves (p .bytes) (p .haves)
+  pub heads : passedHashes (p .heads) ≡ Hashes (length (p .heads) / sizes .hash)
+  pub need : passedHashes (p .need) ≡ Hashes (length (p .need) / sizes .hash)
+  pub few : length (p .lengths) ≤ sizes .chunks
+  pub whole : total (p .lengths) ≤ length (p .chunks)
 
 -- The message that the parts are, within its size, from parts that passed every test.
 pub record WrittenMessage (p : Parts) (l : List ℕ) : Type 0 where
@@ -553,7 +558,6 @@ accepted-written p a small =
 
 -- what the code knows once it has the size
 pub record Ready (p : Parts) (size : ℕ) : Type 0 where
-  pub accepted : Accepted p
   pub output : messageOutput p ≡ bytes (messageBytes (messageOf p))
   pub long : size ≡ length (messageBytes (messageOf p))
 
@@ -561,7 +565,7 @@ pub ready : (p : Parts) (size : ℕ) → sizeOf (messageOutput p) ≡ Bytes size
 ready p size e =
     let b = size-bytes (messageOutput p) size e in
     let w = message-written p (b .list) (b .is) in
-    record { accepted = w .accepted; output = b .is ∙ ap bytes (w .is); long = b .long ∙ ap length (w .is) }
+    record { output = b .is ∙ ap bytes (w .is); long = b .long ∙ ap length (w .is) }
 
 module _ (p : Parts) (size : ℕ) (e : sizeOf (messageOutput p) ≡ Bytes size) (before : List ℕ) where
   pub written-short : length before < size → Written (messageOutput p) before before (NotWritten (NoRoom size))
@@ -600,9 +604,15 @@ module _ (p : Parts) where
           pub refuses-many-chunks : sizes .chunks < length (p .lengths) → messageOutput p ≡ refuse (PastSize 0)
           refuses-many-chunks e = message-rest p good h n first second ∙ few-chunks (p .haves) (p .lengths) _ few e
 
-          pub refuses-cut-chunk : (place : ℕ) → length (p .lengths) ≤ sizes .chunks → chunksCut (p .chunks) 0 0 (p .lengths) ≡ Short place
-              → messageOutput p ≡ refuse (Cut place)
-          refuses-cut-chunk place many e =
+          pub refuses-cut-chunk : (done : List ℕ) (short : ℕ) (more : List ℕ) → length (p .lengths) ≤ sizes .chunks
+              → p .lengths ≡ done ++ short ∷ more
+              → total done ≤ length (p .chunks)
+              → length (p .chunks) - total done < short
+              → messageOutput p ≡ refuse (Cut (total done))
+          refuses-cut-chunk done short more many are whole cut =
+              let o : Output = withinSize (messageBytes (messageOf p)) in
               message-rest p good h n first second
               ∙ few-pass (p .haves) (p .lengths) _ few many
-              ∙ chunks-short (p .chunks) _ (p .lengths) 0 0 place e
+              ∙ ap (λ (ns : List ℕ). testChunks (p .chunks) 0 ns o) are
+              ∙ chunks-short (p .chunks) o done short more 0 (omega (arith, whole)) (omega (arith, cut))
+              ∙ ap (λ (k : ℕ). refuse (Cut k)) (omega arith)

@@ -7,36 +7,27 @@ use bloom::have::sync_count;
 use bloom::to_bytes::filter_size;
 use message::flags::Section;
 use numbers::leb128::unsigned_size;
+use rules::output::Size;
 use rules::passed::Passed;
 use rules::passed::passed_hashes;
 use rules::refusal::Refusal;
 use rules::sizes::CHUNKS;
 use rules::sizes::HASH_SIZE;
 use rules::sizes::MESSAGE_SIZE;
+ghost use mathlib.Core.List.{_++_};
 ghost use mathlib.Core.Path.{_≡_};
 ghost use Prim.Native.Nat.{_+_, _*_, _≤_, _<_};
 ghost use lib.ListN.{length};
 ghost use Rattle.bloom.specs.Filter.{filterBytes, filterOf4};
-ghost use Rattle.bloom.specs.Have.{haveCount, haveIn, havesOf};
-ghost use Rattle.size.specs.Size.{SizedAs, GoodHaves, sizeOf, chunksCut, listsOutput, chunksOutput};
-ghost use Rattle.message.specs.Write.{partsOf, messageOutput};
+ghost use Rattle.bloom.specs.Have.{haveCount, haveIn, havesOf, GoodHaves};
+ghost use Rattle.message.specs.Write.{partsOf, hashesOf, chunksFrom, testHaves, testHashes, testFew, testChunks, withinSize, messageOutput};
 ghost use Rattle.message.specs.Flags.{sectionBytes};
 ghost use Rattle.message.specs.Message.{haveBytes, counted};
+ghost use Rattle.message.specs.declared.version.MessageVersion.{MessageVersion};
+ghost use Rattle.rules.specs.Output.{Output, sizeOf};
 ghost use Rattle.rules.specs.Sizes.{sizes};
-ghost use Rattle.wire.specs.Item.{prefixedBytes};
+ghost use Rattle.wire.specs.Item.{prefixedBytes, hashListBytes};
 ghost use Rattle.numbers.specs.Number.{shortest};
-
-// How many bytes are to be written, or the refusal that comes before.
-pub enum Size {
-    Bytes(usize),
-    Refused(Refusal),
-}
-
-// Chunks cut from lent bytes: where the last ends and how many bytes their lengths have as numbers, or the start of the first that isn't whole.
-pub enum Chunks {
-    Whole { end: usize, numbers: usize },
-    Short(usize),
-}
 
 // A list of so many hashes.
 fn hashes_size(count: usize) -> usize
@@ -82,29 +73,36 @@ pub fn haves_size(bytes: &[u8], haves: &[u64]) -> usize
     size
 }
 
-// Cuts the chunks. A length is compared with what is left and never added before: lengths can be anything.
-pub fn cut_chunks(chunks: &[u8], lengths: &[u64]) -> Chunks
+// The chunks, with their count. A length is compared with what is left and never added before: lengths can be anything.
+pub fn cut_chunks(chunks: &[u8], lengths: &[u64]) -> Size
     requires { ⌜ length (now lengths) ≤ sizes .chunks ⌝ }
-    ensures { λ r. ⌜ r ≡ chunksCut (now (chunks .entry)) 0 0 (now (lengths .entry)) ⌝ }
+    ensures { λ r. ⌜ r ≡ sizeOf (testChunks (now (chunks .entry)) 0 (now (lengths .entry))
+        (withinSize (counted prefixedBytes (chunksFrom (now (chunks .entry)) 0 (now (lengths .entry)))))) ⌝ }
 {
     let mut end: usize = 0;
-    let mut numbers: usize = 0;
+    let mut numbers: usize = unsigned_size(lengths.len() as u64);
     let mut i = 0;
     while i < lengths.len() {
         let n = lengths[i];
         if ((chunks.len() - end) as u64) < n {
-            return Chunks::Short(end);
+            return Size::Refused(Refusal::Cut(end));
         }
         end += n as usize;
         numbers += unsigned_size(n);
         i += 1;
     }
-    Chunks::Whole { end, numbers }
+    let size = numbers + end;
+    if MESSAGE_SIZE < size {
+        return Size::Refused(Refusal::PastSize(0));
+    }
+    Size::Bytes(size)
 }
 
 // 10 for the haves, then heads and need.
 fn lists_size(heads: &[u8], need: &[u8], bytes: &[u8], haves: &[u64]) -> Size
-    ensures { λ r. ⌜ r ≡ sizeOf (listsOutput (now (heads .entry)) (now (need .entry)) (now (bytes .entry)) (now (haves .entry))) ⌝ }
+    ensures { λ r. ⌜ r ≡ sizeOf (testHaves (now (bytes .entry)) (now (haves .entry))
+        (testHashes (now (heads .entry)) (testHashes (now (need .entry))
+        (Output.bytes (hashListBytes (hashesOf (now (heads .entry))) ++ hashListBytes (hashesOf (now (need .entry)))))))) ⌝ }
 {
     if !passed_good(bytes, haves) {
         return Size::Refused(Refusal::BadNumbers);
@@ -126,7 +124,8 @@ fn lists_size(heads: &[u8], need: &[u8], bytes: &[u8], haves: &[u64]) -> Size
 
 // 4 for the haves and the number of chunks, then the chunks.
 fn chunks_size(haves: &[u64], chunks: &[u8], lengths: &[u64]) -> Size
-    ensures { λ r. ⌜ r ≡ sizeOf (chunksOutput (now (haves .entry)) (now (chunks .entry)) (now (lengths .entry))) ⌝ }
+    ensures { λ r. ⌜ r ≡ sizeOf (testFew (now (haves .entry)) (now (lengths .entry)) (testChunks (now (chunks .entry)) 0 (now (lengths .entry))
+        (withinSize (counted prefixedBytes (chunksFrom (now (chunks .entry)) 0 (now (lengths .entry))))))) ⌝ }
 {
     if !passed_few(haves) {
         return Size::Refused(Refusal::PastSize(0));
@@ -134,16 +133,7 @@ fn chunks_size(haves: &[u64], chunks: &[u8], lengths: &[u64]) -> Size
     if CHUNKS < lengths.len() {
         return Size::Refused(Refusal::PastSize(0));
     }
-    let cut = cut_chunks(chunks, lengths);
-    match cut {
-        Chunks::Whole { end, numbers } => {
-            if MESSAGE_SIZE < end {
-                return Size::Refused(Refusal::PastSize(0));
-            }
-            Size::Bytes(unsigned_size(lengths.len() as u64) + numbers + end)
-        }
-        Chunks::Short(place) => Size::Refused(Refusal::Cut(place)),
-    }
+    cut_chunks(chunks, lengths)
 }
 
 // The flags section.
@@ -166,8 +156,8 @@ pub fn message_size(
     lengths: &[u64],
     flags: Section,
 ) -> Size
-    ensures { λ r. ⌜ SizedAs (λ v. messageOutput (partsOf v (now (heads .entry)) (now (need .entry)) (now (bytes .entry)) (now (haves .entry))
-        (now (chunks .entry)) (now (lengths .entry)) flags)) r ⌝ }
+    ensures { λ r. ⌜ ((v : MessageVersion) → r ≡ sizeOf (messageOutput (partsOf v (now (heads .entry)) (now (need .entry)) (now (bytes .entry))
+        (now (haves .entry)) (now (chunks .entry)) (now (lengths .entry)) flags))) ⌝ }
 {
     let lists = lists_size(heads, need, bytes, haves);
     match lists {

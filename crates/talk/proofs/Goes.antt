@@ -19,7 +19,7 @@ use Rattle.hearing.specs.Receive.{saidIn, Received, received, receiveBytes}
 use Rattle.lent.specs.Good.{lentOf}
 use Rattle.memory.proofs.AllBytes.{bytes-none, bytes-sets, hashes-bytes, field-bytes, FieldBytes, laid-bytes, plan-bytes}
 use Rattle.memory.specs.Memory.{Memory, OfBytes, Holds, Fresh, Out, RoomyOut, Tabled, Beside, HostBytes}
-use Rattle.message.specs.Message.{joined}
+use Rattle.message.specs.Message.{joined, total}
 use Rattle.message.specs.Sound.{Each}
 use Rattle.message.specs.Write.{partsOf, chunksFrom, messageOutput}
 use Rattle.message_calls.specs.MessageWords.{versionOf, sectionOf}
@@ -37,7 +37,6 @@ use Rattle.session.specs.Laid.{laidBytes}
 use Rattle.session.specs.Plan.{Plan, Planned, heard, needOf, haveOf, planOf, resetOf, plan, after}
 use Rattle.session_calls.specs.SessionCalls.{plannedWords, plannedSession, planFor, receivedWords, receivedSession, receiveFor}
 use Rattle.session_words.specs.Words.{sessionOf}
-use Rattle.size.specs.Size.{total}
 use Rattle.state.specs.Session.{State}
 use Rattle.state.specs.Value.{Lent}
 use Rattle.tables.specs.Bytes.{tableOf}

@@ -53,8 +53,7 @@ use Rattle.session.specs.Plan.{Plan}
 use Rattle.session.proofs.LaidLaws.{laid-length-words}
 use Rattle.session_calls.specs.SessionCalls.{versionNumber, statedWords}
 use Rattle.session_words.specs.Words.{flagWord, flagOf}
-use Rattle.size.specs.Size.{Accepted}
-use Rattle.size.proofs.WriteLaws.{message-written, accepted-written}
+use Rattle.size.proofs.WriteLaws.{Accepted, message-written, accepted-written}
 use Rattle.size.proofs.SizeLaws.{chunks-long}
 use Rattle.state.specs.Value.{keptHaves}
 use Rattle.turns.specs.Talk.{Host, chunksFor, messageFor}

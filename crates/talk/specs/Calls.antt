@@ -12,6 +12,7 @@ use Rattle.bloom.specs.Have.{haveWords, havesOf}
 use Rattle.lent.specs.Good.{lentOf}
 use Rattle.memory.specs.Memory.{Memory, OfBytes, Holds, Fresh, Out, RoomyOut, Tabled, Beside, HostBytes}
 use Rattle.message.specs.Flags.{flagsOf}
+use Rattle.message.specs.Message.{total}
 use Rattle.message.specs.Write.{partsOf, chunksFrom, messageOutput}
 use Rattle.message_calls.specs.MessageWords.{versionOf, sectionOf}
 use Rattle.planned.specs.Call.{buffersOf}
@@ -20,7 +21,6 @@ use Rattle.rules.specs.Sizes.{sizes}
 use Rattle.session.specs.Plan.{Plan, Planned}
 use Rattle.session_calls.specs.SessionCalls.{PlanAnswered, ReceiveAnswered}
 use Rattle.session_words.specs.Words.{flagOf}
-use Rattle.size.specs.Size.{total}
 use Rattle.tables.specs.Bytes.{tableOf}
 use Rattle.tables.specs.Table.{Row}
 use Rattle.turns.specs.Talk.{Host, chunksFor, goes, Pair, asked, answered, pairAt, Reached, Granted, Ended}

@@ -16,13 +16,13 @@ enum-known-sized c = search needs
 returns : tie.Need-returns
 returns c =
     let k = c .before .before in
-    written-short _ _ (sym (k .before .before .message-size .ensures .each _) ∙ k .sized .given .1) _ (c .if1 .taken)
+    written-short _ _ (sym (k .before .before .message-size .ensures _) ∙ k .sized .given .1) _ (c .if1 .taken)
 
 put-message-requires : tie.Need-put-message-requires
 put-message-requires c κs =
     let k = c .before .before .before in
-    let r = ready _ _ (sym (k .before .before .message-size .ensures .each _) ∙ k .sized .given .1) in
-    record { accepted = r .accepted; room = omega (arith, r .long, c .before .if1 .left) }
+    let r = ready _ _ (sym (k .before .before .message-size .ensures _) ∙ k .sized .given .1) in
+    (r .output, omega (arith, r .long, c .before .if1 .left))
 
 enum-known-sized-2 : tie.Need-enum-known-sized-2
 enum-known-sized-2 c = search needs
@@ -35,12 +35,12 @@ returns-2 c =
     let m = c .before .before in
     let room = m .before .before in
     let k = room .before .before in
-    written-all _ _ (sym (k .before .before .message-size .ensures .each _) ∙ k .sized .given .1) _ _ (room .if1 .left) (m .put-message .ensures)
+    written-all _ _ (sym (k .before .before .message-size .ensures _) ∙ k .sized .given .1) _ _ (room .if1 .left) (m .put-message .ensures)
 
 returns-3 : tie.Need-returns-3
 returns-3 c =
     let k = c .before in
-    written-refused _ _ _ (sym (k .before .before .message-size .ensures .each _) ∙ k .sized2 .given .1)
+    written-refused _ _ _ (sym (k .before .before .message-size .ensures _) ∙ k .sized2 .given .1)
 
 pub encode-spec : {M : Type 1} → statement M
 encode-spec =

@@ -4,8 +4,9 @@ use mathlib.Core.Path.{_≡_, _∙_}
 use native.Mathlib.Omega.{arith}
 use denote.Ref.{now}
 use lib.ListN.{length, getD, drop}
-use Rattle.size.specs.Size.{total}
-use Rattle.encode.proofs.PutLaws.{Putting, putting-starts, next-on, counted-long, counted-put, chunksLeft, chunks-left, chunks-room, chunks-none, chunks-counted, chunks-total}
+use Rattle.message.specs.Message.{total}
+use Rattle.size.proofs.SizeLaws.{total-next}
+use Rattle.encode.proofs.PutLaws.{Putting, putting-starts, next-on, counted-long, counted-put, chunksLeft, chunks-left, chunks-room, chunks-none, chunks-counted}
 use borrow.Author.Needs.{needs}
 use Rattle.encode.proofs.put.put_chunks.Statement.{statement}
 use Rattle.encode.proofs.put.put_chunks.Tie as tie
@@ -45,7 +46,7 @@ there : (c : tie.In-loop Inv-loop μ-loop)
 there c =
     let l = c .before in
     let s = l .before .before .before .before .before .before .before .before in
-    omega (arith, l .loop .inv .inside, chunks-total (now (s .args .lengths)) (l .loop .i) (c .loop-test .taken))
+    omega (arith, l .loop .inv .inside, total-next (now (s .args .lengths)) (l .loop .i) (c .loop-test .taken))
 
 -- the buffer has room for all chunks
 room : (l : tie.At-loop Inv-loop μ-loop)

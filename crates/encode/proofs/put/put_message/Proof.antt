@@ -7,6 +7,7 @@ use Rattle.message.specs.Flags.{sectionBytes}
 use Rattle.message.specs.Message.{Message, counted, haveBytes, messageBytes}
 use Rattle.wire.specs.Item.{hashListBytes, prefixedBytes}
 use Rattle.numbers.specs.Number.{Put}
+use Rattle.size.proofs.WriteLaws.{message-written}
 use Rattle.encode.proofs.PutLaws.{Putting, put-long, putting-type, putting-on, putting-last, putting-room, putting-all, message-some, fromHeads, fromNeed, fromHaves, fromChunks}
 use borrow.Author.Needs.{needs}
 use Rattle.encode.proofs.put.put_message.Statement.{statement}
@@ -69,41 +70,41 @@ section-put : (c : tie.After-put-section)
 section-put c = putting-last _ _ _ _ _ _ _ _ (chunks-put (c .before .before .before .before)) (c .put-section .ensures)
 
 slice-write-out : tie.Need-slice-write-out
-slice-write-out c = let s = start c in omega (arith, s .pre .room, message-some (msg s))
+slice-write-out c = let s = start c in omega (arith, s .pre .1, message-some (msg s))
 
 put-hashes-requires : tie.Need-put-hashes-requires
 put-hashes-requires c κs =
     let b = c .before in
     let s = start b in
     let m = msg s in
-    (omega arith, putting-room _ _ _ _ _ (hashListBytes (m .heads)) (fromNeed m) (type-put b) (omega (arith, s .pre .room)))
+    (omega arith, putting-room _ _ _ _ _ (hashListBytes (m .heads)) (fromNeed m) (type-put b) (omega (arith, s .pre .1)))
 
 put-hashes-requires-2 : tie.Need-put-hashes-requires-2
 put-hashes-requires-2 c κs =
     let b = c .before .before .before in
     let s = start (b .before .before) in
     let m = msg s in
-    (omega arith, putting-room _ _ _ _ _ (hashListBytes (m .need)) (fromHaves m) (heads-put b) (omega (arith, s .pre .room)))
+    (omega arith, putting-room _ _ _ _ _ (hashListBytes (m .need)) (fromHaves m) (heads-put b) (omega (arith, s .pre .1)))
 
 put-haves-requires : tie.Need-put-haves-requires
 put-haves-requires c κs =
     let b = c .before .before .before in
     let s = start (b .before .before .before .before .before .before) in
     let m = msg s in
-    (s .pre .accepted .haves, putting-room _ _ _ _ _ (counted haveBytes (m .haves)) (fromChunks m) (need-put b) (omega (arith, s .pre .room)))
+    (message-written _ _ (s .pre .0) .accepted .haves, putting-room _ _ _ _ _ (counted haveBytes (m .haves)) (fromChunks m) (need-put b) (omega (arith, s .pre .1)))
 
 put-chunks-requires : tie.Need-put-chunks-requires
 put-chunks-requires c κs =
     let b = c .before .before .before in
     let s = start (b .before .before .before .before .before .before .before .before .before .before) in
     let m = msg s in
-    (s .pre .accepted .whole, putting-room _ _ _ _ _ (counted prefixedBytes (m .chunks)) (sectionBytes (m .flags)) (haves-put b) (omega (arith, s .pre .room)))
+    (message-written _ _ (s .pre .0) .accepted .whole, putting-room _ _ _ _ _ (counted prefixedBytes (m .chunks)) (sectionBytes (m .flags)) (haves-put b) (omega (arith, s .pre .1)))
 
 put-section-requires : tie.Need-put-section-requires
 put-section-requires c κs =
     let b = c .before .before .before in
     let s = start (b .before .before .before .before .before .before .before .before .before .before .before .before .before .before) in
-    putting-all _ _ _ _ _ _ (chunks-put b) (omega (arith, s .pre .room))
+    putting-all _ _ _ _ _ _ (chunks-put b) (omega (arith, s .pre .1))
 
 same-length : tie.Need-same-length
 same-length c = put-long _ _ _ _ _ (section-put (c .before .before))

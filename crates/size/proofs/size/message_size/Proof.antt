@@ -1,10 +1,53 @@
 -- `size::size::message_size` meets its contract: the tests in their order, and then the sum of all parts. Assumes nothing.
-use mathlib.Core.Path.{sym, _∙_}
+use Prim.Native.Nat.{_≤_}
+use mathlib.Core.Path.{_≡_, sym, _∙_}
 use native.Mathlib.Omega.{arith}
-use Rattle.size.proofs.WriteLaws.{sized-lists, sized-chunks, sized-past, sized-all, first-small, last-small, middle-small, section-small, sized-haves}
+use denote.Ref.{now}
+use Rattle.bloom.specs.Have.{GoodHaves}
+use Rattle.rules.specs.Output.{sizeOf}
+use Rattle.rules.specs.declared.output.Size.the-variants.{Bytes}
+use Rattle.size.proofs.SizeLaws.{most-haves}
+use Rattle.size.proofs.WriteLaws.{
+  listsOutput,
+  chunksOutput,
+  sized-lists,
+  sized-chunks,
+  sized-past,
+  sized-all,
+  first-small,
+  chunks-are,
+  middle-small,
+  section-small,
+  sized-haves,
+}
 use borrow.Author.Needs.{needs}
 use Rattle.size.proofs.size.message_size.Statement.{statement}
 use Rattle.size.proofs.size.message_size.Tie as tie
+
+abbrev start : tie.After-lists → tie.Start
+start c = c .before .before .before .before .before .before .before .before .before
+
+abbrev lists-of : tie.After-rest → tie.After-lists
+lists-of c = c .before .before .before .before
+
+-- the size of the lists, and that of the chunks
+first : (c : tie.After-lists)
+    → let a = start c .args in
+    sizeOf (listsOutput (now (a .heads)) (now (a .need)) (now (a .bytes)) (now (a .haves))) ≡ Bytes (c .lists .given .0 .0)
+first c = sym (c .before .before .lists-size .ensures) ∙ c .lists .given .1
+
+last : (c : tie.After-rest)
+    → let a = start (lists-of c) .args in
+    sizeOf (chunksOutput (now (a .haves)) (now (a .chunks)) (now (a .lengths))) ≡ Bytes (c .rest .given .0 .0)
+last c = sym (c .before .before .chunks-size .ensures) ∙ c .rest .given .1
+
+-- the haves passed both tests
+good : (c : tie.After-rest) → let a = start (lists-of c) .args in GoodHaves (now (a .bytes)) (now (a .haves))
+good c = sized-haves _ _ _ _ _ _ _ _ (first (lists-of c)) (last c)
+
+-- their size
+middle : (c : tie.After-haves-size) → c .haves-size .result ≤ most-haves
+middle c = middle-small _ _ _ (good (c .before .before)) (c .haves-size .ensures)
 
 lists-size-requires : tie.Need-lists-size-requires
 lists-size-requires c κs = search needs
@@ -19,34 +62,18 @@ enum-known-rest : tie.Need-enum-known-rest
 enum-known-rest c = search needs
 
 add-size : tie.Need-add-size
-add-size c =
-    let two = c .before in
-    let one = two .before .before .before .before in
-    let a = first-small _ _ _ _ _ (sym (one .before .before .lists-size .ensures) ∙ one .lists .given .1) in
-    omega (arith, a)
+add-size c = omega (arith, first-small _ _ _ _ _ (first (lists-of (c .before))))
 
 haves-size-requires : tie.Need-haves-size-requires
-haves-size-requires c κs =
-    let two = c .before in
-    let one = two .before .before .before .before in
-    sized-haves _ _ _ _ _ _ _ _ (sym (one .before .before .lists-size .ensures) ∙ one .lists .given .1) (sym (two .before .before .chunks-size .ensures) ∙ two .rest .given .1)
+haves-size-requires c κs = good (c .before)
 
 add-size-2 : tie.Need-add-size-2
-add-size-2 c =
-    let two = c .before .before in
-    let one = two .before .before .before .before in
-    let a = first-small _ _ _ _ _ (sym (one .before .before .lists-size .ensures) ∙ one .lists .given .1) in
-    let x = middle-small _ _ _ (sized-haves _ _ _ _ _ _ _ _ (sym (one .before .before .lists-size .ensures) ∙ one .lists .given .1) (sym (two .before .before .chunks-size .ensures) ∙ two .rest .given .1)) (c .haves-size .ensures) in
-    omega (arith, a, x)
+add-size-2 c = omega (arith, first-small _ _ _ _ _ (first (lists-of (c .before .before))), middle c)
 
 add-size-3 : tie.Need-add-size-3
 add-size-3 c =
     let two = c .before .before in
-    let one = two .before .before .before .before in
-    let a = first-small _ _ _ _ _ (sym (one .before .before .lists-size .ensures) ∙ one .lists .given .1) in
-    let x = middle-small _ _ _ (sized-haves _ _ _ _ _ _ _ _ (sym (one .before .before .lists-size .ensures) ∙ one .lists .given .1) (sym (two .before .before .chunks-size .ensures) ∙ two .rest .given .1)) (c .haves-size .ensures) in
-    let b = last-small _ _ _ _ (sym (two .before .before .chunks-size .ensures) ∙ two .rest .given .1) in
-    omega (arith, a, x, b)
+    omega (arith, first-small _ _ _ _ _ (first (lists-of two)), middle c, chunks-are _ _ _ _ (last two) .small)
 
 section-size-requires : tie.Need-section-size-requires
 section-size-requires c κs = search needs
@@ -54,19 +81,19 @@ section-size-requires c κs = search needs
 add-size-4 : tie.Need-add-size-4
 add-size-4 c =
     let two = c .before .before .before in
-    let one = two .before .before .before .before in
-    let a = first-small _ _ _ _ _ (sym (one .before .before .lists-size .ensures) ∙ one .lists .given .1) in
-    let x = middle-small _ _ _ (sized-haves _ _ _ _ _ _ _ _ (sym (one .before .before .lists-size .ensures) ∙ one .lists .given .1) (sym (two .before .before .chunks-size .ensures) ∙ two .rest .given .1)) (c .before .haves-size .ensures) in
-    let b = last-small _ _ _ _ (sym (two .before .before .chunks-size .ensures) ∙ two .rest .given .1) in
-    let y = section-small _ _ (c .section-size .ensures) in
-    omega (arith, a, x, b, y)
+    omega (
+      arith,
+      first-small _ _ _ _ _ (first (lists-of two)),
+      middle (c .before),
+      chunks-are _ _ _ _ (last two) .small,
+      section-small _ _ (c .section-size .ensures),
+    )
 
 returns : tie.Need-returns
 returns c =
     let s = c .before in
     let two = s .before .before .before in
-    let one = two .before .before .before .before in
-    sized-past _ _ _ _ _ _ _ _ (sym (one .before .before .lists-size .ensures) ∙ one .lists .given .1) _ (sym (two .before .before .chunks-size .ensures) ∙ two .rest .given .1) _ _ (s .before .haves-size .ensures) (s .section-size .ensures) (c .if1 .taken)
+    sized-past _ _ _ _ _ _ _ _ (first (lists-of two)) _ (last two) _ _ (s .before .haves-size .ensures) (s .section-size .ensures) (c .if1 .taken)
 
 enum-known-rest-2 : tie.Need-enum-known-rest-2
 enum-known-rest-2 c = search needs
@@ -78,14 +105,12 @@ returns-2 : tie.Need-returns-2
 returns-2 c =
     let s = c .before in
     let two = s .before .before .before in
-    let one = two .before .before .before .before in
-    sized-all _ _ _ _ _ _ _ _ (sym (one .before .before .lists-size .ensures) ∙ one .lists .given .1) _ (sym (two .before .before .chunks-size .ensures) ∙ two .rest .given .1) _ _ (s .before .haves-size .ensures) (s .section-size .ensures) (c .if1 .left)
+    sized-all _ _ _ _ _ _ _ _ (first (lists-of two)) _ (last two) _ _ (s .before .haves-size .ensures) (s .section-size .ensures) (c .if1 .left)
 
 returns-3 : tie.Need-returns-3
 returns-3 c =
     let two = c .before in
-    let one = two .before .before .before .before in
-    sized-chunks _ _ _ _ _ _ _ _ (sym (one .before .before .lists-size .ensures) ∙ one .lists .given .1) _ (sym (two .before .before .chunks-size .ensures) ∙ two .rest2 .given .1)
+    sized-chunks _ _ _ _ _ _ _ _ (first (two .before .before .before .before)) _ (sym (two .before .before .chunks-size .ensures) ∙ two .rest2 .given .1)
 
 returns-4 : tie.Need-returns-4
 returns-4 c =
