@@ -9,9 +9,11 @@ use Rattle.rules.specs.declared.refusal.Refusal.{Refusal}
 use Rattle.rules.specs.declared.output.Write.{Write}
 use Rattle.rules.specs.declared.output.Write.the-variants.{Wrote, Refused as NotWritten}
 
+-- A refusal: its number, its value and zeros.
 abbrev pub refusalWords : Refusal → List ℕ
 refusalWords r = numberOf r ∷ valueOf r ∷ 0 ∷ 0 ∷ []
 
+-- What a writing call answers: 0 and the bytes written, or the refusal.
 abbrev pub writeWords : Write → List ℕ
 writeWords (Wrote size) = 0 ∷ size ∷ 0 ∷ 0 ∷ []
 writeWords (NotWritten r) = refusalWords r

@@ -21,7 +21,7 @@ use Rattle.lent.proofs.GoodSessions.{list-parts, session-tests, session-parts, 
 use Rattle.lists.specs.Lists.{few}
 use Rattle.missing.specs.Ask.{FoundUpTo}
 use Rattle.planned.specs.Call.{Buffers}
-use Rattle.planned.specs.declared.answer.Planned.{Planned as Answer}
+use Rattle.planned.specs.declared.answer.PlanAnswer.{PlanAnswer}
 use Rattle.planning.specs.Made.{Setting}
 use Rattle.probe.proofs.BuildLaws.{rules-field}
 use Rattle.rules.specs.Hash.{hashesAt}
@@ -158,7 +158,7 @@ module _ {table index : List ℕ} {n : ℕ} (s : Session) (l : Lent) (rows : Ind
       small-made _ _ _ s l _ _ _ made (need .within) there good setting
 
   -- What was made, decided and put is what the call promises.
-  pub asked-called : {bits probes asked : ℕ} {ready : PlanParts} {d : Draft} {before after : Buffers} {a : Answer}
+  pub asked-called : {bits probes asked : ℕ} {ready : PlanParts} {d : Draft} {before after : Buffers} {a : PlanAnswer}
       → DraftMade bits probes (rowsAt table 0 n) (stateOf s l) asked ready d
       → ready .shared ≡ l .shared
       → Finished s d bits probes ready before after a

@@ -10,7 +10,7 @@ use Rattle.lent.specs.Good.{sessionGood}
 use Rattle.lists.specs.Lists.{few}
 use Rattle.missing.specs.Ask.{FoundUpTo}
 use Rattle.planned.specs.Call.{Buffers, PlanCalled}
-use Rattle.planned.specs.declared.answer.Planned.{Planned as Answer}
+use Rattle.planned.specs.declared.answer.PlanAnswer.{PlanAnswer}
 use Rattle.rules.specs.Sizes.{sizes}
 use Rattle.session.specs.Plan.{heard, needOf, plan}
 use Rattle.state.specs.Value.{Lent, stateOf}
@@ -30,7 +30,7 @@ unfoldable pub asksFew : PlanCounts → ℕ → ℕ → Bool
 asksFew k before size = not (ltb few (k .heads)) && (not (ltb few (before + k .body .hashes)) && not (ltb shortField size))
 
 -- What was checked: tables of so many rows and waiting rows, an index that fits, beside a session that is good.
-pub record Checked (table index : List ℕ) (n : ℕ) (waiting : List ℕ) (m : ℕ) (s : Session) (l : Lent) : Type 0 where
+pub record PlanChecked (table index : List ℕ) (n : ℕ) (waiting : List ℕ) (m : ℕ) (s : Session) (l : Lent) : Type 0 where
   pub rows : Indexed table index n
   pub waitingRows : waitingChecked (rowsAt table 0 n) waiting ≡ Good m
   pub session : sessionGood s l ≡ true
@@ -41,7 +41,7 @@ pub record NeedRoom (asked room : ℕ) : Type 0 where
   pub there : sizes .hash * asked ≤ room
 
 -- What the call ensures, whatever waits, if this is what is asked for then.
-pub record AskedCalled (bits probes : ℕ) (s : Session) (t : List Row) (l : Lent) (ready : List ℕ) (asked : ℕ) (before after : Buffers) (r : Answer) : Type 0
+pub record AskedCalled (bits probes : ℕ) (s : Session) (t : List Row) (l : Lent) (ready : List ℕ) (asked : ℕ) (before after : Buffers) (r : PlanAnswer) : Type 0
   where
     pub called : (w : List Waiting) → FoundUpTo (needOf t w (s .«read_only») (heard (stateOf s l .theirHeads))) (sizes .hashes + 1) ready asked
         → PlanCalled s (plan bits probes t w (stateOf s l)) before after r

@@ -6,7 +6,7 @@ use draft::make::count_plan;
 use draft::make::make_plan;
 use graph::heads::LIST_SIZE;
 use lists::few::FEW;
-use planned::answer::Planned;
+use planned::answer::PlanAnswer;
 use planning::need::make_need;
 use rules::sizes::FIELD_SIZE;
 use rules::sizes::HASH_SIZE;
@@ -30,7 +30,7 @@ ghost use Rattle.session.specs.Plan.{plan as planFor};
 ghost use Rattle.state.specs.Value.{heardCount, stateOf};
 ghost use Rattle.tables.specs.Bytes.{rowsAt};
 ghost use Rattle.waiting.specs.Bytes.{waitingOf};
-ghost use Rattle.asked.specs.Asked.{Checked, asksFew, NeedRoom, AskedCalled};
+ghost use Rattle.asked.specs.Asked.{PlanChecked, asksFew, NeedRoom, AskedCalled};
 
 // Room for one hash more than are few, or than a list may have, so that too many show.
 const FEW_SIZE: usize = HASH_SIZE * (FEW + 1);
@@ -91,7 +91,7 @@ fn plan_in(
     need: &mut [u8],
     have: &mut [u8],
     list: &mut [u8],
-) -> Planned
+) -> PlanAnswer
     requires { ⌜ Indexed (now table) (now index) n
         × (sessionGood session (lentOf (now shared) (now «last_sent») (now «their_heads») (now «their_need») (now haves) (now bytes) (now sent)) ≡ true)
         × Setting bits probes
@@ -173,7 +173,7 @@ fn plan_asked(
     need: &mut [u8],
     have: &mut [u8],
     list: &mut [u8],
-) -> Planned
+) -> PlanAnswer
     requires { ⌜ Indexed (now table) (now index) n
         × (sessionGood session (lentOf (now shared) (now «last_sent») (now «their_heads») (now «their_need») (now haves) (now bytes) (now sent)) ≡ true)
         × Setting bits probes
@@ -295,8 +295,8 @@ pub fn plan_checked(
     need: &mut [u8],
     have: &mut [u8],
     list: &mut [u8],
-) -> Planned
-    requires { ⌜ Checked (now table) (now index) n (now waiting) m session
+) -> PlanAnswer
+    requires { ⌜ PlanChecked (now table) (now index) n (now waiting) m session
         (lentOf (now shared) (now «last_sent») (now «their_heads») (now «their_need») (now haves) (now bytes) (now sent))
         × Setting bits probes ⌝ }
     ensures { λ r. ⌜ PlanCalled session (planFor bits probes (rowsAt (now (table .entry)) 0 n) (waitingOf (now (waiting .entry)))

@@ -6,6 +6,7 @@ use Rattle.binding.specs.Sessions.{SessionsBind}
 use Rattle.binding.specs.Tables.{TablesBind}
 use Rattle.binding.specs.Wire.{WireBind}
 
+-- All public contracts, in five parts by layer.
 pub record Binding : Type 0 where
   pub wire : WireBind
   pub tables : TablesBind

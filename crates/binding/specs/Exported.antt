@@ -55,6 +55,7 @@ use Rattle.message_calls.proofs.message_words.peeked_words as of-peeked-words
 use Rattle.session_words.proofs.words.session_words as of-session-words
 use Rattle.session_words.proofs.words.session_of as of-session-of
 
+-- The exported calls, and the functions that turn answers into words.
 pub record ExportedBind : Type 0 where
   -- the crate answers
   pub refusal-words : Binds of-refusal-words.ended of-refusal-words.Reads.Post

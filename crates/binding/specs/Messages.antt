@@ -19,6 +19,7 @@ use Rattle.size.proofs.size.message_size as of-message-size
 use Rattle.encode.proofs.encode.encode as of-encode
 use Rattle.reader.proofs.reader.hashes_at as of-reader-hashes-at
 
+-- Messages: their flags and versions, read, peeked at, sized and written.
 pub record MessagesBind : Type 0 where
   -- the crate message
   pub new : Binds of-new.ended of-new.Reads.Post

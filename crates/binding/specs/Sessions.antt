@@ -24,6 +24,7 @@ use Rattle.drafting.proofs.check.check_receive as of-check-receive
 use Rattle.drafting.proofs.make.loads_changes as of-loads-changes
 use Rattle.drafting.proofs.make.load_failed as of-load-failed
 
+-- Sessions: their struct, saved states, and the parts of planning and receiving that require nothing.
 pub record SessionsBind : Type 0 where
   -- the crate state
   pub new : Binds of-new.ended of-new.Reads.Post

@@ -14,6 +14,7 @@ use Rattle.missing.proofs.missing.missing as of-missing
 use Rattle.selection.proofs.to_send.get_hashes_to_send as of-get-hashes-to-send
 use Rattle.summaries.proofs.summary.summary_in as of-summary-in
 
+-- Tables, their index, what waits, and what is computed over them.
 pub record TablesBind : Type 0 where
   -- the crate tables
   pub check-table : Binds of-check-table.ended of-check-table.Reads.Post

@@ -29,6 +29,7 @@ use Rattle.probe.proofs.build.from_hashes as of-from-hashes
 use Rattle.probe.proofs.contains.filters_contain as of-filters-contain
 use Rattle.probe.proofs.probes.count as of-count
 
+-- Rules, numbers, strings and lists, and filters.
 pub record WireBind : Type 0 where
   -- the crate rules
   pub passed-hashes : Binds of-passed-hashes.ended of-passed-hashes.Reads.Post

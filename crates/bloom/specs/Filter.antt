@@ -16,6 +16,7 @@ pub record Filter : Type 0 where
   pub probes : ℕ
   pub field : List ℕ
 
+-- The filter that three numbers and a field are.
 abbrev pub filterOf4 : ℕ → ℕ → ℕ → List ℕ → Filter
 filterOf4 n b p field = record { entries = n; bits = b; probes = p; field = field }
 
@@ -23,6 +24,7 @@ filterOf4 n b p field = record { entries = n; bits = b; probes = p; field = fiel
 abbrev pub defaultBits : ℕ
 defaultBits = 10
 
+-- Seven probes go with the ten bits.
 abbrev pub defaultProbes : ℕ
 defaultProbes = 7
 

@@ -40,18 +40,20 @@ unfoldable pub filterWith : List ℕ → FilterNumbers → Filter
 filterWith s f =
     record { entries = f .entries; bits = f .bits; probes = f .probes; field = slice (f .place) (f .place + f .size) s }
 
--- The filters of so many records from record i on, and of a whole list.
+-- The filters of so many records from record i on.
 unfoldable pub filtersFrom : List ℕ → List ℕ → ℕ → ℕ → List Filter
 filtersFrom s haves i zero = []
 filtersFrom s haves i (suc count) = filterWith s (numbersIn haves i) ∷ filtersFrom s haves (suc i) count
 
+-- The filters of a whole list.
 unfoldable pub filtersOf : List ℕ → List ℕ → List Filter
 filtersOf s haves = filtersFrom s haves 0 (haveCount haves)
 
--- The last-sync hashes of record i: where the first stands, and how many they are.
+-- Where the first last-sync hash of record i stands.
 abbrev pub syncPlace : List ℕ → ℕ → ℕ
 syncPlace haves i = getD haves (i * haveWords) 0
 
+-- How many last-sync hashes record i has.
 abbrev pub syncCount : List ℕ → ℕ → ℕ
 syncCount haves i = getD haves (i * haveWords + 1) 0
 
@@ -60,7 +62,7 @@ pub record Have : Type 0 where
   pub lastSync : List ℕ
   pub filter : Filter
 
--- The have that record i is over the lent bytes, so many from record i on, and those of a whole list.
+-- The have that record i is over the lent bytes.
 unfoldable pub haveIn : List ℕ → List ℕ → ℕ → Have
 haveIn s haves i =
     record {
@@ -68,10 +70,12 @@ haveIn s haves i =
       filter = filterWith s (numbersIn haves i);
     }
 
+-- So many haves from record i on.
 unfoldable pub havesFrom : List ℕ → List ℕ → ℕ → ℕ → List Have
 havesFrom s haves i zero = []
 havesFrom s haves i (suc count) = haveIn s haves i ∷ havesFrom s haves (suc i) count
 
+-- The haves of a whole list.
 unfoldable pub havesOf : List ℕ → List ℕ → List Have
 havesOf s haves = havesFrom s haves 0 (haveCount haves)
 

@@ -13,10 +13,11 @@ use Rattle.bloom.specs.declared.parse.Parsed.the-variants.{Filter, Refus
 unfoldable pub ignoredAt : List ℕ → ℕ → ℕ → ℕ
 ignoredAt s at end = afterFilter (filterAt s at end) (λ r. 0) (λ f next. leftAt s next end)
 
--- The filter at a place with its number; and the reading that it is without it.
+-- The filter at a place with its number.
 unfoldable pub countedAt : List ℕ → ℕ → ℕ → CountedFilter
 countedAt s at end = afterFilter (filterAt s at end) NotCounted (λ f next. Count f next (ignoredAt s at end))
 
+-- The same reading without the number.
 unfoldable pub asParsed : CountedFilter → Parsed
 asParsed (Count f next ignored) = Filter f next
 asParsed (NotCounted r) = Refused r

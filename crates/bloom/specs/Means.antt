@@ -8,6 +8,7 @@ use lib.ListN.{length}
 use Rattle.numbers.specs.Number.{shortest}
 use Rattle.bloom.specs.Filter.{Filter, filterOf4, filterRules, defaultBits, defaultProbes}
 
+-- What bytes mean as a filter: none is the default; else three numbers in their shortest form, a field of the size that these ask for, and bytes that say nothing.
 pub data FilterMeans (bytes : List ℕ) (f : Filter) : Type 0 where
   none : bytes ≡ [] → f ≡ filterOf4 0 defaultBits defaultProbes [] → FilterMeans bytes f
   said : (ignored : List ℕ)

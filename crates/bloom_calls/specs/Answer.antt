@@ -8,10 +8,12 @@ use Rattle.probe.specs.declared.contains.Contained.{Contained}
 use Rattle.probe.specs.declared.contains.Contained.the-variants.{Yes, No, Refused as NotTested}
 use Rattle.answers.specs.Answer.{refusalWords}
 
+-- A filter that was read: 0, its three numbers, place and size of its field, the next place and the bytes ignored; or the refusal.
 abbrev pub filterWords : CountedFilter → List ℕ
 filterWords (Filter f next ignored) = 0 ∷ f .entries ∷ f .bits ∷ f .probes ∷ f .place ∷ f .size ∷ next ∷ ignored ∷ []
 filterWords (NoFilter r) = numberOf r ∷ valueOf r ∷ 0 ∷ 0 ∷ 0 ∷ 0 ∷ 0 ∷ 0 ∷ []
 
+-- 1 for yes and 0 for no, behind 0; or the refusal.
 abbrev pub containedWords : Contained → List ℕ
 containedWords Yes = 0 ∷ 1 ∷ 0 ∷ 0 ∷ []
 containedWords No = 0 ∷ 0 ∷ 0 ∷ 0 ∷ []

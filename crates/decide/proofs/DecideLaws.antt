@@ -14,8 +14,8 @@ use Rattle.message.specs.declared.flags.MessageFlags.{MessageFlags}
 use Rattle.message.specs.declared.version.MessageVersion.{MessageVersion}
 use Rattle.message.specs.declared.version.MessageVersion.the-variants.{V1}
 use Rattle.planned.specs.Call.{messageRoom, sessionRoom, plannedCounts}
-use Rattle.planned.specs.declared.answer.Planned.{Planned}
-use Rattle.planned.specs.declared.answer.Planned.the-variants.{Refused, Silent, Reset, Says}
+use Rattle.planned.specs.declared.answer.PlanAnswer.{PlanAnswer}
+use Rattle.planned.specs.declared.answer.PlanAnswer.the-variants.{Refused, Silent, Reset, Says}
 use Rattle.planned.specs.declared.answer.Room.{Room}
 use Rattle.planned.specs.declared.answer.Room.the-variants.{Enough, Short}
 use Rattle.planned.specs.declared.answer.Rooms.{Rooms}
@@ -210,12 +210,12 @@ module _ (s : Session) (d : Draft) (bits probes : ℕ) (r : Rooms) where
       all-enough n h c = let k : sessionRoom (d .heads) (d .sent) r ≡ Enough = sym z ∙ h in rw (room-is _ room, k, e, c)
 
 -- the stages over plain tests
-abbrev staged : Bool → Bool → Bool → Bool → Planned → Planned → Planned
+abbrev staged : Bool → Bool → Bool → Bool → PlanAnswer → PlanAnswer → PlanAnswer
 staged many unknown silent full reset says =
     cond many (Refused (PastSize 0)) (cond unknown reset (cond silent Silent (cond full (Refused (PastSize 0)) says)))
 
-module _ (many unknown silent full : Bool) (reset says : Planned) where
-  at-reset : {x : Planned} → many ≡ false → unknown ≡ true → x ≡ reset → x ≡ staged many unknown silent full reset says
+module _ (many unknown silent full : Bool) (reset says : PlanAnswer) where
+  at-reset : {x : PlanAnswer} → many ≡ false → unknown ≡ true → x ≡ reset → x ≡ staged many unknown silent full reset says
   at-reset a b e = rw (a, b) e
 
   at-silence : many ≡ false → unknown ≡ false → silent ≡ true → Silent ≡ staged many unknown silent full reset says
@@ -224,7 +224,7 @@ module _ (many unknown silent full : Bool) (reset says : Planned) where
   at-sent : many ≡ false → unknown ≡ false → silent ≡ false → full ≡ true → Refused (PastSize 0) ≡ staged many unknown silent full reset says
   at-sent a b c d = rw (a, b, c, d)
 
-  at-message : {x : Planned} → many ≡ false → unknown ≡ false → silent ≡ false → full ≡ false → x ≡ says → x ≡ staged many unknown silent full reset says
+  at-message : {x : PlanAnswer} → many ≡ false → unknown ≡ false → silent ≡ false → full ≡ false → x ≡ says → x ≡ staged many unknown silent full reset says
   at-message a b c d e = rw (a, b, c, d) e
 
 module _ (s : Session) (d : Draft) (bits probes : ℕ) (r : Rooms) where
@@ -233,7 +233,7 @@ module _ (s : Session) (d : Draft) (bits probes : ℕ) (r : Rooms) where
   needs-many h = rw (lt-ltb _ _ h)
 
   module _ (few : d .need ≤ sizes .hashes) where
-    pub is-unknown : {x : Planned} → d .unknown ≡ true → x ≡ ifRoom (messageRoom (resetStated (d .heads)) r) (Reset (resetStated (d .heads)))
+    pub is-unknown : {x : PlanAnswer} → d .unknown ≡ true → x ≡ ifRoom (messageRoom (resetStated (d .heads)) r) (Reset (resetStated (d .heads)))
         → x ≡ decided s d bits probes r
     unfolding decided
     is-unknown u e = at-reset (ltb (sizes .hashes) (d .need)) (d .unknown) (d .silent) (ltb (sizes .sentHashes) (d .sent)) _ _ (le-ltb _ _ few) u e
@@ -250,7 +250,7 @@ module _ (s : Session) (d : Draft) (bits probes : ℕ) (r : Rooms) where
             at-sent (ltb (sizes .hashes) (d .need)) (d .unknown) (d .silent) (ltb (sizes .sentHashes) (d .sent)) _ _ (le-ltb _ _ few) known loud
             (lt-ltb _ _ h)
 
-        pub is-said : {x : Planned} → d .sent ≤ sizes .sentHashes → x ≡ saysWith s d bits probes r → x ≡ decided s d bits probes r
+        pub is-said : {x : PlanAnswer} → d .sent ≤ sizes .sentHashes → x ≡ saysWith s d bits probes r → x ≡ decided s d bits probes r
         unfolding decided
         is-said h e =
             at-message (ltb (sizes .hashes) (d .need)) (d .unknown) (d .silent) (ltb (sizes .sentHashes) (d .sent)) _ _ (le-ltb _ _ few) known loud
@@ -258,7 +258,7 @@ module _ (s : Session) (d : Draft) (bits probes : ℕ) (r : Rooms) where
 
 -- ---- what an answer puts
 
-module _ (a : Planned) where
+module _ (a : PlanAnswer) where
   pub refused-puts : (r : Refusal) → a ≡ Refused r → noPuts ≡ putsOf a
   unfolding putsOf
   refused-puts r e = rw e

@@ -12,8 +12,8 @@ use Rattle.message.specs.Flags.{flagsOf, supportsSyncReset}
 use Rattle.message.specs.declared.version.MessageVersion.the-variants.{V1}
 use Rattle.numbers.specs.Number.{mostFilter}
 use Rattle.planned.specs.Call.{Buffers, messageRoom, sessionRoom, plannedCounts}
-use Rattle.planned.specs.declared.answer.Planned.{Planned as Answer}
-use Rattle.planned.specs.declared.answer.Planned.the-variants.{Refused, Silent, Reset, Says}
+use Rattle.planned.specs.declared.answer.PlanAnswer.{PlanAnswer}
+use Rattle.planned.specs.declared.answer.PlanAnswer.the-variants.{Refused, Silent, Reset, Says}
 use Rattle.planned.specs.declared.answer.Room.{Room}
 use Rattle.planned.specs.declared.answer.Room.the-variants.{Enough, Short}
 use Rattle.planned.specs.declared.answer.Rooms.{Rooms}
@@ -64,6 +64,7 @@ pub record SmallStated (p : Stated) : Type 0 where
   pub field : p .filter .size ≤ sizes .field
   pub hashes : p .hashes ≤ sizes .hashesToSend
 
+-- The same of the numbers that a message is drafted from.
 pub record SmallDraft (s : Session) (d : Draft) (bits : ℕ) : Type 0 where
   pub heads : d .heads ≤ sizes .rows
   pub need : d .need ≤ sizes .hashes + 1
@@ -74,6 +75,7 @@ pub record SmallDraft (s : Session) (d : Draft) (bits : ℕ) : Type 0 where
   pub hashes : d .body .hashes ≤ sizes .hashesToSend
   pub sent : d .sent ≤ sizes .sentHashes + 1
 
+-- A reset's message: so many heads, one empty have, no need and no body, in V1.
 abbrev pub resetStated : ℕ → Stated
 resetStated heads =
     record {
@@ -88,18 +90,19 @@ resetStated heads =
       hashes = 0;
     }
 
-unfoldable pub ifRoom : Room → Answer → Answer
+-- An answer where there is room, else 7.
+unfoldable pub ifRoom : Room → PlanAnswer → PlanAnswer
 ifRoom Enough a = a
 ifRoom (Short wanted) a = Refused (NoRoom wanted)
 
 -- The message, where there is room.
-unfoldable pub saysWith : Session → Draft → ℕ → ℕ → Rooms → Answer
+unfoldable pub saysWith : Session → Draft → ℕ → ℕ → Rooms → PlanAnswer
 saysWith s d bits probes r =
     ifRoom (messageRoom (drafted s d bits probes) r)
     (ifRoom (sessionRoom (d .heads) (d .sent) r) (Says (drafted s d bits probes) (plannedCounts s (d .heads) (d .sent))))
 
 -- What is decided from the numbers, in the order of the refusals.
-unfoldable pub decided : Session → Draft → ℕ → ℕ → Rooms → Answer
+unfoldable pub decided : Session → Draft → ℕ → ℕ → Rooms → PlanAnswer
 decided s d bits probes r =
     cond (ltb (sizes .hashes) (d .need))
     (Refused (PastSize 0))
@@ -120,6 +123,7 @@ pub record PlanParts : Type 0 where
   pub list : List ℕ
   pub sent : List ℕ
 
+-- The parts, in the order in which they are lent.
 abbrev pub planParts : List ℕ → List ℕ → List ℕ → List ℕ → List ℕ → List ℕ → PlanParts
 planParts heads need shared field list sent =
     record { heads = heads; need = need; shared = shared; field = field; list = list; sent = sent }
@@ -128,6 +132,7 @@ planParts heads need shared field list sent =
 abbrev pub noPuts : Puts
 noPuts = record { heads = 0; need = 0; syncs = 0; field = 0; hashes = 0; «last_sent» = 0; sent = 0 }
 
+-- Those of a message, and of the session's two lists.
 abbrev pub putsFor : Stated → ℕ → ℕ → Puts
 putsFor p lastSent sent =
     record {
@@ -140,7 +145,8 @@ putsFor p lastSent sent =
       sent = sent;
     }
 
-unfoldable pub putsOf : Answer → Puts
+-- Those of an answer: a refusal and silence put nothing, a reset leaves the session's lists.
+unfoldable pub putsOf : PlanAnswer → Puts
 putsOf (Refused r) = noPuts
 putsOf Silent = noPuts
 putsOf (Reset p) = putsFor p 0 0
@@ -157,6 +163,7 @@ pub record HaveFits (n : ℕ) (shared : List ℕ) (size : ℕ) (field buffer : L
   pub bytes : size ≤ length field
   pub room : sizes .hash * n + size ≤ length buffer
 
+-- All that is put is there, and has room.
 pub record Fits (p : Puts) (ready : PlanParts) (b : Buffers) : Type 0 where
   pub heads : HashesFit (p .heads) (ready .heads) (b .heads)
   pub need : HashesFit (p .need) (ready .need) (b .need)
@@ -165,10 +172,11 @@ pub record Fits (p : Puts) (ready : PlanParts) (b : Buffers) : Type 0 where
   pub lastSent : HashesFit (p .«last_sent») (ready .heads) (b .lastSent)
   pub sent : HashesFit (p .sent) (ready .sent) (b .sent)
 
--- The first hashes of a part put at the start of a buffer, and so many bytes of a field behind them.
+-- The first hashes of a part put at the start of a buffer.
 abbrev pub startPut : ℕ → List ℕ → List ℕ → List ℕ
 startPut n part buffer = sets buffer 0 (hashesBytes (hashesAt part 0 n))
 
+-- A have's buffer: last-sync hashes at its start, and so many bytes of the field behind them.
 abbrev pub havePut : ℕ → List ℕ → ℕ → List ℕ → List ℕ → List ℕ
 havePut n shared size field buffer = sets (startPut n shared buffer) (sizes .hash * n) (take size field)
 

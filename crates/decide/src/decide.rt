@@ -5,11 +5,11 @@ use bloom::parse::NUM_PROBES;
 use bloom::rule::bits_capacity;
 use message::flags::MessageFlags;
 use message::version::MessageVersion;
-use planned::answer::Planned;
+use planned::answer::PlanAnswer;
 use planned::answer::Room;
 use planned::answer::Rooms;
 use planned::answer::Stated;
-use planning::body::Body;
+use planning::body::BodyCount;
 use rules::refusal::Refusal;
 use rules::sizes::HASH_SIZE;
 use rules::sizes::HASHES;
@@ -22,7 +22,7 @@ ghost use lib.Bits.{bitOr};
 ghost use Rattle.message.specs.Flags.{flagsOf};
 ghost use Rattle.numbers.specs.Number.{mostFilter};
 ghost use Rattle.planned.specs.Call.{messageRoom, sessionRoom, plannedCounts};
-ghost use Rattle.planned.specs.declared.answer.Planned.the-variants.{Reset};
+ghost use Rattle.planned.specs.declared.answer.PlanAnswer.the-variants.{Reset};
 ghost use Rattle.rules.specs.Sizes.{sizes};
 ghost use Rattle.session.specs.Plan.{flagsFor, versionFor};
 ghost use Rattle.decide.specs.Draft.{SmallStated, SmallDraft, headsCount, countIf, filterIf, drafted, resetStated, ifRoom, saysWith, decided};
@@ -35,7 +35,7 @@ pub struct Draft {
     pub unknown: bool,
     pub gives: bool,
     pub entries: usize,
-    pub body: Body,
+    pub body: BodyCount,
     pub silent: bool,
     pub sent: usize,
 }
@@ -226,28 +226,28 @@ fn planned_session(session: Session, last_sent: usize, sent: usize) -> Session
 }
 
 // The reset, if there is room for it.
-fn reset(heads: usize, r: Rooms) -> Planned
+fn reset(heads: usize, r: Rooms) -> PlanAnswer
     requires { ⌜ heads ≤ sizes .rows ⌝ }
     ensures { λ x. ⌜ x ≡ ifRoom (messageRoom (resetStated heads) r) (Reset (resetStated heads)) ⌝ }
 {
     let p = reset_stated(heads);
     match message_room(p, r) {
-        Room::Short(wanted) => Planned::Refused(Refusal::NoRoom(wanted)),
-        Room::Enough => Planned::Reset(p),
+        Room::Short(wanted) => PlanAnswer::Refused(Refusal::NoRoom(wanted)),
+        Room::Enough => PlanAnswer::Reset(p),
     }
 }
 
 // The message, if there is room for it and for the session's lists.
-fn says(session: Session, d: Draft, bits: u64, probes: u64, r: Rooms) -> Planned
+fn says(session: Session, d: Draft, bits: u64, probes: u64, r: Rooms) -> PlanAnswer
     requires { ⌜ SmallDraft session d bits ⌝ }
     ensures { λ x. ⌜ x ≡ saysWith session d bits probes r ⌝ }
 {
     let p = stated(session, d, bits, probes);
     match message_room(p, r) {
-        Room::Short(wanted) => Planned::Refused(Refusal::NoRoom(wanted)),
+        Room::Short(wanted) => PlanAnswer::Refused(Refusal::NoRoom(wanted)),
         Room::Enough => match session_room(d.heads, d.sent, r) {
-            Room::Short(wanted) => Planned::Refused(Refusal::NoRoom(wanted)),
-            Room::Enough => Planned::Says {
+            Room::Short(wanted) => PlanAnswer::Refused(Refusal::NoRoom(wanted)),
+            Room::Enough => PlanAnswer::Says {
                 stated: p,
                 session: planned_session(session, d.heads, d.sent),
             },
@@ -256,21 +256,21 @@ fn says(session: Session, d: Draft, bits: u64, probes: u64, r: Rooms) -> Planned
 }
 
 // Decides: 4 for too many needs even before a reset or silence, 4 for too many sent hashes only where something is said.
-pub fn decide(session: Session, d: Draft, bits: u64, probes: u64, r: Rooms) -> Planned
+pub fn decide(session: Session, d: Draft, bits: u64, probes: u64, r: Rooms) -> PlanAnswer
     requires { ⌜ SmallDraft session d bits ⌝ }
     ensures { λ x. ⌜ x ≡ decided session d bits probes r ⌝ }
 {
     if HASHES < d.need {
-        return Planned::Refused(Refusal::PastSize(0));
+        return PlanAnswer::Refused(Refusal::PastSize(0));
     }
     if d.unknown {
         return reset(d.heads, r);
     }
     if d.silent {
-        return Planned::Silent;
+        return PlanAnswer::Silent;
     }
     if SENT_HASHES < d.sent {
-        return Planned::Refused(Refusal::PastSize(0));
+        return PlanAnswer::Refused(Refusal::PastSize(0));
     }
     says(session, d, bits, probes, r)
 }

@@ -1,5 +1,5 @@
 // What was decided, put into the lent buffers: copies, and no test.
-use planned::answer::Planned;
+use planned::answer::PlanAnswer;
 use planned::answer::Stated;
 use rules::put::copy_into;
 use rules::sizes::HASH_SIZE;
@@ -34,7 +34,7 @@ fn puts_for(p: Stated, last_sent: usize, sent: usize) -> Puts
 }
 
 // What an answer puts: nothing after a refusal and in silence.
-pub fn puts_of(planned: Planned) -> Puts
+pub fn puts_of(planned: PlanAnswer) -> Puts
     ensures { λ r. ⌜ r ≡ putsOf planned ⌝ }
 {
     let none = Puts {
@@ -47,10 +47,10 @@ pub fn puts_of(planned: Planned) -> Puts
         sent: 0,
     };
     match planned {
-        Planned::Refused(_) => none,
-        Planned::Silent => none,
-        Planned::Reset(stated) => puts_for(stated, 0, 0),
-        Planned::Says { stated, session } => {
+        PlanAnswer::Refused(_) => none,
+        PlanAnswer::Silent => none,
+        PlanAnswer::Reset(stated) => puts_for(stated, 0, 0),
+        PlanAnswer::Says { stated, session } => {
             puts_for(stated, session.last_sent_heads, session.sent_hashes)
         }
     }

@@ -26,11 +26,12 @@ unfoldable pub behindOf : List ℕ → Section → ℕ → ℕ
 behindOf s Absent next = 0
 behindOf s (Present f) next = leftAt s next (length s)
 
--- What was read with its two numbers; and what it is without them.
+-- What was read with its two numbers.
 unfoldable pub countedOf : List ℕ → Reading → CountedMessage
 countedOf s (read p haves chunks) = Message p (total (ignoredOf s p)) (behindOf s (p .flags) (p .next))
 countedOf s (refused r) = Refused r
 
+-- The same answer without the two numbers.
 unfoldable pub asDecoded : CountedMessage → Decoded
 asDecoded (Message p ignored behind) = Placed p
 asDecoded (Refused r) = NotPlaced r

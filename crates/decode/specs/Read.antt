@@ -33,10 +33,11 @@ pub data Reading : Type 0 where
   read : Places → List ℕ → List ℕ → Reading
   refused : Refusal → Reading
 
--- The first stage: 4 for the total size, 1 for no bytes, 2 for another first byte, then the heads.
+-- The heads, which stand behind the first byte.
 unfoldable pub headsAt : List ℕ → MessageVersion → Opening
 headsAt s version = afterListed (hashListAt s 1 (length s)) NotOpened (λ heads next. Heads version heads next)
 
+-- The first stage: 4 for the total size, 1 for no bytes, 2 for another first byte, then the heads.
 unfoldable pub openingAt : List ℕ → Opening
 openingAt s =
     cond (ltb (sizes .message) (length s))
@@ -54,11 +55,12 @@ sectionAt s at =
     (Sectioned Absent at)
     (afterPart (prefixedAt s at (length s)) NoSection (λ start end. Sectioned (Present (flagsOf (flagsIn (slice start end s)))) end))
 
--- What follows each stage, or its refusal passed on.
+-- What follows the first stage, or its refusal passed on.
 unfoldable pub afterOpening : Opening → (MessageVersion → Run → ℕ → Reading) → Reading
 afterOpening (Heads version heads next) k = k version heads next
 afterOpening (NotOpened r) k = refused r
 
+-- What follows the flags section, or its refusal passed on.
 unfoldable pub afterSection : Flagged → (Section → ℕ → Reading) → Reading
 afterSection (Sectioned flags next) k = k flags next
 afterSection (NoSection r) k = refused r
@@ -114,6 +116,7 @@ unfoldable pub havesInto : Reading → List ℕ → List ℕ
 havesInto (read places haves chunks) before = sets before 0 haves
 havesInto (refused r) before = before
 
+-- The list for chunks at exit, likewise.
 unfoldable pub chunksInto : Reading → List ℕ → List ℕ
 chunksInto (read places haves chunks) before = sets before 0 chunks
 chunksInto (refused r) before = before

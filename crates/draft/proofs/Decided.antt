@@ -18,8 +18,8 @@ use Rattle.message.specs.declared.version.MessageVersion.{MessageVersion}
 use Rattle.missing.specs.Ask.{FoundUpTo}
 use Rattle.order.specs.Order.{member, every}
 use Rattle.planned.specs.Call.{syncsOf, filterNumbers, statedOf, plannedAnswer, messageRoom, sessionRoom, afterRoom, plannedRoomed}
-use Rattle.planned.specs.declared.answer.Planned.the-variants.{Refused, Reset}
-use Rattle.planned.specs.declared.answer.Planned.{Planned as Answer}
+use Rattle.planned.specs.declared.answer.PlanAnswer.the-variants.{Refused, Reset}
+use Rattle.planned.specs.declared.answer.PlanAnswer.{PlanAnswer}
 use Rattle.planned.specs.declared.answer.Room.the-variants.{Enough, Short}
 use Rattle.planned.specs.declared.answer.Room.{Room}
 use Rattle.planned.specs.declared.answer.Rooms.{Rooms}
@@ -48,7 +48,7 @@ room-answers s Enough q = refl
 room-answers s (Short wanted) q = refl
 
 -- a test decides the same on both sides
-both-ways : (f : Planned → Answer) (b : Bool) {x y : Answer} {p q : Planned} → x ≡ f p → y ≡ f q → cond b x y ≡ f (cond b p q)
+both-ways : (f : Planned → PlanAnswer) (b : Bool) {x y : PlanAnswer} {p q : Planned} → x ≡ f p → y ≡ f q → cond b x y ≡ f (cond b p q)
 both-ways f true e g = e
 both-ways f false e g = g
 
@@ -145,7 +145,7 @@ module _ (bits probes : ℕ) (t : List Row) (w : List Waiting) (s : Session) (l 
   -- ---- the stages
 
   module _ (r : Rooms) where
-    abbrev answer : Planned → Answer
+    abbrev answer : Planned → PlanAnswer
     answer q = plannedAnswer s (plannedRoomed r q)
 
     says-decided : d .need ≤ sizes .hashes → d .sent ≤ sizes .sentHashes
@@ -156,7 +156,7 @@ module _ (bits probes : ℕ) (t : List Row) (w : List Waiting) (s : Session) (l 
         let q : Planned = Planned.says p (planned t (stateOf s l)) in
         let x : Room = sessionRoom (length (heads t)) (length (sentAfter t (stateOf s l))) r in
         rw (sym (stated-drafted few), m .heads .many, m .sent .all some .many)
-        (ap (λ (a : Answer). ifRoom (messageRoom (statedOf p) r) a) (room-answers s x q) ∙ room-answers s (messageRoom (statedOf p) r) (afterRoom x q))
+        (ap (λ (a : PlanAnswer). ifRoom (messageRoom (statedOf p) r) a) (room-answers s x q) ∙ room-answers s (messageRoom (statedOf p) r) (afterRoom x q))
 
     sent-decided : d .need ≤ sizes .hashes
         → cond (ltb (sizes .sentHashes) (d .sent)) (Refused (PastSize 0)) (saysWith s d bits probes r) ≡ answer (planSent bits probes t w (stateOf s l))

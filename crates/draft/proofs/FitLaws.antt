@@ -12,8 +12,8 @@ use Rattle.decide.specs.declared.decide.Draft.{Draft}
 use Rattle.decide.specs.declared.put.Puts.{Puts}
 use Rattle.planned.specs.Call.{Buffers, plannedCounts, messageRoom, sessionRoom}
 use Rattle.planned.specs.Call.{said, plannedRooms}
-use Rattle.planned.specs.declared.answer.Planned.{Planned as Answer}
-use Rattle.planned.specs.declared.answer.Planned.the-variants.{Reset, Says}
+use Rattle.planned.specs.declared.answer.PlanAnswer.{PlanAnswer}
+use Rattle.planned.specs.declared.answer.PlanAnswer.the-variants.{Reset, Says}
 use Rattle.planned.specs.declared.answer.Room.{Room}
 use Rattle.planned.specs.declared.answer.Room.the-variants.{Enough, Short}
 use Rattle.planned.specs.declared.answer.Rooms.{Rooms}
@@ -79,12 +79,12 @@ module _ (s : Session) (d : Draft) (bits probes : ℕ) (ready : PlanParts) (b : 
         sent = record { there = omega arith; room = omega arith };
       }
 
-  in-room : (x : Room) (a : Answer) → (x ≡ Enough → Fits (putsOf a) ready b) → Fits (putsOf (ifRoom x a)) ready b
+  in-room : (x : Room) (a : PlanAnswer) → (x ≡ Enough → Fits (putsOf a) ready b) → Fits (putsOf (ifRoom x a)) ready b
   unfolding ifRoom putsOf
   in-room Enough a f = f refl
   in-room (Short wanted) a f = none-fit
 
-  by-test : (t : Bool) (x y : Answer) → Fits (putsOf x) ready b → Fits (putsOf y) ready b → Fits (putsOf (cond t x y)) ready b
+  by-test : (t : Bool) (x y : PlanAnswer) → Fits (putsOf x) ready b → Fits (putsOf y) ready b → Fits (putsOf (cond t x y)) ready b
   by-test true x y f g = f
   by-test false x y f g = g
 
@@ -108,7 +108,7 @@ module _ (s : Session) (d : Draft) (bits probes : ℕ) (ready : PlanParts) (b : 
     unfolding saysWith putsOf
     says-fits =
         let p : Stated = drafted s d bits probes in
-        let said : Answer = Says p (plannedCounts s (d .heads) (d .sent)) in
+        let said : PlanAnswer = Says p (plannedCounts s (d .heads) (d .sent)) in
         in-room (messageRoom p (plannedRooms b)) (ifRoom (sessionRoom (d .heads) (d .sent) (plannedRooms b)) said)
         (λ e.
         in-room (sessionRoom (d .heads) (d .sent) (plannedRooms b)) said
@@ -132,11 +132,11 @@ module _ (s : Session) (d : Draft) (bits probes : ℕ) (ready : PlanParts) (b : 
         (by-test (d .silent) _ _ none-fit (by-test (ltb (sizes .sentHashes) (d .sent)) _ _ none-fit says-fits)))
 
 -- What was decided and is counted fits.
-pub puts-fit : (s : Session) (d : Draft) (bits probes : ℕ) (ready : PlanParts) (b : Buffers) (a : Answer) (p : Puts) → SmallDraft s d bits → Long s d bits ready
+pub puts-fit : (s : Session) (d : Draft) (bits probes : ℕ) (ready : PlanParts) (b : Buffers) (a : PlanAnswer) (p : Puts) → SmallDraft s d bits → Long s d bits ready
     → a ≡ decided s d bits probes (plannedRooms b) → p ≡ putsOf a → Fits p ready b
 puts-fit s d bits probes ready b a p m long e q = rw (q, e) (decided-fits s d bits probes ready b m long)
 
 -- And once it is put, the plan is finished.
-pub put-finished : (s : Session) (d : Draft) (bits probes : ℕ) (ready : PlanParts) (before after : Buffers) (a : Answer) (p : Puts)
+pub put-finished : (s : Session) (d : Draft) (bits probes : ℕ) (ready : PlanParts) (before after : Buffers) (a : PlanAnswer) (p : Puts)
     → a ≡ decided s d bits probes (plannedRooms before) → p ≡ putsOf a → after ≡ allPut p ready before → Finished s d bits probes ready before after a
 put-finished s d bits probes ready before after a p e q f = record { answer = e; buffers = rw q at f }

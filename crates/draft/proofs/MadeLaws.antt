@@ -33,7 +33,7 @@ use mathlib.Core.Option.{none}
 use Rattle.planning.specs.Made.{Setting}
 use Rattle.planned.specs.Call.{Buffers, syncsOf, filterNumbers, plannedAnswer, plannedRoomed, plannedRooms, PlanCalled}
 use Rattle.decide.specs.Draft.{PlanParts, SmallDraft, putsOf, allPut}
-use Rattle.planned.specs.declared.answer.Planned.{Planned as Answer}
+use Rattle.planned.specs.declared.answer.PlanAnswer.{PlanAnswer}
 use Rattle.decide.specs.declared.decide.Draft.{Draft}
 use Rattle.session.proofs.PlanLaws.{list-few}
 use Rattle.draft.specs.Make.{DraftMade, Finished}
@@ -164,7 +164,7 @@ module _ (bits probes : ℕ) (t : List Row) (w : List Waiting) (s : Session) (l 
       (λ e. reset-starts (few-asked (ltb-false _ _ e)))
 
   -- So a plan that is finished is what the call promises.
-  pub plan-called : (before after : Buffers) (a : Answer) → Finished s d bits probes ready before after a
+  pub plan-called : (before after : Buffers) (a : PlanAnswer) → Finished s d bits probes ready before after a
       → PlanCalled s (plan bits probes t w (stateOf s l)) before after a
   plan-called before after a fin =
       let q : Planned = plannedRoomed (plannedRooms before) (plan bits probes t w (stateOf s l)) in

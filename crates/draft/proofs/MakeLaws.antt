@@ -25,7 +25,7 @@ use Rattle.order.proofs.OrderLaws.{ascend-most}
 use Rattle.order.specs.Order.{ascend}
 use Rattle.planning.proofs.FieldLaws.{field-grows}
 use Rattle.planning.specs.Made.{FieldMade, SentMade, BodyChosen}
-use Rattle.planning.specs.declared.body.Body.{Body as Carried}
+use Rattle.planning.specs.declared.body.BodyCount.{BodyCount}
 use Rattle.rules.proofs.Cases.{split, true-false}
 use Rattle.rules.proofs.Hash.{length-hashes-at}
 use Rattle.rules.proofs.Outputs.{written-gathered}
@@ -133,7 +133,7 @@ module _ (hs sent : List ℕ) (room : ℕ) (after : List ℕ) (count : ℕ) (m :
         many = λ h. absurd (omega (arith, all-joined short .many));
       })
 
-module _ {table : List ℕ} {n : ℕ} {s : Session} {marks needs : List Bool} {b : Carried} {theirNeed sent : List ℕ} {room next : ℕ}
+module _ {table : List ℕ} {n : ℕ} {s : Session} {marks needs : List Bool} {b : BodyCount} {theirNeed sent : List ℕ} {room next : ℕ}
     (c : CarryReady table n s marks needs b theirNeed sent room next) where
   abbrev hs : List ℕ
   hs = chosenBy (rowsAt table 0 n) marks (hashesAt theirNeed 0 (heardCount (s .«their_need»))) needs
@@ -241,7 +241,7 @@ module _ {table index : List ℕ} {n : ℕ} (s : Session) (l : Lent) (rows : Ind
   quiet-ready list count h = record { told = session-parts s l good .lastSent .there; theirs = heads-good; ours = h }
 
 module _ (bits probes : ℕ) (t : List Row) (s : Session) (l : Lent) (ready : PlanParts) (asked count sent : ℕ) (g : Given) (unknown silent : Bool)
-    (b : Carried) where
+    (b : BodyCount) where
   abbrev drawn : Draft
   drawn =
       record { heads = count; need = asked; unknown = unknown; gives = g .gives; entries = g .entries; body = b; silent = silent; sent = sent }

@@ -16,9 +16,9 @@ use Rattle.lent.specs.Good.{heardGood, havesGood, lentOf}
 use Rattle.lists.specs.Lists.{same}
 use Rattle.order.specs.Order.{member, every, ascend, ascends}
 use Rattle.planned.specs.Call.{Buffers, plannedRooms}
-use Rattle.planned.specs.declared.answer.Planned.{Planned as Answer}
+use Rattle.planned.specs.declared.answer.PlanAnswer.{PlanAnswer}
 use Rattle.planning.specs.Made.{FieldMade, BlankBody, BodyChosen}
-use Rattle.planning.specs.declared.body.Body.{Body as Carried}
+use Rattle.planning.specs.declared.body.BodyCount.{BodyCount}
 use Rattle.rules.specs.Hash.{AreHashes, hashesAt}
 use Rattle.rules.specs.Output.{Gathered}
 use Rattle.rules.specs.Sizes.{sizes}
@@ -78,13 +78,15 @@ pub record GivenMade (bits probes : ℕ) (given : Bool) (hs field : List ℕ) (e
   pub made : given ≡ true → FieldMade bits probes hs field entries
   pub none : given ≡ false → entries ≡ 0
 
+-- Whether a have is given, and its field.
 pub record HaveMade (bits probes : ℕ) (t : List Row) (need : List ℕ) (theirs : Option (List ℕ)) (lastSync field : List ℕ) (g : Given) : Type 0 where
   pub gives : g .gives ≡ every (λ h. member h (heard theirs)) need
   pub made : GivenMade bits probes (g .gives) (beyond t lastSync) field (g .entries)
 
 -- ---- what is carried
 
-pub record CarryReady (table : List ℕ) (n : ℕ) (s : Session) (marks needs : List Bool) (b : Carried) (theirNeed sent : List ℕ) (room next : ℕ) : Type 0
+-- What carrying a body needs: marks that were counted, hashes that are hashes, and room for the list.
+pub record CarryReady (table : List ℕ) (n : ℕ) (s : Session) (marks needs : List Bool) (b : BodyCount) (theirNeed sent : List ℕ) (room next : ℕ) : Type 0
   where
     pub rows : GoodRows table n
     pub rowMarks : n ≤ length marks
@@ -105,7 +107,8 @@ pub record AtMost (most : ℕ) (l after : List ℕ) (count : ℕ) : Type 0 where
   pub all : count ≤ most → Gathered l after count
   pub many : most < count → most < length l
 
-pub record CarriedMade (t : List Row) (marks : List Bool) (need : List ℕ) (needs : List Bool) (b : Carried) (before list after : List ℕ) (count : ℕ) : Type 0
+-- The body's hashes in a list, and these joined to the ones sent before.
+pub record CarriedMade (t : List Row) (marks : List Bool) (need : List ℕ) (needs : List Bool) (b : BodyCount) (before list after : List ℕ) (count : ℕ) : Type 0
   where
     pub named : Gathered (chosenBy t marks need needs) list (b .hashes)
     pub sent : AtMost (sizes .sentHashes) (ascend (chosenBy t marks need needs ++ before)) after count
@@ -113,6 +116,7 @@ pub record CarriedMade (t : List Row) (marks : List Bool) (need : List ℕ) (nee
 
 -- ---- silence
 
+-- What telling silence needs: lists that are as long as they say.
 pub record QuietReady (s : Session) (lastSent theirHeads heads : List ℕ) (n : ℕ) : Type 0 where
   pub told : sizes .hash * s .«last_sent_heads» ≤ length lastSent
   pub theirs : heardGood theirHeads (s .«their_heads») ≡ true
@@ -127,7 +131,7 @@ quiet s lastSent theirHeads ours hashes =
 -- ---- the whole plan
 
 -- A body: its hashes at the start of a list, and whether they go as the document.
-pub record BodyMade (b : Body) (list : List ℕ) (r : Carried) : Type 0 where
+pub record BodyMade (b : Body) (list : List ℕ) (r : BodyCount) : Type 0 where
   pub document : r .document ≡ b .document
   pub hashes : Gathered (b .hashes) list (r .hashes)
 
@@ -152,6 +156,6 @@ pub record Long (s : Session) (d : Draft) (bits : ℕ) (ready : PlanParts) : Typ
   pub sent : sizes .hash * d .sent ≤ length (ready .sent)
 
 -- What was decided, and all buffers with it put.
-pub record Finished (s : Session) (d : Draft) (bits probes : ℕ) (ready : PlanParts) (before after : Buffers) (a : Answer) : Type 0 where
+pub record Finished (s : Session) (d : Draft) (bits probes : ℕ) (ready : PlanParts) (before after : Buffers) (a : PlanAnswer) : Type 0 where
   pub answer : a ≡ decided s d bits probes (plannedRooms before)
   pub buffers : after ≡ allPut (putsOf a) ready before

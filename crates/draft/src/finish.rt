@@ -3,7 +3,7 @@ use decide::decide::Draft;
 use decide::decide::decide;
 use decide::put::put;
 use decide::put::puts_of;
-use planned::answer::Planned;
+use planned::answer::PlanAnswer;
 use planned::answer::Rooms;
 use state::session::Session;
 ghost use Rattle.decide.specs.Draft.{SmallDraft, planParts};
@@ -28,7 +28,7 @@ pub fn finish(
     list: &mut [u8],
     last_sent: &mut [u8],
     sent: &mut [u8],
-) -> Planned
+) -> PlanAnswer
     requires { ⌜ SmallDraft session draft bits
         × Long session draft bits (planParts (now «ready_heads») (now «ready_need») (now shared) (now field) (now «ready_list») (now «ready_sent»)) ⌝ }
     ensures { λ r. ⌜ Finished session draft bits probes

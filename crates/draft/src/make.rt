@@ -4,7 +4,7 @@ use decide::decide::Draft;
 use graph::heads::mark_heads;
 use graph::marked::collect_marked;
 use graph::marked::count_marked;
-use planning::body::Body;
+use planning::body::BodyCount;
 use planning::body::mark_body;
 use planning::have::gives_have;
 use planning::have::make_field;
@@ -50,7 +50,7 @@ ghost use Rattle.draft.specs.Make.{
 // How many heads a table has, and what the message carries.
 pub struct PlanCounts {
     pub heads: usize,
-    pub body: Body,
+    pub body: BodyCount,
 }
 
 // Whether a have is given, and the entries of its filter.
@@ -162,7 +162,7 @@ fn make_carried(
     n: usize,
     marks: &[bool],
     needs: &[bool],
-    body: Body,
+    body: BodyCount,
     their_need: &[u8],
     sent: &[u8],
     ready_list: &mut [u8],

@@ -23,11 +23,13 @@ unfoldable pub besideRows : ℕ → Decoded → ReceiptChecks
 besideRows n (Placed p) = checks.Good n p
 besideRows n (NotRead r) = checks.Refused r
 
+-- After the table: 11, then the message.
 unfoldable pub afterRows : Checked → ℕ → List ℕ → ReceiptChecks
 afterRows (tables.Good n) before message =
     cond (ltb n before) (checks.Refused BadRowsBefore) (besideRows n (decodedOf (messageAt message)))
 afterRows (tables.Refused r) before message = checks.Refused r
 
+-- All of it, 10 first.
 unfoldable pub checked : Session → Lent → List ℕ → List ℕ → ℕ → List ℕ → ReceiptChecks
 checked s l table index before message =
     cond (not (sessionGood s l)) (checks.Refused BadNumbers) (afterRows (indexChecked table index) before message)

@@ -33,6 +33,7 @@ use Rattle.taking.specs.declared.decide.Receipt.{Receipt}
 abbrev pub havesWords : List ℕ → Places → List ℕ
 havesWords s p = wordsOf (manyAt (haveItem s) (p .haves .count) (p .haves .start))
 
+-- What a message at these places says.
 abbrev pub saidAt : List ℕ → Places → Said
 saidAt s p =
     record {
@@ -73,10 +74,11 @@ pub record Makes (s : Session) (table index : List ℕ) (n before : ℕ) (messag
   pub shared : sizes .hash * s .«shared_heads» ≤ length oldShared
   pub sent : sizes .hash * s .«sent_hashes» ≤ length oldSent
 
--- How many of the message's heads become the ones sent last, and how many these are then.
+-- How many of the message's heads become the ones sent last.
 unfoldable pub toldHeads : ℕ → ℕ → List ℕ → List ℕ → ℕ
 toldHeads chunks count hs old = cond (not (ltb 0 chunks) && same hs old) count 0
 
+-- How many heads the ones sent last are then.
 unfoldable pub lastSentCount : ℕ → ℕ → ℕ → ℕ
 lastSentCount heads told before = cond (eqb heads 0) 0 (cond (ltb 0 told) told before)
 

@@ -42,6 +42,7 @@ pub record Reads (s : List ℕ) (m : Message) : Type 0 where
   pub found : messageAt s ≡ read places haveWords chunkWords
   pub says : messageIn s places haveWords chunkWords ≡ m
 
+-- A message with nothing but its flags.
 abbrev pub emptyMessage : Section → Message
 emptyMessage flags = record { version = V1; heads = []; need = []; haves = []; chunks = []; flags = flags }
 

@@ -11,6 +11,7 @@ use Rattle.tables.specs.Table.{Row, hashOf, depsOf, rowNumber, held, rowsWhere}
 unfoldable pub needed : List Row → ℕ → Bool
 needed t i = someBelow (length t) (λ k. member i (depsOf t k))
 
+-- 01, Change table: heads are the rows that no row depends on, in ascending order of bytes.
 unfoldable pub heads : List Row → List ℕ
 heads t = ascend (rowsWhere t (λ i. not (needed t i)))
 

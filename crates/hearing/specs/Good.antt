@@ -31,6 +31,7 @@ abbrev pub WhereHeard : {A : Type 0} → (A → Type 0) → Option A → Type 0
 WhereHeard P none = Unit {0}
 WhereHeard P (some x) = P x
 
+-- A session whose lists are hashes within their limits, the sent ones ascending.
 pub record GoodState (s : State) : Type 0 where
   pub shared : SoundHashes (s .sharedHeads)
   pub lastSent : SoundHashes (s .lastSentHeads)

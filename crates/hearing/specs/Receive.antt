@@ -31,6 +31,7 @@ pub record Said : Type 0 where
   pub flags : Section
   pub chunks : Bool
 
+-- Whether there is a chunk at all.
 abbrev pub someChunk : List (List ℕ) → Bool
 someChunk [] = false
 someChunk (c ∷ cs) = true
@@ -147,15 +148,18 @@ unfoldable pub receiveJoined : ℕ → List Row → State → Said → Received
 receiveJoined before t s m =
     cond (ltb (sizes .hashes) (length (sharedAfter before t s m))) (refused (PastSize 0) s) (took (received before t s m))
 
+-- 8 where changes were to be loaded and that failed: the flags are taken even so, and nothing is in flight.
 unfoldable pub receive : Bool → ℕ → List Row → State → Said → Received
 receive loaded before t s m =
     cond (loads s m && not loaded) (refused LoadFailed (flagged (m .flags) s)) (receiveJoined before t s m)
 
+-- A message that was read, or its refusal, which leaves the session.
 unfoldable pub receiveRead : Bool → ℕ → List Row → State → List ℕ → Reading → Received
 receiveRead loaded before t s bytes (Reading.read places haves chunks) =
     receive loaded before t s (saidIn (messageIn bytes places haves chunks))
 receiveRead loaded before t s bytes (Reading.refused r) = refused r s
 
+-- 11 comes first, then the message from its first byte.
 unfoldable pub receiveBytes : Bool → ℕ → List Row → State → List ℕ → Received
 receiveBytes loaded before t s bytes =
     cond (ltb (length t) before) (refused BadRowsBefore s) (receiveRead loaded before t s bytes (messageAt bytes))

@@ -31,6 +31,7 @@ pub data Item : Type 0 where
   item : List ℕ → ℕ → Item
   stopped : Refusal → Item
 
+-- What follows an item, or its refusal passed on.
 unfoldable pub afterItem : {A : Type 0} → Item → (Refusal → A) → (List ℕ → ℕ → A) → A
 afterItem (item words next) refused k = k words next
 afterItem (stopped r) refused k = refused r
@@ -39,10 +40,12 @@ afterItem (stopped r) refused k = refused r
 abbrev pub haveWordList : Run → FilterNumbers → List ℕ
 haveWordList sync f = sync .start ∷ sync .count ∷ f .entries ∷ f .bits ∷ f .probes ∷ f .place ∷ f .size ∷ []
 
+-- A have that was read, as an item.
 unfoldable pub haveWordsOf : HaveRead → Item
 haveWordsOf (Have sync f next) = item (haveWordList sync f) next
 haveWordsOf (NoHave r) = stopped r
 
+-- The have at a place, as an item.
 unfoldable pub haveItem : List ℕ → ℕ → Item
 haveItem s at = haveWordsOf (haveAt s at)
 
@@ -50,6 +53,7 @@ haveItem s at = haveWordsOf (haveAt s at)
 abbrev pub chunkWords : ℕ
 chunkWords = 2
 
+-- The chunk at a place, a prefixed string, as an item: its words are place and length.
 unfoldable pub chunkItem : List ℕ → ℕ → Item
 chunkItem s at = afterPart (prefixedAt s at (length s)) stopped (λ start end. item (start ∷ (end - start) ∷ []) end)
 
@@ -64,10 +68,12 @@ pub data ItemList : Type 0 where
   list : Run → List ℕ → ℕ → ItemList
   noList : Refusal → ItemList
 
+-- What follows a list, or its refusal passed on.
 unfoldable pub afterList : {A : Type 0} → ItemList → (Refusal → A) → (Run → List ℕ → ℕ → A) → A
 afterList (list items words next) refused k = k items words next
 afterList (noList r) refused k = refused r
 
+-- The list that items from a place are.
 unfoldable pub listFrom : Run → Item → ItemList
 listFrom items i = afterItem i noList (λ words next. list items words next)
 
@@ -75,9 +81,11 @@ listFrom items i = afterItem i noList (λ words next. list items words next)
 unfoldable pub listAt : ℕ → (ℕ → Item) → List ℕ → ℕ → ItemList
 listAt limit one s at = afterNumber (countAt limit s at (length s)) noList (λ count start. listFrom (run start count) (manyAt one count start))
 
+-- The haves at a place, within their limit.
 unfoldable pub havesAt : List ℕ → ℕ → ItemList
 havesAt s at = listAt (sizes .haves) (haveItem s) s at
 
+-- The chunks at a place, within their limit.
 unfoldable pub chunksAt : List ℕ → ℕ → ItemList
 chunksAt s at = listAt (sizes .chunks) (chunkItem s) s at
 
@@ -85,10 +93,11 @@ chunksAt s at = listAt (sizes .chunks) (chunkItem s) s at
 unfoldable pub listedOf : ItemList → Listed
 listedOf l = afterList l NotListed (λ items words next. Items items next)
 
--- The words of items that were read, for which there is room.
+-- The words of items that were read.
 unfoldable pub wordsOf : Item → List ℕ
 wordsOf i = afterItem i (λ r. []) (λ words next. words)
 
+-- Items that were all read, and room for their words.
 pub record AllRead (i : Item) (room : ℕ) : Type 0 where
   pub words : List ℕ
   pub next : ℕ

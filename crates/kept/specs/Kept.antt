@@ -32,6 +32,7 @@ pub record StandHaves (vs : List Have) (records bytes : List ℕ) : Type 0 where
   pub good : passedGood bytes (keptHaves records (length vs)) ≡ true
   pub few : passedFew (keptHaves records (length vs)) ≡ true
 
+-- The same of haves that may be absent.
 abbrev pub StandHeardHaves : Option (List Have) → List ℕ → List ℕ → Type 0
 StandHeardHaves none records bytes = Unit {0}
 StandHeardHaves (some vs) records bytes = StandHaves vs records bytes
@@ -57,6 +58,7 @@ pub record PlannedRoom (s : State) (l : Lent) : Type 0 where
   pub lastSent : sizes .hash * length (s .lastSentHeads) ≤ length (l .lastSent)
   pub sent : sizes .hash * length (s .sentHashes) ≤ length (l .sent)
 
+-- The lists after a message was planned: heads sent last and hashes sent at the start of theirs.
 abbrev pub plannedIn : State → Lent → Lent
 plannedIn s l =
     record {
@@ -78,6 +80,7 @@ pub record ReceivedRoom (s : State) (l : Lent) : Type 0 where
   pub haves : haveWords * length (heard (s .theirHave)) ≤ length (l .haves)
   pub bytes : length (laidBytes (heard (s .theirHave))) ≤ length (l .bytes)
 
+-- The lists after a message was received: what the session keeps stands at the start of each.
 abbrev pub receivedIn : State → Lent → Lent
 receivedIn s l =
     record {

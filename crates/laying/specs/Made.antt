@@ -20,10 +20,11 @@ pub record LaidPut (vs : List Have) (records₀ bytes₀ records₁ bytes₁ : L
   pub records : records₁ ≡ sets records₀ 0 (laidWords vs)
   pub bytes : bytes₁ ≡ sets bytes₀ 0 (laidBytes vs)
 
--- The most bytes that a have takes, laid out, and all of them.
+-- The most bytes that a have takes, laid out.
 abbrev pub mostHave : ℕ
 mostHave = sizes .hash * sizes .hashes + sizes .field
 
+-- The most bytes that all haves take.
 abbrev pub mostLaid : ℕ
 mostLaid = sizes .haves * mostHave
 

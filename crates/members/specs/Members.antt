@@ -15,11 +15,12 @@ use Rattle.rules.specs.Sizes.{sizes}
 use Rattle.tables.specs.Bytes.{rowSize, usedAt}
 use Rattle.tables.specs.Table.{Row, hashOf, depsOf, rowsWhere}
 
--- The last-sync hashes of all haves, and their filters.
+-- The last-sync hashes of all haves.
 unfoldable pub lastSyncs : List Have → List ℕ
 lastSyncs [] = []
 lastSyncs (h ∷ hs) = h .lastSync ++ lastSyncs hs
 
+-- The filters of all haves.
 unfoldable pub filters : List Have → List Filter
 filters haves = map (λ (h : Have). h .filter) haves
 

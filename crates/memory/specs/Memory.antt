@@ -65,6 +65,7 @@ pub record Out : Type 0 where
   pub have : List ℕ
   pub list : List ℕ
 
+-- Buffers with room for whatever a message may have.
 pub record RoomyOut (o : Out) : Type 0 where
   pub heads : sizes .hash * sizes .hashes ≤ length (o .heads)
   pub need : sizes .hash * sizes .hashes ≤ length (o .need)
@@ -78,6 +79,7 @@ pub record Tabled (s : List ℕ) : Type 0 where
   pub good : indexChecked s index ≡ Good rows
   pub bytes : Bytes s
 
+-- A waiting table that no call refuses beside this change table.
 pub record Beside (t : List Row) (s : List ℕ) : Type 0 where
   pub rows : ℕ
   pub good : waitingChecked t s ≡ Good rows

@@ -9,13 +9,15 @@ use Rattle.message.specs.declared.flags.MessageFlags.{MessageFlags}
 use Rattle.message.specs.declared.flags.Section.{Section}
 use Rattle.message.specs.declared.flags.Section.the-variants.{Absent, Present}
 
--- 01, Wire, Flags: three bits have a meaning, reset 1, read-only 2, supports reset 4.
+-- 01, Wire, Flags: three bits have a meaning. The receiver is to forget what it sent.
 abbrev pub syncReset : ℕ
 syncReset = 1
 
+-- The sender takes no changes.
 abbrev pub readOnly : ℕ
 readOnly = 2
 
+-- The sender understands a reset.
 abbrev pub supportsSyncReset : ℕ
 supportsSyncReset = 4
 
@@ -32,6 +34,7 @@ unfoldable pub addFlags : ℕ → List ℕ → ℕ
 addFlags f [] = f
 addFlags f (b ∷ bs) = cond (ltb b 0x80) (addFlags f bs) (addFlags (bitOr f (b - 0x80)) bs)
 
+-- The flags that a section's bytes say.
 unfoldable pub flagsIn : List ℕ → ℕ
 flagsIn bs = addFlags 0 bs
 

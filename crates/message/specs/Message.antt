@@ -11,6 +11,7 @@ use Rattle.message.specs.declared.flags.Section.{Section}
 use Rattle.message.specs.declared.version.MessageVersion.{MessageVersion}
 use Rattle.message.specs.declared.version.MessageVersion.the-variants.{V1, V2}
 
+-- A message: version, heads, need, haves, chunks and the flags section.
 pub record Message : Type 0 where
   pub version : MessageVersion
   pub heads : List ℕ
@@ -25,11 +26,12 @@ abbrev pub typeOf : MessageVersion → ℕ
 typeOf V1 = 0x42
 typeOf V2 = 0x43
 
--- Items one after the other, and with their count before them.
+-- Items one after the other.
 unfoldable pub joined : {A : Type 0} → (A → List ℕ) → List A → List ℕ
 joined bytes [] = []
 joined bytes (x ∷ xs) = bytes x ++ joined bytes xs
 
+-- The same behind their count.
 unfoldable pub counted : {A : Type 0} → (A → List ℕ) → List A → List ℕ
 counted bytes xs = shortest (length xs) ++ joined bytes xs
 
@@ -42,6 +44,7 @@ total (n ∷ ns) = n + total ns
 unfoldable pub haveBytes : Have → List ℕ
 haveBytes h = hashListBytes (h .lastSync) ++ prefixedBytes (filterBytes (h .filter))
 
+-- A message: the first byte, heads, need, haves, chunks, and the flags section where there is one.
 unfoldable pub messageBytes : Message → List ℕ
 messageBytes m =
     typeOf (m .version)

@@ -43,6 +43,7 @@ pub data SaidFilter (f : Filter) : Type 0 where
   entries : 0 < f .entries → SaidFilter f
   default : f ≡ filterOf4 0 defaultBits defaultProbes [] → SaidFilter f
 
+-- A have whose filter is read back as it was written.
 abbrev pub SaidHave : Have → Type 0
 SaidHave h = SaidFilter (h .filter)
 

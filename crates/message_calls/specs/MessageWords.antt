@@ -25,6 +25,7 @@ abbrev pub versionWord : MessageVersion → ℕ
 versionWord V1 = 1
 versionWord V2 = 2
 
+-- The version that a word is.
 unfoldable pub versionOf : ℕ → MessageVersion
 versionOf n = cond (eqb n 2) V2 V1
 
@@ -33,6 +34,7 @@ abbrev pub sectionWord : Section → ℕ
 sectionWord Absent = 256
 sectionWord (Present f) = f .0
 
+-- The section that a word is.
 unfoldable pub sectionOf : ℕ → Section
 sectionOf n = cond (ltb n 256) (Present (flagsOf n)) Absent
 

@@ -29,8 +29,10 @@ missingOf t w hs =
 unfoldable pub missingFrom : List Row → List Waiting → List ℕ → Output
 missingFrom t w l = afterPassed (passedHashes l) Output.refuse (λ count. missingOf t w (hashesAt l 0 count))
 
+-- After the change table: 4 and 9 for the waiting table.
 unfoldable pub missingBeside : List Row → List ℕ → List ℕ → Output
 missingBeside t w l = afterCheck (waitingChecked t w) (λ m. missingFrom t (waitingOf w) l)
 
+-- What `bt_missing` writes: the change table's refusals and its index's come first.
 unfoldable pub missingOutput : List ℕ → List ℕ → List ℕ → List ℕ → Output
 missingOutput s x w l = afterCheck (indexChecked s x) (λ n. missingBeside (tableOf s) w l)

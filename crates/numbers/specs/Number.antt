@@ -11,10 +11,11 @@ use Rattle.rules.specs.declared.refusal.Refusal.the-variants.{Cut, BadNumber}
 use Rattle.numbers.specs.declared.leb128.Number.{Number}
 use Rattle.numbers.specs.declared.leb128.Number.the-variants.{Value, Refused}
 
--- Refusal 3: the largest number of 64 bits, and the largest number in a filter.
+-- Refusal 3: the largest number of 64 bits.
 abbrev pub most64 : ℕ
 most64 = 2 ^ 64 - 1
 
+-- The largest number in a filter, of 32 bits.
 abbrev pub mostFilter : ℕ
 mostFilter = 4294967295
 

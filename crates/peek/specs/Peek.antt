@@ -22,6 +22,7 @@ peekedOf (NotOpened r) room = Refused r
 peekedOf (Opened version heads next) room =
     cond (ltb room (sizes .hash * heads .count)) (Refused (NoRoom (sizes .hash * heads .count))) (Heads version (heads .count))
 
+-- The buffer at exit: the heads at its start where there is room for them.
 unfoldable pub headsInto : Opening → List ℕ → List ℕ → List ℕ
 headsInto (NotOpened r) s before = before
 headsInto (Opened version heads next) s before =
@@ -31,6 +32,7 @@ headsInto (Opened version heads next) s before =
 abbrev pub peekedAt : List ℕ → ℕ → Peeked
 peekedAt s room = peekedOf (openingAt s) room
 
+-- Answer and buffer together.
 pub record PeekedInto (s before after : List ℕ) (r : Peeked) : Type 0 where
   pub answer : r ≡ peekedAt s (length before)
   pub content : after ≡ headsInto (openingAt s) s before

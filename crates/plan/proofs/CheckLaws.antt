@@ -4,14 +4,14 @@ use mathlib.Core.Bool.{Bool, true, false, cond, not}
 use mathlib.Core.List.{List}
 use mathlib.Core.Path.{_≡_, refl, sym, _∙_}
 use native.Mathlib.Omega.{arith}
-use Rattle.asked.specs.Asked.{Checked}
+use Rattle.asked.specs.Asked.{PlanChecked}
 use Rattle.bloom.specs.Filter.{defaultBits, defaultProbes}
 use Rattle.bloom.proofs.Rules.{rules-default}
 use Rattle.index.specs.Index.{Indexed, indexChecked}
 use Rattle.index.proofs.CheckLaws.{checked-table, checked-indexed}
 use Rattle.lent.specs.Good.{sessionGood}
 use Rattle.planned.specs.Call.{Buffers, afterTables, planWith, plannedAnswer, plannedRoomed, putInto, PlanCalled}
-use Rattle.planned.specs.declared.answer.Planned.the-variants as answer
+use Rattle.planned.specs.declared.answer.PlanAnswer.the-variants as answer
 use Rattle.planning.specs.Made.{Setting}
 use Rattle.rules.specs.Hash.{hashesBytes}
 use Rattle.rules.specs.declared.refusal.Refusal.{Refusal}
@@ -114,7 +114,7 @@ module _ (s : Session) (l : Lent) (table index waiting : List ℕ) (n m : ℕ) {
   same-rows : tableOf table ≡ rowsAt table 0 n
   same-rows = table-good table n (checked-table table index n (parts .1 .0)) .is
 
-  pub checked : Checked table index n waiting m s l
+  pub checked : PlanChecked table index n waiting m s l
   checked =
       record {
         rows = checked-indexed table index n (parts .1 .0);

@@ -20,10 +20,12 @@ unfoldable pub besideChecked : ℕ → TableChecked → PlanChecks
 besideChecked n (tables.Good m) = Good n m
 besideChecked n (tables.Refused r) = Refused r
 
+-- After the change table and its index: the waiting table.
 unfoldable pub besideTable : TableChecked → List Row → List ℕ → PlanChecks
 besideTable (tables.Good n) t waiting = besideChecked n (waitingChecked t waiting)
 besideTable (tables.Refused r) t waiting = Refused r
 
+-- All of it, 10 first.
 unfoldable pub checkedPlan : Session → Lent → List ℕ → List ℕ → List ℕ → PlanChecks
 checkedPlan s l table index waiting =
     cond (not (sessionGood s l)) (Refused BadNumbers) (besideTable (indexChecked table index) (tableOf table) waiting)

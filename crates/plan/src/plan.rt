@@ -4,7 +4,7 @@ use crate::check::check_plan;
 use asked::asked::plan_checked;
 use bloom::parse::BITS_PER_ENTRY;
 use bloom::parse::NUM_PROBES;
-use planned::answer::Planned;
+use planned::answer::PlanAnswer;
 use state::session::Session;
 ghost use Rattle.bloom.specs.Filter.{defaultBits, defaultProbes};
 ghost use Rattle.lent.specs.Good.{lentOf};
@@ -30,7 +30,7 @@ pub fn plan(
     need: &mut [u8],
     have: &mut [u8],
     list: &mut [u8],
-) -> Planned
+) -> PlanAnswer
     requires { ⌜ Setting bits probes ⌝ }
     ensures { λ r. ⌜ PlanCalled session (planWith bits probes session
         (lentOf (now (shared .entry)) (now («last_sent» .entry)) (now («their_heads» .entry)) (now («their_need» .entry)) (now (haves .entry))
@@ -52,7 +52,7 @@ pub fn plan(
         index,
         waiting,
     ) {
-        PlanChecks::Refused(r) => Planned::Refused(r),
+        PlanChecks::Refused(r) => PlanAnswer::Refused(r),
         PlanChecks::Good { rows, waiting_rows } => plan_checked(
             bits,
             probes,
@@ -94,7 +94,7 @@ pub fn generate_sync_message(
     need: &mut [u8],
     have: &mut [u8],
     list: &mut [u8],
-) -> Planned
+) -> PlanAnswer
     ensures { λ r. ⌜ PlanCalled session (planWith defaultBits defaultProbes session
         (lentOf (now (shared .entry)) (now («last_sent» .entry)) (now («their_heads» .entry)) (now («their_need» .entry)) (now (haves .entry))
         (now (bytes .entry)) (now (sent .entry)))

@@ -3,9 +3,9 @@ use mathlib.Core.Path.{_≡_, sym, _∙_}
 use Rattle.session.specs.Plan.{Planned}
 use Rattle.state.specs.declared.session.Session.{Session}
 use Rattle.planned.specs.Call.{Buffers, PlanCalled}
-use Rattle.planned.specs.declared.answer.Planned.{Planned as Answer}
+use Rattle.planned.specs.declared.answer.PlanAnswer.{PlanAnswer}
 
-pub plan-called-once : {s : Session} {p : Planned} {before after₁ after₂ : Buffers} {r₁ r₂ : Answer} → PlanCalled s p before after₁ r₁
+pub plan-called-once : {s : Session} {p : Planned} {before after₁ after₂ : Buffers} {r₁ r₂ : PlanAnswer} → PlanCalled s p before after₁ r₁
     → PlanCalled s p before after₂ r₂
     → (r₁ ≡ r₂) × (after₁ ≡ after₂)
 plan-called-once x y = (x .answer ∙ sym (y .answer), x .buffers ∙ sym (y .buffers))

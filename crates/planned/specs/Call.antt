@@ -24,8 +24,8 @@ use Rattle.tables.specs.declared.check.Checked.{Checked}
 use Rattle.tables.specs.declared.check.Checked.the-variants.{Good, Refused as BadTable}
 use Rattle.waiting.specs.Bytes.{waitingOf}
 use Rattle.waiting.specs.Calls.{tablesChecked}
-use Rattle.planned.specs.declared.answer.Planned.{Planned as Answer}
-use Rattle.planned.specs.declared.answer.Planned.the-variants.{Refused, Silent, Reset, Says}
+use Rattle.planned.specs.declared.answer.PlanAnswer.{PlanAnswer}
+use Rattle.planned.specs.declared.answer.PlanAnswer.the-variants.{Refused, Silent, Reset, Says}
 use Rattle.planned.specs.declared.answer.Room.{Room}
 use Rattle.planned.specs.declared.answer.Room.the-variants.{Enough, Short}
 use Rattle.planned.specs.declared.answer.Rooms.{Rooms}
@@ -52,6 +52,7 @@ abbrev pub syncsOf : List Have → ℕ
 syncsOf [] = 0
 syncsOf (v ∷ vs) = length (v .lastSync)
 
+-- The filter's numbers of the first have; its field stands behind the last-sync hashes.
 abbrev pub filterNumbers : List Have → FilterNumbers
 filterNumbers [] = numbersOf 0 0 0 0 0
 filterNumbers (v ∷ vs) =
@@ -62,6 +63,7 @@ filterNumbers (v ∷ vs) =
     (sizes .hash * length (v .lastSync))
     (length (v .filter .field))
 
+-- The numbers that say a plan.
 abbrev pub statedOf : Plan → Stated
 statedOf p =
     record {
@@ -95,7 +97,8 @@ plannedCounts s lastSent sent =
       «needs_reset» = false;
     }
 
-unfoldable pub plannedAnswer : Session → Planned → Answer
+-- What the call answers, once there is room.
+unfoldable pub plannedAnswer : Session → Planned → PlanAnswer
 plannedAnswer s (Planned.refused r) = Refused r
 plannedAnswer s Planned.silent = Silent
 plannedAnswer s (Planned.reset p) = Reset (statedOf p)
@@ -117,6 +120,7 @@ unfoldable pub sessionRoom : ℕ → ℕ → Rooms → Room
 sessionRoom lastSent sent r =
     orShort Short (r .«last_sent») (sizes .hash * lastSent) (orShort Short (r .sent) (sizes .hash * sent) Enough)
 
+-- A plan where there is room, else 7.
 unfoldable pub afterRoom : Room → Planned → Planned
 afterRoom Enough p = p
 afterRoom (Short wanted) p = Planned.refused (NoRoom wanted)
@@ -132,6 +136,7 @@ plannedRoomed r (Planned.says p after) =
 
 -- ---- the lent buffers at exit: bytes at their start, the rest as it was
 
+-- Nothing said.
 abbrev pub noPlan : Plan
 noPlan = record { version = V1; heads = []; need = []; haves = []; body = listOf []; flags = flagsOf 0 }
 
@@ -149,6 +154,7 @@ lastSentPut Planned.silent = []
 lastSentPut (Planned.reset p) = []
 lastSentPut (Planned.says p after) = after .lastSentHeads
 
+-- The hashes sent, where they change.
 abbrev pub sentPut : Planned → List ℕ
 sentPut (Planned.refused r) = []
 sentPut Planned.silent = []
@@ -164,10 +170,12 @@ pub record Buffers : Type 0 where
   pub lastSent : List ℕ
   pub sent : List ℕ
 
+-- The buffers, in the order in which they are lent.
 abbrev pub buffersOf : List ℕ → List ℕ → List ℕ → List ℕ → List ℕ → List ℕ → Buffers
 buffersOf heads need have list lastSent sent =
     record { heads = heads; need = need; have = have; list = list; lastSent = lastSent; sent = sent }
 
+-- How long they are.
 abbrev pub plannedRooms : Buffers → Rooms
 plannedRooms b =
     record {
@@ -179,6 +187,7 @@ plannedRooms b =
       sent = length (b .sent);
     }
 
+-- Each buffer at exit: what is said at its start, the rest as it was.
 unfoldable pub putInto : Planned → Buffers → Buffers
 putInto p b =
     record {
@@ -191,6 +200,6 @@ putInto p b =
     }
 
 -- What the call ensures: the answer, and all buffers, of what was planned and has room.
-pub record PlanCalled (s : Session) (p : Planned) (before after : Buffers) (r : Answer) : Type 0 where
+pub record PlanCalled (s : Session) (p : Planned) (before after : Buffers) (r : PlanAnswer) : Type 0 where
   pub answer : r ≡ plannedAnswer s (plannedRoomed (plannedRooms before) p)
   pub buffers : after ≡ putInto (plannedRoomed (plannedRooms before) p) before

@@ -19,7 +19,7 @@ pub struct Stated {
     pub hashes: usize,
 }
 
-pub enum Planned {
+pub enum PlanAnswer {
     Refused(Refusal),
     // There is nothing to say.
     Silent,

@@ -27,7 +27,7 @@ use Rattle.state.specs.declared.session.Heard.the-variants.{Nothing, Count}
 use Rattle.tables.specs.Bytes.{rowsAt}
 use Rattle.tables.specs.Table.{Row, rows}
 use Rattle.planning.specs.Made.{BlankBody, DocumentMarked, BodyChosen}
-use Rattle.planning.specs.declared.body.Body.{Body as Counted}
+use Rattle.planning.specs.declared.body.BodyCount.{BodyCount}
 
 -- ---- nothing and everything
 
@@ -51,7 +51,7 @@ module _ (table : List ℕ) (n : ℕ) (need : List ℕ) (count : ℕ) (marks nee
   asked = hashesAt need 0 count
 
   -- the document
-  pub document-chosen : (r : Counted) → DocumentMarked n count marks needs r → BodyChosen (documentOf t) t marks asked needs r
+  pub document-chosen : (r : BodyCount) → DocumentMarked n count marks needs r → BodyChosen (documentOf t) t marks asked needs r
   unfolding chosenBy
   document-chosen r d =
       let no-needs : picked asked needs ≡ [] = none-picked asked count needs (length-hashes-at need 0 count) (d .none) in
@@ -68,7 +68,7 @@ module _ (table : List ℕ) (n : ℕ) (need : List ℕ) (count : ℕ) (marks nee
 
 -- ---- which of the two
 
-module _ (t : List Row) (v2 lost : Bool) (haves : List Have) (need sent : List ℕ) (marks needs : List Bool) (r : Counted) where
+module _ (t : List Row) (v2 lost : Bool) (haves : List Have) (need sent : List ℕ) (marks needs : List Bool) (r : BodyCount) where
   pub body-lost : (v2 && lost) ≡ true → BodyChosen (documentOf t) t marks need needs r
       → BodyChosen (bodyFor t v2 lost haves need sent) t marks need needs r
   unfolding bodyFor
@@ -77,7 +77,7 @@ module _ (t : List Row) (v2 lost : Bool) (haves : List Have) (need sent : List �
 module _ (t : List Row) (v2 lost : Bool) (haves : List Have) (need sent : List ℕ) (marks needs : List Bool) (count n : ℕ) (e : (v2 && lost) ≡ false)
     (long : length t ≡ n)
     (so : Chosen (toSendLess t haves need sent) t marks need needs count) where
-  pub body-long : (v2 && ltb (n / documentPart) count) ≡ true → (marks′ needs′ : List Bool) (r : Counted)
+  pub body-long : (v2 && ltb (n / documentPart) count) ≡ true → (marks′ needs′ : List Bool) (r : BodyCount)
       → BodyChosen (documentOf t) t marks′ need needs′ r
       → BodyChosen (bodyFor t v2 lost haves need sent) t marks′ need needs′ r
   unfolding bodyFor listOrDocument
@@ -90,7 +90,7 @@ module _ (t : List Row) (v2 lost : Bool) (haves : List Have) (need sent : List �
 
 -- ---- what was heard
 
-module _ (peerReadOnly : Bool) (b : Body) (t : List Row) (marks : List Bool) (need : List ℕ) (needs : List Bool) (r : Counted) where
+module _ (peerReadOnly : Bool) (b : Body) (t : List Row) (marks : List Bool) (need : List ℕ) (needs : List Bool) (r : BodyCount) where
   pub peer-closed : peerReadOnly ≡ true → BodyChosen (listOf []) t marks need needs r → BodyChosen (cond peerReadOnly (listOf []) b) t marks need needs r
   peer-closed e m = rw e m
 
@@ -98,7 +98,7 @@ module _ (peerReadOnly : Bool) (b : Body) (t : List Row) (marks : List Bool) (ne
   peer-open e m = rw e m
 
 module _ (t : List Row) (v2 lost : Bool) (s haves : List ℕ) (have : Heard) (theirs : List ℕ) (need : Heard) (sent : List ℕ) (marks needs : List Bool)
-    (r : Counted) where
+    (r : BodyCount) where
   abbrev Made : Type 0
   Made =
       BodyChosen (bodyHeard t v2 lost (heardHaves s haves have) (heardHashes theirs need) sent) t marks (hashesAt theirs 0 (heardCount need)) needs r

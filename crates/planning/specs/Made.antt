@@ -14,7 +14,7 @@ use Rattle.rules.specs.Sizes.{sizes}
 use Rattle.selection.specs.Chosen.{Chosen}
 use Rattle.session.specs.Plan.{Body}
 use Rattle.tables.specs.Table.{Row}
-use Rattle.planning.specs.declared.body.Body.{Body as Counted}
+use Rattle.planning.specs.declared.body.BodyCount.{BodyCount}
 
 -- Bits and probes with which a filter over any rows of a table keeps the filter rules.
 pub record Setting (bits probes : ℕ) : Type 0 where
@@ -40,13 +40,13 @@ pub record BlankBody (n count : ℕ) (marks needs : List Bool) : Type 0 where
   pub noNeed : Blank count needs
 
 -- The document: every row is marked and no need.
-pub record DocumentMarked (n count : ℕ) (marks needs : List Bool) (r : Counted) : Type 0 where
+pub record DocumentMarked (n count : ℕ) (marks needs : List Bool) (r : BodyCount) : Type 0 where
   pub all : Marks n marks (λ i. true)
   pub none : Blank count needs
   pub is : r ≡ record { document = true; hashes = n }
 
 -- A body: its hashes are those of the needs and rows that are marked, and whether they go as the document.
-pub record BodyChosen (b : Body) (t : List Row) (marks : List Bool) (need : List ℕ) (needs : List Bool) (r : Counted) : Type 0 where
+pub record BodyChosen (b : Body) (t : List Row) (marks : List Bool) (need : List ℕ) (needs : List Bool) (r : BodyCount) : Type 0 where
   pub document : r .document ≡ b .document
   pub hashes : Chosen (b .hashes) t marks need needs (r .hashes)
 

@@ -20,7 +20,7 @@ ghost use Rattle.tables.specs.Bytes.{rowsAt};
 ghost use Rattle.planning.specs.Made.{BlankBody, DocumentMarked, BodyChosen};
 
 // How many hashes a body has, and whether they go as the document.
-pub struct Body {
+pub struct BodyCount {
     pub document: bool,
     pub hashes: usize,
 }
@@ -29,13 +29,13 @@ pub struct Body {
 pub const DOCUMENT_PART: usize = 3;
 
 // Marks every row and none of the first needs.
-fn mark_document(n: usize, count: usize, marks: &mut [bool], needs: &mut [bool]) -> Body
+fn mark_document(n: usize, count: usize, marks: &mut [bool], needs: &mut [bool]) -> BodyCount
     requires { ⌜ (n ≤ length (now marks)) × (count ≤ length (now needs)) ⌝ }
     ensures { λ r. ⌜ DocumentMarked n count (now (marks .exit)) (now (needs .exit)) r ⌝ }
 {
     set_marks(n, true, marks);
     set_marks(count, false, needs);
-    Body {
+    BodyCount {
         document: true,
         hashes: n,
     }
@@ -66,7 +66,7 @@ fn body_for(
     before: usize,
     marks: &mut [bool],
     needs: &mut [bool],
-) -> Body
+) -> BodyCount
     requires { ⌜ Choosable (now table) (now index) n (now bytes) (now haves) (now need) 0 count × (sizes .hash * before ≤ length (now sent))
         × BlankBody n count (now marks) (now needs) ⌝ }
     ensures { λ r. ⌜ BodyChosen (bodyFor (rowsAt (now (table .entry)) 0 n) v2 lost (havesOf (now (bytes .entry)) (now (haves .entry)))
@@ -93,7 +93,7 @@ fn body_for(
     if goes_whole(v2, n / DOCUMENT_PART < hashes) {
         return mark_document(n, count, marks, needs);
     }
-    Body {
+    BodyCount {
         document: false,
         hashes,
     }
@@ -116,7 +116,7 @@ pub fn mark_body(
     before: usize,
     marks: &mut [bool],
     needs: &mut [bool],
-) -> Body
+) -> BodyCount
     requires { ⌜ Indexed (now table) (now index) n × (havesGood (now bytes) (now haves) have ≡ true) × (heardGood (now «their_need») need ≡ true)
         × (sizes .hash * before ≤ length (now sent)) × BlankBody n (heardCount need) (now marks) (now needs) ⌝ }
     ensures { λ r. ⌜ BodyChosen (cond «peer_read_only» (listOf []) (bodyHeard (rowsAt (now (table .entry)) 0 n) v2 lost
@@ -124,7 +124,7 @@ pub fn mark_body(
         (hashesAt (now (sent .entry)) 0 before)))
         (rowsAt (now (table .entry)) 0 n) (now (marks .exit)) (hashesAt (now («their_need» .entry)) 0 (heardCount need)) (now (needs .exit)) r ⌝ }
 {
-    let none = Body {
+    let none = BodyCount {
         document: false,
         hashes: 0,
     };

@@ -12,18 +12,20 @@ use Rattle.rules.specs.declared.refusal.Refusal.the-variants.{BadNumbers}
 use Rattle.bloom.specs.Filter.{Filter, fieldSize, filterRules}
 use Rattle.probe.specs.Probes.{probesOf}
 
--- A bit set, and the bits of several probes.
+-- A bit set.
 unfoldable pub setBit : List ℕ → ℕ → List ℕ
 setBit field k = set field (k / 8) (bitOr (getD field (k / 8) 0) (2 ^ (k % 8)))
 
+-- The bits of several probes set.
 unfoldable pub setBits : List ℕ → List ℕ → List ℕ
 setBits field [] = field
 setBits field (k ∷ ks) = setBits (setBit field k) ks
 
--- A hash added to a field, and hashes one after the other.
+-- A hash added to a field.
 unfoldable pub addHash : ℕ → List ℕ → ℕ → List ℕ
 addHash p field h = setBits field (probesOf (8 * length field) p h)
 
+-- Hashes added one after the other.
 unfoldable pub addHashes : ℕ → List ℕ → List ℕ → List ℕ
 addHashes p field [] = field
 addHashes p field (h ∷ hs) = addHashes p (addHash p field h) hs

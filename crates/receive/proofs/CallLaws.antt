@@ -33,8 +33,8 @@ use Rattle.receive.specs.Call.{afterTable, receiveWith, receivedRoomed, 
 use Rattle.drafting.specs.Checks.{besideRows, afterRows, checked, Accepted}
 use Rattle.drafting.specs.Made.{saidAt, Prepared, Stands, Makes, ReceiptMade}
 use Rattle.taking.specs.Receipt.{receiptDecided, SmallReceipt, ReceiptParts, receiptPuts, ReceiptFits, receiptPut}
-use Rattle.taking.specs.declared.answer.Received.{Received as Answer}
-use Rattle.taking.specs.declared.answer.Received.the-variants.{Refused}
+use Rattle.taking.specs.declared.answer.ReceiveAnswer.{ReceiveAnswer}
+use Rattle.taking.specs.declared.answer.ReceiveAnswer.the-variants.{Refused}
 use Rattle.drafting.specs.declared.check.ReceiptChecks.the-variants as checks
 use Rattle.taking.specs.declared.decide.Receipt.{Receipt}
 use Rattle.receive.proofs.DraftLaws.{forgets-most, Drafted, draft-small}
@@ -170,7 +170,7 @@ module _ (s : Session) (l : Lent) (table index : List ℕ) (n before : ℕ) (mes
       pub is-small : SmallReceipt d
       is-small = draft-small s l (ok .good) table n before (ok .inside) message p (ok .read) ready d whole
 
-      module _ (loaded failed : Bool) (a : Answer) (failing : failed ≡ (loads && not loaded)) (decides : a ≡ receiptDecided flagged failed d (receivedRooms l)) where
+      module _ (loaded failed : Bool) (a : ReceiveAnswer) (failing : failed ≡ (loads && not loaded)) (decides : a ≡ receiptDecided flagged failed d (receivedRooms l)) where
         is-decided : a ≡ receiptDecided (flaggedCounts (p .flags) s) ((ltb 0 (p .chunks .count) && not (s .«read_only»)) && not loaded) d (receivedRooms l)
         is-decided = rw (← loading, ← failing, ← flags) decides
 

@@ -35,7 +35,7 @@ use Rattle.laying.specs.Made.{Layable}
 use Rattle.receive.specs.Call.{keptIn, receivedRooms}
 use Rattle.drafting.specs.Made.{saidAt, havesWords, Stands}
 use Rattle.taking.specs.Receipt.{orWanted, shortWith, ReceiptParts, noReceipt, receiptPuts, ReceiptFits, receiptPut}
-use Rattle.taking.specs.declared.answer.Received.{Received as Answer}
+use Rattle.taking.specs.declared.answer.ReceiveAnswer.{ReceiveAnswer}
 use Rattle.taking.specs.declared.answer.SessionRooms.{SessionRooms}
 use Rattle.taking.specs.declared.decide.Receipt.{Receipt}
 use Rattle.receive.proofs.DraftLaws.{Drafted, shared-gathered, sent-made, told-made, told-few, told-within, sent-within, draft-small}
@@ -114,7 +114,7 @@ roomy d r e =
 
 module _ (s : Session) (l : Lent) (good : sessionGood s l ≡ true) (table : List ℕ) (n before : ℕ) (inside : before ≤ n) (message : List ℕ) (p : Places)
     (read : decodedOf (messageAt message) ≡ Placed p) (ready : ReceiptParts) (d : Receipt) (made : Drafted s l table n before message p ready d) (stands : Stands d ready)
-    (all : Bytes message) (a : Answer) (q : Received) (o : Outcomes s l table n before message p d (receivedRooms l) a q)
+    (all : Bytes message) (a : ReceiveAnswer) (q : Received) (o : Outcomes s l table n before message p d (receivedRooms l) a q)
   where
     abbrev v : State
     v = stateOf s l

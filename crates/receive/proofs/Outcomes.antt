@@ -26,19 +26,19 @@ use Rattle.receiving.specs.Made.{flaggedCounts}
 use Rattle.receive.specs.Call.{unlessShort, receivedRoomed, refusalAnswer, receivedAnswer}
 use Rattle.drafting.specs.Made.{saidAt}
 use Rattle.taking.specs.Receipt.{receivedCounts, shortWith, receiptDecided, ReceiptParts, noReceipt, receiptPuts}
-use Rattle.taking.specs.declared.answer.Received.{Received as Answer}
-use Rattle.taking.specs.declared.answer.Received.the-variants.{Took, Failed, Refused}
+use Rattle.taking.specs.declared.answer.ReceiveAnswer.{ReceiveAnswer}
+use Rattle.taking.specs.declared.answer.ReceiveAnswer.the-variants.{Took, Failed, Refused}
 use Rattle.taking.specs.declared.answer.SessionRooms.{SessionRooms}
 use Rattle.taking.specs.declared.decide.Receipt.{Receipt}
 use Rattle.receive.proofs.DraftLaws.{Drafted, flagged-counts, shared-made, shared-many, shared-gathered, received-counts, wantedOf, short-is}
 
 module _ (d : Receipt) (r : SessionRooms) (after : Session) (new : State) where
   -- The two ways that an answer and a result on values go together.
-  pub data Outcome (a : Answer) (q : Received) : Type 0 where
+  pub data Outcome (a : ReceiveAnswer) (q : Received) : Type 0 where
     refuses : (refusal : Refusal) (left : State) → q ≡ Received.refused refusal left → receiptPuts a d ≡ noReceipt → a ≡ receivedAnswer q → Outcome a q
     takes : d .shared ≤ sizes .hashes → shortWith d r ≡ 0 → a ≡ Took after → q ≡ Received.took new → a ≡ receivedAnswer q → Outcome a q
 
-  pub same-answer : (a : Answer) (q : Received) → Outcome a q → a ≡ receivedAnswer q
+  pub same-answer : (a : ReceiveAnswer) (q : Received) → Outcome a q → a ≡ receivedAnswer q
   same-answer a q (Outcome.refuses refusal left e f g) = g
   same-answer a q (Outcome.takes few room e f g) = g
 
@@ -54,7 +54,7 @@ module _ (d : Receipt) (r : SessionRooms) (after : Session) (new : State) where
       rw e (Outcome.takes few none refl refl (ap Took (sym counts))))
 
 -- The same for a message that was read, over its draft and the lengths of the lent lists.
-abbrev pub Outcomes : Session → Lent → List ℕ → ℕ → ℕ → List ℕ → Places → Receipt → SessionRooms → Answer → Received → Type 0
+abbrev pub Outcomes : Session → Lent → List ℕ → ℕ → ℕ → List ℕ → Places → Receipt → SessionRooms → ReceiveAnswer → Received → Type 0
 Outcomes s l table n before message p d r a q =
     Outcome d r (receivedCounts (flaggedCounts (p .flags) s) d) (received before (rowsAt table 0 n) (stateOf s l) (saidAt message p)) a q
 
@@ -76,7 +76,7 @@ module _ (s : Session) (l : Lent) (good : sessionGood s l ≡ true) (table : Lis
   abbrev fails : Bool
   fails = (ltb 0 (p .chunks .count) && not (s .«read_only»)) && not loaded
 
-  abbrev Of : Answer → Received → Type 0
+  abbrev Of : ReceiveAnswer → Received → Type 0
   Of a q = Outcomes s l table n before message p d r a q
 
   joined : Of (cond (ltb (sizes .hashes) (d .shared))

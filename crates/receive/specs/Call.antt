@@ -26,8 +26,8 @@ use Rattle.state.specs.declared.session.Session.{Session}
 use Rattle.tables.specs.Bytes.{tableOf}
 use Rattle.tables.specs.declared.check.Checked.{Checked}
 use Rattle.tables.specs.declared.check.Checked.the-variants.{Good, Refused as BadTable}
-use Rattle.taking.specs.declared.answer.Received.{Received as Answer}
-use Rattle.taking.specs.declared.answer.Received.the-variants.{Took, Failed, Refused}
+use Rattle.taking.specs.declared.answer.ReceiveAnswer.{ReceiveAnswer}
+use Rattle.taking.specs.declared.answer.ReceiveAnswer.the-variants.{Took, Failed, Refused}
 use Rattle.taking.specs.declared.answer.SessionRooms.{SessionRooms}
 
 -- ---- what is received, for a session as counts with its lent lists, and a table and its index as bytes
@@ -57,10 +57,12 @@ shortFor s r =
     (orShort some (r .haves) (haveWords * length (heard (s .theirHave)))
     (orShort some (r .bytes) (length (laidBytes (heard (s .theirHave)))) none)))))
 
+-- 7 with the length wanted, and the session as it was; else the new one.
 unfoldable pub unlessShort : Option ℕ → State → State → Received
 unlessShort none old new = Received.took new
 unlessShort (some wanted) old new = Received.refused (NoRoom wanted) old
 
+-- 7 comes last, and only where nothing was refused.
 unfoldable pub receivedRoomed : SessionRooms → State → Received → Received
 receivedRoomed r old (Received.took new) = unlessShort (shortFor new r) old new
 receivedRoomed r old (Received.refused refusal left) = Received.refused refusal left
@@ -68,13 +70,15 @@ receivedRoomed r old (Received.refused refusal left) = Received.refused refusal 
 -- ---- the answer, and the lists at exit: what is kept at their start, the rest as it was
 
 -- 8 alone leaves something; every other refusal leaves the session as it was passed.
-unfoldable pub refusalAnswer : Refusal → State → Answer
+unfoldable pub refusalAnswer : Refusal → State → ReceiveAnswer
 refusalAnswer r s = cond (eqb (numberOf r) (numberOf LoadFailed)) (Failed (countsOf s)) (Refused r)
 
-unfoldable pub receivedAnswer : Received → Answer
+-- What the call answers.
+unfoldable pub receivedAnswer : Received → ReceiveAnswer
 receivedAnswer (Received.took s) = Took (countsOf s)
 receivedAnswer (Received.refused r s) = refusalAnswer r s
 
+-- The lists at exit: what the session keeps at their start; after a refusal all as they were.
 unfoldable pub keptIn : Received → Lent → Lent
 keptIn (Received.took s) l =
     record {
@@ -88,6 +92,7 @@ keptIn (Received.took s) l =
     }
 keptIn (Received.refused r s) l = l
 
+-- How long the lists are.
 abbrev pub receivedRooms : Lent → SessionRooms
 receivedRooms l =
     record {
@@ -100,6 +105,6 @@ receivedRooms l =
     }
 
 -- What the call ensures.
-pub record ReceiveCalled (s : Session) (p : Received) (before after : Lent) (r : Answer) : Type 0 where
+pub record ReceiveCalled (s : Session) (p : Received) (before after : Lent) (r : ReceiveAnswer) : Type 0 where
   pub answer : r ≡ receivedAnswer (receivedRoomed (receivedRooms before) (stateOf s before) p)
   pub lists : after ≡ keptIn (receivedRoomed (receivedRooms before) (stateOf s before) p) before

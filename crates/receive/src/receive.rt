@@ -15,7 +15,7 @@ use rules::sizes::HAVES;
 use rules::sizes::ROWS;
 use rules::sizes::SENT_HASHES;
 use state::session::Session;
-use taking::answer::Received;
+use taking::answer::ReceiveAnswer;
 use taking::answer::SessionRooms;
 use taking::decide::decide;
 use taking::put::put;
@@ -70,7 +70,7 @@ fn receive_checked(
     haves: &mut [u64],
     bytes: &mut [u8],
     sent: &mut [u8],
-) -> Received
+) -> ReceiveAnswer
     requires { ⌜ Accepted session (lentOf (now shared) (now «last_sent») (now «their_heads») (now «their_need») (now haves) (now bytes) (now sent))
         (now table) (now index) n before (now message) places
         × Prepared (now table) n (now message) places (session .«sent_hashes») (now marks) all (now «ready_shared») (now «ready_sent») ⌝ }
@@ -152,7 +152,7 @@ fn receive_sized(
     haves: &mut [u64],
     bytes: &mut [u8],
     sent: &mut [u8],
-) -> Received
+) -> ReceiveAnswer
     requires { ⌜ Accepted session (lentOf (now shared) (now «last_sent») (now «their_heads») (now «their_need») (now haves) (now bytes) (now sent))
         (now table) (now index) n before (now message) places ⌝ }
     ensures { λ r. ⌜ ReceiveCalled session (receiveWith loaded before session
@@ -241,7 +241,7 @@ pub fn receive_sync_message(
     haves: &mut [u64],
     bytes: &mut [u8],
     sent: &mut [u8],
-) -> Received
+) -> ReceiveAnswer
     ensures { λ r. ⌜ ReceiveCalled session (receiveWith loaded before session
         (lentOf (now (shared .entry)) (now («last_sent» .entry)) (now («their_heads» .entry)) (now («their_need» .entry))
         (now (haves .entry)) (now (bytes .entry)) (now (sent .entry))) (now (table .entry)) (now (index .entry)) (now (message .entry)))
@@ -264,7 +264,7 @@ pub fn receive_sync_message(
         before,
         message,
     ) {
-        ReceiptChecks::Refused(refusal) => Received::Refused(refusal),
+        ReceiptChecks::Refused(refusal) => ReceiveAnswer::Refused(refusal),
         ReceiptChecks::Good { rows, places } => receive_sized(
             session,
             table,

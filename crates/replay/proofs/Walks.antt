@@ -12,7 +12,7 @@ use lib.Seq.{getD-set-same, getD-set-other}
 use Rattle.rules.proofs.Cases.{split}
 use Rattle.rules.specs.LittleEndian.{u16At}
 use Rattle.replay.specs.Record.{sizePlace, answerPlace, inputPlace, verdictOf, recordOf, recordAt}
-use Rattle.replay.specs.Walk.{kinds, Replayed, stops, meets, afterRecord, walkFrom, walkOf, oneIf, recordsIn, agreeIn, stopOf, noneCounted, added, Room, SampleCounted}
+use Rattle.replay.specs.Walk.{kinds, Replayed, stops, meets, afterRecord, walkFrom, walkOf, oneIf, recordsIn, agreeIn, stopOf, noneCounted, added, CountRoom, SampleCounted}
 use Rattle.replay.specs.Words.{wordsAt}
 use Rattle.replay.specs.declared.record.Record.{Record}
 use Rattle.replay.specs.declared.record.Record.the-variants.{Read, Bad}
@@ -206,7 +206,7 @@ module _ (s : List ℕ) (at : ℕ) (c : Counts) (g : Going s at c) where
     unfolding stopOf
     stop-more = rw onward at (g .stop)
 
-    pub room : length s < 2 ^ 64 → Room c kind same
+    pub room : length s < 2 ^ 64 → CountRoom c kind same
     unfolding walkOf
     room f =
         let t : eqb kind kind ≡ true = eq-eqb kind kind refl in

@@ -14,13 +14,15 @@ use Rattle.replay.specs.declared.record.Record.the-variants.{Read, Bad}
 use Rattle.replay.specs.declared.record.Verdict.{Verdict}
 use Rattle.replay.specs.declared.record.Verdict.the-variants.{Same, Different, Unknown}
 
--- Places within a record: of the size, of the answer, of the input.
+-- Places within a record, whose first byte is its kind: the size of the input.
 abbrev pub sizePlace : ℕ
 sizePlace = 1
 
+-- The stored answer, four words.
 abbrev pub answerPlace : ℕ
 answerPlace = 3
 
+-- The input, up to the record's end.
 abbrev pub inputPlace : ℕ
 inputPlace = 35
 
@@ -32,6 +34,7 @@ agreeing stored found =
     || (eqb (getD stored 1 0) (getD found 1 0)
     && (eqb (getD stored 2 0) (getD found 2 0) && eqb (getD stored 3 0) (getD found 3 0))))
 
+-- The verdict of two answers.
 unfoldable pub compare : List ℕ → List ℕ → Verdict
 compare stored found = cond (agreeing stored found) Same Different
 

@@ -36,6 +36,7 @@ walkFrom (suc k) s at =
 unfoldable pub walkOf : List ℕ → Replayed
 walkOf s = walkFrom (length s) s 0
 
+-- 1 for a record that agrees.
 abbrev pub oneIf : Bool → ℕ
 oneIf true = 1
 oneIf false = 0
@@ -55,10 +56,11 @@ unfoldable pub stopOf : Replayed → ℕ
 stopOf (stops at) = at
 stopOf (meets kind same w) = stopOf w
 
--- The counts before any record, and those with one more.
+-- The counts before any record.
 abbrev pub noneCounted : Counts
 noneCounted = record { records = replicate kinds 0; agree = replicate kinds 0; end = 0 }
 
+-- The counts with one record more.
 abbrev pub added : Counts → ℕ → Bool → ℕ → Counts
 added c kind same next =
     record {
@@ -68,7 +70,7 @@ added c kind same next =
     }
 
 -- A kind that is counted, and counts that one more fits.
-pub record Room (c : Counts) (kind : ℕ) (same : Bool) : Type 0 where
+pub record CountRoom (c : Counts) (kind : ℕ) (same : Bool) : Type 0 where
   pub known : kind < kinds
   pub records : getD (c .records) kind 0 + 1 < 2 ^ 64
   pub agree : getD (c .agree) kind 0 + oneIf same < 2 ^ 64

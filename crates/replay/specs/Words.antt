@@ -3,6 +3,7 @@ use Prim.Native.Nat.{ℕ, _+_, _*_}
 use mathlib.Core.List.{List, [], _∷_}
 use Rattle.rules.specs.LittleEndian.{u32At}
 
+-- The number that eight bytes are.
 unfoldable pub u64At : List ℕ → ℕ → ℕ
 u64At s at = u32At s at + 4294967296 * u32At s (at + 4)
 

@@ -2,7 +2,7 @@
 use crate::record::Record;
 use crate::record::record_at;
 ghost use mathlib.Core.Path.{_≡_};
-ghost use Rattle.replay.specs.Walk.{oneIf, noneCounted, added, Room, walkOf, SampleCounted};
+ghost use Rattle.replay.specs.Walk.{oneIf, noneCounted, added, CountRoom, walkOf, SampleCounted};
 
 // Kinds are below this; 0 is none.
 const KINDS: usize = 5;
@@ -33,7 +33,7 @@ impl Counts {
 
     // One record more, which ends at `next`.
     fn add(mut self, kind: usize, same: bool, next: usize) -> Self
-        requires { ⌜ Room self kind same ⌝ }
+        requires { ⌜ CountRoom self kind same ⌝ }
         ensures { λ r. ⌜ r ≡ added self kind same next ⌝ }
     {
         self.records[kind] += 1;

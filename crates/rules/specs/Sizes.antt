@@ -2,6 +2,7 @@
 use Prim.Native.Nat.{ℕ}
 use mathlib.Core.List.{List, [], _∷_}
 
+-- The limits by name.
 pub record Sizes : Type 0 where
   -- bytes of a hash
   pub hash : ℕ

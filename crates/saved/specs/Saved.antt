@@ -35,17 +35,19 @@ stateAt s =
     (NotListed (Cut 0))
     (cond (not (eqb (getD s 0 0) stateType)) (NotListed (WrongType (getD s 0 0))) (hashListAt s 1 (length s)))
 
--- The session that is read, with 7 where the buffer for its shared heads is too short; and that buffer at exit.
+-- The session that is read, with 7 where the buffer for its shared heads is too short.
 unfoldable pub loadedWith : Listed → ℕ → Loaded
 loadedWith (NotListed r) room = Refused r
 loadedWith (Items heads next) room =
     cond (ltb room (sizes .hash * heads .count)) (Refused (NoRoom (sizes .hash * heads .count))) (Session (restoredCounts (heads .count)))
 
+-- The buffer for shared heads at exit: they stand at its start where there is room.
 unfoldable pub loadedInto : Listed → List ℕ → List ℕ → List ℕ
 loadedInto (NotListed r) s before = before
 loadedInto (Items heads next) s before =
     cond (ltb (length before) (sizes .hash * heads .count)) before (sets before 0 (slice (heads .start) next s))
 
+-- Answer and buffer together.
 pub record Restored (s before after : List ℕ) (r : Loaded) : Type 0 where
   pub answer : r ≡ loadedWith (stateAt s) (length before)
   pub content : after ≡ loadedInto (stateAt s) s before

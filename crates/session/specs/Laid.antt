@@ -7,6 +7,7 @@ use Rattle.bloom.specs.Have.{Have}
 use Rattle.rules.specs.Hash.{hashesBytes}
 use Rattle.rules.specs.Sizes.{sizes}
 
+-- The bytes of haves, one after the other: last-sync hashes, then the field.
 unfoldable pub laidBytes : List Have → List ℕ
 laidBytes [] = []
 laidBytes (v ∷ vs) = hashesBytes (v .lastSync) ++ (v .filter .field ++ laidBytes vs)
@@ -24,5 +25,6 @@ laidFrom at (v ∷ vs) =
     ∷ length (v .filter .field)
     ∷ laidFrom (at + sizes .hash * length (v .lastSync) + length (v .filter .field)) vs
 
+-- The words of their records, over those bytes from the first on.
 unfoldable pub laidWords : List Have → List ℕ
 laidWords vs = laidFrom 0 vs

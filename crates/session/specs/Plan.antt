@@ -75,9 +75,11 @@ unknownSync t none = false
 unknownSync t (some []) = false
 unknownSync t (some (v ∷ vs)) = not (every (held t) (v .lastSync))
 
+-- A body that names hashes.
 abbrev pub listOf : List ℕ → Body
 listOf l = record { document = false; hashes = l }
 
+-- A body that is the whole document: every row's hash.
 abbrev pub documentOf : List Row → Body
 documentOf t = record { document = true; hashes = rows t }
 
@@ -127,6 +129,7 @@ sentAfter t s = ascend (bodyOf t s .hashes ++ s .sentHashes)
 unfoldable pub headsFor : Bool → Bool → List ℕ → List ℕ
 headsFor needsReset supportsReset ourHeads = cond (needsReset && not supportsReset) [] ourHeads
 
+-- The flags of a message: a reset is always understood here; read-only and forgetting as they are.
 unfoldable pub flagsFor : Bool → Bool → MessageFlags
 flagsFor readOnlyUnit forget = flagsOf (supportsSyncReset + (cond readOnlyUnit readOnly 0 + cond forget syncReset 0))
 
@@ -184,12 +187,15 @@ planSent bits probes t w s =
     (refused (PastSize 0))
     (says (planOf bits probes t w s) (planned t s))
 
+-- Nothing is said where silence is due.
 unfoldable pub planSilence : ℕ → ℕ → List Row → List Waiting → State → Planned
 planSilence bits probes t w s = cond (silence t s) silent (planSent bits probes t w s)
 
+-- A reset comes before silence.
 unfoldable pub planReset : ℕ → ℕ → List Row → List Waiting → State → Planned
 planReset bits probes t w s = cond (unknownSync t (s .theirHave)) (reset (resetOf t)) (planSilence bits probes t w s)
 
+-- 4 for the need list comes first.
 unfoldable pub plan : ℕ → ℕ → List Row → List Waiting → State → Planned
 plan bits probes t w s =
     cond (ltb (sizes .hashes) (length (needOf t w (s .readOnly) (heard (s .theirHeads)))))

@@ -6,14 +6,14 @@ use mathlib.Core.Path.{_≡_, sym, ap, _∙_}
 use mir.Val.{boolByte}
 use Rattle.bloom.specs.Filter.{defaultBits, defaultProbes}
 use Rattle.planned.specs.Call.{Buffers, PlanCalled, planWith}
-use Rattle.planned.specs.declared.answer.Planned.{Planned}
+use Rattle.planned.specs.declared.answer.PlanAnswer.{PlanAnswer}
 use Rattle.planned.specs.declared.answer.Stated.{Stated}
 use Rattle.receive.specs.Call.{ReceiveCalled, receiveWith}
 use Rattle.session_words.proofs.WordLaws.{flag-byte}
 use Rattle.session_words.specs.Words.{sessionOf}
 use Rattle.state.specs.Value.{Lent}
 use Rattle.state.specs.declared.session.Session.{Session}
-use Rattle.taking.specs.declared.answer.Received.{Received}
+use Rattle.taking.specs.declared.answer.ReceiveAnswer.{ReceiveAnswer}
 use Rattle.session_calls.specs.SessionCalls.{versionNumber, statedWords, plannedWords, plannedSession, PlanAnswered}
 use Rattle.session_calls.specs.SessionCalls.{receivedWords, receivedSession, ReceiveAnswered}
 
@@ -28,7 +28,7 @@ stated-made what p v e = rw (e, flag-byte (p .document))
 -- ---- planning
 
 module _ {session₀ session₁ : List ℕ} {l : Lent} {table index waiting : List ℕ} {before after : Buffers} {words : List ℕ} where
-  pub plan-answered : (s : Session) (r : Planned) → s ≡ sessionOf session₀
+  pub plan-answered : (s : Session) (r : PlanAnswer) → s ≡ sessionOf session₀
       → PlanCalled s (planWith defaultBits defaultProbes s l table index waiting) before after r
       → session₁ ≡ plannedSession r session₀
       → words ≡ plannedWords r
@@ -37,7 +37,7 @@ module _ {session₀ session₁ : List ℕ} {l : Lent} {table index waiting : Li
       let known = rw same at called in
       record {
         answer = f ∙ ap plannedWords (known .answer);
-        session = e ∙ ap (λ (k : Planned). plannedSession k session₀) (known .answer);
+        session = e ∙ ap (λ (k : PlanAnswer). plannedSession k session₀) (known .answer);
         buffers = known .buffers;
       }
 
@@ -51,7 +51,7 @@ plan-answered-once x y =
 -- ---- receiving
 
 module _ {session₀ session₁ : List ℕ} {before after : Lent} {table index : List ℕ} {rows : ℕ} {message : List ℕ} {loaded : Bool} {words : List ℕ} where
-  pub receive-answered : (s : Session) (r : Received) → s ≡ sessionOf session₀
+  pub receive-answered : (s : Session) (r : ReceiveAnswer) → s ≡ sessionOf session₀
       → ReceiveCalled s (receiveWith loaded rows s before table index message) before after r
       → session₁ ≡ receivedSession r session₀
       → words ≡ receivedWords r
@@ -60,7 +60,7 @@ module _ {session₀ session₁ : List ℕ} {before after : Lent} {table index :
       let known = rw same at called in
       record {
         answer = f ∙ ap receivedWords (known .answer);
-        session = e ∙ ap (λ (k : Received). receivedSession k session₀) (known .answer);
+        session = e ∙ ap (λ (k : ReceiveAnswer). receivedSession k session₀) (known .answer);
         lists = known .lists;
       }
 

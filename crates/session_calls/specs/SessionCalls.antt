@@ -8,17 +8,18 @@ use Rattle.bloom.specs.Filter.{defaultBits, defaultProbes}
 use Rattle.message.specs.declared.version.MessageVersion.{MessageVersion}
 use Rattle.message.specs.declared.version.MessageVersion.the-variants.{V1, V2}
 use Rattle.planned.specs.Call.{Buffers, planWith, plannedRoomed, plannedRooms, plannedAnswer, putInto}
-use Rattle.planned.specs.declared.answer.Planned.{Planned}
-use Rattle.planned.specs.declared.answer.Planned.the-variants.{Refused, Silent, Reset, Says}
+use Rattle.planned.specs.declared.answer.PlanAnswer.{PlanAnswer}
+use Rattle.planned.specs.declared.answer.PlanAnswer.the-variants.{Refused, Silent, Reset, Says}
 use Rattle.planned.specs.declared.answer.Stated.{Stated}
 use Rattle.receive.specs.Call.{receiveWith, receivedRoomed as roomedFor, receivedRooms as roomsOf, receivedAnswer as answerFor, keptIn}
 use Rattle.rules.specs.Refusal.{numberOf, valueOf}
 use Rattle.rules.specs.declared.refusal.Refusal.the-variants.{LoadFailed}
 use Rattle.session_words.specs.Words.{flagWord, sessionWords, sessionOf}
 use Rattle.state.specs.Value.{Lent, stateOf as sessionValue}
-use Rattle.taking.specs.declared.answer.Received.{Received}
-use Rattle.taking.specs.declared.answer.Received.the-variants.{Took, Failed, Refused as NotTaken}
+use Rattle.taking.specs.declared.answer.ReceiveAnswer.{ReceiveAnswer}
+use Rattle.taking.specs.declared.answer.ReceiveAnswer.the-variants.{Took, Failed, Refused as NotTaken}
 
+-- A version as a word.
 abbrev pub versionNumber : MessageVersion → ℕ
 versionNumber V1 = 1
 versionNumber V2 = 2
@@ -44,26 +45,28 @@ statedWords what p =
     ∷ p .hashes
     ∷ []
 
-abbrev pub plannedWords : Planned → List ℕ
+-- A plan as sixteen words: a refusal, silence (all 0), a reset (1) or a message (2) with its numbers.
+abbrev pub plannedWords : PlanAnswer → List ℕ
 plannedWords (Refused r) = numberOf r ∷ valueOf r ∷ 0 ∷ 0 ∷ 0 ∷ 0 ∷ 0 ∷ 0 ∷ 0 ∷ 0 ∷ 0 ∷ 0 ∷ 0 ∷ 0 ∷ 0 ∷ 0 ∷ []
 plannedWords Silent = 0 ∷ 0 ∷ 0 ∷ 0 ∷ 0 ∷ 0 ∷ 0 ∷ 0 ∷ 0 ∷ 0 ∷ 0 ∷ 0 ∷ 0 ∷ 0 ∷ 0 ∷ 0 ∷ []
 plannedWords (Reset p) = statedWords 1 p
 plannedWords (Says p s) = statedWords 2 p
 
 -- Only a message changes the session.
-abbrev pub plannedSession : Planned → List ℕ → List ℕ
+abbrev pub plannedSession : PlanAnswer → List ℕ → List ℕ
 plannedSession (Refused r) before = before
 plannedSession Silent before = before
 plannedSession (Reset p) before = before
 plannedSession (Says p s) before = sessionWords s
 
-abbrev pub receivedWords : Received → List ℕ
+-- 0, or the refusal; a failed load is 8.
+abbrev pub receivedWords : ReceiveAnswer → List ℕ
 receivedWords (Took s) = 0 ∷ 0 ∷ 0 ∷ 0 ∷ []
 receivedWords (Failed s) = refusalWords LoadFailed
 receivedWords (NotTaken r) = refusalWords r
 
 -- After a refusal the words stay as they stood, but for 8, which leaves the flags taken.
-abbrev pub receivedSession : Received → List ℕ → List ℕ
+abbrev pub receivedSession : ReceiveAnswer → List ℕ → List ℕ
 receivedSession (Took s) before = sessionWords s
 receivedSession (Failed s) before = sessionWords s
 receivedSession (NotTaken r) before = before
@@ -72,15 +75,18 @@ receivedSession (NotTaken r) before = before
 abbrev pub planFor : List ℕ → Lent → List ℕ → List ℕ → List ℕ → Buffers → Rattle.session.specs.Plan.Planned
 planFor words l table index waiting before = plannedRoomed (plannedRooms before) (planWith defaultBits defaultProbes (sessionOf words) l table index waiting)
 
+-- What `bt_plan` leaves: its answer, the session's words, and every buffer.
 pub record PlanAnswered (session₀ session₁ : List ℕ) (l : Lent) (table index waiting : List ℕ) (before after : Buffers) (words : List ℕ) : Type 0 where
   pub answer : words ≡ plannedWords (plannedAnswer (sessionOf session₀) (planFor session₀ l table index waiting before))
   pub session : session₁ ≡ plannedSession (plannedAnswer (sessionOf session₀) (planFor session₀ l table index waiting before)) session₀
   pub buffers : after ≡ putInto (planFor session₀ l table index waiting before) before
 
+-- What is received for a session's words, once there is room.
 abbrev pub receiveFor : List ℕ → Lent → List ℕ → List ℕ → ℕ → List ℕ → Bool → Rattle.hearing.specs.Receive.Received
 receiveFor words l table index before message loaded =
     roomedFor (roomsOf l) (sessionValue (sessionOf words) l) (receiveWith loaded before (sessionOf words) l table index message)
 
+-- What `bt_receive` leaves: its answer, the session's words, and every list.
 pub record ReceiveAnswered (session₀ session₁ : List ℕ) (before after : Lent) (table index : List ℕ) (rowsBefore : ℕ) (message : List ℕ) (loaded : Bool)
     (words : List ℕ) : Type 0 where
   pub answer : words ≡ receivedWords (answerFor (receiveFor session₀ before table index rowsBefore message loaded))

@@ -1,11 +1,11 @@
 // Answers of planning and receiving as words, and the session's words that they leave.
 use answers::answer::refusal_words;
 use message::version::MessageVersion;
-use planned::answer::Planned;
+use planned::answer::PlanAnswer;
 use planned::answer::Stated;
 use rules::refusal::Refusal;
 use session_words::words::session_words;
-use taking::answer::Received;
+use taking::answer::ReceiveAnswer;
 ghost use mathlib.Core.Path.{_≡_};
 ghost use Rattle.session_calls.specs.SessionCalls.{
   versionNumber,
@@ -52,11 +52,11 @@ fn stated_words(what: u64, p: Stated) -> [u64; 16]
     ]
 }
 
-pub fn planned_words(planned: Planned) -> [u64; 16]
+pub fn planned_words(planned: PlanAnswer) -> [u64; 16]
     ensures { λ w. ⌜ w ≡ plannedWords planned ⌝ }
 {
     match planned {
-        Planned::Refused(r) => [
+        PlanAnswer::Refused(r) => [
             r.number(),
             r.value(),
             0,
@@ -74,41 +74,41 @@ pub fn planned_words(planned: Planned) -> [u64; 16]
             0,
             0,
         ],
-        Planned::Silent => [0, 0, 0, 0, 0, 0, 0, 0, 0, 0, 0, 0, 0, 0, 0, 0],
-        Planned::Reset(stated) => stated_words(1, stated),
-        Planned::Says { stated, session: _ } => stated_words(2, stated),
+        PlanAnswer::Silent => [0, 0, 0, 0, 0, 0, 0, 0, 0, 0, 0, 0, 0, 0, 0, 0],
+        PlanAnswer::Reset(stated) => stated_words(1, stated),
+        PlanAnswer::Says { stated, session: _ } => stated_words(2, stated),
     }
 }
 
 // The session's words: only a message changes them.
-pub fn planned_session(planned: Planned, before: [u64; 16]) -> [u64; 16]
+pub fn planned_session(planned: PlanAnswer, before: [u64; 16]) -> [u64; 16]
     ensures { λ w. ⌜ w ≡ plannedSession planned before ⌝ }
 {
     match planned {
-        Planned::Refused(_) => before,
-        Planned::Silent => before,
-        Planned::Reset(_) => before,
-        Planned::Says { stated: _, session } => session_words(session),
+        PlanAnswer::Refused(_) => before,
+        PlanAnswer::Silent => before,
+        PlanAnswer::Reset(_) => before,
+        PlanAnswer::Says { stated: _, session } => session_words(session),
     }
 }
 
-pub fn received_words(received: Received) -> [u64; 4]
+pub fn received_words(received: ReceiveAnswer) -> [u64; 4]
     ensures { λ w. ⌜ w ≡ receivedWords received ⌝ }
 {
     match received {
-        Received::Took(_) => [0, 0, 0, 0],
-        Received::Failed(_) => refusal_words(Refusal::LoadFailed),
-        Received::Refused(r) => refusal_words(r),
+        ReceiveAnswer::Took(_) => [0, 0, 0, 0],
+        ReceiveAnswer::Failed(_) => refusal_words(Refusal::LoadFailed),
+        ReceiveAnswer::Refused(r) => refusal_words(r),
     }
 }
 
 // The session's words: they stay as they stood after any refusal but a failed load.
-pub fn received_session(received: Received, before: [u64; 16]) -> [u64; 16]
+pub fn received_session(received: ReceiveAnswer, before: [u64; 16]) -> [u64; 16]
     ensures { λ w. ⌜ w ≡ receivedSession received before ⌝ }
 {
     match received {
-        Received::Took(session) => session_words(session),
-        Received::Failed(session) => session_words(session),
-        Received::Refused(_) => before,
+        ReceiveAnswer::Took(session) => session_words(session),
+        ReceiveAnswer::Failed(session) => session_words(session),
+        ReceiveAnswer::Refused(_) => before,
     }
 }

@@ -15,6 +15,7 @@ abbrev pub flagWord : Bool → ℕ
 flagWord true = 1
 flagWord false = 0
 
+-- The flag that a word is.
 abbrev pub flagOf : ℕ → Bool
 flagOf w = not (eqb w 0)
 
@@ -23,9 +24,11 @@ abbrev pub heardPresent : Heard → ℕ
 heardPresent Nothing = 0
 heardPresent (Count n) = 1
 
+-- What two words say that was heard.
 unfoldable pub heardOf : ℕ → ℕ → Heard
 heardOf present count = cond (eqb present 0) Nothing (Count count)
 
+-- A session's sixteen words.
 abbrev pub sessionWords : Session → List ℕ
 sessionWords s =
     s .«shared_heads»
@@ -46,6 +49,7 @@ sessionWords s =
     ∷ flagWord (s .«needs_reset»)
     ∷ []
 
+-- The session that sixteen words are.
 abbrev pub sessionOf : List ℕ → Session
 sessionOf w =
     record {

@@ -34,10 +34,12 @@ unfoldable pub heardHashes : List ℕ → Heard → Option (List ℕ)
 heardHashes s Nothing = none
 heardHashes s (Count n) = some (hashesAt s 0 n)
 
+-- The same of haves: the first records of a list, over the lent bytes.
 unfoldable pub heardHaves : List ℕ → List ℕ → Heard → Option (List Have)
 heardHaves s haves Nothing = none
 heardHaves s haves (Count n) = some (havesOf s (keptHaves haves n))
 
+-- The session that counts and lent lists are.
 abbrev pub stateOf : Session → Lent → State
 stateOf s l =
     record {
@@ -61,6 +63,7 @@ abbrev pub countHeard : {A : Type 0} → Option (List A) → Heard
 countHeard none = Nothing
 countHeard (some l) = Count (length l)
 
+-- The counts of a session.
 abbrev pub countsOf : State → Session
 countsOf s =
     record {

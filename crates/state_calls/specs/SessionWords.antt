@@ -16,11 +16,12 @@ abbrev pub goodWords : Bool → List ℕ
 goodWords true = 0 ∷ 0 ∷ 0 ∷ 0 ∷ []
 goodWords false = refusalWords BadNumbers
 
--- A session that is read from a saved state: the answer's words, and the lent session's words at exit.
+-- A session that is read from a saved state: the answer's words.
 abbrev pub loadedWords : Loaded → List ℕ
 loadedWords (Read s) = 0 ∷ s .«shared_heads» ∷ 0 ∷ 0 ∷ []
 loadedWords (NotRead r) = refusalWords r
 
+-- The session's words at exit: after a refusal as they were.
 abbrev pub loadedSession : Loaded → List ℕ → List ℕ
 loadedSession (Read s) before = sessionWords s
 loadedSession (NotRead r) before = before

@@ -15,6 +15,7 @@ use Rattle.summaries.specs.declared.summary.HaveSummary.{HaveSummary}
 abbrev pub laidHaves : ℕ
 laidHaves = sizes .haves + 1
 
+-- Before the first have.
 unfoldable pub nothingLaid : Laid
 nothingLaid = record { words = replicate (laidHaves * haveWords) 0; count = 0 }
 
@@ -27,10 +28,11 @@ withNext l total h =
     l
     (record { words = sets (l .words) (l .count * haveWords) (recordWords h); count = l .count + 1 }))
 
--- The next have of a list, and so many.
+-- The next have of a list.
 unfoldable pub laidOne : List HaveSummary → Laid → Laid
 laidOne hs l = withNext l (length hs) (getD hs (l .count) noHave)
 
+-- So many haves laid.
 unfoldable pub laidMany : ℕ → List HaveSummary → Laid → Laid
 laidMany zero hs l = l
 laidMany (suc k) hs l = laidMany k hs (laidOne hs l)

@@ -62,9 +62,11 @@ summaryIn words i =
       size = getD words (i * haveWords + 6) 0;
     })
 
+-- So many records from record i on.
 unfoldable pub summariesFrom : List ℕ → ℕ → ℕ → List HaveSummary
 summariesFrom words i zero = []
 summariesFrom words i (suc count) = summaryIn words i ∷ summariesFrom words (suc i) count
 
+-- All whole records of a list of words.
 unfoldable pub summariesOf : List ℕ → List HaveSummary
 summariesOf words = summariesFrom words 0 (haveCount words)

@@ -5,6 +5,7 @@ use Rattle.tables.specs.declared.check.Checked.{Checked}
 use Rattle.tables.specs.declared.check.Checked.the-variants.{Good, Refused as BadTable}
 use Rattle.answers.specs.Answer.{refusalWords}
 
+-- The number of rows, behind 0; or the refusal.
 abbrev pub checkedWords : Checked → List ℕ
 checkedWords (Good n) = 0 ∷ n ∷ 0 ∷ 0 ∷ []
 checkedWords (BadTable r) = refusalWords r

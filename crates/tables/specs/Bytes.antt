@@ -25,24 +25,28 @@ u16sAt s at (suc count) = u16At s at ∷ u16sAt s (at + 2) count
 abbrev pub rowSizeOf : ℕ → ℕ
 rowSizeOf d = sizes .hash + 2 * (1 + d)
 
+-- How many row numbers row i says that it uses.
 unfoldable pub countOf : ℕ → List ℕ → ℕ → ℕ
 countOf d s i = u16At s (i * rowSizeOf d + sizes .hash)
 
--- The row numbers in use, and the others.
+-- The row numbers in use.
 unfoldable pub usedOf : ℕ → List ℕ → ℕ → List ℕ
 usedOf d s i = u16sAt s (i * rowSizeOf d + sizes .hash + 2) (countOf d s i)
 
+-- The row numbers that aren't in use.
 unfoldable pub unusedOf : ℕ → List ℕ → ℕ → List ℕ
 unusedOf d s i = u16sAt s (i * rowSizeOf d + sizes .hash + 2 + 2 * countOf d s i) (d - countOf d s i)
 
+-- Row i: its hash, and the rows that it depends on.
 unfoldable pub rowOf : ℕ → List ℕ → ℕ → Row
 rowOf d s i = record { hash = hashAt s (i * rowSizeOf d); deps = usedOf d s i }
 
--- So many rows from row i on, and all whole rows of the bytes.
+-- So many rows from row i on.
 unfoldable pub rowsOf : ℕ → List ℕ → ℕ → ℕ → List Row
 rowsOf d s i zero = []
 rowsOf d s i (suc count) = rowOf d s i ∷ rowsOf d s (suc i) count
 
+-- All whole rows of the bytes.
 unfoldable pub wholeRowsOf : ℕ → List ℕ → List Row
 wholeRowsOf d s = rowsOf d s 0 (length s / rowSizeOf d)
 
@@ -88,18 +92,23 @@ tableCheckedOf d most s = checkedWith (λ i. Refused (BadRow i)) (rowGoodOf d s)
 abbrev pub rowSize : ℕ
 rowSize = rowSizeOf (sizes .dependencies)
 
+-- How many dependencies row i says that it has.
 abbrev pub depCount : List ℕ → ℕ → ℕ
 depCount s i = countOf (sizes .dependencies) s i
 
+-- The row numbers that it uses.
 abbrev pub usedAt : List ℕ → ℕ → List ℕ
 usedAt s i = usedOf (sizes .dependencies) s i
 
+-- So many rows from row i on.
 abbrev pub rowsAt : List ℕ → ℕ → ℕ → List Row
 rowsAt s i count = rowsOf (sizes .dependencies) s i count
 
+-- The table that bytes are.
 abbrev pub tableOf : List ℕ → List Row
 tableOf s = wholeRowsOf (sizes .dependencies) s
 
+-- 4, then 6, or how many rows a change table has.
 abbrev pub tableChecked : List ℕ → Checked
 tableChecked s = tableCheckedOf (sizes .dependencies) (sizes .rows) s
 

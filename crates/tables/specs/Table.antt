@@ -12,16 +12,19 @@ pub record Row : Type 0 where
   pub hash : ℕ
   pub deps : List ℕ
 
+-- What stands beyond the last row.
 abbrev pub noRow : Row
 noRow = record { hash = 0; deps = [] }
 
--- The hashes of a table, in its order, and the hash and dependencies of row i.
+-- The hashes of a table, in its order.
 unfoldable pub rows : List Row → List ℕ
 rows t = map (λ (r : Row). r .hash) t
 
+-- The hash of row i.
 unfoldable pub hashOf : List Row → ℕ → ℕ
 hashOf t i = getD (rows t) i 0
 
+-- The rows that row i depends on.
 unfoldable pub depsOf : List Row → ℕ → List ℕ
 depsOf t i = getD t i noRow .deps
 
@@ -36,10 +39,11 @@ unfoldable pub indexIn : List ℕ → ℕ → ℕ
 indexIn [] h = 0
 indexIn (x ∷ xs) h = cond (eqb x h) 0 (suc (indexIn xs h))
 
--- The row of a hash, and whether there is one.
+-- The row of a hash.
 unfoldable pub rowNumber : List Row → ℕ → ℕ
 rowNumber t h = indexIn (rows t) h
 
+-- Whether a table has a hash.
 unfoldable pub held : List Row → ℕ → Bool
 held t h = member h (rows t)
 
@@ -52,5 +56,6 @@ unfoldable pub rowsFrom : ℕ → List Row → (ℕ → Bool) → List ℕ
 rowsFrom i [] p = []
 rowsFrom i (r ∷ rs) p = cond (p i) (r .hash ∷ rowsFrom (suc i) rs p) (rowsFrom (suc i) rs p)
 
+-- The same, counted from the first row.
 unfoldable pub rowsWhere : List Row → (ℕ → Bool) → List ℕ
 rowsWhere t p = rowsFrom 0 t p

@@ -9,8 +9,8 @@ use Rattle.rules.specs.declared.refusal.Refusal.{Refusal}
 use Rattle.rules.specs.declared.refusal.Refusal.the-variants.{PastSize, NoRoom}
 use Rattle.state.specs.declared.session.Session.{Session}
 use Rattle.taking.specs.Receipt.{receivedCounts, shortWith, receiptDecided, noReceipt, receiptPuts}
-use Rattle.taking.specs.declared.answer.Received.{Received as Answer}
-use Rattle.taking.specs.declared.answer.Received.the-variants.{Took, Failed, Refused}
+use Rattle.taking.specs.declared.answer.ReceiveAnswer.{ReceiveAnswer}
+use Rattle.taking.specs.declared.answer.ReceiveAnswer.the-variants.{Took, Failed, Refused}
 use Rattle.taking.specs.declared.answer.SessionRooms.{SessionRooms}
 use Rattle.taking.specs.declared.decide.Receipt.{Receipt}
 
@@ -73,7 +73,7 @@ module _ (flagged : Session) (failed : Bool) (d : Receipt) (r : SessionRooms) wh
 
 -- ---- what an answer puts
 
-module _ (a : Answer) (d : Receipt) where
+module _ (a : ReceiveAnswer) (d : Receipt) where
   pub took-puts : (s : Session) → a ≡ Took s → d ≡ receiptPuts a d
   unfolding receiptPuts
   took-puts s e = rw e

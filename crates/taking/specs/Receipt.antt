@@ -14,8 +14,8 @@ use Rattle.state.specs.Value.{Lent, keptHaves}
 use Rattle.state.specs.declared.session.Heard.the-variants.{Count}
 use Rattle.state.specs.declared.session.Session.{Session}
 use Rattle.laying.specs.Made.{Layable}
-use Rattle.taking.specs.declared.answer.Received.{Received as Answer}
-use Rattle.taking.specs.declared.answer.Received.the-variants.{Took, Failed, Refused}
+use Rattle.taking.specs.declared.answer.ReceiveAnswer.{ReceiveAnswer}
+use Rattle.taking.specs.declared.answer.ReceiveAnswer.the-variants.{Took, Failed, Refused}
 use Rattle.taking.specs.declared.answer.SessionRooms.{SessionRooms}
 use Rattle.taking.specs.declared.decide.Receipt.{Receipt}
 
@@ -52,6 +52,7 @@ receivedCounts s d =
 abbrev pub orWanted : ℕ → ℕ → ℕ → ℕ
 orWanted room wanted rest = cond (ltb room wanted) wanted rest
 
+-- The lists in the order in which they are tested.
 unfoldable pub shortWith : Receipt → SessionRooms → ℕ
 shortWith d r =
     orWanted (r .shared) (sizes .hash * d .shared)
@@ -62,7 +63,7 @@ shortWith d r =
     (orWanted (r .bytes) (d .bytes) 0)))))
 
 -- What is decided from the numbers, in the order of the refusals.
-unfoldable pub receiptDecided : Session → Bool → Receipt → SessionRooms → Answer
+unfoldable pub receiptDecided : Session → Bool → Receipt → SessionRooms → ReceiveAnswer
 receiptDecided flagged failed d r =
     cond failed
     (Failed flagged)
@@ -78,6 +79,7 @@ pub record ReceiptParts : Type 0 where
   pub sent : List ℕ
   pub words : List ℕ
 
+-- The parts, in the order in which they are lent.
 abbrev pub receiptParts : List ℕ → List ℕ → List ℕ → ReceiptParts
 receiptParts shared sent words = record { shared = shared; sent = sent; words = words }
 
@@ -86,7 +88,8 @@ abbrev pub noReceipt : Receipt
 noReceipt =
     record { shared = 0; «last_sent» = 0; told = 0; sent = 0; heads = 0; need = 0; haves = 0; bytes = 0 }
 
-unfoldable pub receiptPuts : Answer → Receipt → Receipt
+-- What is put: nothing after a refusal.
+unfoldable pub receiptPuts : ReceiveAnswer → Receipt → Receipt
 receiptPuts (Took s) d = d
 receiptPuts (Failed s) d = noReceipt
 receiptPuts (Refused r) d = noReceipt

@@ -2,7 +2,7 @@
 use rules::refusal::Refusal;
 use state::session::Session;
 
-pub enum Received {
+pub enum ReceiveAnswer {
     // The session after the message.
     Took(Session),
     // Loading failed, which is refusal 8: the session with what every message does to it.

@@ -1,5 +1,5 @@
 // What is decided once everything is computed: nothing is written before all of it is known.
-use crate::answer::Received;
+use crate::answer::ReceiveAnswer;
 use crate::answer::SessionRooms;
 use bloom::have::HAVE_WORDS;
 use rules::refusal::Refusal;
@@ -76,19 +76,19 @@ fn short_for(d: Receipt, r: SessionRooms) -> usize
 }
 
 // Decides: 8 where changes were to be loaded and weren't, which leaves the flags taken; 4 for too many shared heads; 7.
-pub fn decide(flagged: Session, failed: bool, d: Receipt, r: SessionRooms) -> Received
+pub fn decide(flagged: Session, failed: bool, d: Receipt, r: SessionRooms) -> ReceiveAnswer
     requires { ⌜ SmallReceipt d ⌝ }
     ensures { λ x. ⌜ x ≡ receiptDecided flagged failed d r ⌝ }
 {
     if failed {
-        return Received::Failed(flagged);
+        return ReceiveAnswer::Failed(flagged);
     }
     if HASHES < d.shared {
-        return Received::Refused(Refusal::PastSize(0));
+        return ReceiveAnswer::Refused(Refusal::PastSize(0));
     }
     let wanted = short_for(d, r);
     if 0 < wanted {
-        return Received::Refused(Refusal::NoRoom(wanted));
+        return ReceiveAnswer::Refused(Refusal::NoRoom(wanted));
     }
-    Received::Took(received_session(flagged, d))
+    ReceiveAnswer::Took(received_session(flagged, d))
 }

@@ -1,5 +1,5 @@
 // What was decided, put into the session's lists: copies, and no test.
-use crate::answer::Received;
+use crate::answer::ReceiveAnswer;
 use crate::decide::Receipt;
 use bloom::have::HAVE_WORDS;
 use laying::haves::lay_haves;
@@ -17,7 +17,7 @@ ghost use Rattle.state.specs.Value.{keptHaves};
 ghost use Rattle.taking.specs.Receipt.{receiptPuts, receiptParts, LaidFit, ReceiptFits, receiptPut};
 
 // What is put for a draft: nothing after a refusal.
-pub fn receipt_puts(received: Received, d: Receipt) -> Receipt
+pub fn receipt_puts(received: ReceiveAnswer, d: Receipt) -> Receipt
     ensures { λ r. ⌜ r ≡ receiptPuts received d ⌝ }
 {
     let none = Receipt {
@@ -31,9 +31,9 @@ pub fn receipt_puts(received: Received, d: Receipt) -> Receipt
         bytes: 0,
     };
     match received {
-        Received::Took(_) => d,
-        Received::Failed(_) => none,
-        Received::Refused(_) => none,
+        ReceiveAnswer::Took(_) => d,
+        ReceiveAnswer::Failed(_) => none,
+        ReceiveAnswer::Refused(_) => none,
     }
 }
 

@@ -44,7 +44,7 @@ use Rattle.tables.specs.Table.{Row}
 use Rattle.turns.specs.Talk.{Host, chunksFor, bytesFor, left, pairAt}
 use Rattle.waiting.specs.Bytes.{waitingOf}
 use Rattle.waiting.specs.Waiting.{Waiting}
-use Rattle.talk.specs.Calls.{speaks, haveWordsIn, planIn, PlanMade, Speaks, Hears, Both, Round, TalkOfCalls, AreSessions, Lends, CallsGo}
+use Rattle.talk.specs.Calls.{speaks, haveWordsIn, planIn, PlanMade, Speaks, Hears, Both, CallsRound, TalkOfCalls, AreSessions, Lends, CallsGo}
 use Rattle.talk.proofs.Planning.{held-good, reset-is}
 use Rattle.talk.proofs.Receiving.{receive-for, receive-holds}
 use Rattle.talk.proofs.Speaking.{speaking-holds, crossing}
@@ -320,7 +320,7 @@ module _ (a : List ℕ) (b w u : ℕ → List ℕ) (hosts : ℕ → Host) (lends
     abbrev end : Both
     end = record { atA = endA; atB = endB }
 
-    goes : Round a b w u hosts k s end
+    goes : CallsRound a b w u hosts k s end
     goes =
         record {
           tableA = lends .tableA;

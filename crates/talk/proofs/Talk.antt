@@ -40,7 +40,7 @@ use Rattle.talk.specs.Calls.{
   Speaks,
   Both,
   SaidSo,
-  Round,
+  CallsRound,
   TalkOfCalls,
   sessions,
   askedIn,
@@ -112,7 +112,7 @@ module _ (a : List ℕ) (b w u : ℕ → List ℕ) (hosts : ℕ → Host) where
 
   -- ---- one round
 
-  module _ (k : ℕ) (s s′ : Both) (r : Round a b w u hosts k s s′) (before : AreSessions a b w u hosts k s) where
+  module _ (k : ℕ) (s s′ : Both) (r : CallsRound a b w u hosts k s s′) (before : AreSessions a b w u hosts k s) where
     abbrev x : State
     x = pair k .atA
 
@@ -179,7 +179,7 @@ module _ (a : List ℕ) (b w u : ℕ → List ℕ) (hosts : ℕ → Host) where
     end = corollary defaultBits defaultProbes A B W U hosts tables all
 
     module _ (k : ℕ) (upTo : k ≤ end .last) (h : k < n) where
-      abbrev r : Round a b w u hosts k (talk .at k) (talk .at (suc k))
+      abbrev r : CallsRound a b w u hosts k (talk .at k) (talk .at (suc k))
       r = talk .made k h
 
       before : AreSessions a b w u hosts k (talk .at k)

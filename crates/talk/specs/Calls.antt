@@ -96,6 +96,7 @@ pub record Hears (table index : List ℕ) (before : ℕ) (message : List ℕ) (m
 
 -- ---- the talk
 
+-- What the two hosts keep.
 pub record Both : Type 0 where
   pub atA : Memory
   pub atB : Memory
@@ -113,17 +114,20 @@ module _ (a : List ℕ) (b w u : ℕ → List ℕ) (hosts : ℕ → Host) where
   abbrev pub A : List Row
   A = tableOf a
 
+  -- B's table in each round.
   abbrev pub B : ℕ → List Row
   B = λ k. tableOf (b k)
 
+  -- What waits at B.
   abbrev pub W : ℕ → List Waiting
   W = λ k. waitingOf (w k)
 
+  -- What waits at A.
   abbrev pub U : ℕ → List Waiting
   U = λ k. waitingOf (u k)
 
   -- 01, The catch-up walk: B speaks, A hears it and answers, B hears that beside its table after loading; its rows before are those before loading.
-  pub record Round (k : ℕ) (s s′ : Both) : Type 0 where
+  pub record CallsRound (k : ℕ) (s s′ : Both) : Type 0 where
     pub tableA : Tabled a
     pub tableB : Tabled (b k)
     pub loadedB : Tabled (b (suc k))
@@ -143,7 +147,7 @@ module _ (a : List ℕ) (b w u : ℕ → List ℕ) (hosts : ℕ → Host) where
     pub at : ℕ → Both
     pub freshA : Fresh (at 0 .atA)
     pub freshB : Fresh (at 0 .atB)
-    pub made : (k : ℕ) → k < n → Round k (at k) (at (suc k))
+    pub made : (k : ℕ) → k < n → CallsRound k (at k) (at (suc k))
 
   -- ---- what is to be shown
 
@@ -151,10 +155,11 @@ module _ (a : List ℕ) (b w u : ℕ → List ℕ) (hosts : ℕ → Host) where
   abbrev pub sessions : ℕ → Pair defaultBits defaultProbes A B W U hosts
   sessions = pairAt defaultBits defaultProbes A B W U hosts
 
-  -- What B asks and what A answers in round k.
+  -- What B asks in round k.
   abbrev pub askedIn : ℕ → Planned
   askedIn k = asked defaultBits defaultProbes A B W U hosts k (sessions k)
 
+  -- What A answers in round k.
   abbrev pub answeredIn : ℕ → Planned
   answeredIn k = answered defaultBits defaultProbes A B W U hosts k (sessions k)
 
@@ -164,7 +169,7 @@ module _ (a : List ℕ) (b w u : ℕ → List ℕ) (hosts : ℕ → Host) where
     pub holdsB : Holds (sessions k .atB) (s .atB)
 
   -- All calls of round k answer 0; both plans are messages, and their hash lists are what goes across.
-  pub record AllAnswered (k : ℕ) (s s′ : Both) (r : Round k s s′) : Type 0 where
+  pub record AllAnswered (k : ℕ) (s s′ : Both) (r : CallsRound k s s′) : Type 0 where
     pub asks : SaidSo (r .asks .answer) (r .asks .written) (r .asks .out′) (goes (askedIn k))
     pub hears : getD (r .hears .answer) 0 0 ≡ 0
     pub answers : SaidSo (r .answers .answer) (r .answers .written) (r .answers .out′) (goes (answeredIn k))

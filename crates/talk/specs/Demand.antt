@@ -11,6 +11,7 @@ use Rattle.turns.specs.Talk.{Theorem2, Corollary}
 use Rattle.walk.specs.Walk.{Walk01Walks, Theorem1}
 use Rattle.talk.specs.Calls.{CallsAreSteps, CallsCorollary, CallsGo}
 
+-- What is proved of a catch-up, each part with the sentence that it is.
 pub record Demand : Type 0 where
   -- the walk ends: B holds A after at most m + 1 rounds; no row that it held is named, none twice, m rows in all
   pub ends : Theorem1

@@ -15,7 +15,7 @@ use Rattle.waiting.specs.Waiting.{Waiting}
 use Rattle.walk.proofs.Theorem1.{theorem-1}
 use Rattle.walk.proofs.Walk01.{walk01-walks}
 use Rattle.walk.specs.Walk.{Demand3, Walk, holdsAll, lacking}
-use Rattle.turns.specs.Talk.{Host, pairAt, Reached, Granted, Inside, Tables, Ended, Corollary}
+use Rattle.turns.specs.Talk.{Host, pairAt, Reached, Granted, Underway, Tables, Ended, Corollary}
 use Rattle.turns.proofs.Talk.{Standing, reached-going, inside-standing, next, statement-2}
 
 module _ (bits probes : ℕ) (A : List Row) (B : ℕ → List Row) (W U : ℕ → List Waiting) (hosts : ℕ → Host) (tables : Tables bits probes A B W U hosts)
@@ -29,7 +29,7 @@ module _ (bits probes : ℕ) (A : List Row) (B : ℕ → List Row) (W U : ℕ �
   demand : Demand3 A (B 0)
   demand = theorem-1 A (B 0) (tables .good) (tables .part)
 
-  inside : (k : ℕ) → Comes k → Inside bits probes A B W U hosts k
+  inside : (k : ℕ) → Comes k → Underway bits probes A B W U hosts k
   inside k r = record { reached = r; granted = λ j h. all j (λ i l. r i (omega arith)) }
 
   stands : (k : ℕ) → Comes k → Standing bits probes A B W U hosts tables k
@@ -73,7 +73,7 @@ module _ (bits probes : ℕ) (A : List Row) (B : ℕ → List Row) (W U : ℕ �
   pub ended : Ended bits probes A B W U hosts m
   ended =
       let l = found (search (suc m)) in
-      let inner : (k : ℕ) → k ≤ l .round → Inside bits probes A B W U hosts k = λ k h. inside k (λ j i. l .comes j (omega arith)) in
+      let inner : (k : ℕ) → k ≤ l .round → Underway bits probes A B W U hosts k = λ k h. inside k (λ j i. l .comes j (omega arith)) in
       let two = statement-2 bits probes A B W U hosts tables in
       let st = stands-after (l .round) (l .comes) in
       let walk = walk-of (suc (l .round)) st in

@@ -47,7 +47,7 @@ use Rattle.turns.specs.Talk.{
   carried,
   Reached,
   Granted,
-  Inside,
+  Underway,
   Tables,
   Agrees,
   Statement2,
@@ -360,7 +360,7 @@ module _ (bits probes : ℕ) (A : List Row) (B : ℕ → List Row) (W U : ℕ �
   reached-going zero f h = absurd (omega arith)
   reached-going (suc k) f h = f k (omega arith)
 
-  pub inside-standing : (k : ℕ) → Inside bits probes A B W U hosts k → Standing k
+  pub inside-standing : (k : ℕ) → Underway bits probes A B W U hosts k → Standing k
   inside-standing k i = standing k (λ j h. reached-going j (λ l e. i .reached l (omega arith))) (i .granted)
 
   pub statement-2 : Statement2 bits probes A B W U hosts

@@ -36,6 +36,7 @@ listChunks host V1 hashes = map (host .change) hashes
 listChunks host V2 [] = []
 listChunks host V2 (h ∷ hs) = joined (host .change) (h ∷ hs) ∷ []
 
+-- The chunks of a message: the whole document, or those of a list.
 unfoldable pub chunksFor : Host → Plan → List (List ℕ)
 chunksFor host p = cond (p .body .document) (host .document ∷ []) (listChunks host (p .version) (p .body .hashes))
 
@@ -80,12 +81,15 @@ module _ (bits probes : ℕ) (A : List Row) (B : ℕ → List Row) (W U : ℕ �
   unfoldable pub asked : ℕ → Pair → Planned
   asked k x = plan bits probes (B k) (W k) (x .atB)
 
+  -- A hears what B asked.
   unfoldable pub toA : ℕ → Pair → Received
   toA k x = receiveBytes true (length A) A (x .atA) (bytesFor (hosts k) (asked k x))
 
+  -- A answers.
   unfoldable pub answered : ℕ → Pair → Planned
   answered k x = plan bits probes A (U k) (left (toA k x))
 
+  -- B hears the answer, beside its table after loading.
   unfoldable pub toB : ℕ → Pair → Received
   toB k x = receiveBytes true (length (B k)) (B (suc k)) (after (asked k x) (x .atB)) (bytesFor (hosts k) (answered k x))
 
@@ -113,7 +117,8 @@ module _ (bits probes : ℕ) (A : List Row) (B : ℕ → List Row) (W U : ℕ �
     pub loads : Loads A (B k) (W k) (goes (answered k (pairAt k))) (B (suc k)) (W (suc k))
     pub few : length (W (suc k)) ≤ sizes .waitingRows
 
-  pub record Inside (k : ℕ) : Type 0 where
+  -- Round k is reached, and every round before it had what 01 grants.
+  pub record Underway (k : ℕ) : Type 0 where
     pub reached : Reached k
     pub granted : (j : ℕ) → j < k → Granted j
 
@@ -146,7 +151,7 @@ module _ (bits probes : ℕ) (A : List Row) (B : ℕ → List Row) (W U : ℕ �
     pub by-list : reply .body .document ≡ false → reply .body .hashes ≡ toSendLess A (said .haves) (said .need) (trim A (heads (B k)) T)
 
   -- A walk came to round k over B's tables, its replies are what the messages carried, and the round's words are the walk's.
-  pub record Stated (k : ℕ) : Type 0 where
+  pub record WalkStated (k : ℕ) : Type 0 where
     pub at : At
     pub walk : Walk01 (λ j. bits) (λ j. probes) (λ j. pairAt j .atB .sharedHeads) A (B 0) k at
     pub table : at .table ≡ B k
@@ -154,11 +159,12 @@ module _ (bits probes : ℕ) (A : List Row) (B : ℕ → List Row) (W U : ℕ �
     pub replies : at .named ≡ carried k
     pub round : Agrees k (at .sent)
 
+  -- The sessions are the walk, round by round.
   pub record Statement2 : Type 0 where
     -- in every round that is reached inside what is granted B speaks the walk's words, A hears them and answers, by list with the walk's reply
-    pub stated : (k : ℕ) → Inside k → Stated k
+    pub stated : (k : ℕ) → Underway k → WalkStated k
     -- and B hears it
-    pub taken : (k : ℕ) → Inside k → Granted k → (s : State) × (toB k (pairAt k) ≡ Received.took s)
+    pub taken : (k : ℕ) → Underway k → Granted k → (s : State) × (toB k (pairAt k) ≡ Received.took s)
 
   -- The user's words: if all is granted in each round that is reached, there is a last one.
   pub record Ended (m : ℕ) : Type 0 where
@@ -177,12 +183,13 @@ module _ (bits probes : ℕ) (A : List Row) (B : ℕ → List Row) (W U : ℕ �
     pub count : length (carried (suc last)) ≡ m
     pub which : (h : ℕ) → member h (carried (suc last)) ≡ (held A h && not (held (B 0) h))
 
--- What is to be shown.
+-- What is to be shown of two sessions over such tables.
 abbrev pub Theorem2 : Type 0
 Theorem2 = (bits probes : ℕ) (A : List Row) (B : ℕ → List Row) (W U : ℕ → List Waiting) (hosts : ℕ → Host)
     → Tables bits probes A B W U hosts
     → Statement2 bits probes A B W U hosts
 
+-- Where the premises hold, B holds A after at most as many rounds as it lacks rows, and one.
 abbrev pub Corollary : Type 0
 Corollary = (bits probes : ℕ) (A : List Row) (B : ℕ → List Row) (W U : ℕ → List Waiting) (hosts : ℕ → Host)
     → Tables bits probes A B W U hosts

@@ -22,6 +22,7 @@ use Rattle.waiting.specs.Waiting.{Waiting, waiting}
 abbrev pub waitingSizeOf : ℕ → ℕ
 waitingSizeOf d = sizes .hash * (2 + d)
 
+-- How many hashes row i says that it asks for.
 unfoldable pub asksCountOf : ℕ → List ℕ → ℕ → ℕ
 asksCountOf d s i = getD s (i * waitingSizeOf d + sizes .hash) 0
 
@@ -29,6 +30,7 @@ asksCountOf d s i = getD s (i * waitingSizeOf d + sizes .hash) 0
 abbrev pub asksPlaceOf : ℕ → ℕ → ℕ
 asksPlaceOf d i = i * waitingSizeOf d + 2 * sizes .hash
 
+-- Row i: its hash, and the hashes that it asks for.
 unfoldable pub waitingRowOf : ℕ → List ℕ → ℕ → Waiting
 waitingRowOf d s i =
     record {
@@ -36,10 +38,12 @@ waitingRowOf d s i =
       asks = hashesAt s (asksPlaceOf d i) (asksCountOf d s i);
     }
 
+-- So many rows from row i on.
 unfoldable pub waitingRowsOf : ℕ → List ℕ → ℕ → ℕ → List Waiting
 waitingRowsOf d s i zero = []
 waitingRowsOf d s i (suc count) = waitingRowOf d s i ∷ waitingRowsOf d s (suc i) count
 
+-- All whole rows of the bytes.
 unfoldable pub wholeWaitingOf : ℕ → List ℕ → List Waiting
 wholeWaitingOf d s = waitingRowsOf d s 0 (length s / waitingSizeOf d)
 
@@ -48,10 +52,11 @@ unfoldable pub bytesAt : List ℕ → ℕ → ℕ → List ℕ
 bytesAt s at zero = []
 bytesAt s at (suc count) = getD s at 0 ∷ bytesAt s (at + 1) count
 
--- The bytes between the count and the hashes, and the hashes not in use.
+-- The bytes between the count and the hashes.
 unfoldable pub fillOf : ℕ → List ℕ → ℕ → List ℕ
 fillOf d s i = bytesAt s (i * waitingSizeOf d + sizes .hash + 1) (sizes .hash - 1)
 
+-- The hashes that aren't in use.
 unfoldable pub unaskedOf : ℕ → List ℕ → ℕ → List ℕ
 unaskedOf d s i = hashesAt s (asksPlaceOf d i + sizes .hash * asksCountOf d s i) (d - asksCountOf d s i)
 
@@ -73,15 +78,19 @@ waitingCheckedOf d t s = checkedWith (λ i. Refused (BadWaitingRow i)) (waitingG
 abbrev pub waitingSize : ℕ
 waitingSize = waitingSizeOf (sizes .dependencies)
 
+-- How many hashes row i says that it asks for.
 abbrev pub asksCount : List ℕ → ℕ → ℕ
 asksCount s i = asksCountOf (sizes .dependencies) s i
 
+-- So many rows from row i on.
 abbrev pub waitingsAt : List ℕ → ℕ → ℕ → List Waiting
 waitingsAt s i count = waitingRowsOf (sizes .dependencies) s i count
 
+-- The waiting table that bytes are.
 abbrev pub waitingOf : List ℕ → List Waiting
 waitingOf s = wholeWaitingOf (sizes .dependencies) s
 
+-- 4, then 9, or how many rows a waiting table has.
 abbrev pub waitingChecked : List Row → List ℕ → Checked
 waitingChecked t s = waitingCheckedOf (sizes .dependencies) t s
 

@@ -8,5 +8,6 @@ use Rattle.tables.specs.Calls.{passedOn}
 use Rattle.tables.specs.declared.check.Checked.{Checked}
 use Rattle.waiting.specs.Bytes.{waitingChecked}
 
+-- Both tables: the change table's 4 and 6 and its index's 12 come before the waiting table's 4 and 9.
 unfoldable pub tablesChecked : List ℕ → List ℕ → List ℕ → Checked
 tablesChecked s x w = passedOn (indexChecked s x) (waitingChecked (tableOf s) w)

@@ -23,6 +23,7 @@ pub record At : Type 0 where
   pub sent : List ℕ
   pub named : List ℕ
 
+-- Before the first round: nothing waits, was sent or named.
 abbrev pub starting : List Row → At
 starting b = record { table = b; waits = []; sent = []; named = [] }
 
@@ -78,6 +79,7 @@ pub data Walk01 (bits probes : ℕ → ℕ) (L : ℕ → List ℕ) (A B : List R
 abbrev pub Walk01Walks : Type 0
 Walk01Walks = (bits probes : ℕ → ℕ) (L : ℕ → List ℕ) (A B : List Row) → GoodTable A → Part A B → (k : ℕ) (s : At) → Walk01 bits probes L A B k s → Walk A B k s
 
+-- Whether B holds every row of A.
 abbrev pub holdsAll : List Row → List Row → Bool
 holdsAll A b = every (held b) (rows A)
 

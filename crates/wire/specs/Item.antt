@@ -28,15 +28,17 @@ leftAt s at end = length (slice at end s)
 abbrev pub run : ℕ → ℕ → Run
 run start count = record { start = start; count = count }
 
--- What follows a number, a prefixed string or a list that was read, or its refusal passed on.
+-- What follows a number that was read, or its refusal passed on.
 unfoldable pub afterNumber : {A : Type 0} → Number → (Refusal → A) → (ℕ → ℕ → A) → A
 afterNumber (Value n next) refused k = k n next
 afterNumber (Refused r) refused k = refused r
 
+-- What follows a prefixed string, or its refusal passed on.
 unfoldable pub afterPart : {A : Type 0} → Prefixed → (Refusal → A) → (ℕ → ℕ → A) → A
 afterPart (Part start end) refused k = k start end
 afterPart (NoPart r) refused k = refused r
 
+-- What follows a list, or its refusal passed on.
 unfoldable pub afterListed : {A : Type 0} → Listed → (Refusal → A) → (Run → ℕ → A) → A
 afterListed (Items items next) refused k = k items next
 afterListed (NotListed r) refused k = refused r

@@ -21,7 +21,7 @@ fn declared(line: &str) -> Option<&str> {
         line = line.strip_prefix(word).unwrap_or(line);
     }
     let name = line.split([' ', ':']).next()?;
-    let starts = name.starts_with(|c: char| c.is_alphabetic());
+    let starts = name.starts_with(|c: char| c.is_alphabetic()) && name != "module";
     (starts && line.contains(':')).then_some(name)
 }
 

@@ -3,9 +3,10 @@
 use house::citations::{of_text, stands};
 use house::edits::{self, Edit};
 use house::functions::{self, Function};
-use house::names::{names, Home};
+use house::names::{home, names, Home};
 use house::reach::House;
 use house::{crates, document, files, read, root};
+use std::collections::BTreeMap;
 
 /// The functions that stand in a document: `crate::file::name` or, in a line that names
 /// the file so, `name` alone.
@@ -114,6 +115,51 @@ fn two_edits_reach_each_exported_call() {
         }
     }
     assert!(few.is_empty(), "{few:#?}");
+}
+
+/// The structs and enums of the crates' code.
+fn types() -> Vec<Home> {
+    let mut found = Vec::new();
+    for krate in crates() {
+        for path in files(&root().join("crates").join(&krate).join("src"), ".rt") {
+            let file = path.file_stem().expect("a file's name").to_string_lossy();
+            for line in read(&path).lines() {
+                let line = line.strip_prefix("pub ").unwrap_or(line);
+                let kinds = ["struct ", "enum "].iter();
+                let Some(rest) = kinds.filter_map(|kind| line.strip_prefix(kind)).next() else {
+                    continue;
+                };
+                let name = rest.split([' ', '(', ';']).next().expect("a name");
+                found.push(home(&krate, &file, name));
+            }
+        }
+    }
+    found
+}
+
+/// A definition or a type has a name that no other has, in whichever crate.
+#[test]
+fn every_name_means_one_thing() {
+    let mut meanings: BTreeMap<String, Vec<Home>> = BTreeMap::new();
+    let definitions = House::read().definitions.into_iter().map(|d| d.home);
+    for home in definitions.chain(types()) {
+        meanings.entry(home.name.clone()).or_default().push(home);
+    }
+    assert!(meanings.len() > 500, "{}", meanings.len());
+    meanings.retain(|_, homes| homes.len() > 1);
+    assert!(meanings.is_empty(), "{meanings:#?}");
+}
+
+/// What a definition says stands in a line above it.
+#[test]
+fn every_definition_is_told() {
+    let untold: Vec<Home> = House::read()
+        .definitions
+        .into_iter()
+        .filter(|d| !d.text.trim_start().starts_with("--"))
+        .map(|d| d.home)
+        .collect();
+    assert!(untold.is_empty(), "{untold:#?}");
 }
 
 /// What the documents cite stands where they say.
