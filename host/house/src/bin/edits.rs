@@ -20,10 +20,6 @@ const READ: &[(&str, &str)] = &[
         "`returns-3` of `opening::parse_opening`",
     ),
     (
-        "draft/have_of_all_rows",
-        "`returns` of `make::make_plan`",
-    ),
-    (
         "drafting/rows_before_beyond",
         "`returns-4` of `check::check_receive`",
     ),
@@ -37,7 +33,6 @@ const READ: &[(&str, &str)] = &[
         "index/fits_equal_hashes",
         "`loop-again` of `fit::entries_fit`",
     ),
-    ("items/haves_limit", "`returns-2` of `haves::parse_haves`"),
     ("lists/all_in_itself", "`loop-again` of `compare::all_in`"),
     (
         "message/flag_read_only",
@@ -93,10 +88,6 @@ const READ: &[(&str, &str)] = &[
         "`returns` of `receive::receive_checked`",
     ),
     ("replay/all_agree", "`loop-again` of `walk::walk`"),
-    (
-        "order/insert_repeats",
-        "`returns-3` of `hashes::insert_hash`",
-    ),
     ("rules/limits_order", "`returns` of `sizes::limits`"),
     ("rules/number_swapped", "`returns-9` of `Refusal::number`"),
     (
@@ -104,10 +95,6 @@ const READ: &[(&str, &str)] = &[
         "`returns-2` of `passed::passed_hashes`",
     ),
     ("rules/value_of_ten", "`returns-10` of `Refusal::value`"),
-    (
-        "selection/fixed_list",
-        "`put-chosen-requires` of `to_send::put_to_send`",
-    ),
     (
         "selection/need_twice",
         "`returns-3` of `chosen::held_unmarked`",
