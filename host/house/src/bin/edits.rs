@@ -28,7 +28,6 @@ const READ: &[(&str, &str)] = &[
         "`returns-2` of `make::told_heads`",
     ),
     ("encode/heads_first", "`returns-2` of `encode::encode`"),
-    ("hearing/reset_unheard", "`flagged-forgets` (ReceiveLaws)"),
     (
         "index/fits_equal_hashes",
         "`loop-again` of `fit::entries_fit`",
