@@ -78,14 +78,6 @@ const READ: &[(&str, &str)] = &[
         "probe/contains_past_field",
         "`clear-bit-requires` of `contains::contains_hash`",
     ),
-    (
-        "receive/failed_unflagged",
-        "`returns` of `receive::receive_checked`",
-    ),
-    (
-        "receive/loads_as_peer",
-        "`returns` of `receive::receive_checked`",
-    ),
     ("replay/all_agree", "`loop-again` of `walk::walk`"),
     ("rules/limits_order", "`returns` of `sizes::limits`"),
     ("rules/number_swapped", "`returns-9` of `Refusal::number`"),
