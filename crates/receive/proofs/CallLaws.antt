@@ -37,7 +37,7 @@ use Rattle.taking.specs.declared.answer.ReceiveAnswer.{ReceiveAnswer}
 use Rattle.taking.specs.declared.answer.ReceiveAnswer.the-variants.{Refused}
 use Rattle.drafting.specs.declared.check.ReceiptChecks.the-variants as checks
 use Rattle.taking.specs.declared.decide.Receipt.{Receipt}
-use Rattle.receive.proofs.DraftLaws.{forgets-most, Drafted, draft-small}
+use Rattle.receive.proofs.DraftLaws.{forgets-most, DraftedAs, Drafted, draft-small}
 use Rattle.receive.proofs.OtherLaws.{Other, message-other, table-other}
 use Rattle.receive.proofs.Outcomes.{Outcomes, outcome, same-answer}
 use Rattle.receive.proofs.KeptLaws.{puts-fit, puts-kept}
@@ -160,44 +160,51 @@ module _ (s : Session) (l : Lent) (table index : List ℕ) (n before : ℕ) (mes
 
   module _ (loads : Bool) (flagged : Session) (ready : ReceiptParts) (d : Receipt)
       (flags : flagged ≡ flaggedCounts (p .flags) s)
-      (loading : loads ≡ (ltb 0 (p .chunks .count) && not (s .«read_only»)))
       (made : ReceiptMade loads flagged table n before message p (l .shared) (l .sent) ready d)
     where
-      whole : Drafted s l table n before message p ready d
-      whole = rw (← loading, ← flags) made
+      drafted : DraftedAs loads s l table n before message p ready d
+      drafted = rw (← flags) made
 
       -- what deciding asks
       pub is-small : SmallReceipt d
-      is-small = draft-small s l (ok .good) table n before (ok .inside) message p (ok .read) ready d whole
+      is-small = draft-small s l (ok .good) table n before (ok .inside) message p (ok .read) ready d drafted
 
-      module _ (loaded failed : Bool) (a : ReceiveAnswer) (failing : failed ≡ (loads && not loaded)) (decides : a ≡ receiptDecided flagged failed d (receivedRooms l)) where
-        is-decided : a ≡ receiptDecided (flaggedCounts (p .flags) s) ((ltb 0 (p .chunks .count) && not (s .«read_only»)) && not loaded) d (receivedRooms l)
-        is-decided = rw (← loading, ← failing, ← flags) decides
+      module _ (stands : Stands d ready) (all : Bytes message) where
+        -- what putting asks, whatever was decided
+        pub has-room : (kept : Session) (failed : Bool) (a : ReceiveAnswer) → a ≡ receiptDecided kept failed d (receivedRooms l)
+            → (puts : Receipt) → puts ≡ receiptPuts a d → ReceiptFits puts message (p .heads .start) (p .need .start) ready l
+        has-room kept failed a decides puts is =
+            rw (is, decides) (puts-fit s l (ok .good) table n before (ok .inside) message p (ok .read) ready d stands all drafted kept failed)
 
-        abbrev values : Received
-        values = receivedRoomed (receivedRooms l) (stateOf s l) (receive loaded before (rowsAt table 0 n) (stateOf s l) (saidAt message p))
+        module _ (loading : loads ≡ (ltb 0 (p .chunks .count) && not (s .«read_only»))) (loaded failed : Bool) (a : ReceiveAnswer)
+            (failing : failed ≡ (loads && not loaded))
+            (decides : a ≡ receiptDecided flagged failed d (receivedRooms l))
+          where
+            whole : Drafted s l table n before message p ready d
+            whole = rw (← loading) drafted
 
-        together : Outcomes s l table n before message p d (receivedRooms l) a values
-        together = rw is-decided (outcome s l (ok .good) table n before (ok .inside) message p (ok .read) ready d whole loaded (receivedRooms l))
+            is-decided : a ≡ receiptDecided (flaggedCounts (p .flags) s) ((ltb 0 (p .chunks .count) && not (s .«read_only»)) && not loaded) d (receivedRooms l)
+            is-decided = rw (← loading, ← failing, ← flags) decides
 
-        result-is : receiveWith loaded before s l table index message ≡ receive loaded before (rowsAt table 0 n) (stateOf s l) (saidAt message p)
-        unfolding receiveWith afterTable
-        result-is =
-            let t = table-good table n (checked-table table index n (ok .rows)) in
-            let inside : before ≤ length (tableOf table) = omega (arith, t .long, ok .inside) in
-            rw (ok .good, ok .rows, read-receives message p (ok .read) loaded before (tableOf table) (stateOf s l) inside, t .is)
+            abbrev values : Received
+            values = receivedRoomed (receivedRooms l) (stateOf s l) (receive loaded before (rowsAt table 0 n) (stateOf s l) (saidAt message p))
 
-        module _ (stands : Stands d ready) (all : Bytes message) where
-          -- what putting asks
-          pub has-room : (puts : Receipt) → puts ≡ receiptPuts a d → ReceiptFits puts message (p .heads .start) (p .need .start) ready l
-          has-room puts is = rw is (puts-fit s l (ok .good) table n before (ok .inside) message p (ok .read) ready d whole stands all a values together)
+            together : Outcomes s l table n before message p d (receivedRooms l) a values
+            together = rw is-decided (outcome s l (ok .good) table n before (ok .inside) message p (ok .read) ready d whole loaded (receivedRooms l))
 
-          -- and the promise
-          pub received-called : (puts : Receipt) (after : Lent) → Bytes (l .lastSent) → puts ≡ receiptPuts a d
-              → after ≡ receiptPut puts message (p .heads .start) (p .need .start) ready l
-              → ReceiveCalled s (receiveWith loaded before s l table index message) l after a
-          received-called puts after last is put =
-              let kept =
-              puts-kept s l (ok .good) table n before (ok .inside) message p (ok .read) ready d whole stands all a values together last
-              in
-              rw result-is (record { answer = same-answer _ _ _ _ a values together; lists = put ∙ rw is kept })
+            result-is : receiveWith loaded before s l table index message ≡ receive loaded before (rowsAt table 0 n) (stateOf s l) (saidAt message p)
+            unfolding receiveWith afterTable
+            result-is =
+                let t = table-good table n (checked-table table index n (ok .rows)) in
+                let inside : before ≤ length (tableOf table) = omega (arith, t .long, ok .inside) in
+                rw (ok .good, ok .rows, read-receives message p (ok .read) loaded before (tableOf table) (stateOf s l) inside, t .is)
+
+            -- the promise
+            pub received-called : (puts : Receipt) (after : Lent) → Bytes (l .lastSent) → puts ≡ receiptPuts a d
+                → after ≡ receiptPut puts message (p .heads .start) (p .need .start) ready l
+                → ReceiveCalled s (receiveWith loaded before s l table index message) l after a
+            received-called puts after last is put =
+                let kept =
+                puts-kept s l (ok .good) table n before (ok .inside) message p (ok .read) ready d stands all whole a values together last
+                in
+                rw result-is (record { answer = same-answer _ _ _ _ a values together; lists = put ∙ rw is kept })

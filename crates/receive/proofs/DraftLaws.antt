@@ -173,10 +173,14 @@ shorts d r =
 
 -- ---- all parts
 
--- The draft that is made where a message was read for a session, its flags being taken.
+-- The draft that is made where a message was read for a session, its flags being taken, whether its changes are loaded or not.
+abbrev pub DraftedAs : Bool → Session → Lent → List ℕ → ℕ → ℕ → List ℕ → Places → ReceiptParts → Receipt → Type 0
+DraftedAs loading s l table n before message p ready d =
+    ReceiptMade loading (flaggedCounts (p .flags) s) table n before message p (l .shared) (l .sent) ready d
+
+-- The same where they are loaded if there are some and this unit takes them.
 abbrev pub Drafted : Session → Lent → List ℕ → ℕ → ℕ → List ℕ → Places → ReceiptParts → Receipt → Type 0
-Drafted s l table n before message p ready d =
-    ReceiptMade (ltb 0 (p .chunks .count) && not (s .«read_only»)) (flaggedCounts (p .flags) s) table n before message p (l .shared) (l .sent) ready d
+Drafted s l table n before message p ready d = DraftedAs (ltb 0 (p .chunks .count) && not (s .«read_only»)) s l table n before message p ready d
 
 module _ (s : Session) (l : Lent) (good : sessionGood s l ≡ true) (table : List ℕ) (n before : ℕ) (inside : before ≤ n) (message : List ℕ) (p : Places)
     (read : decodedOf (messageAt message) ≡ Placed p) where
@@ -195,11 +199,7 @@ module _ (s : Session) (l : Lent) (good : sessionGood s l ≡ true) (table : Lis
   abbrev tells : Bool
   tells = not (ltb 0 (p .chunks .count)) && same (m .heads) (heads (take before t))
 
-  module _ (ready : ReceiptParts) (d : Receipt) (made : Drafted s l table n before message p ready d) where
-    pub shared-made : SharedMade (sharedAfter before t v m) sharedRoom (ready .shared) (d .shared)
-    unfolding sharedAfter sharedLoaded loads
-    shared-made = made .shared
-
+  module _ {loading : Bool} (ready : ReceiptParts) (d : Receipt) (made : DraftedAs loading s l table n before message p ready d) where
     pub sent-made : Gathered (sentLeft t v m) (ready .sent) (d .sent)
     unfolding sentLeft sentFlagged
     sent-made =
@@ -248,12 +248,17 @@ module _ (s : Session) (l : Lent) (good : sessionGood s l ≡ true) (table : Lis
         let g = session-parts s l good in
         let w = read-words message p read in
         record {
-          shared = shared-within shared-made;
+          shared = shared-within (made .shared);
           lastSent = rw last-made (last-most (p .heads .count) (s .«last_sent_heads») (sizes .hashes) tells (w .fewHeads) (g .lastSent .few));
           heads = rw (made .heads) (w .fewHeads);
           need = rw (made .need) (w .fewNeed);
           haves = rw (made .haves) (w .fewHaves);
         }
+
+  module _ (ready : ReceiptParts) (d : Receipt) (made : Drafted s l table n before message p ready d) where
+    pub shared-made : SharedMade (sharedAfter before t v m) sharedRoom (ready .shared) (d .shared)
+    unfolding sharedAfter sharedLoaded loads
+    shared-made = made .shared
 
     module _ (few : d .shared ≤ sizes .hashes) where
       pub shared-gathered : Gathered (sharedAfter before t v m) (ready .shared) (d .shared)
@@ -262,9 +267,11 @@ module _ (s : Session) (l : Lent) (good : sessionGood s l ≡ true) (table : Lis
       -- the counts that a message leaves
       pub received-counts : countsOf (received before t v m) ≡ receivedCounts (flaggedCounts (p .flags) s) d
       unfolding received
-      received-counts = rw (shared-gathered .many, last-count, heads-count, need-count, haves-count, sent-made .many)
+      received-counts =
+          rw (shared-gathered .many, last-count ready d made, heads-count ready d made, need-count ready d made, haves-count ready d made, sent-made ready d made .many)
 
       pub short-is : (r : SessionRooms) → shortFor (received before t v m) r ≡ wantedOf (shortWith d r)
       unfolding shortFor received
       short-is r =
-          rw (← shared-gathered .many, ← last-count, ← heads-count, ← need-count, ← haves-count, ← made .words .bytes) (shorts d r)
+          rw (← shared-gathered .many, ← last-count ready d made, ← heads-count ready d made, ← need-count ready d made, ← haves-count ready d made, ← made .words .bytes)
+          (shorts d r)

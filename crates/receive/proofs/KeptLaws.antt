@@ -34,11 +34,11 @@ use Rattle.tables.specs.Table.{Row}
 use Rattle.laying.specs.Made.{Layable}
 use Rattle.receive.specs.Call.{keptIn, receivedRooms}
 use Rattle.drafting.specs.Made.{saidAt, havesWords, Stands}
-use Rattle.taking.specs.Receipt.{orWanted, shortWith, ReceiptParts, noReceipt, receiptPuts, ReceiptFits, receiptPut}
+use Rattle.taking.specs.Receipt.{orWanted, shortWith, receiptDecided, ReceiptParts, noReceipt, receiptPuts, ReceiptFits, receiptPut}
 use Rattle.taking.specs.declared.answer.ReceiveAnswer.{ReceiveAnswer}
 use Rattle.taking.specs.declared.answer.SessionRooms.{SessionRooms}
 use Rattle.taking.specs.declared.decide.Receipt.{Receipt}
-use Rattle.receive.proofs.DraftLaws.{Drafted, shared-gathered, sent-made, told-made, told-few, told-within, sent-within, draft-small}
+use Rattle.receive.proofs.DraftLaws.{DraftedAs, Drafted, shared-gathered, sent-made, told-made, told-few, told-within, sent-within, draft-small}
 use Rattle.receive.proofs.Outcomes.{Outcome, Outcomes}
 use Rattle.drafting.proofs.SaidLaws.{read-words, read-layable}
 use Rattle.taking.proofs.PutLaws.{lents-same}
@@ -113,102 +113,110 @@ roomy d r e =
 -- ---- all parts
 
 module _ (s : Session) (l : Lent) (good : sessionGood s l ≡ true) (table : List ℕ) (n before : ℕ) (inside : before ≤ n) (message : List ℕ) (p : Places)
-    (read : decodedOf (messageAt message) ≡ Placed p) (ready : ReceiptParts) (d : Receipt) (made : Drafted s l table n before message p ready d) (stands : Stands d ready)
-    (all : Bytes message) (a : ReceiveAnswer) (q : Received) (o : Outcomes s l table n before message p d (receivedRooms l) a q)
+    (read : decodedOf (messageAt message) ≡ Placed p) (ready : ReceiptParts) (d : Receipt) (stands : Stands d ready) (all : Bytes message)
   where
-    abbrev v : State
-    v = stateOf s l
+    module _ {loading : Bool} (made : DraftedAs loading s l table n before message p ready d) where
+      words-ready : take (haveWords * d .haves) (ready .words) ≡ havesWords message p
+      words-ready = rw (made .haves) (made .words .words)
 
-    abbrev t : List Row
-    t = rowsAt table 0 n
-
-    abbrev m : Said
-    m = saidAt message p
-
-    words-ready : take (haveWords * d .haves) (ready .words) ≡ havesWords message p
-    words-ready = rw (made .haves) (made .words .words)
-
-    took-fits : d .shared ≤ sizes .hashes → shortWith d (receivedRooms l) ≡ 0 → ReceiptFits d message (p .heads .start) (p .need .start) ready l
-    took-fits few room =
-        let g = session-parts s l good in
-        let w = read-words message p read in
-        let r = roomy d (receivedRooms l) room in
-        let small = draft-small s l good table n before inside message p read ready d made in
-        let tells = told-within s l good table n before inside message p read ready d made in
-        let less = sent-within s l good table n before inside message p read ready d made in
-        record {
-          shared = stands .sharedThere;
-          sharedRoom = r .shared;
-          told = omega (arith, w .headsThere, told-few s l good table n before inside message p read ready d made);
-          toldRoom = omega (arith, r .lastSent);
-          heads = rw (made .heads) (w .headsThere);
-          headsRoom = r .heads;
-          need = rw (made .need) (w .needThere);
-          needRoom = r .need;
-          haves =
-              record {
-                there = omega (arith, stands .words, small .haves);
-                layable = rw words-ready (read-layable message p read all);
-                room = r .haves;
-                bytesRoom = rw (words-ready, ← made .words .bytes) (r .bytes);
-              };
-          sent = stands .sentThere;
-          sentRoom = omega (arith, g .sent .there);
-        }
-
-    none-fits : ReceiptFits noReceipt message (p .heads .start) (p .need .start) ready l
-    unfolding laidBytes
-    none-fits =
-        let w = read-words message p read in
-        record {
-          shared = omega arith;
-          sharedRoom = omega arith;
-          told = omega (arith, w .headsThere);
-          toldRoom = omega arith;
-          heads = omega (arith, w .headsThere);
-          headsRoom = omega arith;
-          need = omega (arith, w .needThere);
-          needRoom = omega arith;
-          haves = record { there = omega arith; layable = none-layable message; room = omega arith; bytesRoom = rw (none-laid message) (omega arith) };
-          sent = omega arith;
-          sentRoom = omega arith;
-        }
-
-    -- what is put has room
-    pub puts-fit : ReceiptFits (receiptPuts a d) message (p .heads .start) (p .need .start) ready l
-    unfolding receiptPuts
-    puts-fit = go o
-      where
-        go : Outcomes s l table n before message p d (receivedRooms l) a q
-            → ReceiptFits (receiptPuts a d) message (p .heads .start) (p .need .start) ready l
-        go (Outcome.refuses refusal left e f g) = rw f none-fits
-        go (Outcome.takes few room e f g) = rw e (took-fits few room)
-
-    module _ (lastBytes : Bytes (l .lastSent)) where
-      took-put : d .shared ≤ sizes .hashes → receiptPut d message (p .heads .start) (p .need .start) ready l ≡ keptIn (Received.took (received before t v m)) l
-      unfolding keptIn received lastSentAfter
-      took-put few =
+      took-fits : shortWith d (receivedRooms l) ≡ 0 → ReceiptFits d message (p .heads .start) (p .need .start) ready l
+      took-fits room =
           let g = session-parts s l good in
           let w = read-words message p read in
-          let tells : Bool = not (ltb 0 (p .chunks .count)) && same (m .heads) (heads (take before t)) in
-          let shared = shared-gathered s l good table n before inside message p read ready d made few in
-          let sent = sent-made s l good table n before inside message p read ready d made in
-          lents-same
-          (ap (sets (l .shared) 0) (sym (gathered-bytes shared (stands .shared) (stands .sharedThere))))
-          (rw (told-made s l good table n before inside message p read ready d made)
-          (last-put message (p .heads .start) (p .heads .count) tells (l .lastSent) (s .«last_sent_heads») all (w .headsThere) lastBytes (g .lastSent .there)))
-          (rw (made .heads) (ap (sets (l .theirHeads) 0) (sym (hashes-at-bytes message (p .heads .start) (p .heads .count) all (w .headsThere)))))
-          (rw (made .need) (ap (sets (l .theirNeed) 0) (sym (hashes-at-bytes message (p .need .start) (p .need .count) all (w .needThere)))))
-          (rw words-ready)
-          (rw words-ready)
-          (ap (sets (l .sent) 0) (sym (gathered-bytes sent (stands .sent) (stands .sentThere))))
+          let r = roomy d (receivedRooms l) room in
+          let small = draft-small s l good table n before inside message p read ready d made in
+          let tells = told-within s l good table n before inside message p read ready d made in
+          let less = sent-within s l good table n before inside message p read ready d made in
+          record {
+            shared = stands .sharedThere;
+            sharedRoom = r .shared;
+            told = omega (arith, w .headsThere, told-few s l good table n before inside message p read ready d made);
+            toldRoom = omega (arith, r .lastSent);
+            heads = rw (made .heads) (w .headsThere);
+            headsRoom = r .heads;
+            need = rw (made .need) (w .needThere);
+            needRoom = r .need;
+            haves =
+                record {
+                  there = omega (arith, stands .words, small .haves);
+                  layable = rw words-ready (read-layable message p read all);
+                  room = r .haves;
+                  bytesRoom = rw (words-ready, ← made .words .bytes) (r .bytes);
+                };
+            sent = stands .sentThere;
+            sentRoom = omega (arith, g .sent .there);
+          }
 
-      -- and is what is kept
-      pub puts-kept : receiptPut (receiptPuts a d) message (p .heads .start) (p .need .start) ready l ≡ keptIn q l
-      unfolding receiptPuts keptIn
-      puts-kept = go o
-        where
-          go : Outcomes s l table n before message p d (receivedRooms l) a q
-              → receiptPut (receiptPuts a d) message (p .heads .start) (p .need .start) ready l ≡ keptIn q l
-          go (Outcome.refuses refusal left e f g) = rw (e, f) (none-put message (p .heads .start) (p .need .start) ready l)
-          go (Outcome.takes few room e f g) = rw (e, f) (took-put few)
+      none-fits : ReceiptFits noReceipt message (p .heads .start) (p .need .start) ready l
+      unfolding laidBytes
+      none-fits =
+          let w = read-words message p read in
+          record {
+            shared = omega arith;
+            sharedRoom = omega arith;
+            told = omega (arith, w .headsThere);
+            toldRoom = omega arith;
+            heads = omega (arith, w .headsThere);
+            headsRoom = omega arith;
+            need = omega (arith, w .needThere);
+            needRoom = omega arith;
+            haves = record { there = omega arith; layable = none-layable message; room = omega arith; bytesRoom = rw (none-laid message) (omega arith) };
+            sent = omega arith;
+            sentRoom = omega arith;
+          }
+
+      -- what is put has room, whatever was decided
+      pub puts-fit : (flagged : Session) (failed : Bool)
+          → ReceiptFits (receiptPuts (receiptDecided flagged failed d (receivedRooms l)) d) message (p .heads .start) (p .need .start) ready l
+      unfolding receiptPuts receiptDecided
+      puts-fit flagged failed =
+          split failed
+          (λ e. rw e none-fits)
+          (λ e.
+          split (ltb (sizes .hashes) (d .shared))
+          (λ f. rw (e, f) none-fits)
+          (λ f.
+          split (ltb 0 (shortWith d (receivedRooms l)))
+          (λ g. rw (e, f, g) none-fits)
+          (λ g.
+          let room : shortWith d (receivedRooms l) ≡ 0 = omega (arith, ltb-false 0 (shortWith d (receivedRooms l)) g) in
+          rw (e, f, g) (took-fits room))))
+
+    module _ (made : Drafted s l table n before message p ready d) (a : ReceiveAnswer) (q : Received) (o : Outcomes s l table n before message p d (receivedRooms l) a q) where
+      abbrev v : State
+      v = stateOf s l
+
+      abbrev t : List Row
+      t = rowsAt table 0 n
+
+      abbrev m : Said
+      m = saidAt message p
+
+      module _ (lastBytes : Bytes (l .lastSent)) where
+        took-put : d .shared ≤ sizes .hashes → receiptPut d message (p .heads .start) (p .need .start) ready l ≡ keptIn (Received.took (received before t v m)) l
+        unfolding keptIn received lastSentAfter
+        took-put few =
+            let g = session-parts s l good in
+            let w = read-words message p read in
+            let tells : Bool = not (ltb 0 (p .chunks .count)) && same (m .heads) (heads (take before t)) in
+            let shared = shared-gathered s l good table n before inside message p read ready d made few in
+            let sent = sent-made s l good table n before inside message p read ready d made in
+            lents-same
+            (ap (sets (l .shared) 0) (sym (gathered-bytes shared (stands .shared) (stands .sharedThere))))
+            (rw (told-made s l good table n before inside message p read ready d made)
+            (last-put message (p .heads .start) (p .heads .count) tells (l .lastSent) (s .«last_sent_heads») all (w .headsThere) lastBytes (g .lastSent .there)))
+            (rw (made .heads) (ap (sets (l .theirHeads) 0) (sym (hashes-at-bytes message (p .heads .start) (p .heads .count) all (w .headsThere)))))
+            (rw (made .need) (ap (sets (l .theirNeed) 0) (sym (hashes-at-bytes message (p .need .start) (p .need .count) all (w .needThere)))))
+            (rw (words-ready made))
+            (rw (words-ready made))
+            (ap (sets (l .sent) 0) (sym (gathered-bytes sent (stands .sent) (stands .sentThere))))
+
+        -- and is what is kept
+        pub puts-kept : receiptPut (receiptPuts a d) message (p .heads .start) (p .need .start) ready l ≡ keptIn q l
+        unfolding receiptPuts keptIn
+        puts-kept = go o
+          where
+            go : Outcomes s l table n before message p d (receivedRooms l) a q
+                → receiptPut (receiptPuts a d) message (p .heads .start) (p .need .start) ready l ≡ keptIn q l
+            go (Outcome.refuses refusal left e f g) = rw (e, f) (none-put message (p .heads .start) (p .need .start) ready l)
+            go (Outcome.takes few room e f g) = rw (e, f) (took-put few)

@@ -20,10 +20,6 @@ const READ: &[(&str, &str)] = &[
         "`returns-3` of `opening::parse_opening`",
     ),
     (
-        "draft/have_of_all_rows",
-        "`returns` of `make::make_plan`",
-    ),
-    (
         "drafting/rows_before_beyond",
         "`returns-4` of `check::check_receive`",
     ),
@@ -32,12 +28,10 @@ const READ: &[(&str, &str)] = &[
         "`returns-2` of `make::told_heads`",
     ),
     ("encode/heads_first", "`returns-2` of `encode::encode`"),
-    ("hearing/reset_unheard", "`flagged-forgets` (ReceiveLaws)"),
     (
         "index/fits_equal_hashes",
         "`loop-again` of `fit::entries_fit`",
     ),
-    ("items/haves_limit", "`returns-2` of `haves::parse_haves`"),
     ("lists/all_in_itself", "`loop-again` of `compare::all_in`"),
     (
         "message/flag_read_only",
@@ -84,19 +78,7 @@ const READ: &[(&str, &str)] = &[
         "probe/contains_past_field",
         "`clear-bit-requires` of `contains::contains_hash`",
     ),
-    (
-        "receive/failed_unflagged",
-        "`returns` of `receive::receive_checked`",
-    ),
-    (
-        "receive/loads_as_peer",
-        "`returns` of `receive::receive_checked`",
-    ),
     ("replay/all_agree", "`loop-again` of `walk::walk`"),
-    (
-        "order/insert_repeats",
-        "`returns-3` of `hashes::insert_hash`",
-    ),
     ("rules/limits_order", "`returns` of `sizes::limits`"),
     ("rules/number_swapped", "`returns-9` of `Refusal::number`"),
     (
@@ -104,10 +86,6 @@ const READ: &[(&str, &str)] = &[
         "`returns-2` of `passed::passed_hashes`",
     ),
     ("rules/value_of_ten", "`returns-10` of `Refusal::value`"),
-    (
-        "selection/fixed_list",
-        "`put-chosen-requires` of `to_send::put_to_send`",
-    ),
     (
         "selection/need_twice",
         "`returns-3` of `chosen::held_unmarked`",

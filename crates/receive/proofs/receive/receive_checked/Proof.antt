@@ -31,10 +31,9 @@ load-failed-requires c κs = search needs
 decide-requires : tie.Need-decide-requires
 decide-requires c κs =
     let m = c .before .before .before .before .before .before in
-    let g = m .before .before .before .before .before .before in
-    let f = g .before in
+    let f = m .before .before .before .before .before .before .before in
     let s = f .before .before .before .before .before .before .before .before .before .before .before .before .before .before .before .before .before in
-    is-small _ _ _ _ _ _ _ _ (s .pre .0) _ _ _ _ (f .take-flags .ensures) (g .loads-changes .ensures) (m .make-received .ensures .0)
+    is-small _ _ _ _ _ _ _ _ (s .pre .0) _ _ _ _ (f .take-flags .ensures) (m .make-received .ensures .0)
 
 receipt-puts-requires : tie.Need-receipt-puts-requires
 receipt-puts-requires c κs = search needs
@@ -46,15 +45,12 @@ put-requires : tie.Need-put-requires
 put-requires c κs =
     let u = c .before .before .before .before .before .before .before .before .before .before in
     let d = u .before in
-    let e = d .before in
-    let m = e .before .before .before .before .before .before in
-    let g = m .before .before .before .before .before .before in
-    let f = g .before in
+    let m = d .before .before .before .before .before .before .before in
+    let f = m .before .before .before .before .before .before .before in
     let k = f .before .before .before .before .before .before .before .before .before .before .before .before .before .before in
     let s = k .before .before .before in
-    has-room _ _ _ _ _ _ _ _ (s .pre .0) _ _ _ _ (f .take-flags .ensures) (g .loads-changes .ensures) (m .make-received .ensures .0)
-    (s .args .loaded) _ _ (e .load-failed .ensures) (d .decide .ensures) (m .make-received .ensures .1)
-    (λ i. k .shared-slice-known3 .given i .fits) (u .receipt-puts .result) (u .receipt-puts .ensures)
+    has-room _ _ _ _ _ _ _ _ (s .pre .0) _ _ _ _ (f .take-flags .ensures) (m .make-received .ensures .0) (m .make-received .ensures .1)
+    (λ i. k .shared-slice-known3 .given i .fits) _ _ _ (d .decide .ensures) (u .receipt-puts .result) (u .receipt-puts .ensures)
 
 same-length : tie.Need-same-length
 same-length c =
@@ -99,8 +95,8 @@ returns c =
     let k4 = f .before .before .before .before .before .before .before .before .before in
     let k = k4 .before .before .before .before .before in
     let s = k .before .before .before in
-    received-called _ _ _ _ _ _ _ _ (s .pre .0) _ _ _ _ (f .take-flags .ensures) (g .loads-changes .ensures) (m .make-received .ensures .0) _ _ _
-    (e .load-failed .ensures) (d .decide .ensures) (m .make-received .ensures .1) (λ i. k .shared-slice-known3 .given i .fits) _ _
+    received-called _ _ _ _ _ _ _ _ (s .pre .0) _ _ _ _ (f .take-flags .ensures) (m .make-received .ensures .0) (m .make-received .ensures .1)
+    (λ i. k .shared-slice-known3 .given i .fits) (g .loads-changes .ensures) _ _ _ (e .load-failed .ensures) (d .decide .ensures) _ _
     (λ i. k4 .slice-known4 .given i .fits) (u .receipt-puts .ensures) (p .put .ensures)
 
 pub receive-checked-spec : {M : Type 1} → statement M
