@@ -16,9 +16,9 @@ ghost use Rattle.session.specs.Laid.{laidBytes};
 ghost use Rattle.laying.specs.Made.{Layable, LaidPut, mostLaid, recordFrom, laidHave};
 
 // How many bytes the haves of these records take.
-pub fn laid_size(s: &[u8], words: &[u64]) -> usize
-    requires { ⌜ Layable (now s) (now words) ⌝ }
-    ensures { λ r. ⌜ r ≡ length (laidBytes (havesOf (now (s .entry)) (now (words .entry)))) ⌝ }
+pub fn laid_size(message: &[u8], words: &[u64]) -> usize
+    requires { ⌜ Layable (now message) (now words) ⌝ }
+    ensures { λ r. ⌜ r ≡ length (laidBytes (havesOf (now (message .entry)) (now (words .entry)))) ⌝ }
 {
     let total = words.len() / HAVE_WORDS;
     let mut size = 0;
@@ -50,10 +50,10 @@ fn put_record(words: &[u64], i: usize, at: usize, records: &mut [u64])
 }
 
 // Puts the bytes of record i at a place, its last-sync hashes and then its field, and returns the place after them.
-fn lay_have(s: &[u8], words: &[u64], i: usize, at: usize, bytes: &mut [u8]) -> usize
-    requires { ⌜ Layable (now s) (now words) × (i < haveCount (now words))
-        × (at + length (laidHave (haveIn (now s) (now words) i)) ≤ length (now bytes)) ⌝ }
-    ensures { λ r. ⌜ Put (now (bytes .entry)) (now (bytes .exit)) at (laidHave (haveIn (now (s .entry)) (now (words .entry)) i)) r ⌝ }
+fn lay_have(message: &[u8], words: &[u64], i: usize, at: usize, bytes: &mut [u8]) -> usize
+    requires { ⌜ Layable (now message) (now words) × (i < haveCount (now words))
+        × (at + length (laidHave (haveIn (now message) (now words) i)) ≤ length (now bytes)) ⌝ }
+    ensures { λ r. ⌜ Put (now (bytes .entry)) (now (bytes .exit)) at (laidHave (haveIn (now (message .entry)) (now (words .entry)) i)) r ⌝ }
 {
     let from = sync_place(words, i);
     let size = HASH_SIZE * sync_count(words, i);
@@ -61,16 +61,16 @@ fn lay_have(s: &[u8], words: &[u64], i: usize, at: usize, bytes: &mut [u8]) -> u
     let start = filter.place;
     let long = filter.size;
     let field = at + size;
-    copy_into(bytes, at, &s[from..from + size]);
-    copy_into(bytes, field, &s[start..start + long]);
+    copy_into(bytes, at, &message[from..from + size]);
+    copy_into(bytes, field, &message[start..start + long]);
     field + long
 }
 
 // Lays out all of them: records at the start of one buffer, bytes at the start of another.
-pub fn lay_haves(s: &[u8], words: &[u64], records: &mut [u64], bytes: &mut [u8])
-    requires { ⌜ Layable (now s) (now words) × (haveWords * haveCount (now words) ≤ length (now records))
-        × (length (laidBytes (havesOf (now s) (now words))) ≤ length (now bytes)) ⌝ }
-    ensures { λ _. ⌜ LaidPut (havesOf (now (s .entry)) (now (words .entry))) (now (records .entry)) (now (bytes .entry)) (now (records .exit))
+pub fn lay_haves(message: &[u8], words: &[u64], records: &mut [u64], bytes: &mut [u8])
+    requires { ⌜ Layable (now message) (now words) × (haveWords * haveCount (now words) ≤ length (now records))
+        × (length (laidBytes (havesOf (now message) (now words))) ≤ length (now bytes)) ⌝ }
+    ensures { λ _. ⌜ LaidPut (havesOf (now (message .entry)) (now (words .entry))) (now (records .entry)) (now (bytes .entry)) (now (records .exit))
         (now (bytes .exit)) ⌝ }
 {
     let total = words.len() / HAVE_WORDS;
@@ -78,7 +78,7 @@ pub fn lay_haves(s: &[u8], words: &[u64], records: &mut [u64], bytes: &mut [u8])
     let mut i = 0;
     while i < total {
         put_record(words, i, at, records);
-        at = lay_have(s, words, i, at, bytes);
+        at = lay_have(message, words, i, at, bytes);
         i += 1;
     }
 }

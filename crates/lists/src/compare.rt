@@ -32,13 +32,13 @@ pub fn same_list(a: &[u8], i: usize, m: usize, b: &[u8], j: usize, n: usize) -> 
 }
 
 // Whether the hash at a place stands in a list.
-pub fn is_in(s: &[u8], at: usize, list: &[u8], place: usize, count: usize) -> bool
-    requires { ⌜ (at + sizes .hash ≤ length (now s)) × (place + sizes .hash * count ≤ length (now list)) ⌝ }
-    ensures { λ r. ⌜ r ≡ member (hashAt (now (s .entry)) at) (hashesAt (now (list .entry)) place count) ⌝ }
+pub fn is_in(bytes: &[u8], at: usize, list: &[u8], place: usize, count: usize) -> bool
+    requires { ⌜ (at + sizes .hash ≤ length (now bytes)) × (place + sizes .hash * count ≤ length (now list)) ⌝ }
+    ensures { λ r. ⌜ r ≡ member (hashAt (now (bytes .entry)) at) (hashesAt (now (list .entry)) place count) ⌝ }
 {
     let mut k = 0;
     while k < count {
-        if same_hash(s, at, list, place + HASH_SIZE * k) {
+        if same_hash(bytes, at, list, place + HASH_SIZE * k) {
             return true;
         }
         k += 1;
@@ -47,13 +47,13 @@ pub fn is_in(s: &[u8], at: usize, list: &[u8], place: usize, count: usize) -> bo
 }
 
 // Whether every hash of a list stands in another.
-pub fn all_in(s: &[u8], i: usize, m: usize, list: &[u8], place: usize, count: usize) -> bool
-    requires { ⌜ (i + sizes .hash * m ≤ length (now s)) × (place + sizes .hash * count ≤ length (now list)) ⌝ }
-    ensures { λ r. ⌜ r ≡ every (λ h. member h (hashesAt (now (list .entry)) place count)) (hashesAt (now (s .entry)) i m) ⌝ }
+pub fn all_in(bytes: &[u8], i: usize, m: usize, list: &[u8], place: usize, count: usize) -> bool
+    requires { ⌜ (i + sizes .hash * m ≤ length (now bytes)) × (place + sizes .hash * count ≤ length (now list)) ⌝ }
+    ensures { λ r. ⌜ r ≡ every (λ h. member h (hashesAt (now (list .entry)) place count)) (hashesAt (now (bytes .entry)) i m) ⌝ }
 {
     let mut k = 0;
     while k < m {
-        if !is_in(s, i + HASH_SIZE * k, list, place, count) {
+        if !is_in(bytes, i + HASH_SIZE * k, list, place, count) {
             return false;
         }
         k += 1;
@@ -62,14 +62,21 @@ pub fn all_in(s: &[u8], i: usize, m: usize, list: &[u8], place: usize, count: us
 }
 
 // Whether a table holds every hash of a list.
-pub fn all_held(table: &[u8], index: &[u8], n: usize, s: &[u8], place: usize, count: usize) -> bool
-    requires { ⌜ Indexed (now table) (now index) n × (place + sizes .hash * count ≤ length (now s)) ⌝ }
-    ensures { λ r. ⌜ r ≡ every (held (rowsAt (now (table .entry)) 0 n)) (hashesAt (now (s .entry)) place count) ⌝ }
+pub fn all_held(
+    table: &[u8],
+    index: &[u8],
+    n: usize,
+    bytes: &[u8],
+    place: usize,
+    count: usize,
+) -> bool
+    requires { ⌜ Indexed (now table) (now index) n × (place + sizes .hash * count ≤ length (now bytes)) ⌝ }
+    ensures { λ r. ⌜ r ≡ every (held (rowsAt (now (table .entry)) 0 n)) (hashesAt (now (bytes .entry)) place count) ⌝ }
 {
     let mut k = 0;
     while k < count {
         let at = place + HASH_SIZE * k;
-        if n <= look_up(table, index, n, s, at) {
+        if n <= look_up(table, index, n, bytes, at) {
             return false;
         }
         k += 1;

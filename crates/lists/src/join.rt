@@ -16,15 +16,15 @@ ghost use Rattle.tables.specs.Table.{held};
 ghost use Rattle.lists.specs.Lists.{Joined};
 
 // Joins the hashes of a list.
-pub fn join_list(list: &mut [u8], count: usize, s: &[u8], place: usize, m: usize) -> usize
-    requires { ⌜ (sizes .hash * count ≤ length (now list)) × (place + sizes .hash * m ≤ length (now s)) ⌝ }
-    ensures { λ r. ⌜ Joined (now (list .entry)) (now (list .exit)) count (hashesAt (now (s .entry)) place m) r ⌝ }
+pub fn join_list(list: &mut [u8], count: usize, bytes: &[u8], place: usize, m: usize) -> usize
+    requires { ⌜ (sizes .hash * count ≤ length (now list)) × (place + sizes .hash * m ≤ length (now bytes)) ⌝ }
+    ensures { λ r. ⌜ Joined (now (list .entry)) (now (list .exit)) count (hashesAt (now (bytes .entry)) place m) r ⌝ }
 {
     let mut next = count;
     let mut k = m;
     while 0 < k {
         k -= 1;
-        next = insert_hash(list, next, s, place + HASH_SIZE * k);
+        next = insert_hash(list, next, bytes, place + HASH_SIZE * k);
     }
     next
 }
@@ -36,22 +36,23 @@ pub fn join_held(
     n: usize,
     list: &mut [u8],
     count: usize,
-    s: &[u8],
+    bytes: &[u8],
     place: usize,
     m: usize,
 ) -> usize
-    requires { ⌜ Indexed (now table) (now index) n × (sizes .hash * count ≤ length (now list)) × (place + sizes .hash * m ≤ length (now s)) ⌝ }
-    ensures { λ r. ⌜ Joined (now (list .entry)) (now (list .exit)) count (keep (held (rowsAt (now (table .entry)) 0 n)) (hashesAt (now (s .entry)) place m)) r ⌝ }
+    requires { ⌜ Indexed (now table) (now index) n × (sizes .hash * count ≤ length (now list)) × (place + sizes .hash * m ≤ length (now bytes)) ⌝ }
+    ensures { λ r. ⌜ Joined (now (list .entry)) (now (list .exit)) count
+        (keep (held (rowsAt (now (table .entry)) 0 n)) (hashesAt (now (bytes .entry)) place m)) r ⌝ }
 {
     let mut next = count;
     let mut k = m;
     while 0 < k {
         k -= 1;
         let at = place + HASH_SIZE * k;
-        if n <= look_up(table, index, n, s, at) {
+        if n <= look_up(table, index, n, bytes, at) {
             continue;
         }
-        next = insert_hash(list, next, s, at);
+        next = insert_hash(list, next, bytes, at);
     }
     next
 }
@@ -60,25 +61,27 @@ pub fn join_held(
 pub fn join_common(
     list: &mut [u8],
     count: usize,
-    s: &[u8],
+    bytes: &[u8],
     place: usize,
     m: usize,
     other: &[u8],
     from: usize,
     many: usize,
 ) -> usize
-    requires { ⌜ (sizes .hash * count ≤ length (now list)) × (place + sizes .hash * m ≤ length (now s)) × (from + sizes .hash * many ≤ length (now other)) ⌝ }
-    ensures { λ r. ⌜ Joined (now (list .entry)) (now (list .exit)) count (keep (λ h. member h (hashesAt (now (other .entry)) from many)) (hashesAt (now (s .entry)) place m)) r ⌝ }
+    requires { ⌜ (sizes .hash * count ≤ length (now list)) × (place + sizes .hash * m ≤ length (now bytes))
+        × (from + sizes .hash * many ≤ length (now other)) ⌝ }
+    ensures { λ r. ⌜ Joined (now (list .entry)) (now (list .exit)) count
+        (keep (λ h. member h (hashesAt (now (other .entry)) from many)) (hashesAt (now (bytes .entry)) place m)) r ⌝ }
 {
     let mut next = count;
     let mut k = m;
     while 0 < k {
         k -= 1;
         let at = place + HASH_SIZE * k;
-        if !is_in(s, at, other, from, many) {
+        if !is_in(bytes, at, other, from, many) {
             continue;
         }
-        next = insert_hash(list, next, s, at);
+        next = insert_hash(list, next, bytes, at);
     }
     next
 }
@@ -87,25 +90,27 @@ pub fn join_common(
 pub fn join_new(
     list: &mut [u8],
     count: usize,
-    s: &[u8],
+    bytes: &[u8],
     place: usize,
     m: usize,
     other: &[u8],
     from: usize,
     many: usize,
 ) -> usize
-    requires { ⌜ (sizes .hash * count ≤ length (now list)) × (place + sizes .hash * m ≤ length (now s)) × (from + sizes .hash * many ≤ length (now other)) ⌝ }
-    ensures { λ r. ⌜ Joined (now (list .entry)) (now (list .exit)) count (keep (λ h. not (member h (hashesAt (now (other .entry)) from many))) (hashesAt (now (s .entry)) place m)) r ⌝ }
+    requires { ⌜ (sizes .hash * count ≤ length (now list)) × (place + sizes .hash * m ≤ length (now bytes))
+        × (from + sizes .hash * many ≤ length (now other)) ⌝ }
+    ensures { λ r. ⌜ Joined (now (list .entry)) (now (list .exit)) count
+        (keep (λ h. not (member h (hashesAt (now (other .entry)) from many))) (hashesAt (now (bytes .entry)) place m)) r ⌝ }
 {
     let mut next = count;
     let mut k = m;
     while 0 < k {
         k -= 1;
         let at = place + HASH_SIZE * k;
-        if is_in(s, at, other, from, many) {
+        if is_in(bytes, at, other, from, many) {
             continue;
         }
-        next = insert_hash(list, next, s, at);
+        next = insert_hash(list, next, bytes, at);
     }
     next
 }

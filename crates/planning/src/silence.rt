@@ -13,13 +13,13 @@ ghost use Rattle.session.specs.Plan.{heardAs};
 ghost use Rattle.state.specs.Value.{heardHashes};
 
 // Whether a list was heard and is this one.
-pub fn heard_as(s: &[u8], count: usize, theirs: &[u8], heard: Heard) -> bool
-    requires { ⌜ (sizes .hash * count ≤ length (now s)) × (heardGood (now theirs) heard ≡ true) ⌝ }
-    ensures { λ r. ⌜ r ≡ heardAs (hashesAt (now (s .entry)) 0 count) (heardHashes (now (theirs .entry)) heard) ⌝ }
+pub fn heard_as(list: &[u8], count: usize, theirs: &[u8], heard: Heard) -> bool
+    requires { ⌜ (sizes .hash * count ≤ length (now list)) × (heardGood (now theirs) heard ≡ true) ⌝ }
+    ensures { λ r. ⌜ r ≡ heardAs (hashesAt (now (list .entry)) 0 count) (heardHashes (now (theirs .entry)) heard) ⌝ }
 {
     match heard {
         Heard::Nothing => false,
-        Heard::Count(many) => same_list(theirs, 0, many, s, 0, count),
+        Heard::Count(many) => same_list(theirs, 0, many, list, 0, count),
     }
 }
 

@@ -53,17 +53,17 @@ fn join_shared(
     n: usize,
     shared: &[u8],
     count: usize,
-    s: &[u8],
+    bytes: &[u8],
     place: usize,
     many: usize,
     list: &mut [u8],
 ) -> usize
-    requires { ⌜ Indexed (now table) (now index) n × (sizes .hash * count ≤ length (now shared)) × (place + sizes .hash * many ≤ length (now s)) ⌝ }
-    ensures { λ r. ⌜ SharedMade (join (rowsAt (now (table .entry)) 0 n) (hashesAt (now (s .entry)) place many) (hashesAt (now (shared .entry)) 0 count))
+    requires { ⌜ Indexed (now table) (now index) n × (sizes .hash * count ≤ length (now shared)) × (place + sizes .hash * many ≤ length (now bytes)) ⌝ }
+    ensures { λ r. ⌜ SharedMade (join (rowsAt (now (table .entry)) 0 n) (hashesAt (now (bytes .entry)) place many) (hashesAt (now (shared .entry)) 0 count))
         (length (now (list .entry))) (now (list .exit)) r ⌝ }
 {
     let old = join_list(list, 0, shared, 0, count);
-    join_held(table, index, n, list, old, s, place, many)
+    join_held(table, index, n, list, old, bytes, place, many)
 }
 
 // The shared heads after a message whose heads stand at a place of its bytes: these where all of them are held, else both joined, after the
@@ -77,26 +77,26 @@ pub fn make_shared(
     before: usize,
     shared: &[u8],
     count: usize,
-    s: &[u8],
+    bytes: &[u8],
     place: usize,
     many: usize,
     list: &mut [u8],
 ) -> usize
-    requires { ⌜ Indexed (now table) (now index) n × (before ≤ n) × (sizes .hash * count ≤ length (now shared)) × (place + sizes .hash * many ≤ length (now s))
+    requires { ⌜ Indexed (now table) (now index) n × (before ≤ n) × (sizes .hash * count ≤ length (now shared)) × (place + sizes .hash * many ≤ length (now bytes))
         × (many ≤ sizes .hashes) × SharedFits all many (length (now list)) ⌝ }
-    ensures { λ r. ⌜ SharedMade (cond all (hashesAt (now (s .entry)) place many)
-        (join (rowsAt (now (table .entry)) 0 n) (hashesAt (now (s .entry)) place many)
+    ensures { λ r. ⌜ SharedMade (cond all (hashesAt (now (bytes .entry)) place many)
+        (join (rowsAt (now (table .entry)) 0 n) (hashesAt (now (bytes .entry)) place many)
         (cond loads (advance (heads (take before (rowsAt (now (table .entry)) 0 n))) (heads (rowsAt (now (table .entry)) 0 n))
         (hashesAt (now (shared .entry)) 0 count)) (hashesAt (now (shared .entry)) 0 count)))) sharedRoom (now (list .exit)) r ⌝ }
 {
     if all {
-        copy_into(list, 0, &s[place..place + HASH_SIZE * many]);
+        copy_into(list, 0, &bytes[place..place + HASH_SIZE * many]);
         return many;
     }
     if !loads {
-        return join_shared(table, index, n, shared, count, s, place, many, list);
+        return join_shared(table, index, n, shared, count, bytes, place, many, list);
     }
     let mut advanced = [0u8; ADVANCED_SIZE];
     let moved = advance_heads(table, index, n, before, shared, count, &mut advanced);
-    join_shared(table, index, n, &advanced, moved, s, place, many, list)
+    join_shared(table, index, n, &advanced, moved, bytes, place, many, list)
 }

@@ -38,11 +38,11 @@ pub fn receipt_puts(received: ReceiveAnswer, d: Receipt) -> Receipt
 }
 
 // Copies the hashes that stand at a place of some bytes to the start of a buffer.
-fn put_hashes(s: &[u8], place: usize, count: usize, out: &mut [u8])
-    requires { ⌜ (place + sizes .hash * count ≤ length (now s)) × (sizes .hash * count ≤ length (now out)) ⌝ }
-    ensures { λ _. ⌜ now (out .exit) ≡ sets (now (out .entry)) 0 (slice place (place + sizes .hash * count) (now (s .entry))) ⌝ }
+fn put_hashes(bytes: &[u8], place: usize, count: usize, out: &mut [u8])
+    requires { ⌜ (place + sizes .hash * count ≤ length (now bytes)) × (sizes .hash * count ≤ length (now out)) ⌝ }
+    ensures { λ _. ⌜ now (out .exit) ≡ sets (now (out .entry)) 0 (slice place (place + sizes .hash * count) (now (bytes .entry))) ⌝ }
 {
-    copy_into(out, 0, &s[place..place + HASH_SIZE * count]);
+    copy_into(out, 0, &bytes[place..place + HASH_SIZE * count]);
 }
 
 // Lays out so many haves of a message, whose records are lent.

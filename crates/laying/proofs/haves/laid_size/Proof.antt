@@ -12,11 +12,11 @@ use Rattle.laying.proofs.haves.laid_size.Statement.{statement}
 use Rattle.laying.proofs.haves.laid_size.Tie as tie
 
 abbrev Inv-loop : tie.InvT-loop
-Inv-loop s words total size₀ i₀ size i =
-    record { upto : i ≤ haveCount words; rest : size + length (laidBytes (leftFrom s words i)) ≡ length (laidBytes (havesOf s words)) }
+Inv-loop message words total size₀ i₀ size i =
+    record { upto : i ≤ haveCount words; rest : size + length (laidBytes (leftFrom message words i)) ≡ length (laidBytes (havesOf message words)) }
 
 abbrev μ-loop : tie.MeasureT-loop
-μ-loop s words total size₀ i₀ size i = haveCount words - i
+μ-loop message words total size₀ i₀ size i = haveCount words - i
 
 loop-holds : tie.Need-loop-holds Inv-loop μ-loop
 loop-holds c = record { upto = omega arith; rest = size-starts _ _ }
@@ -31,7 +31,7 @@ sync-count-requires c κs = c .before .loop-test .taken
 fits : (c : tie.After-filter-in Inv-loop μ-loop)
     → let l = c .before .before in
     let a = l .before .before .before .args in
-    Fits (now (a .s)) (now (a .words)) (l .loop .i) (c .filter-in .result)
+    Fits (now (a .message)) (now (a .words)) (l .loop .i) (c .filter-in .result)
 fits c = have-fits _ _ (c .before .before .before .before .before .pre) _ (c .before .loop-test .taken) _ (c .filter-in .ensures)
 
 mul-size : tie.Need-mul-size Inv-loop μ-loop

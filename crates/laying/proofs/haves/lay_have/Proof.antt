@@ -27,7 +27,7 @@ filter-in-requires c κs = search needs
 -- where the parts of the record stand
 fits : (c : tie.After-filter-in)
     → let a = c .before .before .before .before .before .before .args in
-    Fits (now (a .s)) (now (a .words)) (a .i) (c .filter-in .result)
+    Fits (now (a .message)) (now (a .words)) (a .i) (c .filter-in .result)
 fits c =
     let start = c .before .before .before .before .before .before in
     have-fits _ _ (start .pre .0) _ (start .pre .1) _ (c .filter-in .ensures)

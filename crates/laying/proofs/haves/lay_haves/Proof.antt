@@ -8,10 +8,10 @@ use Rattle.laying.proofs.haves.lay_haves.Statement.{statement}
 use Rattle.laying.proofs.haves.lay_haves.Tie as tie
 
 abbrev Inv-loop : tie.InvT-loop
-Inv-loop s words records₀ bytes₀ total at₀ i₀ records bytes at i = Laying s words records₀ bytes₀ records bytes at i
+Inv-loop message words records₀ bytes₀ total at₀ i₀ records bytes at i = Laying message words records₀ bytes₀ records bytes at i
 
 abbrev μ-loop : tie.MeasureT-loop
-μ-loop s words records₀ bytes₀ total at₀ i₀ records bytes at i = haveCount words - i
+μ-loop message words records₀ bytes₀ total at₀ i₀ records bytes at i = haveCount words - i
 
 loop-holds : tie.Need-loop-holds Inv-loop μ-loop
 loop-holds c = laying-starts _ _ _ _

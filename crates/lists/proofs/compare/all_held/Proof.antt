@@ -13,14 +13,14 @@ use Rattle.lists.proofs.compare.all_held.Statement.{statement}
 use Rattle.lists.proofs.compare.all_held.Tie as tie
 
 abbrev Inv-loop : tie.InvT-loop
-Inv-loop table index n s place count k₀ k =
+Inv-loop table index n bytes place count k₀ k =
     record {
       upto : k ≤ count;
-      rest : every (held (rowsAt table 0 n)) (onward s place count k) ≡ every (held (rowsAt table 0 n)) (hashesAt s place count);
+      rest : every (held (rowsAt table 0 n)) (onward bytes place count k) ≡ every (held (rowsAt table 0 n)) (hashesAt bytes place count);
     }
 
 abbrev μ-loop : tie.MeasureT-loop
-μ-loop table index n s place count k₀ k = count - k
+μ-loop table index n bytes place count k₀ k = count - k
 
 loop-holds : tie.Need-loop-holds Inv-loop μ-loop
 loop-holds c = record { upto = omega arith; rest = test-starts _ _ _ _ }

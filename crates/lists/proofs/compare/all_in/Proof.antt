@@ -10,14 +10,14 @@ use Rattle.lists.proofs.compare.all_in.Statement.{statement}
 use Rattle.lists.proofs.compare.all_in.Tie as tie
 
 abbrev Inv-loop : tie.InvT-loop
-Inv-loop s i m list place count k₀ k =
+Inv-loop bytes i m list place count k₀ k =
     record {
       upto : k ≤ m;
-      rest : every (λ h. member h (hashesAt list place count)) (onward s i m k) ≡ every (λ h. member h (hashesAt list place count)) (hashesAt s i m);
+      rest : every (λ h. member h (hashesAt list place count)) (onward bytes i m k) ≡ every (λ h. member h (hashesAt list place count)) (hashesAt bytes i m);
     }
 
 abbrev μ-loop : tie.MeasureT-loop
-μ-loop s i m list place count k₀ k = m - k
+μ-loop bytes i m list place count k₀ k = m - k
 
 loop-holds : tie.Need-loop-holds Inv-loop μ-loop
 loop-holds c = record { upto = omega arith; rest = test-starts _ _ _ _ }

@@ -10,11 +10,11 @@ use Rattle.lists.proofs.compare.is_in.Statement.{statement}
 use Rattle.lists.proofs.compare.is_in.Tie as tie
 
 abbrev Inv-loop : tie.InvT-loop
-Inv-loop s at list place count k₀ k =
-    record { upto : k ≤ count; rest : member (hashAt s at) (onward list place count k) ≡ member (hashAt s at) (hashesAt list place count) }
+Inv-loop bytes at list place count k₀ k =
+    record { upto : k ≤ count; rest : member (hashAt bytes at) (onward list place count k) ≡ member (hashAt bytes at) (hashesAt list place count) }
 
 abbrev μ-loop : tie.MeasureT-loop
-μ-loop s at list place count k₀ k = count - k
+μ-loop bytes at list place count k₀ k = count - k
 
 loop-holds : tie.Need-loop-holds Inv-loop μ-loop
 loop-holds c = record { upto = omega arith; rest = seek-starts _ _ _ _ }

@@ -13,15 +13,15 @@ use Rattle.lists.proofs.join.join_common.Statement.{statement}
 use Rattle.lists.proofs.join.join_common.Tie as tie
 
 abbrev Inv-loop : tie.InvT-loop
-Inv-loop list₀ count s place m other from many next₀ k₀ list next k =
+Inv-loop list₀ count bytes place m other from many next₀ k₀ list next k =
     record {
       upto : k ≤ m;
       long : length list ≡ length list₀;
-      so : Joined list₀ list count (keep (λ h. member h (hashesAt other from many)) (onward s place m k)) next;
+      so : Joined list₀ list count (keep (λ h. member h (hashesAt other from many)) (onward bytes place m k)) next;
     }
 
 abbrev μ-loop : tie.MeasureT-loop
-μ-loop list₀ count s place m other from many next₀ k₀ list next k = k
+μ-loop list₀ count bytes place m other from many next₀ k₀ list next k = k
 
 loop-holds : tie.Need-loop-holds Inv-loop μ-loop
 loop-holds c = record { upto = omega arith; long = refl; so = pick-starts _ _ _ _ _ _ }

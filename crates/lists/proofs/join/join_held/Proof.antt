@@ -14,15 +14,15 @@ use Rattle.lists.proofs.join.join_held.Statement.{statement}
 use Rattle.lists.proofs.join.join_held.Tie as tie
 
 abbrev Inv-loop : tie.InvT-loop
-Inv-loop table index n list₀ count s place m next₀ k₀ list next k =
+Inv-loop table index n list₀ count bytes place m next₀ k₀ list next k =
     record {
       upto : k ≤ m;
       long : length list ≡ length list₀;
-      so : Joined list₀ list count (keep (held (rowsAt table 0 n)) (onward s place m k)) next;
+      so : Joined list₀ list count (keep (held (rowsAt table 0 n)) (onward bytes place m k)) next;
     }
 
 abbrev μ-loop : tie.MeasureT-loop
-μ-loop table index n list₀ count s place m next₀ k₀ list next k = k
+μ-loop table index n list₀ count bytes place m next₀ k₀ list next k = k
 
 loop-holds : tie.Need-loop-holds Inv-loop μ-loop
 loop-holds c = record { upto = omega arith; long = refl; so = pick-starts _ _ _ _ _ _ }

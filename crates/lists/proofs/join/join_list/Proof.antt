@@ -11,11 +11,11 @@ use Rattle.lists.proofs.join.join_list.Statement.{statement}
 use Rattle.lists.proofs.join.join_list.Tie as tie
 
 abbrev Inv-loop : tie.InvT-loop
-Inv-loop list₀ count s place m next₀ k₀ list next k =
-    record { upto : k ≤ m; long : length list ≡ length list₀; so : Joined list₀ list count (onward s place m k) next }
+Inv-loop list₀ count bytes place m next₀ k₀ list next k =
+    record { upto : k ≤ m; long : length list ≡ length list₀; so : Joined list₀ list count (onward bytes place m k) next }
 
 abbrev μ-loop : tie.MeasureT-loop
-μ-loop list₀ count s place m next₀ k₀ list next k = k
+μ-loop list₀ count bytes place m next₀ k₀ list next k = k
 
 loop-holds : tie.Need-loop-holds Inv-loop μ-loop
 loop-holds c = record { upto = omega arith; long = refl; so = join-starts _ _ _ _ _ }

@@ -9,10 +9,10 @@ use Rattle.receiving.proofs.heads.mark_known.Statement.{statement}
 use Rattle.receiving.proofs.heads.mark_known.Tie as tie
 
 abbrev Inv-loop : tie.InvT-loop
-Inv-loop table index n s place many sent marks₀ all₀ k₀ marks all k = Marking table n s place many marks₀ marks all k
+Inv-loop table index n bytes place many sent marks₀ all₀ k₀ marks all k = Marking table n bytes place many marks₀ marks all k
 
 abbrev μ-loop : tie.MeasureT-loop
-μ-loop table index n s place many sent marks₀ all₀ k₀ marks all k = many - k
+μ-loop table index n bytes place many sent marks₀ all₀ k₀ marks all k = many - k
 
 loop-holds : tie.Need-loop-holds Inv-loop μ-loop
 loop-holds c = marking-starts _ _ _ _ _ _

@@ -12,10 +12,10 @@ use Rattle.receiving.proofs.heads.same_marked.Statement.{statement}
 use Rattle.receiving.proofs.heads.same_marked.Tie as tie
 
 abbrev Inv-loop : tie.InvT-loop
-Inv-loop table index n before marks s place many count₀ k₀ count k = Comparing table index n before marks s place many count k
+Inv-loop table index n before marks bytes place many count₀ k₀ count k = Comparing table index n before marks bytes place many count k
 
 abbrev μ-loop : tie.MeasureT-loop
-μ-loop table index n before marks s place many count₀ k₀ count k = n - k
+μ-loop table index n before marks bytes place many count₀ k₀ count k = n - k
 
 loop-holds : tie.Need-loop-holds Inv-loop μ-loop
 loop-holds c = comparing-starts _ _ _ _ _ _ _ _
