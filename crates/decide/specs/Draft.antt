@@ -128,11 +128,11 @@ abbrev pub planParts : List ℕ → List ℕ → List ℕ → List ℕ → List 
 planParts heads need shared field list sent =
     record { heads = heads; need = need; shared = shared; field = field; list = list; sent = sent }
 
--- How many hashes and bytes are put into each buffer.
+-- Nothing put.
 abbrev pub noPuts : Puts
 noPuts = record { heads = 0; need = 0; syncs = 0; field = 0; hashes = 0; «last_sent» = 0; sent = 0 }
 
--- Those of a message, and of the session's two lists.
+-- How many hashes and bytes a message puts into each buffer, and how many hashes the session's two lists get.
 abbrev pub putsFor : Stated → ℕ → ℕ → Puts
 putsFor p lastSent sent =
     record {
@@ -145,7 +145,7 @@ putsFor p lastSent sent =
       sent = sent;
     }
 
--- Those of an answer: a refusal and silence put nothing, a reset leaves the session's lists.
+-- The same of an answer: a refusal and silence put nothing, a reset leaves the session's lists.
 unfoldable pub putsOf : PlanAnswer → Puts
 putsOf (Refused r) = noPuts
 putsOf Silent = noPuts

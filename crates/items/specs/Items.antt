@@ -53,7 +53,7 @@ haveItem s at = haveWordsOf (haveAt s at)
 abbrev pub chunkWords : ℕ
 chunkWords = 2
 
--- The chunk at a place, a prefixed string, as an item: its words are place and length.
+-- The chunk at a place, a prefixed string, as an item.
 unfoldable pub chunkItem : List ℕ → ℕ → Item
 chunkItem s at = afterPart (prefixedAt s at (length s)) stopped (λ start end. item (start ∷ (end - start) ∷ []) end)
 

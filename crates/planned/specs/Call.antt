@@ -47,12 +47,12 @@ planWith bits probes s l table index waiting =
 
 -- ---- the answer: counts of what is said
 
--- How many last-sync hashes the first have has, and its filter's numbers, its field standing behind these hashes; zeros where there is none.
+-- How many last-sync hashes the first have has; 0 where there is none.
 abbrev pub syncsOf : List Have → ℕ
 syncsOf [] = 0
 syncsOf (v ∷ vs) = length (v .lastSync)
 
--- The filter's numbers of the first have; its field stands behind the last-sync hashes.
+-- The numbers of its filter, whose field stands behind these hashes; zeros where there is none.
 abbrev pub filterNumbers : List Have → FilterNumbers
 filterNumbers [] = numbersOf 0 0 0 0 0
 filterNumbers (v ∷ vs) =
@@ -147,7 +147,7 @@ said Planned.silent = noPlan
 said (Planned.reset p) = p
 said (Planned.says p after) = p
 
--- What the session's lists become, where they change.
+-- The heads sent last, where they change.
 abbrev pub lastSentPut : Planned → List ℕ
 lastSentPut (Planned.refused r) = []
 lastSentPut Planned.silent = []

@@ -83,12 +83,12 @@ pub record ReceiptParts : Type 0 where
 abbrev pub receiptParts : List ℕ → List ℕ → List ℕ → ReceiptParts
 receiptParts shared sent words = record { shared = shared; sent = sent; words = words }
 
--- The draft, or nothing after a refusal.
+-- Nothing to put.
 abbrev pub noReceipt : Receipt
 noReceipt =
     record { shared = 0; «last_sent» = 0; told = 0; sent = 0; heads = 0; need = 0; haves = 0; bytes = 0 }
 
--- What is put: nothing after a refusal.
+-- What is put: all that was drafted, or nothing after a refusal.
 unfoldable pub receiptPuts : ReceiveAnswer → Receipt → Receipt
 receiptPuts (Took s) d = d
 receiptPuts (Failed s) d = noReceipt
