@@ -27,7 +27,6 @@ const READ: &[(&str, &str)] = &[
         "drafting/told_in_spite_of_changes",
         "`returns-2` of `make::told_heads`",
     ),
-    ("encode/heads_first", "`returns-2` of `encode::encode`"),
     (
         "index/fits_equal_hashes",
         "`loop-again` of `fit::entries_fit`",
