@@ -1,4 +1,4 @@
--- Little-endian numbers at a place of bytes: a row number, and a word of a hash as it is probed with. 01, Change table and Filters.
+-- Little-endian numbers at a place of bytes: a row number, and a word of a hash as it is probed with. 01, Change table, and Wire, Probes.
 use Prim.Native.Nat.{ℕ, _+_, _*_}
 use mathlib.Core.List.{List}
 use lib.ListN.{getD}
