@@ -25,4 +25,5 @@ messages-bind =
       message-size = λ κs a x y u v p q. (once (p V1) (q V1), refl);
       encode = λ κs a x y u v p q. (once (p .answer) (q .answer), joined (once (p .content) (q .content)) refl);
       reader-hashes-at = λ κs a x y u v p q. (once p q, refl);
+      first-list = λ κs a x y u v p q. (once p q, refl);
     }

@@ -18,6 +18,7 @@ use Rattle.peek.proofs.peek.peek_heads as of-peek-heads
 use Rattle.size.proofs.size.message_size as of-message-size
 use Rattle.encode.proofs.encode.encode as of-encode
 use Rattle.reader.proofs.reader.hashes_at as of-reader-hashes-at
+use Rattle.reader.proofs.first.first_list as of-first-list
 
 -- Messages: their flags and versions, read, peeked at, sized and written.
 pub record MessagesBind : Type 0 where
@@ -46,3 +47,4 @@ pub record MessagesBind : Type 0 where
   pub encode : Binds of-encode.ended of-encode.Reads.Post
   -- the crate reader
   pub reader-hashes-at : Binds of-reader-hashes-at.ended of-reader-hashes-at.Reads.Post
+  pub first-list : Binds of-first-list.ended of-first-list.Reads.Post

@@ -1,2 +1,3 @@
 pub mod MessageLaws
 pub mod Promises
+pub mod Ties

@@ -1,14 +1,15 @@
 -- The walk's example as bytes: its tables are good, so the hosts can make these calls, and what is granted holds of them. So the corollary of the calls is
 -- about something. Assumes nothing.
-use Prim.Native.Nat.{ℕ, zero, suc, _+_, _-_, _*_, _≤_}
+use Prim.Native.Nat.{ℕ, zero, suc, _+_, _-_, _*_}
 use mathlib.Core.List.{List, [], _∷_, _++_}
 use mathlib.Core.Path.{_≡_, refl, sym, subst, fun-ext}
 use native.Mathlib.Omega.{arith}
-use lib.ListN.{length, replicate}
+use lib.ListN.{replicate}
 use Rattle.bloom.specs.Filter.{defaultBits, defaultProbes}
 use Rattle.index.specs.Index.{fitsBy, fits, indexFits, indexChecked}
 use Rattle.memory.proofs.AllBytes.{bytes-none, bytes-cons, bytes-append, zeros-bytes}
-use Rattle.memory.specs.Memory.{Fresh, Out, RoomyOut, Tabled, Beside}
+use Rattle.memory.proofs.Zeroed.{zeroes, zeroes-room, zeroed, zeroed-fresh, zeroed-out, zeroed-wide}
+use Rattle.memory.specs.Memory.{Tabled, Beside}
 use Rattle.order.specs.Order.{member, every, ascends}
 use Rattle.rules.proofs.Hash.{big-endian-bytes-bytes}
 use Rattle.rules.specs.Hash.{Bytes, bigEndian, bigEndianBytes, hashAt, hashesAt, hashBytes}
@@ -36,7 +37,7 @@ use Rattle.waiting.specs.Bytes.{
 use Rattle.waiting.specs.Waiting.{Waiting, waiting}
 use Rattle.walk.specs.Round.{Part}
 use Rattle.walk.proofs.Example.{a, b, c, one, three, cWaits, part-one}
-use Rattle.talk.specs.Calls.{Both, TalkOfCalls, AllGranted, CallsEnd, Lends}
+use Rattle.talk.specs.Calls.{TalkOfCalls, AllGranted, CallsEnd, Lends}
 use Rattle.talk.proofs.Goes.{calls-go}
 use Rattle.talk.proofs.Talk.{calls-corollary}
 
@@ -169,18 +170,18 @@ beside-b (suc (suc zero)) =
     subst (λ (t : List Row). Beside t c-waits) (sym (computed .0)) (record { rows = 1; good = computed .5; bytes = waits-bytes })
 beside-b (suc (suc (suc k))) = beside-none (tableOf all-rows)
 
-lends : (o : Out) → RoomyOut o → (buffer : List ℕ) → sizes .message ≤ length buffer → Lends all-rows at-b waits-b waits-a lent
-lends o wide buffer room =
+lends : Lends all-rows at-b waits-b waits-a lent
+lends =
     record {
       tableA = tabled-three;
       tableB = tabled-b;
       waitsA = λ k. beside-none (tableOf all-rows);
       waitsB = beside-b;
       changes = λ k. record { change = λ h. bytes-none; document = bytes-none };
-      out = o;
-      wide = wide;
-      buffer = buffer;
-      room = room;
+      out = zeroed-out;
+      wide = zeroed-wide;
+      buffer = zeroes (sizes .message);
+      room = zeroes-room (sizes .message);
     }
 
 -- ---- all is granted
@@ -199,12 +200,8 @@ part : Part (tableOf all-rows) (tableOf a-row)
 part =
     subst (λ (A : List Row). Part A (tableOf a-row)) (sym (computed .2)) (subst (λ (B : List Row). Part three B) (sym (computed .0)) part-one)
 
--- over any fresh memories and buffers with room there is a talk of so many rounds, and the corollary speaks of it
-pub calls-example : (s : Both) → Fresh (s .atA) → Fresh (s .atB)
-    → (o : Out) → RoomyOut o
-    → (buffer : List ℕ) → sizes .message ≤ length buffer
-    → (n : ℕ)
-    → (talk : TalkOfCalls all-rows at-b waits-b waits-a lent n) × CallsEnd all-rows at-b waits-b waits-a lent n talk
-calls-example s freshA freshB o wide buffer room n =
-    let talk = calls-go all-rows at-b waits-b waits-a lent (lends o wide buffer room) s freshA freshB n in
+-- two hosts with memory and buffers of limit size talk for so many rounds, and the corollary speaks of it: every premise is met here
+pub calls-example : (n : ℕ) → (talk : TalkOfCalls all-rows at-b waits-b waits-a lent n) × CallsEnd all-rows at-b waits-b waits-a lent n talk
+calls-example n =
+    let talk = calls-go all-rows at-b waits-b waits-a lent lends (record { atA = zeroed; atB = zeroed }) zeroed-fresh zeroed-fresh n in
     (talk, calls-corollary all-rows at-b waits-b waits-a lent n talk tabled-three part (none-waits [] .0) granted)

@@ -1,3 +1,4 @@
+pub mod Contracts
 pub mod Demand
 pub mod Example
 pub mod Goes
@@ -5,5 +6,6 @@ pub mod Planning
 pub mod Promises
 pub mod Receiving
 pub mod Speaking
+pub mod States
 pub mod Talk
 pub mod Writing

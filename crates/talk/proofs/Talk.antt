@@ -128,9 +128,9 @@ module _ (a : List ℕ) (b w u : ℕ → List ℕ) (hosts : ℕ → Host) where
     spokenB = speaking-holds (hosts k) (b k) (w k) (r .tableB) (r .waitsB) y (s .atB) (r .midB) (before .holdsB) (r .question) (r .asks)
 
     -- A has heard it
-    heldA : Holds heardA (r .midA)
+    pub held-mid : Holds heardA (r .midA)
     unfolding asked toA
-    heldA =
+    held-mid =
         subst (λ (z : State). Holds z (r .midA))
         (heard-so (hosts k) (b k) (w k) (r .tableB) (r .waitsB) y (s .atB) (r .midB) (before .holdsB) (r .question) (r .asks) (length A) A x)
         (receive-holds a (r .tableA) (length A) (r .question) (r .hears .said) x (s .atA) (before .holdsA) (r .midA) (r .hears))
@@ -138,14 +138,14 @@ module _ (a : List ℕ) (b w u : ℕ → List ℕ) (hosts : ℕ → Host) where
     -- A has answered
     spokenA : Holds (after (answeredIn a b w u hosts k) heardA) (s′ .atA)
     unfolding answered
-    spokenA = speaking-holds (hosts k) a (u k) (r .tableA) (r .waitsA) heardA (r .midA) (s′ .atA) heldA (r .reply) (r .answers)
+    spokenA = speaking-holds (hosts k) a (u k) (r .tableA) (r .waitsA) heardA (r .midA) (s′ .atA) held-mid (r .reply) (r .answers)
 
     -- B has heard that
     heldB : Holds (left (toB defaultBits defaultProbes A B W U hosts k (pair k))) (s′ .atB)
     unfolding answered toB
     heldB =
         subst (λ (z : State). Holds z (s′ .atB))
-        (heard-so (hosts k) a (u k) (r .tableA) (r .waitsA) heardA (r .midA) (s′ .atA) heldA (r .reply) (r .answers) (length (B k)) (B (suc k)) _)
+        (heard-so (hosts k) a (u k) (r .tableA) (r .waitsA) heardA (r .midA) (s′ .atA) held-mid (r .reply) (r .answers) (length (B k)) (B (suc k)) _)
         (receive-holds (b (suc k)) (r .loadedB) (length (B k)) (r .reply) (r .takes .said) _ (r .midB) spokenB (s′ .atB) (r .takes))
 
     pub next : AreSessions a b w u hosts (suc k) s′
@@ -161,22 +161,23 @@ module _ (a : List ℕ) (b w u : ℕ → List ℕ) (hosts : ℕ → Host) where
 
   -- ---- the corollary
 
+  -- what is given of the bytes is what theorem 2 asks of the tables
+  pub tables-given : Tabled a → Part A (B 0) → W 0 ≡ [] → Tables defaultBits defaultProbes A B W U hosts
+  tables-given tabled part nothing =
+      let sound = table-sound a tabled in
+      record {
+        good = sound .good;
+        limit = sound .few;
+        hashes = sound .are;
+        part = part;
+        nothing = nothing;
+        setting = default-setting A (sound .few);
+      }
+
   module _ (n : ℕ) (talk : TalkOfCalls a b w u hosts n) (tabled : Tabled a) (part : Part A (B 0)) (nothing : W 0 ≡ [])
       (all : (k : ℕ) → Reached defaultBits defaultProbes A B W U hosts k → Granted defaultBits defaultProbes A B W U hosts k) where
-    tables : Tables defaultBits defaultProbes A B W U hosts
-    tables =
-        let sound = table-sound a tabled in
-        record {
-          good = sound .good;
-          limit = sound .few;
-          hashes = sound .are;
-          part = part;
-          nothing = nothing;
-          setting = default-setting A (sound .few);
-        }
-
     end : Ended defaultBits defaultProbes A B W U hosts (lacking A (B 0))
-    end = corollary defaultBits defaultProbes A B W U hosts tables all
+    end = corollary defaultBits defaultProbes A B W U hosts (tables-given tabled part nothing) all
 
     module _ (k : ℕ) (upTo : k ≤ end .last) (h : k < n) where
       abbrev r : CallsRound a b w u hosts k (talk .at k) (talk .at (suc k))
@@ -223,7 +224,7 @@ module _ (a : List ℕ) (b w u : ℕ → List ℕ) (hosts : ℕ → Host) where
       reply-answered : SaidSo (r .answers .answer) (r .answers .written) (r .answers .out′) (reply .body .hashes) × (getD (r .takes .answer) 0 0 ≡ 0)
       unfolding answered
       reply-answered =
-          answered-so (hosts k) a (u k) (r .tableA) (r .waitsA) _ _ _ (heldA k _ _ r before) (r .reply) (r .answers) reply _ (end .answers k upTo .2) (b (suc k))
+          answered-so (hosts k) a (u k) (r .tableA) (r .waitsA) _ _ _ (held-mid k _ _ r before) (r .reply) (r .answers) reply _ (end .answers k upTo .2) (b (suc k))
           (r .loadedB) (length (B k)) _ _ _ _ (spokenB k _ _ r before) (r .takes) takes-reply
 
       all-answered : AllAnswered a b w u hosts k (talk .at k) (talk .at (suc k)) r

@@ -15,7 +15,7 @@ use Rattle.session.specs.Plan.{haveOf, havesFor}
 use Rattle.tables.specs.Table.{Row, GoodTable, held}
 use Rattle.waiting.specs.Waiting.{Waiting}
 use Rattle.walk.specs.Round.{Part, Covers, Gives, one, none, trim, Picks}
-use Rattle.walk.specs.Walk.{At, Round, Walk, accepted, Round01, Walk01, Walk01Walks, heardIn, walkNeed, offerTo, holdsAll, lacking}
+use Rattle.walk.specs.Walk.{At, Walk, accepted, Walk01, Walk01Walks, Round01Rounds, Walk01New, Walk01Goes, heardIn, walkNeed, offerTo, holdsAll, lacking}
 use Rattle.walk.proofs.Loading.{loads-outcome}
 use Rattle.walk.proofs.Offers.{picks-whole}
 use Rattle.walk.proofs.Theorem1.{theorem-1}
@@ -34,9 +34,8 @@ haves-given bits probes t w heard l rules holds =
     (λ e. rw e (one (haveOf bits probes t l) e (have-covers bits probes t l rules holds)))
     (λ e. rw e (none e))
 
-round-walks : {bits probes : ℕ} {A : List Row} {heard l : List ℕ} {s : At} {haves : List Have} {reply : List ℕ} {s′ : At}
-    → Round01 bits probes A heard l s haves reply s′ → Round A heard s haves reply s′
-round-walks {bits} {probes} {A} {heard} {l} {s} {haves} {reply} {s′} r =
+pub round01-rounds : Round01Rounds
+round01-rounds bits probes A heard l s haves reply s′ r =
     record {
       gives = subst (Gives (s .table) (s .waits) heard) (sym (r .have)) (haves-given bits probes (s .table) (s .waits) heard l (r .setting) (r .holds));
       picks = subst (Picks (offerTo A heard s haves)) (sym (r .whole)) (picks-whole (offerTo A heard s haves));
@@ -47,7 +46,7 @@ round-walks {bits} {probes} {A} {heard} {l} {s} {haves} {reply} {s′} r =
 
 walks : {bits probes : ℕ → ℕ} {L : ℕ → List ℕ} {A B : List Row} {k : ℕ} {s : At} → Walk01 bits probes L A B k s → Walk A B k s
 walks Walk01.start = Walk.start
-walks (Walk01.round haves reply walk r) = Walk.round haves reply (walks walk) (round-walks r)
+walks (Walk01.round haves reply walk r) = Walk.round haves reply (walks walk) (round01-rounds _ _ _ _ _ _ _ _ _ r)
 
 pub walk01-walks : Walk01Walks
 walk01-walks bits probes L A B good part k s walk = walks walk
@@ -61,11 +60,13 @@ walk01-ends bits probes L A B good part k s walk e =
     let all = promised .ends k s (walks walk) e in
     (all, promised .count k s (walks walk) all)
 
--- And it can always go on, with any last-sync hashes that B holds and any bits and probes that are accepted.
-pub walk01-goes : (bits probes : ℕ → ℕ) (L : ℕ → List ℕ) (A B : List Row) (k : ℕ) (s : At) → Walk01 bits probes L A B k s
-    → accepted (bits k) (probes k) (s .table) (L k) ≡ true
-    → ((h : ℕ) → member h (L k) ≡ true → held (s .table) h ≡ true)
-    → (s′ : At) × Walk01 bits probes L A B (suc k) s′
+-- No row that B holds is in a reply, by the same promise.
+pub walk01-new : Walk01New
+walk01-new bits probes L A B good part k s s′ haves reply walk r =
+    theorem-1 A B good part .new k s s′ haves reply (walks walk) (round01-rounds _ _ _ _ _ _ _ _ _ r)
+
+-- And it can always go on: the have and the reply are there, and what was replied loads in some order.
+pub walk01-goes : Walk01Goes
 walk01-goes bits probes L A B k s walk rules holds =
     let haves : List Have = havesFor (bits k) (probes k) (s .table) (walkNeed (heardIn k A) s) (heardIn k A) (L k) in
     let reply : List ℕ = offerTo A (heardIn k A) s haves in

@@ -79,6 +79,28 @@ pub data Walk01 (bits probes : ℕ → ℕ) (L : ℕ → List ℕ) (A B : List R
 abbrev pub Walk01Walks : Type 0
 Walk01Walks = (bits probes : ℕ → ℕ) (L : ℕ → List ℕ) (A B : List Row) → GoodTable A → Part A B → (k : ℕ) (s : At) → Walk01 bits probes L A B k s → Walk A B k s
 
+-- Each of its rounds is a round.
+abbrev pub Round01Rounds : Type 0
+Round01Rounds = (bits probes : ℕ) (A : List Row) (heard l : List ℕ) (s : At) (haves : List Have) (reply : List ℕ) (s′ : At)
+    → Round01 bits probes A heard l s haves reply s′
+    → Round A heard s haves reply s′
+
+-- No row that B holds is in a reply of it.
+abbrev pub Walk01New : Type 0
+Walk01New = (bits probes : ℕ → ℕ) (L : ℕ → List ℕ) (A B : List Row) → GoodTable A → Part A B → (k : ℕ) (s s′ : At) (haves : List Have) (reply : List ℕ)
+    → Walk01 bits probes L A B k s
+    → Round01 (bits k) (probes k) A (heardIn k A) (L k) s haves reply s′
+    → (h : ℕ)
+    → member h reply ≡ true
+    → held (s .table) h ≡ false
+
+-- It can always go on, with any last-sync hashes that B holds and any bits and probes that are accepted.
+abbrev pub Walk01Goes : Type 0
+Walk01Goes = (bits probes : ℕ → ℕ) (L : ℕ → List ℕ) (A B : List Row) (k : ℕ) (s : At) → Walk01 bits probes L A B k s
+    → accepted (bits k) (probes k) (s .table) (L k) ≡ true
+    → ((h : ℕ) → member h (L k) ≡ true → held (s .table) h ≡ true)
+    → (s′ : At) × Walk01 bits probes L A B (suc k) s′
+
 -- Whether B holds every row of A.
 abbrev pub holdsAll : List Row → List Row → Bool
 holdsAll A b = every (held b) (rows A)

@@ -212,7 +212,14 @@ fn every_public_contract_is_bound() {
             .filter_map(|line| line.strip_prefix("use Rattle·"));
         let lines = lines.filter_map(|line| line.split_once(".proofs."));
         for (krate, rest) in lines {
-            let (path, _) = rest.split_once(" as ").expect("a name of its own");
+            let (path, name) = rest.split_once(" as ").expect("a name of its own");
+            // A contract that is only named is bound by nothing: its line is a field.
+            let field = format!(" : Binds {name}.ended {name}.Reads.Post");
+            assert!(
+                text.lines()
+                    .any(|line| line.starts_with("  pub ") && line.ends_with(&field)),
+                "{krate}.{path} has no field"
+            );
             bound.push((krate.to_string(), path.to_string()));
         }
     }
