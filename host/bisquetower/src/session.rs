@@ -3,6 +3,8 @@
 mod generate;
 mod parts;
 mod receive;
+#[cfg(test)]
+mod tests;
 
 pub use generate::Plan;
 pub use parts::SessionParts;
@@ -16,6 +18,9 @@ use crate::{raw, saved, SavedState};
 
 /// Words of a session.
 pub(crate) const WORDS: usize = 16;
+
+/// The most bytes of a hash list.
+pub(crate) const LIST: usize = 32_768;
 
 /// The words that are looked at here, by name (docs/ABI.md, Sessions).
 const SHARED: usize = 0;
@@ -231,30 +236,29 @@ impl Session {
         self.words[flag] != 0
     }
 
-    /// Cuts the lists to what the words say.
+    /// Cuts the lists to what the words say, so that between calls a session takes no more
+    /// memory than what it knows.
     fn trim(&mut self) {
         let count = |flag: usize| match self.words[flag] {
             0 => 0,
             _ => self.words[flag + 1] as usize,
         };
         let (heads, need, haves) = (count(THEIR_HEADS), count(THEIR_NEED), count(THEIR_HAVE));
-        let Lists {
-            shared,
-            last_sent,
-            their_heads,
-            their_need,
-            sent,
-            ..
-        } = &mut self.lists;
-        shared.truncate(HASH * self.words[SHARED] as usize);
-        last_sent.truncate(HASH * self.words[LAST_SENT] as usize);
-        their_heads.truncate(HASH * heads);
-        their_need.truncate(HASH * need);
-        sent.truncate(HASH * self.words[SENT] as usize);
-        let words = &mut self.lists.haves;
-        words.truncate(HAVE_WORDS * haves);
+        let lists = &mut self.lists;
+        cut(&mut lists.shared, HASH * self.words[SHARED] as usize);
+        cut(&mut lists.last_sent, HASH * self.words[LAST_SENT] as usize);
+        cut(&mut lists.their_heads, HASH * heads);
+        cut(&mut lists.their_need, HASH * need);
+        cut(&mut lists.sent, HASH * self.words[SENT] as usize);
+        cut(&mut lists.haves, HAVE_WORDS * haves);
         let end = |have: &[u64]| (have[0] + HASH as u64 * have[1]).max(have[5] + have[6]);
-        let used = words.chunks_exact(HAVE_WORDS).map(end).max();
-        self.lists.bytes.truncate(used.unwrap_or(0) as usize);
+        let used = lists.haves.chunks_exact(HAVE_WORDS).map(end).max();
+        cut(&mut lists.bytes, used.unwrap_or(0) as usize);
     }
+}
+
+/// Cuts a list to so many items, and gives back the memory behind them.
+fn cut<T>(list: &mut Vec<T>, length: usize) {
+    list.truncate(length);
+    list.shrink_to_fit();
 }

@@ -1,14 +1,13 @@
 //! What is said next.
 
-use super::{Lists, Session};
+use super::{Lists, Session, LIST};
 use crate::hash::{hashes_in, ChangeHash, HASH};
 use crate::have::haves_in;
 use crate::refusal::{answer, Refusal};
 use crate::{raw, Error, Host, Message, MessageFlags, MessageVersion};
 use std::borrow::Cow;
 
-/// The most bytes of a hash list, of a have, and of the hashes to send.
-const LIST: usize = 32_768;
+/// The most bytes of a have, and of the hashes to send.
 const HAVE: usize = 40_960;
 const TO_SEND: usize = 65_536;
 

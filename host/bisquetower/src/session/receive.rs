@@ -1,11 +1,12 @@
 //! What a message does.
 
-use super::{Lists, Session};
+use super::{Lists, Session, LIST};
 use crate::{raw, refusal, Error, Host, Message, Table};
 
-/// The most words and bytes of kept haves, and the most bytes of a hash list.
-const HAVES: usize = 112;
-const LIST: usize = 32_768;
+/// The most words of kept haves, and the most bytes under them: 16 haves of 1,024 hashes
+/// and 8,192 bytes of field.
+pub(super) const HAVES: usize = 112;
+pub(super) const HAVE_BYTES: usize = 655_360;
 
 /// The refusal of a failed load: the only one that changes a session.
 const NOT_LOADED: u64 = 8;
@@ -55,8 +56,10 @@ impl Session {
             list.resize(LIST, 0);
         }
         haves.resize(HAVES, 0);
-        // What is kept of haves stands in the message, but for the numbers between.
-        let room = bytes.len().max(message.len());
+        // What is kept of haves stands in the message, but for the numbers between, so a
+        // short message wants no more room than it has bytes, and a long one no more than
+        // the limits allow.
+        let room = bytes.len().max(message.len().min(HAVE_BYTES));
         bytes.resize(room, 0);
         let session = &mut self.words;
         let words = self.index.beside(table, |index| {
