@@ -37,9 +37,10 @@ const READ_ONLY: usize = 13;
 const PEER_READ_ONLY: usize = 14;
 const NEEDS_RESET: usize = 15;
 
-/// What a unit knows of the sync with one peer. A program keeps one for each peer, has
-/// it [`generate`](Session::generate) what to send and [`receive`](Session::receive)
-/// what comes, until neither unit has anything to say.
+/// What a unit knows of the sync with one peer. A program keeps one for each peer, sends
+/// the [`next_message`](Session::next_message) that it has to say, and lets it
+/// [`receive`](Session::receive) what comes. When neither unit has anything to say they
+/// have caught up; the same sessions go on when either of them has news.
 ///
 /// ```
 /// use bisquetower::{Change, ChangeHash, Memory, Session};
@@ -53,13 +54,13 @@ const NEEDS_RESET: usize = 15;
 ///
 /// let (mut ours, mut theirs) = (Session::new(), Session::new());
 /// loop {
-///     let question = ours.generate(&validator)?;
-///     if let Some(message) = &question {
-///         theirs.receive(&mut station, &message.encode()?)?;
+///     let question = ours.next_message(&validator)?;
+///     if let Some(bytes) = &question {
+///         theirs.receive(&mut station, bytes)?;
 ///     }
-///     let reply = theirs.generate(&station)?;
-///     if let Some(message) = &reply {
-///         ours.receive(&mut validator, &message.encode()?)?;
+///     let reply = theirs.next_message(&station)?;
+///     if let Some(bytes) = &reply {
+///         ours.receive(&mut validator, bytes)?;
 ///     }
 ///     if question.is_none() && reply.is_none() {
 ///         break;

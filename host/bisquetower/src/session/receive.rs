@@ -16,7 +16,6 @@ impl Session {
     /// read-only or the message is refused.
     ///
     /// Where the library is linked this takes up to 256 KiB of the thread's stack.
-    #[doc(alias = "receive_sync_message")]
     pub fn receive<H: Host>(
         &mut self,
         host: &mut H,
@@ -34,6 +33,17 @@ impl Session {
             (Err(refusal), Err(why)) if refusal.number == NOT_LOADED => Err(Error::Load(why)),
             (taken, _) => taken.map_err(Error::Refused),
         }
+    }
+
+    /// Takes a message that was decoded, by the name that this has in automerge: what
+    /// [`receive`](Session::receive) does with the bytes that [`Message::encode`] makes of
+    /// it. If it can't be encoded it is refused, and the session is as it was.
+    pub fn receive_sync_message<H: Host>(
+        &mut self,
+        host: &mut H,
+        message: Message,
+    ) -> Result<(), Error<H::Error>> {
+        self.receive(host, &message.encode()?)
     }
 
     fn take(
