@@ -19,7 +19,7 @@ const NUMBERS: usize = 16;
 /// use bisquetower::{ChangeHash, Filter};
 ///
 /// let (a, b) = (ChangeHash([1; 32]), ChangeHash([2; 32]));
-/// let filter = Filter::from_hashes(&[a])?;
+/// let filter = Filter::from_hashes([a])?;
 /// assert!(filter.contains_hash(&a) && !filter.contains_hash(&b));
 /// assert_eq!(Filter::parse(&filter.to_bytes())?, filter);
 ///

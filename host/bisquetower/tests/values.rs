@@ -26,7 +26,7 @@ fn a_message_is_read_back() {
     flags.set(MessageFlags::READ_ONLY);
     let have = |count| Have {
         last_sync: hashes(count),
-        bloom: Filter::from_hashes(&hashes(count)).unwrap(),
+        bloom: Filter::from_hashes(hashes(count)).unwrap(),
     };
     let message = Message {
         heads: hashes(3),
@@ -94,7 +94,7 @@ fn filters_at_their_bounds() {
     assert_eq!(Filter::parse(&filter.to_bytes()), Ok(filter));
     assert_eq!(Filter::with(81, 64, &all), Err(refusal(10, 0)));
     assert_eq!(Filter::with(10, 65, &all), Err(refusal(10, 0)));
-    assert_eq!(Filter::from_hashes(&hashes(1_025)), Err(refusal(4, 0)));
+    assert_eq!(Filter::from_hashes(hashes(1_025)), Err(refusal(4, 0)));
 
     let parts = |entries, length| Filter::from_parts(entries, 10, 7, &all[0].0[..length]);
     assert_eq!(parts(2, 3).map(|filter| filter.num_entries()), Ok(2));
@@ -115,8 +115,8 @@ fn a_filter_of_any_hashes() {
     assert_eq!(filter.num_entries(), 5);
     assert_eq!(Filter::from_hashes(all.iter()).as_ref(), Ok(&filter));
     assert_eq!(Filter::from_hashes((0..5).map(hash)).as_ref(), Ok(&filter));
-    assert_eq!(Filter::with(10, 7, all.clone()), Ok(filter));
-    assert_eq!(Filter::from_hashes(&[]), Ok(Filter::default()));
+    assert_eq!(Filter::with(10, 7, &all), Ok(filter));
+    assert_eq!(Filter::from_hashes(&all[..0]), Ok(Filter::default()));
 }
 
 /// The filter of the hash whose words are 1, 2, 3, and a hash that it mistakes for it.
@@ -129,7 +129,7 @@ fn a_false_yes() {
         }
         ChangeHash(hash)
     };
-    let filter = Filter::from_hashes(&[words([1, 2, 3])]).unwrap();
+    let filter = Filter::from_hashes([words([1, 2, 3])]).unwrap();
     assert_eq!(filter.to_bytes(), [1, 10, 7, 0x0b, 0x0f]);
     let asked = [words([1, 0, 0]), words([2, 0, 0])];
     assert_eq!(filter.contains_hashes(&asked), [true, false]);
