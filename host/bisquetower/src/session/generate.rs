@@ -29,8 +29,8 @@ impl Session {
     /// What to say to the peer next, as the bytes to send; none if there is nothing to say,
     /// or an answer is awaited. [`receive`](Session::receive) takes them at the other end.
     ///
-    /// The session takes the message as said when it returns one, and at no other time: if
-    /// the host can't lend a change ([`Error::Lend`]) or the library refuses
+    /// The session takes a message as said when this call returns its bytes, and at no
+    /// other time: if the host can't lend a change ([`Error::Lend`]) or the library refuses
     /// ([`Error::Refused`]) the session is as it was, and the next call tries again. A
     /// message of more than 4,194,304 bytes is refusal 4, as are tables and lists past
     /// their limits. It stays refused as long as the same changes are to be sent and take
@@ -41,9 +41,10 @@ impl Session {
         self.say(host, |message| message.encode())
     }
 
-    /// The same as a value, for programs that look at what they send. The session changes
-    /// as it does in [`next_message`](Session::next_message): a message that
-    /// [`Message::encode`] would refuse is refused here, with the session as it was.
+    /// What to say to the peer next, as a value: for programs that look at what they send.
+    /// The session changes when this call returns a message, as in
+    /// [`next_message`](Session::next_message). One that [`Message::encode`] would refuse
+    /// is refused here, with the session as it was.
     pub fn generate<H: Host>(&mut self, host: &H) -> Result<Option<Message>, Error<H::Error>> {
         self.say(host, |message| message.check().map(|()| message))
     }
