@@ -6,8 +6,8 @@ use std::fmt;
 /// Why a session's step wasn't taken. `H` is what the host's own calls fail with.
 #[derive(Clone, Debug, PartialEq, Eq)]
 pub enum Error<H> {
-    /// The library refused, and the session is as it was. A message's changes may have
-    /// been loaded by then, where they lead past a limit.
+    /// The library refused, and the session is as it was. Of a message that came the
+    /// changes may have been loaded by then, where they lead past a limit.
     Refused(Refusal),
     /// The host couldn't lend a change or its document, and the session is as it was.
     Lend(H),
@@ -32,11 +32,13 @@ impl<H: fmt::Display> fmt::Display for Error<H> {
     }
 }
 
-impl<H: std::error::Error + 'static> std::error::Error for Error<H> {
+impl<H: std::error::Error> std::error::Error for Error<H> {
+    /// What is behind the refusal or the host's error. These themselves are told by
+    /// `Display`, and a report of the whole chain is to say each thing once.
     fn source(&self) -> Option<&(dyn std::error::Error + 'static)> {
         match self {
-            Error::Refused(refusal) => Some(refusal),
-            Error::Lend(why) | Error::Load(why) => Some(why),
+            Error::Refused(refusal) => refusal.source(),
+            Error::Lend(why) | Error::Load(why) => why.source(),
         }
     }
 }

@@ -1,8 +1,9 @@
 //! Filters over changes.
 
-use crate::hash::{bytes_of, ChangeHash};
+use crate::hash::{bytes_of, ChangeHash, HASH};
 use crate::refusal::{answer, Refusal};
 use crate::{raw, room};
+use std::borrow::Borrow;
 
 /// Bits per entry and probes of the filters that are made here.
 const BITS_PER_ENTRY: u32 = 10;
@@ -18,7 +19,7 @@ const NUMBERS: usize = 16;
 /// use bisquetower::{ChangeHash, Filter};
 ///
 /// let (a, b) = (ChangeHash([1; 32]), ChangeHash([2; 32]));
-/// let filter = Filter::from_hashes(&[a])?;
+/// let filter = Filter::from_hashes([a])?;
 /// assert!(filter.contains_hash(&a) && !filter.contains_hash(&b));
 /// assert_eq!(Filter::parse(&filter.to_bytes())?, filter);
 ///
@@ -48,20 +49,27 @@ impl Default for Filter {
 }
 
 impl Filter {
-    /// The filter of these hashes, with 10 bits for each and 7 probes.
-    pub fn from_hashes(hashes: &[ChangeHash]) -> Result<Filter, Refusal> {
+    /// The filter of these hashes, with 10 bits for each and 7 probes: refusal 4 for more
+    /// hashes than a list has. A slice of hashes does, and so does an iterator.
+    pub fn from_hashes<H: Borrow<ChangeHash>>(
+        hashes: impl IntoIterator<Item = H>,
+    ) -> Result<Filter, Refusal> {
         Filter::with(BITS_PER_ENTRY, PROBES, hashes)
     }
 
     /// The filter of these hashes with other bits per entry and probes: refusal 10 if
     /// these aren't a filter's, 4 for more hashes than a list has.
-    pub fn with(bits: u32, probes: u32, hashes: &[ChangeHash]) -> Result<Filter, Refusal> {
+    pub fn with<H: Borrow<ChangeHash>>(
+        bits: u32,
+        probes: u32,
+        hashes: impl IntoIterator<Item = H>,
+    ) -> Result<Filter, Refusal> {
         let (bits, probes) = (bits.into(), probes.into());
         let lent = bytes_of(hashes);
         let room = lent.len();
         let field = room::written(room, |field| raw::build_filter(bits, probes, &lent, field))?;
         Ok(Filter {
-            entries: hashes.len() as u64,
+            entries: (lent.len() / HASH) as u64,
             bits,
             probes,
             field,

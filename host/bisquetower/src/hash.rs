@@ -1,5 +1,6 @@
 //! The name of a change.
 
+use std::borrow::Borrow;
 use std::fmt;
 use std::str::FromStr;
 
@@ -11,7 +12,9 @@ pub(crate) const HASH: usize = 32;
 /// ```
 /// use bisquetower::ChangeHash;
 ///
-/// let hash = ChangeHash([0xab; 32]);
+/// let hash = ChangeHash::from([0xab; 32]);
+/// assert_eq!(hash.as_ref(), [0xab; 32]);
+/// assert_eq!(ChangeHash::try_from(&[0xab; 32][..]), Ok(hash));
 /// assert_eq!(hash.to_string(), "ab".repeat(32));
 /// assert_eq!("ab".repeat(32).parse(), Ok(hash));
 /// assert!("ab".parse::<ChangeHash>().is_err());
@@ -39,6 +42,24 @@ impl fmt::Display for ChangeHash {
 impl fmt::Debug for ChangeHash {
     fn fmt(&self, f: &mut fmt::Formatter<'_>) -> fmt::Result {
         write!(f, "ChangeHash({self})")
+    }
+}
+
+impl AsRef<[u8]> for ChangeHash {
+    fn as_ref(&self) -> &[u8] {
+        &self.0
+    }
+}
+
+impl From<[u8; HASH]> for ChangeHash {
+    fn from(bytes: [u8; HASH]) -> Self {
+        ChangeHash(bytes)
+    }
+}
+
+impl From<ChangeHash> for [u8; HASH] {
+    fn from(hash: ChangeHash) -> Self {
+        hash.0
     }
 }
 
@@ -75,8 +96,9 @@ impl fmt::Display for NotAHash {
 impl std::error::Error for NotAHash {}
 
 /// Hashes one after the other, as the calls take them.
-pub(crate) fn bytes_of(hashes: &[ChangeHash]) -> Vec<u8> {
-    hashes.iter().flat_map(|hash| hash.0).collect()
+pub(crate) fn bytes_of<H: Borrow<ChangeHash>>(hashes: impl IntoIterator<Item = H>) -> Vec<u8> {
+    let each = hashes.into_iter();
+    each.flat_map(|hash| hash.borrow().0).collect()
 }
 
 /// The hashes that stand one after the other; a part of one at the end is none.

@@ -6,7 +6,7 @@
 //! way from automerge's own module, side by side.
 //!
 //! ```text
-//!   Session  generate, receive       Host, Memory    the document's side
+//!   Session  next_message, receive   Host, Memory    the document's side
 //!     |
 //!   Message, Have, Filter, SavedState, Table, Waiting, hashes_to_send
 //!     |

@@ -3,7 +3,7 @@
 use crate::refusal::{answer, Refusal};
 
 /// Refusal 7 tells how much room is wanted.
-const TOO_SHORT: u64 = 7;
+pub(crate) const TOO_SHORT: u64 = 7;
 
 /// What a call wrote whose answer begins with the bytes written: it is lent so much
 /// room, and more only if it asks for more.

@@ -114,6 +114,15 @@ impl Message {
         let [length, ..] = answer(Lent::new(self).write(out))?;
         Ok(length as usize)
     }
+
+    /// Refuses what `encode` refuses, and writes nothing: 7 is the last of a write's
+    /// refusals, so where no room brings that one, room is all that is wanted.
+    pub(crate) fn check(&self) -> Result<(), Refusal> {
+        match self.encode_into(&mut []) {
+            Err(refusal) if refusal.number == room::TOO_SHORT => Ok(()),
+            written => written.map(|_| ()),
+        }
+    }
 }
 
 /// A message's parts as the call that writes takes them.

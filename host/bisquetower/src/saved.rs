@@ -2,7 +2,7 @@
 
 use crate::hash::{bytes_of, hashes_in, ChangeHash, HASH};
 use crate::refusal::Refusal;
-use crate::session::WORDS;
+use crate::session::{LIST, WORDS};
 use crate::{raw, refusal, room};
 
 /// The part of a session that is worth keeping between connections: the heads that
@@ -43,8 +43,8 @@ impl SavedState {
 /// The shared heads of a saved state, and the words of the session that it is.
 pub(crate) fn read(bytes: &[u8]) -> Result<(Vec<u8>, [u64; WORDS]), Refusal> {
     let mut session = [0; WORDS];
-    // The heads stand in the bytes themselves, so these are room enough.
-    let mut shared = vec![0; bytes.len()];
+    // The heads stand in the bytes themselves, and are no more than a list has.
+    let mut shared = vec![0; bytes.len().min(LIST)];
     let words = raw::read_state(bytes, &mut shared, &mut session);
     let [count, ..] = refusal::answer(words)?;
     shared.truncate(HASH * count as usize);

@@ -16,7 +16,7 @@ use crate::{raw, room, Table};
 /// let table = Table::from_changes([
 ///     (a, vec![]), (b, vec![a]), (c, vec![a]), (d, vec![b, c]),
 /// ])?;
-/// let all_but_b = Have { last_sync: vec![], bloom: Filter::from_hashes(&[a, c, d])? };
+/// let all_but_b = Have { last_sync: vec![], bloom: Filter::from_hashes([a, c, d])? };
 /// assert_eq!(hashes_to_send(&table, &[all_but_b], &[c])?, [c, b, d]);
 /// # Ok::<(), bisquetower::Refusal>(())
 /// ```

@@ -3,6 +3,8 @@
 mod generate;
 mod parts;
 mod receive;
+#[cfg(test)]
+mod tests;
 
 pub use generate::Plan;
 pub use parts::SessionParts;
@@ -16,6 +18,9 @@ use crate::{raw, saved, SavedState};
 
 /// Words of a session.
 pub(crate) const WORDS: usize = 16;
+
+/// The most bytes of a hash list.
+pub(crate) const LIST: usize = 32_768;
 
 /// The words that are looked at here, by name (docs/ABI.md, Sessions).
 const SHARED: usize = 0;
@@ -32,9 +37,10 @@ const READ_ONLY: usize = 13;
 const PEER_READ_ONLY: usize = 14;
 const NEEDS_RESET: usize = 15;
 
-/// What a unit knows of the sync with one peer. A program keeps one for each peer, has
-/// it [`generate`](Session::generate) what to send and [`receive`](Session::receive)
-/// what comes, until neither unit has anything to say.
+/// What a unit knows of the sync with one peer. A program keeps one for each peer, sends
+/// the [`next_message`](Session::next_message) that it has to say, and lets it
+/// [`receive`](Session::receive) what comes. When neither unit has anything to say they
+/// have caught up; the same sessions go on when either of them has news.
 ///
 /// ```
 /// use bisquetower::{Change, ChangeHash, Memory, Session};
@@ -48,13 +54,13 @@ const NEEDS_RESET: usize = 15;
 ///
 /// let (mut ours, mut theirs) = (Session::new(), Session::new());
 /// loop {
-///     let question = ours.generate(&validator)?;
-///     if let Some(message) = &question {
-///         theirs.receive(&mut station, &message.encode()?)?;
+///     let question = ours.next_message(&validator)?;
+///     if let Some(bytes) = &question {
+///         theirs.receive(&mut station, bytes)?;
 ///     }
-///     let reply = theirs.generate(&station)?;
-///     if let Some(message) = &reply {
-///         ours.receive(&mut validator, &message.encode()?)?;
+///     let reply = theirs.next_message(&station)?;
+///     if let Some(bytes) = &reply {
+///         ours.receive(&mut validator, bytes)?;
 ///     }
 ///     if question.is_none() && reply.is_none() {
 ///         break;
@@ -231,30 +237,29 @@ impl Session {
         self.words[flag] != 0
     }
 
-    /// Cuts the lists to what the words say.
+    /// Cuts the lists to what the words say, so that between calls a session takes no more
+    /// memory than what it knows.
     fn trim(&mut self) {
         let count = |flag: usize| match self.words[flag] {
             0 => 0,
             _ => self.words[flag + 1] as usize,
         };
         let (heads, need, haves) = (count(THEIR_HEADS), count(THEIR_NEED), count(THEIR_HAVE));
-        let Lists {
-            shared,
-            last_sent,
-            their_heads,
-            their_need,
-            sent,
-            ..
-        } = &mut self.lists;
-        shared.truncate(HASH * self.words[SHARED] as usize);
-        last_sent.truncate(HASH * self.words[LAST_SENT] as usize);
-        their_heads.truncate(HASH * heads);
-        their_need.truncate(HASH * need);
-        sent.truncate(HASH * self.words[SENT] as usize);
-        let words = &mut self.lists.haves;
-        words.truncate(HAVE_WORDS * haves);
+        let lists = &mut self.lists;
+        cut(&mut lists.shared, HASH * self.words[SHARED] as usize);
+        cut(&mut lists.last_sent, HASH * self.words[LAST_SENT] as usize);
+        cut(&mut lists.their_heads, HASH * heads);
+        cut(&mut lists.their_need, HASH * need);
+        cut(&mut lists.sent, HASH * self.words[SENT] as usize);
+        cut(&mut lists.haves, HAVE_WORDS * haves);
         let end = |have: &[u64]| (have[0] + HASH as u64 * have[1]).max(have[5] + have[6]);
-        let used = words.chunks_exact(HAVE_WORDS).map(end).max();
-        self.lists.bytes.truncate(used.unwrap_or(0) as usize);
+        let used = lists.haves.chunks_exact(HAVE_WORDS).map(end).max();
+        cut(&mut lists.bytes, used.unwrap_or(0) as usize);
     }
+}
+
+/// Cuts a list to so many items, and gives back the memory behind them.
+fn cut<T>(list: &mut Vec<T>, length: usize) {
+    list.truncate(length);
+    list.shrink_to_fit();
 }

@@ -122,10 +122,11 @@ impl Table {
         self.index.as_bytes()
     }
 
-    /// The hash of a row. Panics if there is no such row, here and below.
+    /// The hash of a row. Panics if there is no such row, as slices do.
+    #[track_caller]
     pub fn hash(&self, row: usize) -> ChangeHash {
-        let record = &self.bytes[Table::ROW * row..][..HASH];
-        ChangeHash(record.try_into().expect("so long"))
+        let (hash, _) = row_of(&self.bytes, Table::ROW, row);
+        hash
     }
 
     /// Every row's hash, in table order.
@@ -133,9 +134,11 @@ impl Table {
         (0..self.rows()).map(|row| self.hash(row)).collect()
     }
 
-    /// The rows that a row depends on, ascending.
+    /// The rows that a row depends on, ascending. Panics if there is no such row.
+    #[track_caller]
     pub fn dependencies(&self, row: usize) -> Vec<usize> {
-        let numbers = self.bytes[Table::ROW * row + HASH..][..Table::ROW - HASH].chunks_exact(2);
+        let (_, numbers) = row_of(&self.bytes, Table::ROW, row);
+        let numbers = numbers.chunks_exact(2);
         let mut numbers = numbers.map(|two| u16::from_le_bytes([two[0], two[1]]).into());
         let count = numbers.next().unwrap_or_default();
         numbers.take(count).collect()
@@ -233,11 +236,25 @@ impl Waiting {
         &self.0
     }
 
-    /// The hash of a waiting change. Panics if there is no such row.
+    /// The hash of a waiting change. Panics if there is no such row, as slices do.
+    #[track_caller]
     pub fn hash(&self, row: usize) -> ChangeHash {
-        let record = &self.0[Waiting::ROW * row..][..HASH];
-        ChangeHash(record.try_into().expect("so long"))
+        let (hash, _) = row_of(&self.0, Waiting::ROW, row);
+        hash
     }
+}
+
+/// The hash of a row and what stands behind it, in records of so many bytes.
+#[track_caller]
+fn row_of(records: &[u8], size: usize, row: usize) -> (ChangeHash, &[u8]) {
+    // Compared before it is multiplied: the product of a large number would wrap.
+    let rows = records.len() / size;
+    assert!(
+        row < rows,
+        "row out of bounds: the number of rows is {rows} but the row is {row}"
+    );
+    let (hash, rest) = records[size * row..][..size].split_at(HASH);
+    (ChangeHash(hash.try_into().expect("so long")), rest)
 }
 
 /// Records of a change table that grows, and where each hash stands.

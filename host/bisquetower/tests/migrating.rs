@@ -1,6 +1,6 @@
 //! docs/MIGRATING.md: what it shows, run.
 
-use bisquetower::{ChangeHash, Error, Host, Memory, Session, Table, Waiting};
+use bisquetower::{ChangeHash, Error, Host, Memory, Message, Session, Table, Waiting};
 use std::borrow::Cow;
 
 /// One turn of a unit: what came in goes to the session, what it says goes out.
@@ -12,7 +12,19 @@ fn turn<H: Host>(
     if let Some(bytes) = received {
         session.receive(host, bytes)?;
     }
-    let message = session.generate(host)?;
+    session.next_message(host)
+}
+
+fn turn_of_values<H: Host>(
+    host: &mut H,
+    session: &mut Session,
+    received: Option<&[u8]>,
+) -> Result<Option<Vec<u8>>, Error<H::Error>> {
+    if let Some(bytes) = received {
+        let message = Message::decode(bytes)?;
+        session.receive_sync_message(host, message)?;
+    }
+    let message = session.generate_sync_message(host)?;
     Ok(message.map(|message| message.encode()).transpose()?)
 }
 
@@ -115,8 +127,11 @@ impl Host for Unit {
     }
 }
 
+type Turn<H> =
+    fn(&mut H, &mut Session, Option<&[u8]>) -> Result<Option<Vec<u8>>, Error<<H as Host>::Error>>;
+
 /// Turns of two units until both are silent.
-fn talk<H: Host<Error: std::fmt::Debug>>(units: &mut [(H, Session); 2]) {
+fn talk<H: Host<Error: std::fmt::Debug>>(turn: Turn<H>, units: &mut [(H, Session); 2]) {
     let (mut said, mut silent) = (None, 0);
     for k in 0..40 {
         let (host, session) = &mut units[k % 2];
@@ -134,38 +149,42 @@ fn chain(length: u8) -> Vec<u8> {
     (1..=length).flat_map(|own| [own, own - 1]).collect()
 }
 
+/// A unit that holds a chain, and has said nothing.
+fn unit(length: u8) -> (Unit, Session) {
+    let mut unit = Unit {
+        document: Document::default(),
+        waiting: vec![],
+    };
+    unit.load(&chain(length)).unwrap();
+    (unit, Session::new())
+}
+
+/// Either kind of turn, on two days: the unit that is asked second has the news.
 #[test]
 fn units_over_a_document_of_ones_own() {
-    let unit = |length| {
-        let mut unit = Unit {
-            document: Document::default(),
-            waiting: vec![],
-        };
-        unit.load(&chain(length)).unwrap();
-        (unit, Session::new())
-    };
-    let mut units = [unit(20), unit(30)];
-    talk(&mut units);
-    assert_eq!(units[0].0.document.save(), chain(30));
-    assert_eq!(units[1].0.document.save(), chain(30));
+    let after = [turn, turn_of_values].map(|turn| {
+        let mut units = [unit(20), unit(30)];
+        for length in [30, 40] {
+            units[1].0.load(&chain(length)).unwrap();
+            talk(turn, &mut units);
+            for (unit, _) in &units {
+                assert_eq!(unit.document.save(), chain(length));
+            }
+        }
+        units.map(|(_, session)| session)
+    });
+    assert_eq!(after[0], after[1]);
 }
 
 /// A change that comes too early waits, and what is missing is asked for.
 #[test]
 fn changes_that_come_too_early() {
-    let mut units = [20, 30].map(|length| {
-        let mut unit = Unit {
-            document: Document::default(),
-            waiting: vec![],
-        };
-        unit.load(&chain(length)).unwrap();
-        (unit, Session::new())
-    });
+    let mut units = [unit(20), unit(30)];
     for _ in 0..2 {
         units[0].0.load(&[30, 29]).unwrap();
     }
     assert_eq!(units[0].0.waiting.len(), 1);
-    talk(&mut units);
+    talk(turn, &mut units);
     assert!(units[0].0.waiting.is_empty());
     assert!(units[0].0.document.holds(&ChangeHash([30; 32])));
     assert_eq!(units[0].0.load(&[7]), Err(DocumentError));
@@ -187,7 +206,7 @@ fn the_loop_over_memory() {
         (memory, Session::new())
     };
     let mut units = [unit(9), unit(7)];
-    talk(&mut units);
+    talk(turn, &mut units);
     assert_eq!(units[0].0.changes(), units[1].0.changes());
 }
 
@@ -196,7 +215,7 @@ fn the_loop_over_memory() {
 fn the_page_shows_what_runs_here() {
     let page = include_str!("../../../docs/MIGRATING.md");
     let pieces: Vec<&str> = page.split("```rust\n").skip(1).collect();
-    assert_eq!(pieces.len(), 2);
+    assert_eq!(pieces.len(), 3);
     for piece in pieces {
         let (piece, _) = piece.split_once("```").expect("an end");
         assert!(include_str!("migrating.rs").contains(piece), "{piece}");

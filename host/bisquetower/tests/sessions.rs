@@ -1,74 +1,11 @@
-//! Sessions over hosts: what two units hold when they have talked, and what a failed
-//! host leaves.
+//! Sessions over hosts: what two units hold when they have talked.
+
+mod units;
 
 use bisquetower::{
-    Change, ChangeHash, Error, Host, Memory, MemoryError, Message, MessageVersion, Refusal, Session,
+    Change, ChangeHash, Host, Memory, MemoryError, Message, MessageVersion, Session,
 };
-use std::borrow::Cow;
-
-fn hash(n: u32) -> ChangeHash {
-    let mut hash = [0; 32];
-    let mut word = n;
-    for part in hash.chunks_mut(4) {
-        word = (word ^ 0x9e37_79b9)
-            .wrapping_mul(0x85eb_ca6b)
-            .rotate_left(13);
-        part.copy_from_slice(&word.to_le_bytes());
-    }
-    ChangeHash(hash)
-}
-
-/// The change n on the one before it.
-fn change(n: u32) -> Change {
-    Change {
-        hash: hash(n),
-        dependencies: n.checked_sub(1).map(hash).into_iter().collect(),
-        contents: n.to_le_bytes().to_vec(),
-    }
-}
-
-fn chain(changes: u32) -> Memory {
-    let mut memory = Memory::new();
-    for n in 0..changes {
-        memory.add(change(n)).unwrap();
-    }
-    memory
-}
-
-struct Unit {
-    host: Memory,
-    session: Session,
-}
-
-fn unit(host: Memory) -> Unit {
-    Unit {
-        host,
-        session: Session::new(),
-    }
-}
-
-/// One says something to the other; whether there was something to say.
-fn say(from: &mut Unit, to: &mut Unit) -> Option<Message> {
-    let message = from.session.generate(&from.host).unwrap()?;
-    let bytes = message.encode().unwrap();
-    to.session.receive(&mut to.host, &bytes).unwrap();
-    Some(message)
-}
-
-/// Has two units talk until both are silent; how many messages that took.
-fn talk(one: &mut Unit, two: &mut Unit) -> usize {
-    let mut said = 0;
-    for _ in 0..100 {
-        let before = said;
-        said += usize::from(say(one, two).is_some());
-        said += usize::from(say(two, one).is_some());
-        if said == before {
-            assert_eq!(one.host.changes().len(), two.host.changes().len());
-            return said;
-        }
-    }
-    panic!("they don't fall silent");
-}
+use units::{chain, change, hash, say, talk, unit};
 
 #[test]
 fn both_hold_what_one_of_them_held() {
@@ -155,102 +92,6 @@ fn a_saved_session_goes_on() {
     assert_eq!(validator.host.changes().len(), 41);
 }
 
-/// A host that can't lend or load.
-struct Failing(Memory);
-
-#[derive(Debug, PartialEq, Eq)]
-struct Failed;
-
-impl Host for Failing {
-    type Error = Failed;
-
-    fn table(&self) -> Cow<'_, [u8]> {
-        self.0.table()
-    }
-
-    fn waiting(&self) -> Cow<'_, [u8]> {
-        self.0.waiting()
-    }
-
-    fn change(&self, _: &ChangeHash) -> Result<Cow<'_, [u8]>, Failed> {
-        Err(Failed)
-    }
-
-    fn save(&self) -> Result<Vec<u8>, Failed> {
-        Err(Failed)
-    }
-
-    fn load(&mut self, _: &[u8]) -> Result<(), Failed> {
-        Err(Failed)
-    }
-}
-
-#[test]
-fn a_host_that_cant_lend_leaves_the_session() {
-    let (mut station, mut validator) = (unit(chain(30)), unit(chain(25)));
-    say(&mut validator, &mut station);
-    let before = station.session.clone();
-    let failed = station.session.generate(&Failing(chain(30)));
-    assert_eq!(failed, Err(Error::Lend(Failed)));
-    assert_eq!(station.session, before);
-    assert!(say(&mut station, &mut validator).is_some());
-}
-
-/// A failed load takes the flags and clears what is in flight, and nothing else.
-#[test]
-fn a_host_that_cant_load() {
-    let (mut station, mut validator) = (unit(chain(30)), unit(chain(25)));
-    say(&mut validator, &mut station);
-    let reply = station.session.generate(&station.host).unwrap().unwrap();
-    let before = validator.session.clone();
-    assert!(before.in_flight() && !before.supports_v2_messages());
-    let bytes = reply.encode().unwrap();
-    let failed = validator.session.receive(&mut Failing(chain(25)), &bytes);
-    assert_eq!(failed, Err(Error::Load(Failed)));
-    let after = &validator.session;
-    assert!(!after.in_flight() && after.supports_v2_messages());
-    assert_eq!(after.their_heads(), before.their_heads());
-    assert_eq!(after.shared_heads(), before.shared_heads());
-}
-
-#[test]
-fn a_bad_message_is_refused_and_nothing_is_loaded() {
-    let (mut station, mut validator) = (unit(chain(30)), unit(chain(25)));
-    say(&mut validator, &mut station);
-    let reply = station.session.generate(&station.host).unwrap().unwrap();
-    let bytes = reply.encode().unwrap();
-    let before = validator.session.clone();
-    for length in [0, 1, 33, bytes.len() - 5, bytes.len() - 1] {
-        let refused = validator
-            .session
-            .receive(&mut validator.host, &bytes[..length]);
-        assert!(matches!(
-            refused,
-            Err(Error::Refused(Refusal { number: 1, .. }))
-        ));
-        assert_eq!(validator.session, before);
-        assert_eq!(validator.host.changes().len(), 25);
-    }
-    validator
-        .session
-        .receive(&mut validator.host, &bytes)
-        .unwrap();
-    assert_eq!(validator.host.changes().len(), 30);
-}
-
-#[test]
-fn a_document_past_its_limit_is_refused() {
-    let mut session = Session::new();
-    let before = session.clone();
-    let many = session.generate(&chain(1_025));
-    let limit = Refusal {
-        number: 4,
-        value: 0,
-    };
-    assert_eq!(many, Err(Error::Refused(limit)));
-    assert_eq!(session, before);
-}
-
 /// A session goes on over a document that isn't the one it spoke of last: as many changes,
 /// one more, or fewer, and never what it would have said of the old one.
 #[test]
@@ -329,23 +170,4 @@ fn memory_makes_good_tables() {
     assert_eq!(memory.waiting_changes(), [change(9)]);
     let said = Session::new().generate(&memory).unwrap();
     assert_eq!(said.unwrap().heads, [hash(2)]);
-}
-
-#[test]
-fn errors_say_what_went_wrong() {
-    let refused: Error<MemoryError> = Refusal {
-        number: 8,
-        value: 0,
-    }
-    .into();
-    assert_eq!(
-        refused.to_string(),
-        "refusal 8, value 0: the chunks could not be loaded"
-    );
-    let load = Error::Load(MemoryError::BadChange(3));
-    assert_eq!(
-        load.to_string(),
-        "the host couldn't load what came: what stands at place 3 is no change"
-    );
-    assert!(std::error::Error::source(&load).is_some());
 }

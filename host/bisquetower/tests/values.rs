@@ -26,7 +26,7 @@ fn a_message_is_read_back() {
     flags.set(MessageFlags::READ_ONLY);
     let have = |count| Have {
         last_sync: hashes(count),
-        bloom: Filter::from_hashes(&hashes(count)).unwrap(),
+        bloom: Filter::from_hashes(hashes(count)).unwrap(),
     };
     let message = Message {
         heads: hashes(3),
@@ -94,7 +94,7 @@ fn filters_at_their_bounds() {
     assert_eq!(Filter::parse(&filter.to_bytes()), Ok(filter));
     assert_eq!(Filter::with(81, 64, &all), Err(refusal(10, 0)));
     assert_eq!(Filter::with(10, 65, &all), Err(refusal(10, 0)));
-    assert_eq!(Filter::from_hashes(&hashes(1_025)), Err(refusal(4, 0)));
+    assert_eq!(Filter::from_hashes(hashes(1_025)), Err(refusal(4, 0)));
 
     let parts = |entries, length| Filter::from_parts(entries, 10, 7, &all[0].0[..length]);
     assert_eq!(parts(2, 3).map(|filter| filter.num_entries()), Ok(2));
@@ -107,6 +107,18 @@ fn filters_at_their_bounds() {
     assert_eq!(Filter::parse_first(&[0, 3, 100, 9]).unwrap().1, 3);
 }
 
+/// The same filter whichever way its hashes are handed over.
+#[test]
+fn a_filter_of_any_hashes() {
+    let all = hashes(5);
+    let filter = Filter::from_hashes(&all).unwrap();
+    assert_eq!(filter.num_entries(), 5);
+    assert_eq!(Filter::from_hashes(all.iter()).as_ref(), Ok(&filter));
+    assert_eq!(Filter::from_hashes((0..5).map(hash)).as_ref(), Ok(&filter));
+    assert_eq!(Filter::with(10, 7, &all), Ok(filter));
+    assert_eq!(Filter::from_hashes(&all[..0]), Ok(Filter::default()));
+}
+
 /// The filter of the hash whose words are 1, 2, 3, and a hash that it mistakes for it.
 #[test]
 fn a_false_yes() {
@@ -117,7 +129,7 @@ fn a_false_yes() {
         }
         ChangeHash(hash)
     };
-    let filter = Filter::from_hashes(&[words([1, 2, 3])]).unwrap();
+    let filter = Filter::from_hashes([words([1, 2, 3])]).unwrap();
     assert_eq!(filter.to_bytes(), [1, 10, 7, 0x0b, 0x0f]);
     let asked = [words([1, 0, 0]), words([2, 0, 0])];
     assert_eq!(filter.contains_hashes(&asked), [true, false]);
@@ -199,6 +211,35 @@ fn bad_rows_are_told() {
     assert_eq!(twice, Err(refusal(6, 1)));
     let none = Table::from_changes([(hash(0), vec![hash(1)])]);
     assert_eq!(none, Err(refusal(6, 0)));
+}
+
+/// What a call panics with.
+fn panics<T>(call: impl FnOnce() -> T) -> String {
+    let call = std::panic::AssertUnwindSafe(call);
+    let Err(what) = std::panic::catch_unwind(call) else {
+        panic!("it answers");
+    };
+    let text = what.downcast_ref::<String>().expect("a text");
+    text.clone()
+}
+
+/// A row that isn't there is no other row's, however large its number: the bytes before
+/// row 2^58 of a table, or 2^59 of a waiting table, are as many as before row 0 in a sum
+/// that wraps.
+#[test]
+fn rows_that_arent_there() {
+    let rows = [(hash(0), vec![]), (hash(1), vec![hash(0)])];
+    let table = Table::from_changes(rows).unwrap();
+    let waiting = Waiting::from_changes([(hash(3), vec![hash(2)])], &table).unwrap();
+    assert_eq!((table.hash(1), table.dependencies(1)), (hash(1), vec![0]));
+    assert_eq!(waiting.hash(0), hash(3));
+    for row in [2, 3, 1 << 58, (1 << 58) + 1, 1 << 59, usize::MAX] {
+        let of =
+            |rows| format!("row out of bounds: the number of rows is {rows} but the row is {row}");
+        assert_eq!(panics(|| table.hash(row)), of(2));
+        assert_eq!(panics(|| table.dependencies(row)), of(2));
+        assert_eq!(panics(|| waiting.hash(row)), of(1));
+    }
 }
 
 /// A waiting change asks for what it depends on, and this for what lies under it.

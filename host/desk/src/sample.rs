@@ -49,7 +49,7 @@ pub fn run(words: &[String]) -> Result<String, Failure> {
 fn samples() -> Result<Vec<(String, Vec<u8>)>, Failure> {
     let (station, validator) = tables::sample()?;
     let talk = Talk::of(&station, &validator)?;
-    let filter = Filter::from_hashes(&validator.hashes()).map_err(tables::refused)?;
+    let filter = Filter::from_hashes(validator.hashes()).map_err(tables::refused)?;
     let [station_state, validator_state] = talk.states;
     let mut samples = vec![
         ("station.table".to_string(), station.as_bytes().to_vec()),

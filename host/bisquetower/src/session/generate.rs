@@ -1,14 +1,13 @@
 //! What is said next.
 
-use super::{Lists, Session};
+use super::{Lists, Session, LIST};
 use crate::hash::{hashes_in, ChangeHash, HASH};
 use crate::have::haves_in;
 use crate::refusal::{answer, Refusal};
 use crate::{raw, Error, Host, Message, MessageFlags, MessageVersion};
 use std::borrow::Cow;
 
-/// The most bytes of a hash list, of a have, and of the hashes to send.
-const LIST: usize = 32_768;
+/// The most bytes of a have, and of the hashes to send.
 const HAVE: usize = 40_960;
 const TO_SEND: usize = 65_536;
 
@@ -27,24 +26,56 @@ pub struct Plan {
 }
 
 impl Session {
-    /// What to say to the peer next; none if there is nothing to say, or an answer is
-    /// awaited. The message is a value: [`Message::encode`] makes its bytes, and refuses
-    /// one that passes the limit, though the session takes it as said.
+    /// What to say to the peer next, as the bytes to send; none if there is nothing to say,
+    /// or an answer is awaited. [`receive`](Session::receive) takes them at the other end.
+    ///
+    /// The session takes a message as said when this call returns its bytes, and at no
+    /// other time: if the host can't lend a change ([`Error::Lend`]) or the library refuses
+    /// ([`Error::Refused`]) the session is as it was, and the next call tries again. A
+    /// message of more than 4,194,304 bytes is refusal 4, as are tables and lists past
+    /// their limits. It stays refused as long as the same changes are to be sent and take
+    /// as many bytes.
     ///
     /// Where the library is linked this takes up to 512 KiB of the thread's stack.
-    #[doc(alias = "generate_sync_message")]
+    pub fn next_message<H: Host>(&mut self, host: &H) -> Result<Option<Vec<u8>>, Error<H::Error>> {
+        self.say(host, |message| message.encode())
+    }
+
+    /// What to say to the peer next, as a value: for programs that look at what they send.
+    /// The session changes when this call returns a message, as in
+    /// [`next_message`](Session::next_message). One that [`Message::encode`] would refuse
+    /// is refused here, with the session as it was.
     pub fn generate<H: Host>(&mut self, host: &H) -> Result<Option<Message>, Error<H::Error>> {
-        // The session changes once the host has lent everything.
+        self.say(host, |message| message.check().map(|()| message))
+    }
+
+    /// [`generate`](Session::generate) by the name that it has in automerge.
+    pub fn generate_sync_message<H: Host>(
+        &mut self,
+        host: &H,
+    ) -> Result<Option<Message>, Error<H::Error>> {
+        self.generate(host)
+    }
+
+    /// What is made of the next message. The session changes once that is there: by then
+    /// the host has lent everything, and the message is one that can be sent.
+    fn say<H: Host, T>(
+        &mut self,
+        host: &H,
+        make: impl FnOnce(Message) -> Result<T, Refusal>,
+    ) -> Result<Option<T>, Error<H::Error>> {
         let mut next = self.clone();
         let plan = next.plan(&host.table(), &host.waiting())?;
         let message = plan.map(|plan| plan.lend(host)).transpose();
-        let message = message.map_err(Error::Lend)?;
+        let made = message.map_err(Error::Lend)?.map(make).transpose()?;
         *self = next;
-        Ok(message)
+        Ok(made)
     }
 
-    /// What `generate` is to say, over tables as bytes: for hosts that make the changes'
-    /// bytes themselves. The session takes it as said.
+    /// What [`next_message`](Session::next_message) is to say, over tables as bytes: for
+    /// hosts that make the changes' bytes themselves. The session takes it as said at once,
+    /// so such a host keeps a clone of the session until the message is encoded, and goes
+    /// back to it where that fails.
     pub fn plan(&mut self, table: &[u8], waiting: &[u8]) -> Result<Option<Plan>, Refusal> {
         let mut heads = vec![0; LIST];
         let (mut need, mut have, mut list) = (vec![0; LIST], vec![0; HAVE], vec![0; TO_SEND]);

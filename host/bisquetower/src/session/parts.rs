@@ -13,7 +13,7 @@ use crate::refusal::{answer, Refusal};
 /// use bisquetower::{ChangeHash, Memory, Session, SessionParts};
 ///
 /// let mut session = Session::new();
-/// session.generate(&Memory::new())?;
+/// session.next_message(&Memory::new())?;
 /// let mut parts = session.parts();
 /// assert!(parts.in_flight && parts.their_heads.is_none());
 /// assert_eq!(Session::from_parts(&parts)?, session);

@@ -1,11 +1,12 @@
 //! What a message does.
 
-use super::{Lists, Session};
+use super::{Lists, Session, LIST};
 use crate::{raw, refusal, Error, Host, Message, Table};
 
-/// The most words and bytes of kept haves, and the most bytes of a hash list.
-const HAVES: usize = 112;
-const LIST: usize = 32_768;
+/// The most words of kept haves, and the most bytes under them: 16 haves of 1,024 hashes
+/// and 8,192 bytes of field.
+pub(super) const HAVES: usize = 112;
+pub(super) const HAVE_BYTES: usize = 655_360;
 
 /// The refusal of a failed load: the only one that changes a session.
 const NOT_LOADED: u64 = 8;
@@ -15,7 +16,6 @@ impl Session {
     /// read-only or the message is refused.
     ///
     /// Where the library is linked this takes up to 256 KiB of the thread's stack.
-    #[doc(alias = "receive_sync_message")]
     pub fn receive<H: Host>(
         &mut self,
         host: &mut H,
@@ -33,6 +33,17 @@ impl Session {
             (Err(refusal), Err(why)) if refusal.number == NOT_LOADED => Err(Error::Load(why)),
             (taken, _) => taken.map_err(Error::Refused),
         }
+    }
+
+    /// Takes a message that was decoded, by the name that this has in automerge: what
+    /// [`receive`](Session::receive) does with the bytes that [`Message::encode`] makes of
+    /// it. If it can't be encoded it is refused, and the session is as it was.
+    pub fn receive_sync_message<H: Host>(
+        &mut self,
+        host: &mut H,
+        message: Message,
+    ) -> Result<(), Error<H::Error>> {
+        self.receive(host, &message.encode()?)
     }
 
     fn take(
@@ -55,8 +66,10 @@ impl Session {
             list.resize(LIST, 0);
         }
         haves.resize(HAVES, 0);
-        // What is kept of haves stands in the message, but for the numbers between.
-        let room = bytes.len().max(message.len());
+        // What is kept of haves stands in the message, but for the numbers between, so a
+        // short message wants no more room than it has bytes, and a long one no more than
+        // the limits allow.
+        let room = bytes.len().max(message.len().min(HAVE_BYTES));
         bytes.resize(room, 0);
         let session = &mut self.words;
         let words = self.index.beside(table, |index| {

@@ -24,7 +24,7 @@ type Rows = Vec<(ChangeHash, Vec<ChangeHash>)>;
 pub fn sample() -> Result<(Table, Table), Failure> {
     let mut rows = held();
     let validator = Table::from_changes(rows.clone()).map_err(refused)?;
-    let filter = Filter::from_hashes(&validator.hashes()).map_err(refused)?;
+    let filter = Filter::from_hashes(validator.hashes()).map_err(refused)?;
     let taken_for_held = mistaken(&filter);
     for level in 0..LENGTH {
         for branch in 0..BRANCHES {
