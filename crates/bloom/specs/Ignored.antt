@@ -17,7 +17,7 @@ ignoredAt s at end = afterFilter (filterAt s at end) (λ r. 0) (λ f next. leftA
 unfoldable pub countedAt : List ℕ → ℕ → ℕ → CountedFilter
 countedAt s at end = afterFilter (filterAt s at end) NotCounted (λ f next. Count f next (ignoredAt s at end))
 
--- The same reading without the number.
+-- A filter that was read with the number of ignored bytes, that number forgotten.
 unfoldable pub asParsed : CountedFilter → Parsed
 asParsed (Count f next ignored) = Filter f next
 asParsed (NotCounted r) = Refused r

@@ -43,7 +43,7 @@ pub fn filter_rules(entries: u64, bits: u64, probes: u64, size: u64) -> bool
     size <= FIELD_SIZE as u64
 }
 
-// The same for a filter that is to be built, whose field gets its size.
+// Whether a filter that is to be built keeps the filter rules, once its field has the size that its entries and bits ask for.
 pub fn build_rules(entries: u64, bits: u64, probes: u64) -> bool
     ensures { λ r. ⌜ r ≡ filterRules entries bits probes (fieldSize entries bits) ⌝ }
 {

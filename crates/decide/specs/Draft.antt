@@ -64,7 +64,7 @@ pub record SmallStated (p : Stated) : Type 0 where
   pub field : p .filter .size ≤ sizes .field
   pub hashes : p .hashes ≤ sizes .hashesToSend
 
--- The same of the numbers that a message is drafted from.
+-- The numbers that a message is drafted from are small enough for its bytes to be counted.
 pub record SmallDraft (s : Session) (d : Draft) (bits : ℕ) : Type 0 where
   pub heads : d .heads ≤ sizes .rows
   pub need : d .need ≤ sizes .hashes + 1
@@ -145,7 +145,7 @@ putsFor p lastSent sent =
       sent = sent;
     }
 
--- The same of an answer: a refusal and silence put nothing, a reset leaves the session's lists.
+-- How many hashes and bytes an answer puts into each buffer: a refusal and silence none, a reset leaves the session's lists.
 unfoldable pub putsOf : PlanAnswer → Puts
 putsOf (Refused r) = noPuts
 putsOf Silent = noPuts
@@ -157,7 +157,7 @@ pub record HashesFit (n : ℕ) (part buffer : List ℕ) : Type 0 where
   pub there : sizes .hash * n ≤ length part
   pub room : sizes .hash * n ≤ length buffer
 
--- The same for the hashes of a have and the field behind them.
+-- The last-sync hashes of a have and its field are there, and a buffer has room for the field behind the hashes.
 pub record HaveFits (n : ℕ) (shared : List ℕ) (size : ℕ) (field buffer : List ℕ) : Type 0 where
   pub hashes : sizes .hash * n ≤ length shared
   pub bytes : size ≤ length field

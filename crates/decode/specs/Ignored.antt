@@ -31,7 +31,7 @@ unfoldable pub countedOf : List ℕ → Reading → CountedMessage
 countedOf s (read p haves chunks) = Message p (total (ignoredOf s p)) (behindOf s (p .flags) (p .next))
 countedOf s (refused r) = Refused r
 
--- The same answer without the two numbers.
+-- A message that was read with the two numbers of ignored bytes, both forgotten.
 unfoldable pub asDecoded : CountedMessage → Decoded
 asDecoded (Message p ignored behind) = Placed p
 asDecoded (Refused r) = NotPlaced r

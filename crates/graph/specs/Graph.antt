@@ -19,7 +19,7 @@ heads t = ascend (rowsWhere t (λ i. not (needed t i)))
 unfoldable pub belowRow : List Row → List ℕ → ℕ → Bool
 belowRow t l i = reach (length t) (λ k. member (hashOf t k) l) (λ k j. member j (depsOf t k)) i
 
--- The same of a hash.
+-- Whether a hash is held, and its row is one in L or an ancestor of one.
 unfoldable pub below : List Row → List ℕ → ℕ → Bool
 below t l h = cond (held t h) (belowRow t l (rowNumber t h)) false
 

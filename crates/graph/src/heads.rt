@@ -43,7 +43,7 @@ pub fn collect_heads(table: &[u8], index: &[u8], n: usize, before: usize, list: 
     collect_marked(table, index, n, before, &marks, list)
 }
 
-// The same, written.
+// Writes the heads of a table's first rows, ascending, or refuses a buffer that is too short for them.
 pub fn put_heads(table: &[u8], index: &[u8], n: usize, before: usize, out: &mut [u8]) -> Write
     requires { ⌜ Indexed (now table) (now index) n × (before ≤ n) ⌝ }
     ensures { λ r. ⌜ Written (Output.bytes (hashesBytes (heads (rowsAt (now (table .entry)) 0 before)))) (now (out .entry)) (now (out .exit)) r ⌝ }

@@ -33,7 +33,7 @@ fn mark_deps(table: &[u8], i: usize, marks: &mut [bool])
     }
 }
 
-// The same if row i is itself marked.
+// Marks what row i depends on if row i is marked itself.
 fn mark_row(table: &[u8], i: usize, marks: &mut [bool])
     requires { ⌜ GoodRows (now table) (i + 1) × (i + 1 ≤ length (now marks)) ⌝ }
     ensures { λ _. ⌜ now (marks .exit) ≡ markRow (usedAt (now (table .entry))) i (now (marks .entry)) ⌝ }

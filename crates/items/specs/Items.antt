@@ -89,7 +89,7 @@ havesAt s at = listAt (sizes .haves) (haveItem s) s at
 unfoldable pub chunksAt : List ℕ → ℕ → ItemList
 chunksAt s at = listAt (sizes .chunks) (chunkItem s) s at
 
--- The same without the words.
+-- A list of items as it was read, without the words of its items.
 unfoldable pub listedOf : ItemList → Listed
 listedOf l = afterList l NotListed (λ items words next. Items items next)
 

@@ -20,7 +20,7 @@ pub record Stand (hs buffer : List ℕ) : Type 0 where
   pub fit : sizes .hash * length hs ≤ length buffer
   pub are : hashesAt buffer 0 (length hs) ≡ hs
 
--- The same of what may be absent.
+-- The hashes that were heard stand at the start of a buffer; where nothing was heard, nothing is asked of it.
 abbrev pub StandHeard : Option (List ℕ) → List ℕ → Type 0
 StandHeard none buffer = Unit {0}
 StandHeard (some hs) buffer = Stand hs buffer
@@ -32,7 +32,7 @@ pub record StandHaves (vs : List Have) (records bytes : List ℕ) : Type 0 where
   pub good : passedGood bytes (keptHaves records (length vs)) ≡ true
   pub few : passedFew (keptHaves records (length vs)) ≡ true
 
--- The same of haves that may be absent.
+-- The haves that were heard stand as records at the start of a list; where none were heard, nothing is asked of it.
 abbrev pub StandHeardHaves : Option (List Have) → List ℕ → List ℕ → Type 0
 StandHeardHaves none records bytes = Unit {0}
 StandHeardHaves (some vs) records bytes = StandHaves vs records bytes

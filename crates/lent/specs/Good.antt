@@ -18,7 +18,7 @@ use Rattle.state.specs.declared.session.Session.{Session}
 unfoldable pub listGood : List ℕ → ℕ → Bool
 listGood s n = leb n (sizes .hashes) && leb (sizes .hash * n) (length s)
 
--- The same where it may be absent.
+-- A list of hashes that may be absent: absent, or good.
 unfoldable pub heardGood : List ℕ → Heard → Bool
 heardGood s Nothing = true
 heardGood s (Count n) = listGood s n

@@ -22,7 +22,7 @@ pub fn list_good(bytes: &[u8], count: usize) -> bool
     HASH_SIZE * count <= bytes.len()
 }
 
-// The same for a list that may be absent.
+// Whether a list that may be absent is good for the bytes that are lent for it: absent, or no more than a list may have and all of it lent.
 pub fn heard_good(bytes: &[u8], heard: Heard) -> bool
     ensures { λ r. ⌜ r ≡ heardGood (now (bytes .entry)) heard ⌝ }
 {

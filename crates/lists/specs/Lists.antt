@@ -10,7 +10,7 @@ use Rattle.order.specs.Order.{insertUpTo}
 use Rattle.rules.specs.Hash.{hashesAt}
 use Rattle.rules.specs.Sizes.{sizes}
 
--- The same hashes in the same order.
+-- Whether two lists have the same hashes in the same order.
 unfoldable pub same : List ℕ → List ℕ → Bool
 same [] [] = true
 same [] (y ∷ ys) = false

@@ -31,7 +31,7 @@ unfoldable pub joined : {A : Type 0} → (A → List ℕ) → List A → List �
 joined bytes [] = []
 joined bytes (x ∷ xs) = bytes x ++ joined bytes xs
 
--- The same behind their count.
+-- The number of the items, then the items one after the other.
 unfoldable pub counted : {A : Type 0} → (A → List ℕ) → List A → List ℕ
 counted bytes xs = shortest (length xs) ++ joined bytes xs
 

@@ -25,7 +25,7 @@ missingOf t w hs =
     (Output.refuse (PastSize 0))
     (Output.bytes (hashesBytes (missing t w hs)))
 
--- The same for a list that is passed.
+-- What is missing from a list that is passed as bytes: 4 and 1 for the list come first.
 unfoldable pub missingFrom : List Row → List Waiting → List ℕ → Output
 missingFrom t w l = afterPassed (passedHashes l) Output.refuse (λ count. missingOf t w (hashesAt l 0 count))
 

@@ -34,6 +34,6 @@ unfoldable pub asksFrom : ℕ → List Waiting → (ℕ → Bool) → List ℕ
 asksFrom i [] p = []
 asksFrom i (r ∷ rs) p = cond (p i) (r .asks ++ asksFrom (suc i) rs p) (asksFrom (suc i) rs p)
 
--- The same as a list: each hash once, ascending.
+-- What is missing from a list: the unknown hashes among it and among all that the asked rows ask for, each once, ascending.
 unfoldable pub missing : List Row → List Waiting → List ℕ → List ℕ
 missing t w l = ascend (keep (unknown t w) (l ++ asksFrom 0 w (askedRow t w l)))

@@ -159,7 +159,8 @@ fn find_in_order(
     )
 }
 
-// The same for callers that have only checked both tables.
+// Puts what is missing from some hashes into the list and returns how much it is, or fills the list. It puts the waiting rows in order itself, for callers
+// that have checked both tables.
 pub fn find_missing(
     table: &[u8],
     index: &[u8],
@@ -224,7 +225,7 @@ fn missing_from(
     }
 }
 
-// The same after the waiting table's check, whose order serves the look-ups.
+// Writes what is missing from a passed list, or refuses, once the change table is checked: the waiting table's check leaves the order that look-ups want.
 fn missing_beside(
     table: &[u8],
     index: &[u8],

@@ -48,7 +48,7 @@ goOn low (ends n size) = ends (low + 128 * n) (suc size)
 goOn low cut = cut
 goOn low bad = bad
 
--- The same as a function, proved to be what is meant. `least` is 0 for a first byte and 1 after it, as a last byte of 0 isn't shortest.
+-- What the bytes of a number are found to be, as a function that is proved to be what is meant. `least` is 0 for a first byte and 1 after it, as a last byte of 0 isn't shortest.
 -- A byte of 128 or more counts low + 128 at the least, which is the byte itself, so one test against `most` serves both kinds.
 unfoldable pub find : ℕ → ℕ → List ℕ → Found
 find least most [] = cut

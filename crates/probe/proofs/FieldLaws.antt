@@ -247,7 +247,7 @@ unfolding addHashes
 added-order p field [] ys g h = ap (λ (f : List ℕ). addHashes p f ys) (add-order p field g h)
 added-order p field (x ∷ xs) ys g h = added-order p (addHash p field x) xs ys g h
 
--- The same filter, whichever of two neighbours was added first: so in whatever order hashes are added.
+-- Whichever of two neighbours was added first, the filter is the same: so it is in whatever order hashes are added.
 pub built-order : (b p : ℕ) (xs ys : List ℕ) (g h : ℕ) → filterOf b p (xs ++ g ∷ h ∷ ys) ≡ filterOf b p (xs ++ h ∷ g ∷ ys)
 unfolding filterOf
 built-order b p xs ys g h = simp length-append (rw (added-order p _ xs ys g h))

@@ -178,7 +178,7 @@ abbrev pub DraftedAs : Bool → Session → Lent → List ℕ → ℕ → ℕ �
 DraftedAs loading s l table n before message p ready d =
     ReceiptMade loading (flaggedCounts (p .flags) s) table n before message p (l .shared) (l .sent) ready d
 
--- The same where they are loaded if there are some and this unit takes them.
+-- The draft that is made where a message was read: its changes are loaded if there are some and this unit takes changes.
 abbrev pub Drafted : Session → Lent → List ℕ → ℕ → ℕ → List ℕ → Places → ReceiptParts → Receipt → Type 0
 Drafted s l table n before message p ready d = DraftedAs (ltb 0 (p .chunks .count) && not (s .«read_only»)) s l table n before message p ready d
 

@@ -53,7 +53,7 @@ module _ (d : Receipt) (r : SessionRooms) (after : Session) (new : State) where
       let none : shortWith d r ≡ 0 = omega (arith, ltb-false 0 w e) in
       rw e (Outcome.takes few none refl refl (ap Took (sym counts))))
 
--- The same for a message that was read, over its draft and the lengths of the lent lists.
+-- How the answer and the result on values go together for a message that was read, over its draft and the lengths of the lent lists.
 abbrev pub Outcomes : Session → Lent → List ℕ → ℕ → ℕ → List ℕ → Places → Receipt → SessionRooms → ReceiveAnswer → Received → Type 0
 Outcomes s l table n before message p d r a q =
     Outcome d r (receivedCounts (flaggedCounts (p .flags) s) d) (received before (rowsAt table 0 n) (stateOf s l) (saidAt message p)) a q

@@ -135,7 +135,7 @@ fn receive_checked(
     received
 }
 
-// The same, in buffers of the size that it needs.
+// Receives a message that was read, in buffers for few hashes where there are few, else in full ones.
 fn receive_sized(
     session: Session,
     table: &[u8],

@@ -62,7 +62,7 @@ pub fn put_to_send(
     Write::Wrote(size)
 }
 
-// The same where the need list and the sizes of the haves haven't been checked yet.
+// Writes the hashes to send, or refuses, for callers that have checked the table and the haves' numbers, but not the need list and the haves' sizes.
 fn send_needs(
     table: &[u8],
     index: &[u8],

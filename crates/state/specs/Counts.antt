@@ -30,7 +30,7 @@ begunCounts shared have v2 reset readOnly wantsReset =
 abbrev pub freshCounts : Session
 freshCounts = begunCounts 0 Nothing false false false false
 
--- The same of a unit that takes no changes.
+-- Nothing was said yet, and the unit takes no changes.
 abbrev pub freshReadOnlyCounts : Session
 freshReadOnlyCounts = begunCounts 0 Nothing false false true false
 

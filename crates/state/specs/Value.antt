@@ -34,7 +34,7 @@ unfoldable pub heardHashes : List ℕ → Heard → Option (List ℕ)
 heardHashes s Nothing = none
 heardHashes s (Count n) = some (hashesAt s 0 n)
 
--- The same of haves: the first records of a list, over the lent bytes.
+-- The haves that the peer said last, which may be absent: the first records of a list, over the lent bytes.
 unfoldable pub heardHaves : List ℕ → List ℕ → Heard → Option (List Have)
 heardHaves s haves Nothing = none
 heardHaves s haves (Count n) = some (havesOf s (keptHaves haves n))

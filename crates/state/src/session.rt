@@ -74,7 +74,7 @@ impl Session {
         Session::heard_only(Heard::Nothing)
     }
 
-    // The same for a unit that takes no changes.
+    // A session in which nothing was said yet, of a unit that takes no changes.
     pub fn new_read_only() -> Session
         ensures { λ r. ⌜ r ≡ freshReadOnlyCounts ⌝ }
     {

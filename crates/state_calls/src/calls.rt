@@ -22,7 +22,7 @@ pub extern "C" fn bt_fresh(session: &mut [u64; 16])
     *session = session_words(Session::new());
 }
 
-// The same for a unit that takes no changes.
+// Writes the words of a session in which nothing was said yet, of a unit that takes no changes (read-only).
 #[no_mangle]
 pub extern "C" fn bt_fresh_read_only(session: &mut [u64; 16])
     ensures { λ _. ⌜ now (session .exit) ≡ sessionWords freshReadOnlyCounts ⌝ }

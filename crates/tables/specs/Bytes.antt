@@ -88,7 +88,7 @@ checkedWith bad good size most bytes =
 unfoldable pub tableCheckedOf : ℕ → ℕ → List ℕ → Checked
 tableCheckedOf d most s = checkedWith (λ i. Refused (BadRow i)) (rowGoodOf d s) (rowSizeOf d) most (length s)
 
--- The same of rows that have room for as many dependencies as a change may have.
+-- Bytes of a change row as 01 has it: with room for as many dependencies as a change may have. The names below are those above at that width.
 abbrev pub rowSize : ℕ
 rowSize = rowSizeOf (sizes .dependencies)
 

@@ -56,6 +56,6 @@ unfoldable pub rowsFrom : ℕ → List Row → (ℕ → Bool) → List ℕ
 rowsFrom i [] p = []
 rowsFrom i (r ∷ rs) p = cond (p i) (r .hash ∷ rowsFrom (suc i) rs p) (rowsFrom (suc i) rs p)
 
--- The same, counted from the first row.
+-- The hashes of the rows, in table order, for whose numbers p holds; the first row's number is 0.
 unfoldable pub rowsWhere : List Row → (ℕ → Bool) → List ℕ
 rowsWhere t p = rowsFrom 0 t p

@@ -74,7 +74,7 @@ waitingGoodOf d t s i =
 unfoldable pub waitingCheckedOf : ℕ → List Row → List ℕ → Checked
 waitingCheckedOf d t s = checkedWith (λ i. Refused (BadWaitingRow i)) (waitingGoodOf d t s) (waitingSizeOf d) (sizes .waitingRows) (length s)
 
--- The same of rows that have room for as many dependencies as a change may have.
+-- Bytes of a waiting row as 01 has it: with room for as many hashes as a change may have dependencies. The names below are those above at that width.
 abbrev pub waitingSize : ℕ
 waitingSize = waitingSizeOf (sizes .dependencies)
 

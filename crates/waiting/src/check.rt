@@ -126,7 +126,7 @@ pub fn check_in_order(
     Checked::Good(m)
 }
 
-// The same for who looks none up. Nearly always nothing waits, and then no memory is cleared for the order.
+// Checks a waiting table for callers that look no waiting row up. Nearly always nothing waits, and then no memory is cleared for an order.
 pub fn check_waiting(table: &[u8], index: &[u8], n: usize, waiting: &[u8]) -> Checked
     requires { ⌜ Indexed (now table) (now index) n ⌝ }
     ensures { λ r. ⌜ r ≡ waitingChecked (rowsAt (now (table .entry)) 0 n) (now (waiting .entry)) ⌝ }
