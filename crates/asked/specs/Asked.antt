@@ -21,7 +21,7 @@ use Rattle.tables.specs.declared.check.Checked.the-variants.{Good}
 use Rattle.waiting.specs.Bytes.{waitingChecked}
 use Rattle.waiting.specs.Waiting.{Waiting}
 
--- A field of so many bytes is short.
+-- A field is short if it has no more bytes than this.
 abbrev pub shortField : ℕ
 shortField = 2048
 
@@ -29,7 +29,7 @@ shortField = 2048
 unfoldable pub asksFew : PlanCounts → ℕ → ℕ → Bool
 asksFew k before size = not (ltb few (k .heads)) && (not (ltb few (before + k .body .hashes)) && not (ltb shortField size))
 
--- What was checked: tables of so many rows and waiting rows, an index that fits, beside a session that is good.
+-- What was checked: a table of n rows and a waiting table of m, an index that fits, beside a session that is good.
 pub record PlanChecked (table index : List ℕ) (n : ℕ) (waiting : List ℕ) (m : ℕ) (s : Session) (l : Lent) : Type 0 where
   pub rows : Indexed table index n
   pub waitingRows : waitingChecked (rowsAt table 0 n) waiting ≡ Good m

@@ -44,7 +44,7 @@ const SEND_SIZE: usize = HASH_SIZE * HASHES_TO_SEND;
 // A field of no more bytes is short: it has ten bits for each of 1,638 rows.
 const FEW_FIELD: usize = 2_048;
 
-// Whether the heads and what the message carries, joined to the hashes that were sent, are few, and a field of so many bytes is short.
+// Whether the heads and what the message carries, joined to the hashes that were sent, are few, and a field of `size` bytes is short.
 fn asks_few(counts: PlanCounts, before: usize, size: usize) -> bool
     requires { ⌜ (counts .body .hashes ≤ sizes .hashesToSend) × (before ≤ sizes .sentHashes) ⌝ }
     ensures { λ r. ⌜ r ≡ asksFew counts before size ⌝ }

@@ -40,7 +40,7 @@ unfoldable pub filterWith : List ℕ → FilterNumbers → Filter
 filterWith s f =
     record { entries = f .entries; bits = f .bits; probes = f .probes; field = slice (f .place) (f .place + f .size) s }
 
--- The filters of so many records from record i on.
+-- The filters of the records from record i on, as many as the last argument says.
 unfoldable pub filtersFrom : List ℕ → List ℕ → ℕ → ℕ → List Filter
 filtersFrom s haves i zero = []
 filtersFrom s haves i (suc count) = filterWith s (numbersIn haves i) ∷ filtersFrom s haves (suc i) count
@@ -70,7 +70,7 @@ haveIn s haves i =
       filter = filterWith s (numbersIn haves i);
     }
 
--- So many haves from record i on.
+-- The haves from record i on, as many as the last argument says.
 unfoldable pub havesFrom : List ℕ → List ℕ → ℕ → ℕ → List Have
 havesFrom s haves i zero = []
 havesFrom s haves i (suc count) = haveIn s haves i ∷ havesFrom s haves (suc i) count
@@ -87,7 +87,7 @@ filterGood s f = filterRules (f .entries) (f .bits) (f .probes) (f .size) && leb
 unfoldable pub haveGood : List ℕ → List ℕ → ℕ → Bool
 haveGood s haves i = leb (syncPlace haves i + sizes .hash * syncCount haves i) (length s) && filterGood s (numbersIn haves i)
 
--- So many records from record i on.
+-- Whether the records from record i on are good, as many as the last argument says.
 unfoldable pub havesGoodFrom : List ℕ → List ℕ → ℕ → ℕ → Bool
 havesGoodFrom s haves i zero = true
 havesGoodFrom s haves i (suc count) = haveGood s haves i && havesGoodFrom s haves (suc i) count
@@ -97,7 +97,7 @@ havesGoodFrom s haves i (suc count) = haveGood s haves i && havesGoodFrom s have
 unfoldable pub passedGood : List ℕ → List ℕ → Bool
 passedGood s haves = eqb (length haves % haveWords) 0 && havesGoodFrom s haves 0 (min (haveCount haves) (sizes .haves))
 
--- So many records from record i on have no more last-sync hashes than a list may have.
+-- Whether the records from record i on, as many as the last argument says, have no more last-sync hashes than a list may have.
 unfoldable pub syncsFew : List ℕ → ℕ → ℕ → Bool
 syncsFew haves i zero = true
 syncsFew haves i (suc count) = leb (syncCount haves i) (sizes .hashes) && syncsFew haves (suc i) count

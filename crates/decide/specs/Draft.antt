@@ -32,16 +32,16 @@ use Rattle.decide.specs.declared.put.Puts.{Puts}
 unfoldable pub headsCount : Bool → Bool → ℕ → ℕ
 headsCount needsReset supportsReset n = cond (needsReset && not supportsReset) 0 n
 
--- So many, or none.
+-- n where something is given, else 0.
 unfoldable pub countIf : Bool → ℕ → ℕ
 countIf given n = cond given n 0
 
--- The numbers of a filter behind so many last-sync hashes, or zeros.
+-- The numbers of a filter behind `syncs` last-sync hashes where one is given, else zeros.
 unfoldable pub filterIf : Bool → ℕ → ℕ → ℕ → ℕ → FilterNumbers
 filterIf given syncs entries bits probes =
     cond given (numbersOf entries bits probes (sizes .hash * syncs) (fieldSize entries bits)) (numbersOf 0 0 0 0 0)
 
--- A message of so many heads, with a have or without one.
+-- The numbers of the message that is drafted, with a have or without one.
 abbrev pub drafted : Session → Draft → ℕ → ℕ → Stated
 drafted s d bits probes =
     record {
@@ -75,7 +75,7 @@ pub record SmallDraft (s : Session) (d : Draft) (bits : ℕ) : Type 0 where
   pub hashes : d .body .hashes ≤ sizes .hashesToSend
   pub sent : d .sent ≤ sizes .sentHashes + 1
 
--- A reset's message: so many heads, one empty have, no need and no body, in V1.
+-- The numbers of a reset's message: its heads, one empty have, no need and no body, in V1.
 abbrev pub resetStated : ℕ → Stated
 resetStated heads =
     record {
@@ -152,7 +152,7 @@ putsOf Silent = noPuts
 putsOf (Reset p) = putsFor p 0 0
 putsOf (Says p s) = putsFor p (s .«last_sent_heads») (s .«sent_hashes»)
 
--- So many hashes stand in a part, and there is room for them.
+-- n hashes stand in a part, and a buffer has room for them.
 pub record HashesFit (n : ℕ) (part buffer : List ℕ) : Type 0 where
   pub there : sizes .hash * n ≤ length part
   pub room : sizes .hash * n ≤ length buffer
@@ -176,7 +176,7 @@ pub record Fits (p : Puts) (ready : PlanParts) (b : Buffers) : Type 0 where
 abbrev pub startPut : ℕ → List ℕ → List ℕ → List ℕ
 startPut n part buffer = sets buffer 0 (hashesBytes (hashesAt part 0 n))
 
--- A have's buffer: last-sync hashes at its start, and so many bytes of the field behind them.
+-- A have's buffer: n last-sync hashes at its start, and `size` bytes of the field behind them.
 abbrev pub havePut : ℕ → List ℕ → ℕ → List ℕ → List ℕ → List ℕ
 havePut n shared size field buffer = sets (startPut n shared buffer) (sizes .hash * n) (take size field)
 

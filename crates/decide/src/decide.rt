@@ -110,7 +110,7 @@ fn tells_reset(needs_reset: bool, supports_reset: bool) -> bool
     supports_reset
 }
 
-// So many, or none.
+// The count where there are some, else 0.
 fn count_if(some: bool, count: usize) -> usize
     ensures { λ r. ⌜ r ≡ countIf some count ⌝ }
 {
@@ -143,7 +143,7 @@ fn heads_for(needs_reset: bool, supports_reset: bool, heads: usize) -> usize
     0
 }
 
-// The numbers of the filter that is given behind so many last-sync hashes, or zeros.
+// The numbers of the filter that is given behind `syncs` last-sync hashes, or zeros.
 fn filter_for(gives: bool, syncs: usize, entries: usize, bits: u64, probes: u64) -> FilterNumbers
     requires { ⌜ (syncs ≤ sizes .hashes) × (entries ≤ sizes .rows) × (bits ≤ mostFilter) ⌝ }
     ensures { λ r. ⌜ r ≡ filterIf gives syncs entries bits probes ⌝ }
@@ -212,7 +212,7 @@ fn reset_stated(heads: usize) -> Stated
     }
 }
 
-// The session after a message that has so many heads and leaves so many hashes sent.
+// The session after a message: `last_sent` heads were sent last, and `sent` hashes are sent.
 fn planned_session(session: Session, last_sent: usize, sent: usize) -> Session
     ensures { λ r. ⌜ r ≡ plannedCounts session «last_sent» sent ⌝ }
 {

@@ -101,7 +101,7 @@ pub record CarryReady (table : List ℕ) (n : ℕ) (s : Session) (marks needs : 
     pub sentMost : next / sizes .hash ≤ sizes .sentHashes + 1
     pub sentRoom : next / sizes .hash ≤ sizes .sentHashes → s .«sent_hashes» + b .hashes < next / sizes .hash
 
--- A list of which at most one more than so many are kept: all of it where it has no more than these.
+-- A list of which at most one more than `most` are kept: all of it where it has no more than `most`.
 pub record AtMost (most : ℕ) (l after : List ℕ) (count : ℕ) : Type 0 where
   pub within : count ≤ most + 1
   pub all : count ≤ most → Gathered l after count
@@ -122,7 +122,7 @@ pub record QuietReady (s : Session) (lastSent theirHeads heads : List ℕ) (n : 
   pub theirs : heardGood theirHeads (s .«their_heads») ≡ true
   pub ours : sizes .hash * n ≤ length heads
 
--- Nothing is to be said with these heads, and so many hashes to send.
+-- Nothing is to be said with these heads and this number of hashes to send.
 unfoldable pub quiet : Session → List ℕ → List ℕ → List ℕ → ℕ → Bool
 quiet s lastSent theirHeads ours hashes =
     (same (hashesAt lastSent 0 (s .«last_sent_heads»)) ours && s .«have_responded»)
@@ -135,7 +135,7 @@ pub record BodyMade (b : Body) (list : List ℕ) (r : BodyCount) : Type 0 where
   pub document : r .document ≡ b .document
   pub hashes : Gathered (b .hashes) list (r .hashes)
 
--- The parts of a plan and its numbers, so many hashes being asked for.
+-- The parts of a plan and its numbers, where `asked` hashes are asked for.
 pub record DraftMade (bits probes : ℕ) (t : List Row) (s : State) (asked : ℕ) (ready : PlanParts) (d : Draft) : Type 0 where
   pub heads : Gathered (heads t) (ready .heads) (d .heads)
   pub need : d .need ≡ asked

@@ -130,7 +130,7 @@ fn make_have(
     make_field(bits, probes, table, index, n, shared, count, field)
 }
 
-// The have that is given for so many hashes that are asked for.
+// The have that is given, by the number of hashes that are asked for.
 fn make_given(
     bits: u64,
     probes: u64,
@@ -194,7 +194,7 @@ fn make_carried(
     )
 }
 
-// Whether there is nothing to say with these heads, and so many hashes to send.
+// Whether there is nothing to say with these heads and this number of hashes to send.
 fn is_quiet(
     session: Session,
     last_sent: &[u8],

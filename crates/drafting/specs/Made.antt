@@ -50,7 +50,7 @@ saidAt s p =
 abbrev pub wordsRoom : ℕ
 wordsRoom = haveWords * sizes .haves
 
--- What lies below a message's heads is marked, and buffers are long enough: for the shared heads after it, and for so many sent hashes.
+-- What lies below a message's heads is marked, and buffers are long enough: for the shared heads after it, and for `kept` sent hashes.
 pub record Prepared (table : List ℕ) (n : ℕ) (message : List ℕ) (p : Places) (kept : ℕ) (marks : List Bool) (all : Bool) (readyShared readySent : List ℕ)
     : Type 0 where
   pub long : n ≤ length marks

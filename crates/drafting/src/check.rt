@@ -11,7 +11,7 @@ ghost use mathlib.Core.Path.{_≡_};
 ghost use Rattle.lent.specs.Good.{lentOf};
 ghost use Rattle.drafting.specs.Checks.{checked};
 
-// A table of so many rows and its index beside a session that is good, and where a message's parts stand; or the first refusal.
+// How many rows the table has, which is good with its index beside a good session, and where the message's parts stand; or the first refusal.
 pub enum ReceiptChecks {
     Good { rows: usize, places: Places },
     Refused(Refusal),

@@ -61,7 +61,7 @@ fn told_heads(
     0
 }
 
-// How many heads were sent last, after a message of so many heads: none where the peer has none, those that it was told, or as many as before.
+// How many heads were sent last, after a message of `heads` heads: none where the peer has none, those that it was told, or as many as before.
 fn last_sent_after(heads: usize, told: usize, before: usize) -> usize
     ensures { λ r. ⌜ r ≡ lastSentCount heads told before ⌝ }
 {

@@ -27,7 +27,7 @@ ghost use Rattle.rules.specs.Sizes.{sizes};
 ghost use Rattle.wire.specs.Item.{prefixedBytes, hashListBytes};
 ghost use Rattle.numbers.specs.Number.{Put};
 
-// A list of so many hashes, which stand in the bytes from a place on.
+// Puts a list of `count` hashes, which stand in the bytes from a place on.
 fn put_hashes(out: &mut [u8], at: usize, bytes: &[u8], place: usize, count: usize) -> usize
     requires { ⌜ (place + sizes .hash * count ≤ length (now bytes)) × (at + length (hashListBytes (hashesAt (now bytes) place count)) ≤ length (now out)) ⌝ }
     ensures { λ r. ⌜ Put (now (out .entry)) (now (out .exit)) at (hashListBytes (hashesAt (now (bytes .entry)) place count)) r ⌝ }

@@ -14,7 +14,7 @@ use Rattle.tables.specs.Bytes.{tableOf}
 use Rattle.tables.specs.Calls.{afterCheck}
 use Rattle.graph.specs.Graph.{heads, beyond}
 
--- The heads of the first rows of a table: 11 where there aren't so many.
+-- The heads of the first `before` rows of a table: 11 where the table has fewer.
 unfoldable pub headsOutput : List ℕ → List ℕ → ℕ → Output
 headsOutput s x before =
     afterCheck (indexChecked s x)

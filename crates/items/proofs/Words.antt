@@ -39,7 +39,7 @@ module _ (before more : List ℕ) (i : ℕ) (sync : Run) (f : FilterNumbers) (lo
       rw (first-word, word 1, word 2, word 3, word 4, word 5, word 6, le-leb _ _ there, rules, le-leb _ _ inside)
 
 module _ (s : List ℕ) (all : Bytes s) where
-  -- so many records from record i on, their words standing behind those of the records before
+  -- the records from record i on, as many as there are, their words standing behind those of the records before
   records-good : (count i at : ℕ) (before words : List ℕ) (next : ℕ) → length before ≡ i * haveWords → manyAt (haveItem s) count at ≡ item words next
       → (havesGoodFrom s (before ++ words) i count ≡ true) × (syncsFew (before ++ words) i count ≡ true)
   unfolding havesGoodFrom syncsFew

@@ -17,7 +17,7 @@ haveIgnored s at =
     (λ r. 0)
     (λ sync i. afterPart (prefixedAt s i (length s)) (λ r. 0) (λ from end. ignoredAt s from end))
 
--- The numbers of so many haves from a place on, one after the other.
+-- How many bytes are ignored behind the field of each have from a place on; the second argument says how many haves there are.
 unfoldable pub ignoredFrom : List ℕ → ℕ → ℕ → List ℕ
 ignoredFrom s zero at = []
 ignoredFrom s (suc count) at = afterItem (haveItem s at) (λ r. []) (λ words next. haveIgnored s at ∷ ignoredFrom s count next)

@@ -57,7 +57,7 @@ chunkWords = 2
 unfoldable pub chunkItem : List ℕ → ℕ → Item
 chunkItem s at = afterPart (prefixedAt s at (length s)) stopped (λ start end. item (start ∷ (end - start) ∷ []) end)
 
--- So many items from a place on; the first that is refused decides.
+-- The items from a place on, as many as the second argument says; the first that is refused decides.
 unfoldable pub manyAt : (ℕ → Item) → ℕ → ℕ → Item
 manyAt one zero at = item [] at
 manyAt one (suc count) at =

@@ -15,7 +15,7 @@ ghost use Rattle.items.specs.Items.{chunkItem, manyAt, listFrom, listedO
 // Words of a chunk: where its first byte stands, and its length.
 pub const CHUNK_WORDS: usize = 2;
 
-// Passes over so many chunks.
+// Passes over `count` chunks.
 fn skip_chunks(bytes: &[u8], start: usize, count: usize) -> Listed
     ensures { λ r. ⌜ r ≡ listedOf (listFrom (run start count) (manyAt (chunkItem (now (bytes .entry))) count start)) ⌝ }
 {
@@ -50,7 +50,7 @@ pub fn parse_chunks(bytes: &[u8], at: usize) -> Listed
     }
 }
 
-// Puts the words of so many chunks, which were passed over before, at the start of the list.
+// Puts the words of `count` chunks, which were passed over before, at the start of the list.
 pub fn put_chunks(bytes: &[u8], start: usize, count: usize, out: &mut [u64])
     requires { ⌜ AllRead (manyAt (chunkItem (now bytes)) count start) (length (now out)) ⌝ }
     ensures { λ _. ⌜ now (out .exit) ≡ sets (now (out .entry)) 0 (wordsOf (manyAt (chunkItem (now (bytes .entry))) count start)) ⌝ }

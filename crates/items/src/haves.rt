@@ -57,7 +57,7 @@ pub fn parse_have(bytes: &[u8], at: usize) -> HaveRead
     }
 }
 
-// Passes over so many haves.
+// Passes over `count` haves.
 fn skip_haves(bytes: &[u8], start: usize, count: usize) -> Listed
     ensures { λ r. ⌜ r ≡ listedOf (listFrom (run start count) (manyAt (haveItem (now (bytes .entry))) count start)) ⌝ }
 {
@@ -110,7 +110,7 @@ fn put_have(out: &mut [u64], at: usize, sync: Run, filter: FilterNumbers)
     out[at + 6] = filter.size as u64;
 }
 
-// Puts the words of so many haves, which were passed over before, at the start of the list.
+// Puts the words of `count` haves, which were passed over before, at the start of the list.
 pub fn put_haves(bytes: &[u8], start: usize, count: usize, out: &mut [u64])
     requires { ⌜ AllRead (manyAt (haveItem (now bytes)) count start) (length (now out)) ⌝ }
     ensures { λ _. ⌜ now (out .exit) ≡ sets (now (out .entry)) 0 (wordsOf (manyAt (haveItem (now (bytes .entry))) count start)) ⌝ }
@@ -137,7 +137,7 @@ pub fn put_haves(bytes: &[u8], start: usize, count: usize, out: &mut [u64])
     }
 }
 
-// Puts the words of so many haves, which were passed over before, and beside them how many bytes stand behind each filter's field. Returns the sum
+// Puts the words of `count` haves, which were passed over before, and beside them how many bytes stand behind each filter's field. Returns the sum
 // of these numbers.
 pub fn put_counted(
     bytes: &[u8],

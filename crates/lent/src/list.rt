@@ -12,7 +12,7 @@ ghost use Rattle.rules.specs.Hash.{hashesAt};
 ghost use Rattle.rules.specs.Sizes.{sizes};
 ghost use Rattle.lent.specs.Good.{listGood, heardGood, sentGood};
 
-// Whether so many hashes can be the list that a buffer starts with.
+// Whether `count` hashes can be the list that a buffer starts with.
 pub fn list_good(bytes: &[u8], count: usize) -> bool
     ensures { λ r. ⌜ r ≡ listGood (now (bytes .entry)) count ⌝ }
 {

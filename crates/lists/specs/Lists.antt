@@ -19,7 +19,7 @@ same (x ∷ xs) (y ∷ ys) = eqb x y && same xs ys
 
 -- ---- what internal contracts speak of; no rule of 01 stands here
 
--- So many hashes are few.
+-- No more hashes than this are few.
 abbrev pub few : ℕ
 few = 64
 
@@ -33,7 +33,7 @@ pub record Joined (before after : List ℕ) (count : ℕ) (hs : List ℕ) (next 
   pub long : next ≡ length (insertAll (length before / sizes .hash) hs (hashesAt before 0 count))
   pub list : hashesAt after 0 next ≡ insertAll (length before / sizes .hash) hs (hashesAt before 0 count)
 
--- A list of which no more than `most` hashes are kept: all of it, or just so many, and the list has no fewer.
+-- A list of which no more than `most` hashes are kept: all of it, or just `most`, and the list has no fewer.
 pub record UpTo (most : ℕ) (l part : List ℕ) : Type 0 where
   pub within : length part ≤ most
   pub all : length part < most → part ≡ l

@@ -15,7 +15,7 @@ use Rattle.state.specs.Value.{Lent}
 use Rattle.memory.specs.Memory.{Memory, haveRoom, Roomy, OfBytes, Fresh, Out, RoomyOut}
 use Rattle.memory.proofs.AllBytes.{zeros-bytes}
 
--- So many zeros.
+-- n zeros.
 unfoldable pub zeroes : ℕ → List ℕ
 zeroes n = replicate n 0
 

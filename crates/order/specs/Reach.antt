@@ -8,7 +8,7 @@ unfoldable pub someBelow : ℕ → (ℕ → Bool) → Bool
 someBelow zero p = false
 someBelow (suc n) p = p n || someBelow n p
 
--- Reached in fewer than so many steps, by way of numbers below n.
+-- Reached in fewer steps than the first argument says, by way of numbers below n.
 unfoldable pub reachIn : ℕ → ℕ → (ℕ → Bool) → (ℕ → ℕ → Bool) → ℕ → Bool
 reachIn zero n from to i = false
 reachIn (suc steps) n from to i = from i || someBelow n (λ k. reachIn steps n from to k && to k i)

@@ -9,7 +9,7 @@ ghost use mathlib.Core.Path.{_≡_};
 ghost use Rattle.lent.specs.Good.{lentOf};
 ghost use Rattle.plan.specs.Checks.{checkedPlan};
 
-// Tables of so many rows and waiting rows beside a session that is good, or the first refusal.
+// How many rows both tables have, which are good beside a good session; or the first refusal.
 pub enum PlanChecks {
     Good { rows: usize, waiting_rows: usize },
     Refused(Refusal),

@@ -78,7 +78,7 @@ statedOf p =
       hashes = length (p .body .hashes);
     }
 
--- The counts of the session after a message: so many heads were sent last, the unit's own even where the message has none, and so many hashes are sent.
+-- The counts of the session after a message: how many heads were sent last, the unit's own even where the message has none, and how many hashes are sent.
 abbrev pub plannedCounts : Session → ℕ → ℕ → Session
 plannedCounts s lastSent sent =
     record {

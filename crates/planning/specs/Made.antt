@@ -32,7 +32,7 @@ pub record FieldMade (bits probes : ℕ) (hs field : List ℕ) (entries : ℕ) :
   pub many : entries ≡ length hs
   pub is : take (fieldSize entries bits) field ≡ filterOf bits probes hs .field
 
--- A body that isn't chosen yet: no mark of the rows and of so many needs is set.
+-- A body that isn't chosen yet: no mark of the n rows and of the `count` needs is set.
 pub record BlankBody (n count : ℕ) (marks needs : List Bool) : Type 0 where
   pub rowMarks : n ≤ length marks
   pub noRow : Blank n marks
@@ -50,7 +50,7 @@ pub record BodyChosen (b : Body) (t : List Row) (marks : List Bool) (need : List
   pub document : r .document ≡ b .document
   pub hashes : Chosen (b .hashes) t marks need needs (r .hashes)
 
--- Hashes joined to those that were sent, as many as a buffer of so many bytes holds.
+-- Hashes joined to those that were sent, as many as a buffer of `room` bytes holds.
 pub record SentMade (hs sent : List ℕ) (room : ℕ) (after : List ℕ) (count : ℕ) : Type 0 where
   pub many : count ≡ length (hashesAt after 0 count)
   pub are : UpTo (room / sizes .hash) (ascend (hs ++ sent)) (hashesAt after 0 count)

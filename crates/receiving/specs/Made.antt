@@ -40,7 +40,7 @@ flaggedCounts flags s =
 unfoldable pub heldMarked : List Row → List Bool → ℕ → Bool
 heldMarked t marks h = held t h && getD marks (rowNumber t h) false
 
--- Whether all of some hashes are held; and their rows marked with all below them, where that is asked: of so many sent hashes those are left that aren't.
+-- Whether all of some hashes are held; and their rows marked with all below them, where hashes were sent: of these the ones are left that aren't marked.
 pub record HeadsMarked (table : List ℕ) (n : ℕ) (hs : List ℕ) (sent : ℕ) (marks : List Bool) (all : Bool) : Type 0 where
   pub rows : 0 < sent → Marks n marks (belowRow (rowsAt table 0 n) hs)
   pub known : all ≡ every (held (rowsAt table 0 n)) hs
@@ -49,12 +49,12 @@ pub record HeadsMarked (table : List ℕ) (n : ℕ) (hs : List ℕ) (sent : ℕ)
 abbrev pub sharedRoom : ℕ
 sharedRoom = sizes .hash * (sizes .hashes + 1)
 
--- Room for the shared heads after a message of so many heads: these are all where they are held.
+-- Room for the shared heads after a message of `many` heads: these are all where they are held.
 pub record SharedFits (all : Bool) (many room : ℕ) : Type 0 where
   pub held : all ≡ true → sizes .hash * many ≤ room
   pub joined : all ≡ false → room ≡ sharedRoom
 
--- Hashes at the start of a list, as many as so many bytes hold.
+-- Hashes at the start of a list, as many as `room` bytes hold.
 pub record SharedMade (hs : List ℕ) (room : ℕ) (after : List ℕ) (count : ℕ) : Type 0 where
   pub there : sizes .hash * count ≤ length after
   pub many : count ≡ length (hashesAt after 0 count)

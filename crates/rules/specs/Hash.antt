@@ -40,7 +40,7 @@ AreHashes (h ∷ hs) = IsHash h × AreHashes hs
 unfoldable pub hashAt : List ℕ → ℕ → ℕ
 hashAt s place = bigEndian (slice place (place + sizes .hash) s)
 
--- So many hashes from a place on, one after the other, as they stand.
+-- The hashes that stand one after the other from a place on, as many as the last argument says.
 unfoldable pub hashesAt : List ℕ → ℕ → ℕ → List ℕ
 hashesAt s place zero = []
 hashesAt s place (suc count) = hashAt s place ∷ hashesAt s (place + sizes .hash) count

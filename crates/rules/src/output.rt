@@ -2,7 +2,7 @@
 use crate::refusal::Refusal;
 
 pub enum Write {
-    // So many bytes stand at the buffer's start; those beyond them are as they were.
+    // How many bytes stand at the buffer's start; those beyond them are as they were.
     Wrote(usize),
     // Nothing was written.
     Refused(Refusal),

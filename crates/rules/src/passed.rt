@@ -6,7 +6,7 @@ ghost use mathlib.Core.Path.{_≡_};
 ghost use Rattle.rules.specs.Passed.{passedHashes};
 
 pub enum Passed {
-    // The bytes are so many hashes.
+    // The bytes are whole hashes: their number.
     Hashes(usize),
     Refused(Refusal),
 }

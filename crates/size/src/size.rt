@@ -29,7 +29,7 @@ ghost use Rattle.rules.specs.Sizes.{sizes};
 ghost use Rattle.wire.specs.Item.{prefixedBytes, hashListBytes};
 ghost use Rattle.numbers.specs.Number.{shortest};
 
-// A list of so many hashes.
+// The size of a list of `count` hashes, behind their number.
 fn hashes_size(count: usize) -> usize
     requires { ⌜ count ≤ sizes .hashes ⌝ }
     ensures { λ r. ⌜ r ≡ length (shortest count) + sizes .hash * count ⌝ }

@@ -73,7 +73,7 @@ unfolding havesFrom
 length-haves-from s haves zero i = refl
 length-haves-from s haves (suc count) i = ap suc (length-haves-from s haves count (suc i))
 
--- so many haves have as many records
+-- there are as many records as haves
 pub kept-records : (haves : List ℕ) (n : ℕ) → haveWords * n ≤ length haves → haveCount (keptHaves haves n) ≡ n
 kept-records haves n h =
     let e : length (keptHaves haves n) ≡ haveWords * n = length-take-le (haveWords * n) haves h in
@@ -114,7 +114,7 @@ pub same-counts : (s t : Session) (l : Lent) → HavesLent (l .haves) (s .«thei
     → s ≡ t
 same-counts s t l f g e = sym (counts-back s l f) ∙ ap countsOf e ∙ counts-back t l g
 
--- lent lists with records of so many haves
+-- lent lists with the records of n haves
 abbrev room : ℕ → Lent
 room n = record { shared = []; lastSent = []; theirHeads = []; theirNeed = []; haves = replicate (haveWords * n) 0; bytes = []; sent = [] }
 

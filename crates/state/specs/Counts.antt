@@ -6,7 +6,7 @@ use Rattle.state.specs.declared.session.Heard.{Heard}
 use Rattle.state.specs.declared.session.Heard.the-variants.{Nothing, Count}
 use Rattle.state.specs.declared.session.Session.{Session}
 
--- Nothing was said yet, but so many heads are shared and these haves were heard; the peer's capabilities (V2, resets), whether this unit takes no
+-- Nothing was said yet, but some heads are shared (their number) and these haves were heard; the peer's capabilities (V2, resets), whether this unit takes no
 -- changes, and whether a reset is wanted.
 abbrev pub begunCounts : ℕ → Heard → Bool → Bool → Bool → Bool → Session
 begunCounts shared have v2 reset readOnly wantsReset =
@@ -34,7 +34,7 @@ freshCounts = begunCounts 0 Nothing false false false false
 abbrev pub freshReadOnlyCounts : Session
 freshReadOnlyCounts = begunCounts 0 Nothing false false true false
 
--- So many shared heads were saved; their haves are present and none.
+-- `shared` heads were saved; their haves are present and none.
 abbrev pub restoredCounts : ℕ → Session
 restoredCounts shared = begunCounts shared (Count 0) false false false false
 

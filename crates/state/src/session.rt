@@ -83,7 +83,7 @@ impl Session {
         s
     }
 
-    // What a saved state gives: so many shared heads, and haves that are present and none.
+    // What a saved state gives: its shared heads, and haves that are present and none.
     pub fn restored(shared_heads: usize) -> Session
         ensures { λ r. ⌜ r ≡ restoredCounts «shared_heads» ⌝ }
     {

@@ -19,7 +19,7 @@ laidHaves = sizes .haves + 1
 unfoldable pub nothingLaid : Laid
 nothingLaid = record { words = replicate (laidHaves * haveWords) 0; count = 0 }
 
--- The next have of so many, if there is one and room for it.
+-- The next have of `total`, if there is one and room for it.
 unfoldable pub withNext : Laid → ℕ → HaveSummary → Laid
 withNext l total h =
     cond (leb total (l .count))
@@ -32,7 +32,7 @@ withNext l total h =
 unfoldable pub laidOne : List HaveSummary → Laid → Laid
 laidOne hs l = withNext l (length hs) (getD hs (l .count) noHave)
 
--- So many haves laid.
+-- As many haves laid as the first argument says.
 unfoldable pub laidMany : ℕ → List HaveSummary → Laid → Laid
 laidMany zero hs l = l
 laidMany (suc k) hs l = laidMany k hs (laidOne hs l)

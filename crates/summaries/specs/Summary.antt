@@ -47,7 +47,7 @@ noHave =
       size = 0;
     }
 
--- Record i of haves that are words, so many from record i on, and those of a whole list.
+-- Record i of haves that are words.
 unfoldable pub summaryIn : List ℕ → ℕ → HaveSummary
 summaryIn words i =
     cond (leb (haveCount words) i)
@@ -62,7 +62,7 @@ summaryIn words i =
       size = getD words (i * haveWords + 6) 0;
     })
 
--- So many records from record i on.
+-- The records from record i on, as many as the last argument says.
 unfoldable pub summariesFrom : List ℕ → ℕ → ℕ → List HaveSummary
 summariesFrom words i zero = []
 summariesFrom words i (suc count) = summaryIn words i ∷ summariesFrom words (suc i) count

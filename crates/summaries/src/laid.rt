@@ -27,7 +27,7 @@ fn nothing_laid() -> Laid
     }
 }
 
-// Lays the next have of so many, if there is one and room for it.
+// Lays the next have of `total`, if there is one and room for it.
 fn with_next(laid: Laid, total: usize, have: HaveSummary) -> Laid
     ensures { λ r. ⌜ r ≡ withNext laid total have ⌝ }
 {

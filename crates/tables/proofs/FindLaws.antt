@@ -12,7 +12,7 @@ use Rattle.rules.specs.Hash.{hashAt}
 use Rattle.tables.specs.Bytes.{rowOf, rowsOf, rowSize, rowsAt}
 use Rattle.tables.specs.Table.{rows, indexIn}
 
--- so many of the numbers that f gives, from i on
+-- the numbers that f gives from i on, as many as the last argument says
 unfoldable pub listed : (ℕ → ℕ) → ℕ → ℕ → List ℕ
 listed f i zero = []
 listed f i (suc count) = f i ∷ listed f (suc i) count

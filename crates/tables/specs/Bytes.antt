@@ -16,7 +16,7 @@ use Rattle.tables.specs.Table.{Row, GoodTable, rows}
 use Rattle.tables.specs.declared.check.Checked.{Checked}
 use Rattle.tables.specs.declared.check.Checked.the-variants.{Good, Refused}
 
--- So many numbers of two bytes, one after the other.
+-- The two-byte numbers that stand one after the other from a place on, as many as the last argument says.
 unfoldable pub u16sAt : List ℕ → ℕ → ℕ → List ℕ
 u16sAt s at zero = []
 u16sAt s at (suc count) = u16At s at ∷ u16sAt s (at + 2) count
@@ -41,7 +41,7 @@ unusedOf d s i = u16sAt s (i * rowSizeOf d + sizes .hash + 2 + 2 * countOf d s i
 unfoldable pub rowOf : ℕ → List ℕ → ℕ → Row
 rowOf d s i = record { hash = hashAt s (i * rowSizeOf d); deps = usedOf d s i }
 
--- So many rows from row i on.
+-- The rows from row i on, as many as the last argument says.
 unfoldable pub rowsOf : ℕ → List ℕ → ℕ → ℕ → List Row
 rowsOf d s i zero = []
 rowsOf d s i (suc count) = rowOf d s i ∷ rowsOf d s (suc i) count
@@ -67,7 +67,7 @@ rowGoodOf d s i =
     && zeros (unusedOf d s i)
     && not (member (hashAt s (i * rowSizeOf d)) (rows (rowsOf d s 0 i)))
 
--- The first of so many rows from row i on that isn't good, or the row after them.
+-- The first row from row i on that isn't good, or the row behind those that are looked at, as many as the last argument says.
 unfoldable pub firstBad : (ℕ → Bool) → ℕ → ℕ → ℕ
 firstBad good i zero = i
 firstBad good i (suc count) = cond (not (good i)) i (firstBad good (suc i) count)
@@ -100,7 +100,7 @@ depCount s i = countOf (sizes .dependencies) s i
 abbrev pub usedAt : List ℕ → ℕ → List ℕ
 usedAt s i = usedOf (sizes .dependencies) s i
 
--- So many rows from row i on.
+-- `count` rows from row i on.
 abbrev pub rowsAt : List ℕ → ℕ → ℕ → List Row
 rowsAt s i count = rowsOf (sizes .dependencies) s i count
 

@@ -94,7 +94,7 @@ receiptPuts (Took s) d = d
 receiptPuts (Failed s) d = noReceipt
 receiptPuts (Refused r) d = noReceipt
 
--- So many records stand in a list, are haves over the message, and have room, laid out.
+-- `count` records stand in a list, are haves over the message, and have room, laid out.
 pub record LaidFit (message words : List ℕ) (count : ℕ) (records bytes : List ℕ) : Type 0 where
   pub there : haveWords * count ≤ length words
   pub layable : Layable message (keptHaves words count)

@@ -45,7 +45,7 @@ fn put_hashes(bytes: &[u8], place: usize, count: usize, out: &mut [u8])
     copy_into(out, 0, &bytes[place..place + HASH_SIZE * count]);
 }
 
-// Lays out so many haves of a message, whose records are lent.
+// Lays out `count` haves of a message, whose records are lent.
 fn put_laid(message: &[u8], words: &[u64], count: usize, haves: &mut [u64], bytes: &mut [u8])
     requires { ⌜ LaidFit (now message) (now words) count (now haves) (now bytes) ⌝ }
     ensures { λ _. ⌜ LaidPut (havesOf (now (message .entry)) (keptHaves (now (words .entry)) count)) (now (haves .entry)) (now (bytes .entry))

@@ -200,7 +200,7 @@ part : Part (tableOf all-rows) (tableOf a-row)
 part =
     subst (λ (A : List Row). Part A (tableOf a-row)) (sym (computed .2)) (subst (λ (B : List Row). Part three B) (sym (computed .0)) part-one)
 
--- two hosts with memory and buffers of limit size talk for so many rounds, and the corollary speaks of it: every premise is met here
+-- two hosts with memory and buffers of limit size talk for n rounds, and the corollary speaks of it: every premise is met here
 pub calls-example : (n : ℕ) → (talk : TalkOfCalls all-rows at-b waits-b waits-a lent n) × CallsEnd all-rows at-b waits-b waits-a lent n talk
 calls-example n =
     let talk = calls-go all-rows at-b waits-b waits-a lent lends (record { atA = zeroed; atB = zeroed }) zeroed-fresh zeroed-fresh n in

@@ -142,7 +142,7 @@ module _ (a : List ℕ) (b w u : ℕ → List ℕ) (hosts : ℕ → Host) where
     pub answers : Speaks (hosts k) a (tableA .index) (u k) midA (s′ .atA) reply
     pub takes : Hears (b (suc k)) (loadedB .index) (length (B k)) reply midB (s′ .atB)
 
-  -- So many rounds from two fresh sessions on, each from the memory that the one before it left.
+  -- n rounds from two fresh sessions on, each from the memory that the one before it left.
   pub record TalkOfCalls (n : ℕ) : Type 0 where
     pub at : ℕ → Both
     pub freshA : Fresh (at 0 .atA)

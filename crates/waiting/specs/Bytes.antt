@@ -38,7 +38,7 @@ waitingRowOf d s i =
       asks = hashesAt s (asksPlaceOf d i) (asksCountOf d s i);
     }
 
--- So many rows from row i on.
+-- The waiting rows from row i on, as many as the last argument says.
 unfoldable pub waitingRowsOf : ℕ → List ℕ → ℕ → ℕ → List Waiting
 waitingRowsOf d s i zero = []
 waitingRowsOf d s i (suc count) = waitingRowOf d s i ∷ waitingRowsOf d s (suc i) count
@@ -47,7 +47,7 @@ waitingRowsOf d s i (suc count) = waitingRowOf d s i ∷ waitingRowsOf d s (suc 
 unfoldable pub wholeWaitingOf : ℕ → List ℕ → List Waiting
 wholeWaitingOf d s = waitingRowsOf d s 0 (length s / waitingSizeOf d)
 
--- So many bytes from a place on.
+-- The bytes from a place on, as many as the last argument says.
 unfoldable pub bytesAt : List ℕ → ℕ → ℕ → List ℕ
 bytesAt s at zero = []
 bytesAt s at (suc count) = getD s at 0 ∷ bytesAt s (at + 1) count
@@ -82,7 +82,7 @@ waitingSize = waitingSizeOf (sizes .dependencies)
 abbrev pub asksCount : List ℕ → ℕ → ℕ
 asksCount s i = asksCountOf (sizes .dependencies) s i
 
--- So many rows from row i on.
+-- `count` waiting rows from row i on.
 abbrev pub waitingsAt : List ℕ → ℕ → ℕ → List Waiting
 waitingsAt s i count = waitingRowsOf (sizes .dependencies) s i count
 

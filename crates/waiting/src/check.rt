@@ -28,7 +28,7 @@ pub fn asks_count(waiting: &[u8], i: usize) -> usize
     waiting[i * WAITING_SIZE + HASH_SIZE] as usize
 }
 
-// Whether so many bytes from a place on are 0.
+// Whether `count` bytes from a place on are 0.
 fn zero_bytes(bytes: &[u8], at: usize, count: usize) -> bool
     requires { ⌜ at + count ≤ length (now bytes) ⌝ }
     ensures { λ r. ⌜ r ≡ zeros (bytesAt (now (bytes .entry)) at count) ⌝ }

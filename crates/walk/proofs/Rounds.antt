@@ -46,7 +46,7 @@ pub record Hears (J B : List Row) (heard : List ℕ) : Type 0 where
   pub are : heard ≡ heads said
   pub rich : (h : ℕ) → held J h ≡ true → (held B h || held said h) ≡ true
 
--- So many rounds from B on; heads are heard from round q on, counted from 0.
+-- k rounds from B on; heads are heard from round q on, counted from 0.
 pub data Runs (J B : List Row) (q : ℕ) : ℕ → At → Type 0 where
   start : Runs J B q 0 (starting B)
   round : {k : ℕ} {s s′ : At} (X : List Row) (heard : List ℕ) (haves : List Have) (reply : List ℕ) → Runs J B q k s

@@ -48,7 +48,7 @@ pub record Round (A : List Row) (heard : List ℕ) (s : At) (haves : List Have) 
   pub sends : s′ .sent ≡ trim A (heads (s .table)) (s .sent) ++ reply
   pub names : s′ .named ≡ s .named ++ reply
 
--- So many rounds from B on.
+-- Walk A B k s: k rounds from B on, which lead to s.
 pub data Walk (A B : List Row) : ℕ → At → Type 0 where
   start : Walk A B 0 (starting B)
   round : {k : ℕ} {s s′ : At} (haves : List Have) (reply : List ℕ) → Walk A B k s → Round A (heardIn k A) s haves reply s′ → Walk A B (suc k) s′
