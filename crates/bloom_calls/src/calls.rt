@@ -10,7 +10,8 @@ ghost use Rattle.probe.specs.Contains.{containedIn};
 ghost use Rattle.answers.specs.Answer.{Answered};
 ghost use Rattle.bloom_calls.specs.Answer.{filterWords, containedWords};
 
-// The filter at a place: 0, entries, bits, probes, place of the field, its length, next place, bytes ignored behind the field.
+// Reads the filter that starts at place `at` of `bytes` and ends before place `end`. Answer: 0, entries, bits per entry, probes, the place of the
+// field, its length, the place behind what was read, the bytes ignored behind the field.
 #[no_mangle]
 pub extern "C" fn bt_read_filter(bytes: &[u8], at: usize, end: usize, answer: &mut [u64; 8])
     ensures { λ _. ⌜ now (answer .exit) ≡ filterWords (countedAt (now (bytes .entry)) at end) ⌝ }
@@ -18,7 +19,8 @@ pub extern "C" fn bt_read_filter(bytes: &[u8], at: usize, end: usize, answer: &m
     *answer = filter_words(bloom::parse::parse_counted(bytes, at, end));
 }
 
-// Writes a filter: 0, bytes written.
+// Writes a filter of these entries, bits per entry and probes over `field` at the start of `out`; one without entries is no bytes. Answer: 0, the
+// bytes written.
 #[no_mangle]
 pub extern "C" fn bt_write_filter(
     entries: u64,
@@ -33,7 +35,8 @@ pub extern "C" fn bt_write_filter(
     *answer = write_words(bloom::to_bytes::to_bytes(out, entries, bits, probes, field));
 }
 
-// Builds the field of a filter over hashes that are lent as bytes: 0, the field's length.
+// Builds the field of a filter with these bits per entry and probes over the hashes in `hashes`, 32 bytes each, at the start of `field`. Answer: 0,
+// the field's length.
 #[no_mangle]
 pub extern "C" fn bt_build_filter(
     bits: u64,
@@ -47,7 +50,8 @@ pub extern "C" fn bt_build_filter(
     *answer = write_words(probe::build::from_hashes(field, bits, probes, hashes));
 }
 
-// Whether some filter of the haves contains a hash: 0, then 1 or 0.
+// Asks whether the filter of some have contains the hash in `hash`. The haves are records of seven words over `bytes`. Answer: 0, then 1 for yes or
+// 0 for no.
 #[no_mangle]
 pub extern "C" fn bt_filters_contain(
     bytes: &[u8],

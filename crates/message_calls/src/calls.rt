@@ -8,8 +8,10 @@ ghost use Rattle.message.specs.Write.{partsOf, messageOutput};
 ghost use Rattle.answers.specs.Answer.{Answered};
 ghost use Rattle.message_calls.specs.MessageWords.{versionOf, sectionOf, MessageAnswered, PeekAnswered};
 
-// Reads a message: 0, version, place and count of the heads, the need, the haves and the chunks, flags, next place, bytes ignored behind the fields of
-// its filters, bytes after its flags section; the words of haves and chunks go into their lists, and so does the number of bytes ignored in each have.
+// Reads the message in `bytes`. The seven words of each have go to the start of `haves`, the place and the length of each chunk to the start of
+// `chunks`, and how many bytes are ignored behind the field of each have to the start of `ignored`. Answer: 0, the version, the place and the
+// number of the heads, of the need, of the haves and of the chunks, the flags (256 where there is no section), the place behind the message, the
+// bytes ignored behind the fields of all its filters, the bytes behind its flags section.
 #[no_mangle]
 pub extern "C" fn bt_read_message(
     bytes: &[u8],
@@ -24,7 +26,8 @@ pub extern "C" fn bt_read_message(
     *answer = decoded_words(decode::decode::decode(bytes, haves, chunks, ignored));
 }
 
-// Reads a message's version and heads from its first part alone: 0, version, heads, which are copied to the buffer's start.
+// Reads the version and the heads of the message in `bytes` from its first part alone, and copies the heads to the start of `out`; what follows
+// them isn't looked at. Answer: 0, the version, how many heads there are.
 #[no_mangle]
 pub extern "C" fn bt_peek_heads(bytes: &[u8], out: &mut [u8], answer: &mut [u64; 4])
     ensures { λ _. ⌜ PeekAnswered (now (bytes .entry)) (now (out .entry)) (now (out .exit)) (now (answer .exit)) ⌝ }
@@ -32,7 +35,9 @@ pub extern "C" fn bt_peek_heads(bytes: &[u8], out: &mut [u8], answer: &mut [u64;
     *answer = peeked_words(peek::peek::peek_heads(bytes, out));
 }
 
-// Writes a message from its parts: 0, bytes written.
+// Writes a message at the start of `out`: `version` 2 is version 2 and any other number version 1; the hashes in `heads` and in `need`; haves as
+// records of seven words over `bytes`; chunks that stand one after the other in `chunks`, with their lengths in `lengths`; `flags` below 256, or
+// any other number for no section. Answer: 0, the bytes written.
 #[no_mangle]
 pub extern "C" fn bt_write_message(
     version: u64,

@@ -3,7 +3,8 @@ use answers::answer::write_words;
 ghost use Rattle.selection.specs.ToSend.{toSendOutput};
 ghost use Rattle.answers.specs.Answer.{Answered};
 
-// Writes the hashes to send to a peer: 0, bytes written.
+// Writes the hashes to send to a peer that asks for the hashes in `need` and has the haves, records of seven words over `bytes`, at the start of
+// `out`: held needs outside S in their order, then S in table order. Answer: 0, the bytes written.
 #[no_mangle]
 pub extern "C" fn bt_hashes_to_send(
     table: &[u8],

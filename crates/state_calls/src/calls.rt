@@ -30,7 +30,7 @@ pub extern "C" fn bt_fresh_read_only(session: &mut [u64; 16])
     *session = session_words(Session::new_read_only());
 }
 
-// Changes the words of a session to those that it has once read-only is set: off for 0, else on.
+// Changes the words of a session to those that it has once read-only is switched off (`on` is 0) or on (any other number).
 #[no_mangle]
 pub extern "C" fn bt_set_read_only(session: &mut [u64; 16], on: u64)
     ensures { λ _. ⌜ now (session .exit) ≡ sessionWords (setReadOnlyCounts (sessionOf (now (session .entry))) (flagOf on)) ⌝ }
@@ -38,7 +38,7 @@ pub extern "C" fn bt_set_read_only(session: &mut [u64; 16], on: u64)
     *session = session_words(session_of(*session).set_read_only(on != 0));
 }
 
-// Checks a session and the lists that are lent with it: 0.
+// Checks the sixteen words of a session and the seven lists that are lent beside them. Answer: four zeros, or refusal 10.
 #[no_mangle]
 pub extern "C" fn bt_check_session(
     session: &[u64; 16],
@@ -66,7 +66,7 @@ pub extern "C" fn bt_check_session(
     ));
 }
 
-// Writes a saved state from the first hashes of a buffer, the shared heads: 0, bytes written.
+// Writes a saved state at the start of `out`: the first `count` hashes of `shared`, which are the shared heads. Answer: 0, the bytes written.
 #[no_mangle]
 pub extern "C" fn bt_write_state(shared: &[u8], count: usize, out: &mut [u8], answer: &mut [u64; 4])
     ensures { λ _. ⌜ Answered (stateOutput (now (shared .entry)) count) (now (out .entry)) (now (out .exit)) (now (answer .exit)) ⌝ }
@@ -74,7 +74,8 @@ pub extern "C" fn bt_write_state(shared: &[u8], count: usize, out: &mut [u8], an
     *answer = write_words(saved::saved::encode(out, shared, count));
 }
 
-// Reads a saved state into a buffer for its shared heads and the words of a session: 0, shared heads.
+// Reads the saved state in `bytes`: its shared heads go to the start of `shared`, and `session` becomes the session that goes on from it. Answer:
+// 0, how many shared heads there are.
 #[no_mangle]
 pub extern "C" fn bt_read_state(
     bytes: &[u8],

@@ -10,7 +10,7 @@ ghost use Rattle.waiting.specs.Calls.{tablesChecked};
 ghost use Rattle.graph.specs.Calls.{headsOutput, beyondOutput};
 ghost use Rattle.missing.specs.Calls.{missingOutput};
 
-// Checks a change table: 0, rows.
+// Checks the change table in `table`. Answer: 0, its rows.
 #[no_mangle]
 pub extern "C" fn bt_check_table(table: &[u8], answer: &mut [u64; 4])
     ensures { λ _. ⌜ now (answer .exit) ≡ checkedWords (tableChecked (now (table .entry))) ⌝ }
@@ -18,7 +18,7 @@ pub extern "C" fn bt_check_table(table: &[u8], answer: &mut [u64; 4])
     *answer = checked_words(indexing::check::check_alone(table));
 }
 
-// Checks a change table beside its index, and a waiting table beside both: 0, waiting rows.
+// Checks the change table in `table` beside its index in `index`, and the waiting table in `waiting` beside both. Answer: 0, the waiting rows.
 #[no_mangle]
 pub extern "C" fn bt_check_tables(table: &[u8], index: &[u8], waiting: &[u8], answer: &mut [u64; 4])
     ensures { λ _. ⌜ now (answer .exit) ≡ checkedWords (tablesChecked (now (table .entry)) (now (index .entry)) (now (waiting .entry))) ⌝ }
@@ -26,7 +26,8 @@ pub extern "C" fn bt_check_tables(table: &[u8], index: &[u8], waiting: &[u8], an
     *answer = checked_words(waiting::check::check_tables(table, index, waiting));
 }
 
-// Builds the index of a table, two bytes for each row: 0, bytes written.
+// Writes the index of the change table in `table` at the start of `out`: the row numbers in ascending order of hash, two bytes each. Answer: 0, the
+// bytes written.
 #[no_mangle]
 pub extern "C" fn bt_build_index(table: &[u8], out: &mut [u8], answer: &mut [u64; 4])
     ensures { λ _. ⌜ Answered (builtOutput (now (table .entry))) (now (out .entry)) (now (out .exit)) (now (answer .exit)) ⌝ }
@@ -34,7 +35,8 @@ pub extern "C" fn bt_build_index(table: &[u8], out: &mut [u8], answer: &mut [u64
     *answer = write_words(indexing::build::build_index(table, out));
 }
 
-// Extends an index of all rows but the last by that one, with the same result as building afresh: 0, bytes written.
+// Writes the index of the change table in `table` at the start of `out`, by extending `index`, which is that of all rows but the last; the bytes
+// are those that building gives. Answer: 0, the bytes written.
 #[no_mangle]
 pub extern "C" fn bt_extend_index(table: &[u8], index: &[u8], out: &mut [u8], answer: &mut [u64; 4])
     ensures { λ _. ⌜ Answered (extendedOutput (now (table .entry)) (now (index .entry))) (now (out .entry)) (now (out .exit)) (now (answer .exit)) ⌝ }
@@ -42,7 +44,8 @@ pub extern "C" fn bt_extend_index(table: &[u8], index: &[u8], out: &mut [u8], an
     *answer = write_words(indexing::build::extend_index(table, index, out));
 }
 
-// Writes the heads of a table's first rows, ascending: 0, bytes written.
+// Writes the heads of the table's first `before` rows at the start of `out`, ascending, 32 bytes each. `index` is the index of the whole table.
+// Answer: 0, the bytes written.
 #[no_mangle]
 pub extern "C" fn bt_heads(
     table: &[u8],
@@ -56,7 +59,8 @@ pub extern "C" fn bt_heads(
     *answer = write_words(graph::heads::heads(table, index, before, out));
 }
 
-// Writes the rows beyond a list of hashes, in table order: 0, bytes written.
+// Writes the rows that are neither in the list nor ancestors of it at the start of `out`, in table order, 32 bytes each. The list is the hashes in
+// `hashes`; those that aren't held are ignored. Answer: 0, the bytes written.
 #[no_mangle]
 pub extern "C" fn bt_beyond(
     table: &[u8],
@@ -71,7 +75,8 @@ pub extern "C" fn bt_beyond(
     *answer = write_words(graph::beyond::beyond(table, index, hashes, out));
 }
 
-// Writes what is missing from a list of hashes, each once, ascending: 0, bytes written.
+// Writes what is missing from the hashes in `hashes` at the start of `out`, each hash once, ascending, 32 bytes each: the unknown ones, and what
+// waiting changes that are asked for lack. Answer: 0, the bytes written.
 #[no_mangle]
 pub extern "C" fn bt_missing(
     table: &[u8],
