@@ -92,12 +92,12 @@ fn with_flag(flags: MessageFlags, on: bool, flag: u8) -> MessageFlags
 }
 
 // The flags that a message says.
-fn flags_for(read_only: bool, forget: bool) -> MessageFlags
-    ensures { λ r. ⌜ r ≡ flagsFor «read_only» forget ⌝ }
+fn flags_for(read_only: bool, tells_reset: bool) -> MessageFlags
+    ensures { λ r. ⌜ r ≡ flagsFor «read_only» «tells_reset» ⌝ }
 {
     let understands = MessageFlags::new().set(MessageFlags::SUPPORTS_SYNC_RESET);
     let flags = with_flag(understands, read_only, MessageFlags::READ_ONLY);
-    with_flag(flags, forget, MessageFlags::SYNC_RESET)
+    with_flag(flags, tells_reset, MessageFlags::SYNC_RESET)
 }
 
 // Whether the peer is told to forget what it sent: where that is due and it understands it.

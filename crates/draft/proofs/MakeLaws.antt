@@ -49,19 +49,19 @@ use Rattle.draft.specs.declared.make.Given.{Given}
 
 -- The peer is heard to have no heads.
 pub counted-made : (t : List Row) (n : ℕ) (s : Session) (theirHeads theirNeed haves bytes sent : List ℕ) (headMarks marks needs : List Bool) (k : PlanCounts)
-    (lost : Bool)
+    (headless : Bool)
     → n ≤ length headMarks
     → Marks n headMarks (λ i. not (needed t i))
     → k .heads ≡ marked n headMarks
     → n ≤ length marks
     → heardCount (s .«their_need») ≤ length needs
-    → lost ≡ heardAs (hashesAt theirHeads 0 0) (heardHashes theirHeads (s .«their_heads»))
+    → headless ≡ heardAs (hashesAt theirHeads 0 0) (heardHashes theirHeads (s .«their_heads»))
     → BodyChosen (cond (s .«peer_read_only») (listOf [])
-    (bodyHeard t (s .«supports_v2») lost (heardHaves bytes haves (s .«their_have»)) (heardHashes theirNeed (s .«their_need»))
+    (bodyHeard t (s .«supports_v2») headless (heardHaves bytes haves (s .«their_have»)) (heardHashes theirNeed (s .«their_need»))
     (hashesAt sent 0 (s .«sent_hashes»)))) t marks (hashesAt theirNeed 0 (heardCount (s .«their_need»))) needs (k .body)
     → PlanCounted t n (carriedBody t s theirHeads theirNeed haves bytes sent) (hashesAt theirNeed 0 (heardCount (s .«their_need»))) headMarks marks needs k
 unfolding hashesAt bodyOf
-counted-made t n s theirHeads theirNeed haves bytes sent headMarks marks needs k lost a b c d e f g =
+counted-made t n s theirHeads theirNeed haves bytes sent headMarks marks needs k headless a b c d e f g =
     record {
       headRoom = a;
       areHeads = b;

@@ -87,14 +87,14 @@ pub fn count_plan(
     let need = session.their_need;
     mark_heads(table, n, head_marks);
     let heads = count_marked(n, head_marks);
-    let lost = heard_as(their_heads, 0, their_heads, heard);
+    let headless = heard_as(their_heads, 0, their_heads, heard);
     let body = mark_body(
         table,
         index,
         n,
         session.peer_read_only,
         session.supports_v2,
-        lost,
+        headless,
         bytes,
         haves,
         have,

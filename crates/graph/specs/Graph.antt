@@ -7,7 +7,7 @@ use Rattle.order.specs.Order.{member, ascend}
 use Rattle.order.specs.Reach.{someBelow, reach}
 use Rattle.tables.specs.Table.{Row, hashOf, depsOf, rowNumber, held, rowsWhere}
 
--- Heads: rows that no row depends on, ascending bytes.
+-- Whether some row depends on row i.
 unfoldable pub needed : List Row → ℕ → Bool
 needed t i = someBelow (length t) (λ k. member i (depsOf t k))
 

@@ -68,23 +68,23 @@ module _ (table : List ℕ) (n : ℕ) (need : List ℕ) (count : ℕ) (marks nee
 
 -- ---- which of the two
 
-module _ (t : List Row) (v2 lost : Bool) (haves : List Have) (need sent : List ℕ) (marks needs : List Bool) (r : BodyCount) where
-  pub body-lost : (v2 && lost) ≡ true → BodyChosen (documentOf t) t marks need needs r
-      → BodyChosen (bodyFor t v2 lost haves need sent) t marks need needs r
+module _ (t : List Row) (v2 headless : Bool) (haves : List Have) (need sent : List ℕ) (marks needs : List Bool) (r : BodyCount) where
+  pub body-headless : (v2 && headless) ≡ true → BodyChosen (documentOf t) t marks need needs r
+      → BodyChosen (bodyFor t v2 headless haves need sent) t marks need needs r
   unfolding bodyFor
-  body-lost e m = rw e m
+  body-headless e m = rw e m
 
-module _ (t : List Row) (v2 lost : Bool) (haves : List Have) (need sent : List ℕ) (marks needs : List Bool) (count n : ℕ) (e : (v2 && lost) ≡ false)
+module _ (t : List Row) (v2 headless : Bool) (haves : List Have) (need sent : List ℕ) (marks needs : List Bool) (count n : ℕ) (e : (v2 && headless) ≡ false)
     (long : length t ≡ n)
     (so : Chosen (toSendLess t haves need sent) t marks need needs count) where
   pub body-long : (v2 && ltb (n / documentPart) count) ≡ true → (marks′ needs′ : List Bool) (r : BodyCount)
       → BodyChosen (documentOf t) t marks′ need needs′ r
-      → BodyChosen (bodyFor t v2 lost haves need sent) t marks′ need needs′ r
+      → BodyChosen (bodyFor t v2 headless haves need sent) t marks′ need needs′ r
   unfolding bodyFor listOrDocument
   body-long f marks′ needs′ r m = rw (e, long, ← so .many, f) m
 
   pub body-list : (v2 && ltb (n / documentPart) count) ≡ false
-      → BodyChosen (bodyFor t v2 lost haves need sent) t marks need needs (record { document = false; hashes = count })
+      → BodyChosen (bodyFor t v2 headless haves need sent) t marks need needs (record { document = false; hashes = count })
   unfolding bodyFor listOrDocument
   body-list f = rw (e, long, ← so .many, f) (record { document = refl; hashes = so })
 
@@ -97,11 +97,11 @@ module _ (peerReadOnly : Bool) (b : Body) (t : List Row) (marks : List Bool) (ne
   pub peer-open : peerReadOnly ≡ false → BodyChosen b t marks need needs r → BodyChosen (cond peerReadOnly (listOf []) b) t marks need needs r
   peer-open e m = rw e m
 
-module _ (t : List Row) (v2 lost : Bool) (s haves : List ℕ) (have : Heard) (theirs : List ℕ) (need : Heard) (sent : List ℕ) (marks needs : List Bool)
+module _ (t : List Row) (v2 headless : Bool) (s haves : List ℕ) (have : Heard) (theirs : List ℕ) (need : Heard) (sent : List ℕ) (marks needs : List Bool)
     (r : BodyCount) where
   abbrev Made : Type 0
   Made =
-      BodyChosen (bodyHeard t v2 lost (heardHaves s haves have) (heardHashes theirs need) sent) t marks (hashesAt theirs 0 (heardCount need)) needs r
+      BodyChosen (bodyHeard t v2 headless (heardHaves s haves have) (heardHashes theirs need) sent) t marks (hashesAt theirs 0 (heardCount need)) needs r
 
   abbrev None : Type 0
   None = BodyChosen (listOf []) t marks (hashesAt theirs 0 (heardCount need)) needs r
@@ -115,7 +115,7 @@ module _ (t : List Row) (v2 lost : Bool) (s haves : List ℕ) (have : Heard) (th
   no-need n e f m = rw (e, f) (rw f at m)
 
   pub both-heard : (n k : ℕ) → have ≡ Count n → need ≡ Count k
-      → BodyChosen (bodyFor t v2 lost (havesOf s (keptHaves haves n)) (hashesAt theirs 0 k) sent) t marks (hashesAt theirs 0 k) needs r
+      → BodyChosen (bodyFor t v2 headless (havesOf s (keptHaves haves n)) (hashesAt theirs 0 k) sent) t marks (hashesAt theirs 0 k) needs r
       → Made
   unfolding bodyHeard heardHaves heardHashes
   both-heard n k e f m = rw (e, f) m

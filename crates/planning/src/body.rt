@@ -51,13 +51,13 @@ fn goes_whole(v2: bool, reason: bool) -> bool
     reason
 }
 
-// The body for haves and a need that were heard. `lost`: the peer is heard to have no heads.
+// The body for haves and a need that were heard. `headless`: the peer is heard to have no heads.
 fn body_for(
     table: &[u8],
     index: &[u8],
     n: usize,
     v2: bool,
-    lost: bool,
+    headless: bool,
     bytes: &[u8],
     haves: &[u64],
     need: &[u8],
@@ -69,11 +69,11 @@ fn body_for(
 ) -> BodyCount
     requires { ⌜ Choosable (now table) (now index) n (now bytes) (now haves) (now need) 0 count × (sizes .hash * before ≤ length (now sent))
         × BlankBody n count (now marks) (now needs) ⌝ }
-    ensures { λ r. ⌜ BodyChosen (bodyFor (rowsAt (now (table .entry)) 0 n) v2 lost (havesOf (now (bytes .entry)) (now (haves .entry)))
+    ensures { λ r. ⌜ BodyChosen (bodyFor (rowsAt (now (table .entry)) 0 n) v2 headless (havesOf (now (bytes .entry)) (now (haves .entry)))
         (hashesAt (now (need .entry)) 0 count) (hashesAt (now (sent .entry)) 0 before))
         (rowsAt (now (table .entry)) 0 n) (now (marks .exit)) (hashesAt (now (need .entry)) 0 count) (now (needs .exit)) r ⌝ }
 {
-    if goes_whole(v2, lost) {
+    if goes_whole(v2, headless) {
         return mark_document(n, count, marks, needs);
     }
     let hashes = choose(
@@ -106,7 +106,7 @@ pub fn mark_body(
     n: usize,
     peer_read_only: bool,
     v2: bool,
-    lost: bool,
+    headless: bool,
     bytes: &[u8],
     haves: &[u64],
     have: Heard,
@@ -119,7 +119,7 @@ pub fn mark_body(
 ) -> BodyCount
     requires { ⌜ Indexed (now table) (now index) n × (havesGood (now bytes) (now haves) have ≡ true) × (heardGood (now «their_need») need ≡ true)
         × (sizes .hash * before ≤ length (now sent)) × BlankBody n (heardCount need) (now marks) (now needs) ⌝ }
-    ensures { λ r. ⌜ BodyChosen (cond «peer_read_only» (listOf []) (bodyHeard (rowsAt (now (table .entry)) 0 n) v2 lost
+    ensures { λ r. ⌜ BodyChosen (cond «peer_read_only» (listOf []) (bodyHeard (rowsAt (now (table .entry)) 0 n) v2 headless
         (heardHaves (now (bytes .entry)) (now (haves .entry)) have) (heardHashes (now («their_need» .entry)) need)
         (hashesAt (now (sent .entry)) 0 before)))
         (rowsAt (now (table .entry)) 0 n) (now (marks .exit)) (hashesAt (now («their_need» .entry)) 0 (heardCount need)) (now (needs .exit)) r ⌝ }
@@ -143,7 +143,7 @@ pub fn mark_body(
         index,
         n,
         v2,
-        lost,
+        headless,
         bytes,
         kept,
         their_need,

@@ -68,15 +68,15 @@ module _ (t : List Row) (s : State) (P : Body → Type 0) where
     pub list : (haves : List Have) (need : List ℕ) → s .theirHave ≡ some haves → s .theirNeed ≡ some need
         → P (listOf (toSendLess t haves need (s .sentHashes)))
 
-  for-heard : Bodies → (haves : List Have) (need : List ℕ) → s .theirHave ≡ some haves → s .theirNeed ≡ some need → (v2 lost : Bool)
-      → (v2 ≡ true → s .supportsV2 ≡ true) → P (bodyFor t v2 lost haves need (s .sentHashes))
+  for-heard : Bodies → (haves : List Have) (need : List ℕ) → s .theirHave ≡ some haves → s .theirNeed ≡ some need → (v2 headless : Bool)
+      → (v2 ≡ true → s .supportsV2 ≡ true) → P (bodyFor t v2 headless haves need (s .sentHashes))
   unfolding bodyFor listOrDocument
   for-heard b haves need p q true true f = b .document (f refl)
   for-heard b haves need p q true false f =
       split (ltb (length t / documentPart) (length (toSendLess t haves need (s .sentHashes))))
       (λ e. rw e (b .document (f refl)))
       (λ e. rw e (b .list haves need p q))
-  for-heard b haves need p q false lost f = b .list haves need p q
+  for-heard b haves need p q false headless f = b .list haves need p q
 
   heard-body : Bodies → (have : Option (List Have)) (need : Option (List ℕ)) → s .theirHave ≡ have → s .theirNeed ≡ need
       → P (bodyHeard t (s .supportsV2) (heardAs [] (s .theirHeads)) have need (s .sentHashes))
@@ -89,15 +89,15 @@ module _ (t : List Row) (s : State) (P : Body → Type 0) where
   unfolding bodyOf
   body-cases b = split (s .peerReadOnly) (λ e. rw e (b .nothing)) (λ e. rw e (heard-body b (s .theirHave) (s .theirNeed) refl refl))
 
-for-list : (t : List Row) (v2 lost : Bool) (haves : List Have) (need sent : List ℕ) → bodyFor t v2 lost haves need sent .document ≡ false
-    → bodyFor t v2 lost haves need sent .hashes ≡ toSendLess t haves need sent
+for-list : (t : List Row) (v2 headless : Bool) (haves : List Have) (need sent : List ℕ) → bodyFor t v2 headless haves need sent .document ≡ false
+    → bodyFor t v2 headless haves need sent .hashes ≡ toSendLess t haves need sent
 unfolding bodyFor listOrDocument
 for-list t true true haves need sent = λ d. absurd (true-false true refl d)
 for-list t true false haves need sent =
     split (ltb (length t / documentPart) (length (toSendLess t haves need sent)))
     (λ e. rw e (λ d. absurd (true-false true refl d)))
     (λ e. rw e (λ d. refl))
-for-list t false lost haves need sent = λ d. refl
+for-list t false headless haves need sent = λ d. refl
 
 -- every hash of a body is a row
 pub planned-held : (t : List Row) → GoodTable t → (s : State) → every (held t) (bodyOf t s .hashes) ≡ true
@@ -211,7 +211,7 @@ module _ (bits probes : ℕ) (t : List Row) (need theirHeads lastSync : List ℕ
       split (every (λ h. member h theirHeads) need) (λ e. rw (have-one e) (omega arith)) (λ e. rw (have-none e) (omega arith))
 
 -- flags that a flags section can carry
-pub said-flags : (readOnlyUnit forget : Bool) → flagsFor readOnlyUnit forget .0 < 0x80
+pub said-flags : (readOnlyUnit tellsReset : Bool) → flagsFor readOnlyUnit tellsReset .0 < 0x80
 unfolding flagsFor
 said-flags true true = omega arith
 said-flags true false = omega arith

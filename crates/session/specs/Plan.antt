@@ -93,13 +93,13 @@ listOrDocument t v2 l = cond (v2 && ltb (length t / documentPart) (length l)) (d
 
 -- The document too where the peer is heard to have no heads at all (`send_doc`) and knows V2; else the hashes to send, less those that were sent.
 unfoldable pub bodyFor : List Row → Bool → Bool → List Have → List ℕ → List ℕ → Body
-bodyFor t v2 lost haves need sent = cond (v2 && lost) (documentOf t) (listOrDocument t v2 (toSendLess t haves need sent))
+bodyFor t v2 headless haves need sent = cond (v2 && headless) (documentOf t) (listOrDocument t v2 (toSendLess t haves need sent))
 
 -- Nothing goes before both a have and a need were heard.
 unfoldable pub bodyHeard : List Row → Bool → Bool → Option (List Have) → Option (List ℕ) → List ℕ → Body
-bodyHeard t v2 lost none need sent = listOf []
-bodyHeard t v2 lost (some haves) none sent = listOf []
-bodyHeard t v2 lost (some haves) (some need) sent = bodyFor t v2 lost haves need sent
+bodyHeard t v2 headless none need sent = listOf []
+bodyHeard t v2 headless (some haves) none sent = listOf []
+bodyHeard t v2 headless (some haves) (some need) sent = bodyFor t v2 headless haves need sent
 
 -- Nothing goes to a peer that takes no changes.
 unfoldable pub bodyOf : List Row → State → Body
@@ -131,7 +131,7 @@ headsFor needsReset supportsReset ourHeads = cond (needsReset && not supportsRes
 
 -- The flags of a message: a reset is always understood here; read-only and forgetting as they are.
 unfoldable pub flagsFor : Bool → Bool → MessageFlags
-flagsFor readOnlyUnit forget = flagsOf (supportsSyncReset + (cond readOnlyUnit readOnly 0 + cond forget syncReset 0))
+flagsFor readOnlyUnit tellsReset = flagsOf (supportsSyncReset + (cond readOnlyUnit readOnly 0 + cond tellsReset syncReset 0))
 
 -- V2 for a peer that knows it, whatever the body.
 unfoldable pub versionFor : Bool → MessageVersion

@@ -29,8 +29,8 @@ same-length-3 c = search needs
 returns : tie.Need-returns
 returns c =
     let body = c .before .before .before .before in
-    let lost = body .before .before .before in
-    let count = lost .before in
+    let headless = body .before .before .before in
+    let count = headless .before in
     let mark = count .before .before .before .before in
     let start = mark .before .before .before .before .before .before .before .before .before .before .before .before in
     let blank = start .pre .1 in
@@ -40,7 +40,7 @@ returns c =
     (count .count-marked .ensures)
     (omega (arith, blank .body .rowMarks, body .mark-body .kept .1 .1 .1 .1 .1 .1 .1 .1 .1 .1 .1 .1 .1 .0))
     (omega (arith, blank .body .needMarks, body .mark-body .kept .1 .1 .1 .1 .1 .1 .1 .1 .1 .1 .1 .1 .1 .1 .0))
-    (lost .heard-as .ensures)
+    (headless .heard-as .ensures)
     (body .mark-body .ensures)
 
 pub count-plan-spec : {M : Type 1} → statement M

@@ -1,7 +1,7 @@
 -- `planning::body::body_for` meets its contract: one law for each answer (BodyLaws). Assumes nothing.
 use mathlib.Core.Path.{sym, _∙_}
 use Rattle.tables.proofs.TableLaws.{length-rows-at}
-use Rattle.planning.proofs.BodyLaws.{document-chosen, body-lost, body-long, body-list}
+use Rattle.planning.proofs.BodyLaws.{document-chosen, body-headless, body-long, body-list}
 use borrow.Author.Needs.{needs}
 use Rattle.planning.proofs.body.body_for.Statement.{statement}
 use Rattle.planning.proofs.body.body_for.Tie as tie
@@ -22,7 +22,7 @@ returns : tie.Need-returns
 returns c =
     let p = c .before .before .before .before in
     let t = p .before .before .before in
-    body-lost _ _ _ _ _ _ _ _ _ (sym (t .before .goes-whole .ensures) ∙ t .if1 .taken) (document-chosen _ _ _ _ _ _ _ (p .mark-document .ensures))
+    body-headless _ _ _ _ _ _ _ _ _ (sym (t .before .goes-whole .ensures) ∙ t .if1 .taken) (document-chosen _ _ _ _ _ _ _ (p .mark-document .ensures))
 
 choose-requires : tie.Need-choose-requires
 choose-requires c κs = search needs
