@@ -3,7 +3,7 @@
 use crate::exported::{Function, Item, Kind, Lent, Parameter};
 
 const START: &str = "\
-/* The exported functions of libsync.a, written from the source that declares them.
+/* The exported functions of libbisquetower.a, written from the source that declares them.
    docs/ABI.md is their page: what each argument is, what the answers' words mean, and
    how much stack a call takes.
 

@@ -74,7 +74,7 @@ fn program(name: &str) -> PathBuf {
         .args(["-nostdlib", "-static", "-I"])
         .args([&folder, Path::new("-I"), &c.join("alone")])
         .args([c.join(format!("{name}.c")), c.join("alone/start.c")])
-        .arg(here().join("../../target/staticlib/libsync.a"))
+        .arg(here().join("../../target/staticlib/libbisquetower.a"))
         .arg("-o")
         .arg(&program)
         .output()

@@ -1,4 +1,4 @@
-//! What libsync.a asks its program for, against docs/ABI.md.
+//! What libbisquetower.a asks its program for, against docs/ABI.md.
 
 #[path = "../build/kit.rs"]
 mod kit;
@@ -44,6 +44,6 @@ fn asked_for(archive: &Path) -> BTreeSet<String> {
 #[test]
 fn the_page_names_what_the_archive_asks_for() {
     let root = Path::new(env!("CARGO_MANIFEST_DIR")).join("../..");
-    let archive = root.join("target/staticlib/libsync.a");
+    let archive = root.join("target/staticlib/libbisquetower.a");
     assert_eq!(told(&root), asked_for(&archive));
 }

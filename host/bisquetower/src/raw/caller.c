@@ -89,7 +89,7 @@ static void copy(u64 *to, const u64 *from, u64 count) {
     for (u64 i = 0; i < count; i++) to[i] = from[i];
 }
 
-// What a compiler may ask of a C library even where there is none; docs/ABI.md says what libsync.a asks for.
+// What a compiler may ask of a C library even where there is none; docs/ABI.md says what libbisquetower.a asks for.
 void *memset(void *start, int byte, u64 length) {
     u8 *to = start;
     for (u64 i = 0; i < length; i++) to[i] = (u8)byte;
