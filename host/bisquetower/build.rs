@@ -16,6 +16,8 @@ mod exported;
 mod header;
 #[path = "build/kit.rs"]
 mod kit;
+#[path = "build/limits.rs"]
+mod limits;
 
 use calls::Way;
 use std::env;
@@ -79,7 +81,10 @@ fn write_calls(crates: &Path, way: Way) -> Result<(), String> {
     };
     write("calls.rs", calls::rust_text(&functions, way))?;
     write("calls.h", calls::c_text(&functions))?;
-    write("bisquetower.h", header::c_header(&functions))
+    let limits = limits::read_limits(crates)?;
+    let version = variable("CARGO_PKG_VERSION");
+    let header = header::c_header(&version, &limits, &functions);
+    write("bisquetower.h", header)
 }
 
 /// Builds the program that calls the library, and tells emulated.rs where it and
