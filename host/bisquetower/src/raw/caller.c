@@ -139,7 +139,8 @@ void call(function *f, const u64 *a, u64 count) {
 // byte too many ends the program. The guard is as long as a page of any machine that emulates this one.
 enum { STACK_ROOM = 4 << 20, STACK_GUARD = 64 << 10, STACK_ALIGNMENT = 16 };
 
-static const u64 paint_word = 0x5ac5ac5ac5ac5ac5;
+// What a painted word holds differs by its place, so that no register has it: a call that puts a register there changes it.
+static u64 paint(const u64 *at) { return (u64)at ^ 0x5ac5ac5ac5ac5ac5; }
 
 static u8 stack[STACK_GUARD + STACK_ROOM] __attribute__((aligned(STACK_GUARD)));
 
@@ -163,9 +164,9 @@ static void guard_stack(void) {
 static u64 call_on(u64 bytes, function *f, const u64 *arguments, u64 count) {
     if (STACK_ROOM < bytes || bytes % STACK_ALIGNMENT != 0) finish(BAD_STACK);
     u64 *low = (u64 *)(stack + STACK_GUARD), *top = low + bytes / WORD, *at = low;
-    fill(low, paint_word, bytes / WORD);
+    for (u64 *word = low; word < top; word++) *word = paint(word);
     on_stack(top, f, arguments, count);
-    while (at < top && *at == paint_word) at++;
+    while (at < top && *at == paint(at)) at++;
     return (u64)(top - at) * WORD;
 }
 
