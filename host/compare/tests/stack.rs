@@ -105,7 +105,10 @@ fn too_small_a_stack_ends_the_linked_program() {
     }
     for name in DEEP {
         for size in [4 << 10, 16 << 10, 40 << 10, 80 << 10] {
-            let child = Command::new(std::env::current_exe().expect("this program"))
+            // A program that ends so leaves no file behind.
+            let child = Command::new("sh")
+                .args(["-c", "ulimit -c 0 && exec \"$0\" \"$@\""])
+                .arg(std::env::current_exe().expect("this program"))
                 .args(["--exact", "too_small_a_stack_ends_the_linked_program"])
                 .env(CHILD, format!("{name} {size}"))
                 .output()
