@@ -4,7 +4,7 @@
 use bisquetower::raw;
 use compare::stack::{calls, deepest, promised};
 use std::collections::BTreeSet;
-use std::process::Command;
+use std::process::{Command, Output};
 
 /// Every exported function has a promise and is tried.
 #[test]
@@ -87,6 +87,27 @@ fn too_small_a_stack_ends_the_emulated_program() {
 /// The variable that tells a child which call it makes, and on how many bytes of stack.
 const CHILD: &str = "CALL_ON_TOO_SMALL_A_STACK";
 
+/// Makes the calls that a child was told.
+fn call_as_child(told: &str) {
+    let (name, size) = told.split_once(' ').expect("a name and a size");
+    let size = size.parse().expect("a size");
+    for (_, call) in calls().into_iter().filter(|(own, _)| *own == name) {
+        raw::on_stack(size, call);
+    }
+}
+
+/// A child that runs one test of this program and is told a call. If it dies, it leaves no
+/// file behind.
+fn child(test: &str, name: &str, size: usize) -> Output {
+    Command::new("sh")
+        .args(["-c", "ulimit -c 0 && exec \"$0\" \"$@\""])
+        .arg(std::env::current_exe().expect("this program"))
+        .args(["--exact", test])
+        .env(CHILD, format!("{name} {size}"))
+        .output()
+        .expect("it starts")
+}
+
 /// The same where the library is linked: this program makes the call as a child of itself,
 /// and Rust says of a fault in the guard below a thread's stack, and of no other, that the
 /// stack has overflowed.
@@ -96,29 +117,14 @@ fn too_small_a_stack_ends_the_linked_program() {
         return;
     }
     if let Ok(told) = std::env::var(CHILD) {
-        let (name, size) = told.split_once(' ').expect("a name and a size");
-        let size = size.parse().expect("a size");
-        for (_, call) in calls().into_iter().filter(|(own, _)| *own == name) {
-            raw::on_stack(size, call);
-        }
-        return;
+        return call_as_child(&told);
     }
     for name in DEEP {
         for size in [4 << 10, 16 << 10, 40 << 10, 80 << 10] {
-            // A program that ends so leaves no file behind.
-            let child = Command::new("sh")
-                .args(["-c", "ulimit -c 0 && exec \"$0\" \"$@\""])
-                .arg(std::env::current_exe().expect("this program"))
-                .args(["--exact", "too_small_a_stack_ends_the_linked_program"])
-                .env(CHILD, format!("{name} {size}"))
-                .output()
-                .expect("it starts");
-            let said = String::from_utf8_lossy(&child.stderr);
-            assert!(!child.status.success(), "{name} on {size}");
-            assert!(
-                said.contains("has overflowed its stack"),
-                "{name} on {size}: {said}"
-            );
+            let ended = child("too_small_a_stack_ends_the_linked_program", name, size);
+            let said = String::from_utf8_lossy(&ended.stderr);
+            let overflowed = said.contains("has overflowed its stack");
+            assert!(overflowed, "{name} on {size}: {}, {said}", ended.status);
         }
     }
 }
