@@ -36,11 +36,11 @@ tools:
 
 # The stored samples of the crate's answers, written anew.
 samples: lib
-	@cd host && cargo run --offline --quiet --release --package compare --bin samples -- write
+	@cd host && cargo run --offline --release --package compare --bin samples -- write
 
 # Bytes of stack that each exported call takes, beside what docs/ABI.md promises.
 stack: lib
-	@cd host && cargo run --offline --quiet --release --package compare --bin stack
+	@cd host && cargo run --offline --release --package compare --bin stack
 
 # One crate and what it is built on: make check CRATE=wire.
 check:
@@ -52,4 +52,4 @@ edit:
 
 # docs/EDITS.md anew, from what the gate's last run left in target/.
 edits: tools
-	@cd host && cargo run --offline --quiet --release --package house --bin edits
+	@cd host && cargo run --offline --release --package house --bin edits

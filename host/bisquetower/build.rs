@@ -5,7 +5,7 @@
 //! The library is for x86-64. There it is linked into the crate. On another
 //! processor it is linked into the program src/raw/caller.c, which the emulator
 //! of the kit that proved the library runs; src/raw/emulated.rs speaks with it.
-//! SYNC_ARCHIVE names another libsync.a, for the processor at hand; that one is
+//! SYNC_ARCHIVE names another libbisquetower.a, for the processor at hand; that one is
 //! then linked into the crate. `make bench`, `make compare` and `make fuzz` are run so.
 
 #[path = "build/calls.rs"]
@@ -16,6 +16,8 @@ mod exported;
 mod header;
 #[path = "build/kit.rs"]
 mod kit;
+#[path = "build/limits.rs"]
+mod limits;
 
 use calls::Way;
 use std::env;
@@ -40,7 +42,7 @@ fn build() -> Result<(), String> {
     };
     write_calls(&here.join("../../crates"), way)?;
 
-    let library = own.unwrap_or(here.join("../../target/staticlib/libsync.a"));
+    let library = own.unwrap_or(here.join("../../target/staticlib/libbisquetower.a"));
     println!("cargo::rerun-if-changed={}", library.display());
     if !library.exists() {
         let missing = format!("{} is missing", library.display());
@@ -53,11 +55,11 @@ fn build() -> Result<(), String> {
             let folder = library.parent().ok_or("SYNC_ARCHIVE names no file")?;
             println!("cargo::rustc-cfg=linked");
             println!("cargo::rustc-link-search=native={}", folder.display());
-            println!("cargo::rustc-link-lib=static=sync");
+            println!("cargo::rustc-link-lib=static=bisquetower");
             Ok(())
         }
         Way::Emulated => emulate(&here.join("src/raw/caller.c"), &library)
-            .map_err(|why| format!("libsync.a is for x86-64 and can't be run here: {why}")),
+            .map_err(|why| format!("libbisquetower.a is for x86-64 and can't be run here: {why}")),
     }
 }
 
@@ -79,7 +81,10 @@ fn write_calls(crates: &Path, way: Way) -> Result<(), String> {
     };
     write("calls.rs", calls::rust_text(&functions, way))?;
     write("calls.h", calls::c_text(&functions))?;
-    write("bisquetower.h", header::c_header(&functions))
+    let limits = limits::read_limits(crates)?;
+    let version = variable("CARGO_PKG_VERSION");
+    let header = header::c_header(&version, &limits, &functions);
+    write("bisquetower.h", header)
 }
 
 /// Builds the program that calls the library, and tells emulated.rs where it and

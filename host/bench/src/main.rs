@@ -37,9 +37,9 @@ fn main() -> ExitCode {
     }
     let processor = std::env::consts::ARCH;
     if processor == "x86_64" {
-        println!("Library: libsync.a as `make lib` builds it, for x86-64.");
+        println!("Library: libbisquetower.a as `make lib` builds it, for x86-64.");
     } else {
-        println!("Library: the same module compiled for this processor, {processor}; libsync.a itself is for x86-64.");
+        println!("Library: the same module compiled for this processor, {processor}; libbisquetower.a itself is for x86-64.");
     }
     match runs::print_best() {
         Ok(()) => ExitCode::SUCCESS,

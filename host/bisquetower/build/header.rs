@@ -1,11 +1,21 @@
-//! The C header of the exported functions.
+//! The C header of the exported functions and the limits.
 
 use crate::exported::{Function, Item, Kind, Lent, Parameter};
+use crate::limits::Limit;
 
 const START: &str = "\
-/* The exported functions of libsync.a, written from the source that declares them.
+/* The exported functions of libbisquetower.a, written from the source that declares them.
    docs/ABI.md is their page: what each argument is, what the answers' words mean, and
    how much stack a call takes.
+
+   `make install PREFIX=..` puts this header and the archive in place. A program in C is
+   then built so, where PREFIX is one that the compiler knows, as /usr/local is:
+
+       cc program.c -lbisquetower
+
+   and with any other so:
+
+       cc -I PREFIX/include program.c -L PREFIX/lib -lbisquetower
 
    A slice is a pointer, which is never null, and a length in items. No call keeps a
    pointer, and what is written overlaps nothing. The first word of an answer is 0, or
@@ -16,7 +26,14 @@ const START: &str = "\
 #include <stdbool.h>
 #include <stddef.h>
 #include <stdint.h>
+";
 
+const LIMITS: &str = "
+/* Every limit, in the order in which bt_limits writes them: the most that there may be.
+   A hash has just so many bytes. */
+";
+
+const CALLS: &str = "
 #ifdef __cplusplus
 extern \"C\" {
 #endif
@@ -30,9 +47,26 @@ const END: &str = "
 #endif
 ";
 
-pub fn c_header(functions: &[Function]) -> String {
-    let each = functions.iter().map(declared);
-    format!("{START}{}{END}", each.collect::<String>())
+pub fn c_header(version: &str, limits: &[Limit], functions: &[Function]) -> String {
+    let version = version_macros(version);
+    let limits: String = limits.iter().map(limit_macro).collect();
+    let functions: String = functions.iter().map(declared).collect();
+    format!("{START}{version}{LIMITS}{limits}{CALLS}{functions}{END}")
+}
+
+/// The version as text, and its three numbers for the preprocessor to compare.
+fn version_macros(version: &str) -> String {
+    let numbers = version.split(['.', '-', '+']);
+    let each = ["MAJOR", "MINOR", "PATCH"].into_iter().zip(numbers);
+    let each = each.map(|(part, number)| format!("#define BT_VERSION_{part} {number}\n"));
+    let each: String = each.collect();
+    let text = format!("#define BT_VERSION \"{version}\"\n");
+    format!("\n/* The version of this header and its archive. */\n{text}{each}")
+}
+
+fn limit_macro(limit: &Limit) -> String {
+    let (name, number) = (&limit.name, limit.number);
+    format!("#define BT_{name} {number} /* {} */\n", limit.comment)
 }
 
 /// A function with its comment, a line for each parameter.

@@ -1,4 +1,4 @@
-//! Prints the C header of the exported functions.
+//! Prints the C header of the exported functions and the limits.
 
 fn main() {
     print!("{}", bisquetower::raw::HEADER);

@@ -16,7 +16,7 @@
 //!     |
 //!   raw         the exported functions, on slices and numbers
 //!     |
-//!   libsync.a   proved; docs/ABI.md is its page
+//!   libbisquetower.a    proved; docs/ABI.md is its page
 //! ```
 //!
 //! Nothing here decides what a filter, a message or a session is: every answer is the

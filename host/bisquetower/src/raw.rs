@@ -6,7 +6,7 @@
 //! crates NAME_calls: a parameter named `answer` is returned, every other is lent as
 //! it is there. `Batch` has the same calls, for many of them at a time.
 //!
-//! libsync.a is for x86-64. There the functions are called as they are (the
+//! libbisquetower.a is for x86-64. There the functions are called as they are (the
 //! file raw/linked.rs); on another processor they run under the kit's emulator,
 //! in a program beside this one (raw/emulated.rs). The functions here are the
 //! same.

@@ -1,4 +1,4 @@
-//! The C header: what it declares, and programs in C that read messages and tables with it.
+//! The C header: what it declares, and programs in C that are built with it.
 
 #[path = "../build/exported.rs"]
 #[allow(dead_code)]
@@ -7,6 +7,9 @@ mod exported;
 mod header;
 #[path = "../build/kit.rs"]
 mod kit;
+#[path = "../build/limits.rs"]
+#[allow(dead_code)]
+mod limits;
 
 use bisquetower::{raw, ChangeHash, Table};
 use std::fs;
@@ -38,7 +41,7 @@ pub extern \"C\" fn bt_all(s: &[u8], out: &mut [u64], hash: &[u8; 32], words: &m
 }
 ";
     let functions = exported::read_source(source).unwrap();
-    let text = header::c_header(&functions);
+    let text = header::c_header("1.2.3", &[], &functions);
     let declared = "
 /* One. */
 void bt_all(
@@ -53,7 +56,50 @@ void bt_all(
     assert!(text.contains(declared), "{text}");
 }
 
-/// Builds a program of tests/c with the header and the archive, for x86-64.
+/// The number that the header gives to a name.
+fn defined(name: &str) -> u64 {
+    let start = format!("#define {name} ");
+    let mut lines = raw::HEADER.lines();
+    let rest = lines.find_map(|line| line.strip_prefix(&start));
+    let number = rest.and_then(|rest| rest.split(' ').next());
+    number.expect(name).parse().expect(name)
+}
+
+/// The limits that are read from the source are all that the library answers, in its
+/// order; the header has each, and docs/ABI.md names it.
+#[test]
+fn the_header_has_every_limit() {
+    let mut answered = [0; 12];
+    raw::limits(&mut answered);
+    let page = fs::read_to_string(here().join("../../docs/ABI.md")).unwrap();
+    let read = limits::read_limits(&here().join("../../crates")).unwrap();
+    let declared = read.iter().map(|limit| {
+        let name = format!("BT_{}", limit.name);
+        assert!(page.contains(&format!("`{name}`")), "{name}");
+        defined(&name)
+    });
+    assert_eq!(declared.collect::<Vec<_>>(), answered);
+    let mut comments = read.iter().map(|limit| &limit.comment);
+    assert!(comments.all(|comment| !comment.is_empty()));
+}
+
+/// A constant that can't be read stops the build.
+#[test]
+fn other_limits_are_refused() {
+    let read = limits::read_source("// Rows.\npub const ROWS: usize = 1_024;\n").unwrap();
+    let [rows] = &read[..] else {
+        panic!("{read:?}")
+    };
+    assert_eq!(
+        (&rows.name[..], &rows.comment[..], rows.number),
+        ("ROWS", "Rows.", 1_024)
+    );
+    assert!(limits::read_source("pub const ROWS: usize = 2 * 512;\n").is_err());
+    assert!(limits::read_source("pub const ROWS: u64 = 1_024;\n").is_err());
+}
+
+/// Builds a program of tests/c with the header and the archive, for x86-64, as the
+/// header says.
 fn program(name: &str) -> PathBuf {
     let folder = Path::new(env!("CARGO_TARGET_TMPDIR")).join(name);
     fs::create_dir_all(&folder).unwrap();
@@ -74,8 +120,9 @@ fn program(name: &str) -> PathBuf {
         .args(["-nostdlib", "-static", "-I"])
         .args([&folder, Path::new("-I"), &c.join("alone")])
         .args([c.join(format!("{name}.c")), c.join("alone/start.c")])
-        .arg(here().join("../../target/staticlib/libsync.a"))
-        .arg("-o")
+        .arg("-L")
+        .arg(here().join("../../target/staticlib"))
+        .args(["-lbisquetower", "-o"])
         .arg(&program)
         .output()
         .expect("the kit's clang runs");
@@ -111,6 +158,16 @@ fn says(program: &Path, input: &[u8], status: i32, line: &str) {
     let left = read(program, input);
     assert_eq!(String::from_utf8_lossy(&left.stdout), format!("{line}\n"));
     assert_eq!(left.status.code(), Some(status));
+}
+
+#[test]
+fn a_program_in_c_knows_the_version_and_the_limits() {
+    let version = env!("CARGO_PKG_VERSION");
+    let line = format!(
+        "version {version}: {}, limits 12",
+        version.replace('.', " ")
+    );
+    says(&program("limits"), b"", 0, &line);
 }
 
 #[test]

@@ -1,11 +1,20 @@
-//! What libsync.a asks its program for, against docs/ABI.md.
+//! What libbisquetower.a asks its program for, and how it takes its stack, against
+//! docs/ABI.md.
 
 #[path = "../build/kit.rs"]
 mod kit;
 
 use std::collections::BTreeSet;
-use std::path::Path;
+use std::path::{Path, PathBuf};
 use std::process::Command;
+
+fn root() -> PathBuf {
+    Path::new(env!("CARGO_MANIFEST_DIR")).join("../..")
+}
+
+fn archive() -> PathBuf {
+    root().join("target/staticlib/libbisquetower.a")
+}
 
 /// The names in a line's backquotes.
 fn quoted(line: &str) -> BTreeSet<String> {
@@ -43,7 +52,32 @@ fn asked_for(archive: &Path) -> BTreeSet<String> {
 
 #[test]
 fn the_page_names_what_the_archive_asks_for() {
-    let root = Path::new(env!("CARGO_MANIFEST_DIR")).join("../..");
-    let archive = root.join("target/staticlib/libsync.a");
-    assert_eq!(told(&root), asked_for(&archive));
+    assert_eq!(told(&root()), asked_for(&archive()));
+}
+
+/// Bytes of a page, and those below its stack that a function may use without taking them.
+const PAGE: usize = 4_096;
+const RED_ZONE: usize = 128;
+
+/// `sub $N, %rsp`, with N in the next four bytes, and `movq $0, (%rsp)`.
+const TAKE: [u8; 3] = [0x48, 0x81, 0xec];
+const TOUCH: [u8; 8] = [0x48, 0xc7, 0x04, 0x24, 0, 0, 0, 0];
+
+/// No function takes more than a page of stack at once, and one that takes a page touches it
+/// before it goes on. So a call on too small a stack comes to the guard page below it.
+#[test]
+fn stack_is_taken_and_touched_page_by_page() {
+    let code = std::fs::read(archive()).expect("the archive is read");
+    let mut pages = 0;
+    for at in (0..code.len()).filter(|&at| code[at..].starts_with(&TAKE)) {
+        let (number, behind) = code[at + TAKE.len()..].split_at(4);
+        let bytes = u32::from_le_bytes(number.try_into().expect("four bytes")) as usize;
+        if bytes == PAGE {
+            assert!(behind.starts_with(&TOUCH), "a page isn't touched, at {at}");
+            pages += 1;
+        } else {
+            assert!(bytes + RED_ZONE <= PAGE, "{bytes} bytes at once, at {at}");
+        }
+    }
+    assert!(pages > 0, "no function that takes a page is seen");
 }

@@ -1,7 +1,7 @@
 //! The proved library against two others that answer the same calls.
 //!
 //! ```text
-//!   bisquetower::raw    libsync.a, proved
+//!   bisquetower::raw    libbisquetower.a, proved
 //!     |       |
 //!     |     published   the crate's own code: values and kinds of errors
 //!     |

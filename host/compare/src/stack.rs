@@ -1,6 +1,8 @@
 //! How much stack each exported call takes: inputs that lead it as deep as it goes,
 //! and what docs/ABI.md promises.
 
+mod painted;
+
 use crate::inputs::index::index_of;
 use crate::inputs::message::{filter_string, Draft};
 use crate::inputs::table::{table_bytes, waiting_bytes, Likeness, Shape, WaitingRow};
@@ -153,6 +155,7 @@ fn tables(random: &mut Random) -> Vec<Deep> {
             (table, index)
         };
         let [first, second, third, fourth, fifth, sixth] = [(); 6].map(|()| lent());
+        let before = index_of(but_the_last(&sixth.0));
         let list = hashes.concat();
         deep_calls.extend([
             deep("bt_check_table", move || raw::check_table(&first.0)),
@@ -169,7 +172,6 @@ fn tables(random: &mut Random) -> Vec<Deep> {
                 raw::build_index(&fifth.0, &mut vec![0; 2 * ROWS])
             }),
             deep("bt_extend_index", move || {
-                let before = index_of(but_the_last(&sixth.0));
                 raw::extend_index(&sixth.0, &before, &mut vec![0; 2 * ROWS])
             }),
         ]);
@@ -366,14 +368,21 @@ pub fn promised() -> BTreeMap<&'static str, usize> {
 /// More than any call takes.
 const ENOUGH: usize = 4 << 20;
 
-/// Bytes of stack that each call takes; none where that can't be known, because the
-/// library isn't emulated.
-pub fn taken() -> Option<BTreeMap<&'static str, usize>> {
-    let mut taken = BTreeMap::new();
+/// Bytes of stack that a call takes. Where the library is linked, what the Rust around it
+/// takes is counted too.
+pub fn taken_by(call: &Call) -> usize {
+    let (_, used) = raw::on_stack(ENOUGH, call);
+    used.unwrap_or_else(|| painted::taken(ENOUGH, &|| drop(call())))
+}
+
+/// Of each function the call that takes most, with the bytes of stack that it takes.
+pub fn deepest() -> BTreeMap<&'static str, (usize, Call)> {
+    let mut deepest: BTreeMap<_, (usize, Call)> = BTreeMap::new();
     for (name, call) in calls() {
-        let (_, used) = raw::on_stack(ENOUGH, call);
-        let most: &mut usize = taken.entry(name).or_default();
-        *most = used?.max(*most);
+        let bytes = taken_by(&call);
+        if deepest.get(name).is_none_or(|(most, _)| *most < bytes) {
+            deepest.insert(name, (bytes, call));
+        }
     }
-    Some(taken)
+    deepest
 }

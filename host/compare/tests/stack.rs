@@ -2,8 +2,9 @@
 //! go as deep as they can.
 
 use bisquetower::raw;
-use compare::stack::{calls, promised};
+use compare::stack::{calls, deepest, promised};
 use std::collections::BTreeSet;
+use std::process::{Command, Output};
 
 /// Every exported function has a promise and is tried.
 #[test]
@@ -41,22 +42,89 @@ fn each_call_on_the_stack_that_is_promised() {
     }
 }
 
-/// What is missing through a chain of waiting rows, on a stack of just what it takes
-/// and on the next smaller one, on which the program that makes the call dies: so a
-/// call that takes more than is promised is seen above. Where the library is linked,
-/// that program would be this one.
+/// What is seen of each function is within its promise, and of those that have much memory
+/// of their own most of what is promised is seen.
 #[test]
-fn too_small_a_stack_is_seen() {
+fn what_is_taken_is_within_the_promise() {
+    let promised = promised();
+    let deepest = deepest();
+    for (name, (bytes, _)) in &deepest {
+        assert!(*bytes <= promised[name], "{name} takes {bytes}");
+    }
+    for name in DEEP {
+        let (bytes, _) = deepest[name];
+        assert!(promised[name] < 2 * bytes, "{name} takes {bytes}");
+    }
+}
+
+/// The functions whose calls take more than the smallest stack that a thread can have.
+const DEEP: [&str; 3] = ["bt_missing", "bt_plan", "bt_receive"];
+
+/// On the stack that it takes a call is answered; on the next smaller one, and on others
+/// below it, the program that makes it ends at the guard below the stack. Where the library
+/// is linked, that program would be this one.
+#[test]
+fn too_small_a_stack_ends_the_emulated_program() {
     if raw::LINKED {
         return;
     }
-    let mut calls = calls().into_iter();
-    let (_, deepest) = calls
-        .find(|(name, _)| *name == "bt_missing")
-        .expect("a call that goes deep");
-    let (_, used) = raw::on_stack(4 << 20, &deepest);
-    let enough = used.expect("it is emulated").next_multiple_of(16);
-    raw::on_stack(enough, &deepest);
-    let on_less = std::thread::spawn(move || raw::on_stack(enough - 16, deepest));
-    assert!(on_less.join().is_err());
+    for (name, (bytes, call)) in deepest() {
+        let enough = bytes.next_multiple_of(16);
+        raw::on_stack(enough, &call);
+        let smaller = (4..).map(|k| 1 << k).take_while(|size| *size < enough - 16);
+        let smaller = smaller.chain((enough > 16).then_some(enough - 16));
+        for size in smaller {
+            let ended = std::thread::scope(|scope| {
+                let on_less = scope.spawn(|| raw::on_stack(size, &call));
+                on_less.join().expect_err("the program ends")
+            });
+            let why = ended.downcast_ref::<String>().expect("a panic says why");
+            assert!(why.contains("SIGSEGV"), "{name} on {size}: {why}");
+        }
+    }
+}
+
+/// The variable that tells a child which call it makes, and on how many bytes of stack.
+const CHILD: &str = "CALL_ON_TOO_SMALL_A_STACK";
+
+/// Makes the calls that a child was told.
+fn call_as_child(told: &str) {
+    let (name, size) = told.split_once(' ').expect("a name and a size");
+    let size = size.parse().expect("a size");
+    for (_, call) in calls().into_iter().filter(|(own, _)| *own == name) {
+        raw::on_stack(size, call);
+    }
+}
+
+/// A child that runs one test of this program and is told a call. If it dies, it leaves no
+/// file behind.
+fn child(test: &str, name: &str, size: usize) -> Output {
+    Command::new("sh")
+        .args(["-c", "ulimit -c 0 && exec \"$0\" \"$@\""])
+        .arg(std::env::current_exe().expect("this program"))
+        .args(["--exact", test])
+        .env(CHILD, format!("{name} {size}"))
+        .output()
+        .expect("it starts")
+}
+
+/// The same where the library is linked: this program makes the call as a child of itself,
+/// and Rust says of a fault in the guard below a thread's stack, and of no other, that the
+/// stack has overflowed.
+#[test]
+fn too_small_a_stack_ends_the_linked_program() {
+    if !raw::LINKED {
+        return;
+    }
+    if let Ok(told) = std::env::var(CHILD) {
+        return call_as_child(&told);
+    }
+    for name in DEEP {
+        for size in [4 << 10, 16 << 10, 40 << 10, 80 << 10] {
+            let ended = child("too_small_a_stack_ends_the_linked_program", name, size);
+            let said = String::from_utf8_lossy(&ended.stderr);
+            let overflowed = said.contains("has overflowed its stack");
+            assert!(overflowed, "{name} on {size}: {}, {said}", ended.status);
+        }
+    }
 }

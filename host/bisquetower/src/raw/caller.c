@@ -89,7 +89,7 @@ static void copy(u64 *to, const u64 *from, u64 count) {
     for (u64 i = 0; i < count; i++) to[i] = from[i];
 }
 
-// What a compiler may ask of a C library even where there is none; docs/ABI.md says what libsync.a asks for.
+// What a compiler may ask of a C library even where there is none; docs/ABI.md says what libbisquetower.a asks for.
 void *memset(void *start, int byte, u64 length) {
     u8 *to = start;
     for (u64 i = 0; i < length; i++) to[i] = (u8)byte;
@@ -139,7 +139,8 @@ void call(function *f, const u64 *a, u64 count) {
 // byte too many ends the program. The guard is as long as a page of any machine that emulates this one.
 enum { STACK_ROOM = 4 << 20, STACK_GUARD = 64 << 10, STACK_ALIGNMENT = 16 };
 
-static const u64 paint_word = 0x5ac5ac5ac5ac5ac5;
+// What a painted word holds differs by its place, so that no register has it: a call that puts a register there changes it.
+static u64 paint(const u64 *at) { return (u64)at ^ 0x5ac5ac5ac5ac5ac5; }
 
 static u8 stack[STACK_GUARD + STACK_ROOM] __attribute__((aligned(STACK_GUARD)));
 
@@ -163,9 +164,9 @@ static void guard_stack(void) {
 static u64 call_on(u64 bytes, function *f, const u64 *arguments, u64 count) {
     if (STACK_ROOM < bytes || bytes % STACK_ALIGNMENT != 0) finish(BAD_STACK);
     u64 *low = (u64 *)(stack + STACK_GUARD), *top = low + bytes / WORD, *at = low;
-    fill(low, paint_word, bytes / WORD);
+    for (u64 *word = low; word < top; word++) *word = paint(word);
     on_stack(top, f, arguments, count);
-    while (at < top && *at == paint_word) at++;
+    while (at < top && *at == paint(at)) at++;
     return (u64)(top - at) * WORD;
 }
 

@@ -1,4 +1,4 @@
-//! The exported functions, run by an emulator: build.rs links libsync.a into the
+//! The exported functions, run by an emulator: build.rs links libbisquetower.a into the
 //! program caller.c, which takes calls from its standard input and writes what
 //! they leave to its standard output. caller.c says how the bytes stand.
 
@@ -264,8 +264,8 @@ impl Caller {
             let code = end.code().and_then(|code| usize::try_from(code).ok());
             let outside = code.and_then(|code| NAMES.get(code.checked_sub(WROTE_OUTSIDE)?));
             match outside {
-                Some(name) => panic!("{name} of libsync.a wrote outside its buffers"),
-                None => panic!("the calls of libsync.a broke off: {error}, {end}"),
+                Some(name) => panic!("{name} of libbisquetower.a wrote outside its buffers"),
+                None => panic!("the calls of libbisquetower.a broke off: {error}, {end}"),
             }
         }
         &self.answer

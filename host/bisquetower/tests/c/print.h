@@ -3,13 +3,13 @@
 #include <stdint.h>
 #include <unistd.h>
 
-static void print(const char *text) {
+static inline void print(const char *text) {
     size_t length = 0;
     while (text[length] != 0) length++;
     (void)!write(1, text, length);
 }
 
-static void print_number(const char *name, uint64_t n) {
+static inline void print_number(const char *name, uint64_t n) {
     char digits[21] = {0};
     size_t at = sizeof digits - 1;
     do digits[--at] = (char)('0' + n % 10);
@@ -19,7 +19,7 @@ static void print_number(const char *name, uint64_t n) {
 }
 
 // A refusal in a line: number and value. Returns the program's status.
-static int print_refusal(const uint64_t *answer) {
+static inline int print_refusal(const uint64_t *answer) {
     print_number("refusal ", answer[0]);
     print_number(", value ", answer[1]);
     print("\n");

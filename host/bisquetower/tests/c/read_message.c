@@ -2,15 +2,15 @@
 #include "print.h"
 #include <bisquetower.h>
 
-enum { MOST = 4194304, ANSWER = 14, HAVE = 7, HAVES = 16, CHUNK = 2, CHUNKS = 4096 };
+enum { MOST = BT_MESSAGE_SIZE, ANSWER = 14, HAVES = 7 * BT_HAVES, CHUNKS = 2 * BT_CHUNKS };
 
 static uint8_t message[MOST + 1];
-static uint64_t haves[HAVE * HAVES], chunks[CHUNK * CHUNKS], ignored[HAVES], answer[ANSWER];
+static uint64_t haves[HAVES], chunks[CHUNKS], ignored[BT_HAVES], answer[ANSWER];
 
 int main(void) {
     size_t length = 0;
     for (ssize_t n; length <= MOST && (n = read(0, message + length, MOST + 1 - length)) > 0;) length += (size_t)n;
-    bt_read_message(message, length, haves, HAVE * HAVES, chunks, CHUNK * CHUNKS, ignored, answer);
+    bt_read_message(message, length, haves, HAVES, chunks, CHUNKS, ignored, answer);
     if (answer[0] != 0) return print_refusal(answer);
     print_number("version ", answer[1]);
     print_number(", heads ", answer[3]);

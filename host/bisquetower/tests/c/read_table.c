@@ -3,9 +3,9 @@
 #include "print.h"
 #include <bisquetower.h>
 
-enum { HASH = 32, ROW = 64, ROWS = 1024, ENTRY = 2, MOST = ROW * ROWS };
+enum { ROW = 64, ENTRY = 2, MOST = ROW * BT_ROWS };
 
-static uint8_t table[MOST + 1], table_index[ENTRY * ROWS], heads[HASH * ROWS];
+static uint8_t table[MOST + 1], table_index[ENTRY * BT_ROWS], heads[BT_HASH_SIZE * BT_ROWS];
 static uint64_t answer[4];
 
 int main(void) {
@@ -17,7 +17,7 @@ int main(void) {
     bt_heads(table, length, table_index, (size_t)answer[1], rows, heads, sizeof heads, answer);
     if (answer[0] != 0) return print_refusal(answer);
     print_number("rows ", rows);
-    print_number(", heads ", answer[1] / HASH);
+    print_number(", heads ", answer[1] / BT_HASH_SIZE);
     print("\n");
     return 0;
 }
