@@ -2,11 +2,13 @@
 
 mod json;
 mod lines;
+mod premises;
 mod svg;
 mod talk;
 
 use crate::args::Options;
 use crate::failure::Failure;
+use crate::text::number;
 use crate::{files, table};
 use std::path::Path;
 
@@ -36,8 +38,30 @@ pub fn run(words: &[String]) -> Result<String, Failure> {
         )?;
         drawn = format!("The rounds are drawn in {file}.\n");
     }
-    Ok(match args.has("--json") {
+    let shown = match args.has("--json") {
         true => json::text(&talk),
         false => lines::text(&talk) + &drawn,
-    })
+    };
+    judged(&talk, shown)
+}
+
+/// What is shown of a talk that ended well; of another it is shown and has failed.
+fn judged(talk: &Talk, shown: String) -> Result<String, Failure> {
+    if talk.ended_well() {
+        return Ok(shown);
+    }
+    let (what, next) = match talk.contradiction() {
+        Some(row) => (
+            format!(
+                "the tables contradict each other at row {} of the validator's",
+                number(row.row)
+            ),
+            "find out which table is wrong: a change depends on the same changes everywhere.",
+        ),
+        None => (
+            lines::ended(talk),
+            "keep both tables: this must not happen, and they show how it did.",
+        ),
+    };
+    Err(Failure::refused(what, next).showing(shown))
 }

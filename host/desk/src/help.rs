@@ -16,8 +16,8 @@ bisquetower: messages, tables and catch-ups, through the proved sync library
 A FILE that is - is standard input. Nothing is written over without --force.
 Colours are for terminals, and never used if NO_COLOR is set.
 
-Exit status: 0 done; 1 the library refused; 2 wrong words, or a file that can't
-be read or written.
+Exit status: 0 done; 1 the library refused, or answers or tables contradict each
+other; 2 wrong words, or a file that can't be read or written.
 ";
 
 const INSPECT: &str = "\
@@ -55,14 +55,17 @@ bisquetower catch-up STATION VALIDATOR [--json] [--svg FILE [--force]]
 Two units with these change tables talk through the proved sessions, the
 validator first, until both are silent. A line a round: rows that the validator
 held before it, asked for and was sent, false yeses of its filter among the rows
-that it lacked, rows that wait after it, and bytes both ways. A validator that
-holds a part of the station's table and misses m rows holds all of it after at
-most m + 1 rounds, where replies go by list.
+that it lacked, rows that wait after it, and bytes both ways. A validator whose
+rows are the station's, on the same changes, and that misses m rows holds all of
+them after at most m + 1 rounds, where replies go by list: only of such a talk
+\"proved\" is said. Of tables that contradict each other the row is named.
 
   --json      the same as JSON
   --svg FILE  draws the rounds: rows taken, waiting, sent and still missing
 
 Changes go as their names and dependencies, without contents.
+Exit status: 1 if the tables contradict each other, or an end doesn't hold the
+rows of both in the end.
 ";
 
 const SAMPLE: &str = "\

@@ -34,12 +34,16 @@ pub fn count(n: usize, thing: &str) -> String {
     }
 }
 
+/// The first digits of a hash.
+pub fn short(hash: &ChangeHash) -> String {
+    hash.to_string()[..SHORT].to_string()
+}
+
 /// Hashes in a line, or all of them in full.
 pub fn hashes(list: &[ChangeHash], full: bool) -> Vec<String> {
     if full {
         return list.iter().map(ChangeHash::to_string).collect();
     }
-    let short = |hash: &ChangeHash| hash.to_string()[..SHORT].to_string();
     let mut line: Vec<String> = list.iter().take(FEW).map(short).collect();
     if list.len() > FEW {
         line.push(format!("and {} more", number(list.len() - FEW)));
