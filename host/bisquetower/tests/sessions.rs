@@ -243,11 +243,7 @@ fn a_document_past_its_limit_is_refused() {
     let mut session = Session::new();
     let before = session.clone();
     let many = session.generate(&chain(1_025));
-    let limit = Refusal {
-        number: 4,
-        value: 0,
-    };
-    assert_eq!(many, Err(Error::Refused(limit)));
+    assert_eq!(many, Err(Error::Refused(Refusal::new(4, 0))));
     assert_eq!(session, before);
 }
 
@@ -333,11 +329,7 @@ fn memory_makes_good_tables() {
 
 #[test]
 fn errors_say_what_went_wrong() {
-    let refused: Error<MemoryError> = Refusal {
-        number: 8,
-        value: 0,
-    }
-    .into();
+    let refused: Error<MemoryError> = Refusal::new(8, 0).into();
     assert_eq!(
         refused.to_string(),
         "refusal 8, value 0: the chunks could not be loaded"

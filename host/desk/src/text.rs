@@ -1,5 +1,6 @@
 //! Numbers and hashes as they are shown.
 
+use bisquetower::refusal::grouped;
 use bisquetower::ChangeHash;
 
 /// Digits of a hash that is shown in short.
@@ -10,15 +11,7 @@ const FEW: usize = 4;
 
 /// A number with its thousands told apart.
 pub fn number(n: usize) -> String {
-    let digits = n.to_string();
-    let mut text = String::new();
-    for (k, digit) in digits.chars().enumerate() {
-        if k > 0 && (digits.len() - k).is_multiple_of(3) {
-            text.push(',');
-        }
-        text.push(digit);
-    }
-    text
+    grouped(n as u64)
 }
 
 /// A number of things, in the singular where it is one.

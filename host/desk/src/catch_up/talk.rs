@@ -2,7 +2,10 @@
 
 use super::premises::Difference;
 use crate::failure::Failure;
-use bisquetower::{Change, ChangeHash, Error, Host, Memory, MemoryError, Plan, Session, Table};
+use bisquetower::refusal::grouped;
+use bisquetower::{
+    Change, ChangeHash, Error, Host, Limits, Memory, MemoryError, Plan, Session, Table,
+};
 use std::collections::HashSet;
 
 /// A round: the validator speaks, the station replies.
@@ -233,9 +236,10 @@ fn say(from: &mut Unit, to: &mut Unit) -> Result<Option<(Plan, Vec<u8>)>, Failur
 }
 
 fn failed(why: Error<MemoryError>) -> Failure {
+    let rows = grouped(Limits::told().rows);
     Failure::refused(
         format!("the units can't go on: {why}"),
-        "both units together keep to 1,024 rows; docs/ABI.md lists the other limits.",
+        format!("both units together keep to {rows} rows; docs/ABI.md lists the other limits."),
     )
 }
 

@@ -1,0 +1,136 @@
+//! Bytes that were read: which count, or which number of a filter, passes its limit.
+
+use super::LIMIT;
+use crate::cause::{Cause, List, Rule};
+use crate::refusal::{answer, Refusal};
+use crate::{raw, Limits};
+use std::ops::Range;
+
+/// The refusal of a message's bytes.
+pub(crate) fn message(bytes: &[u8], refusal: Refusal) -> Refusal {
+    explained(refusal, || {
+        let mut walk = Walk::from(bytes, 1);
+        let most = walk.limits.message;
+        if bytes.len() as u64 > most {
+            let rule = Rule::MessageBytes { bytes: None, most };
+            return Err(Some((0, Cause::new(rule, None))));
+        }
+        walk.message()
+    })
+}
+
+/// The refusal of a saved state's bytes.
+pub(crate) fn state(bytes: &[u8], refusal: Refusal) -> Refusal {
+    explained(refusal, || Walk::from(bytes, 1).hashes(List::SharedHeads))
+}
+
+/// The refusal of a filter's bytes.
+pub(crate) fn filter(bytes: &[u8], refusal: Refusal) -> Refusal {
+    explained(refusal, || Walk::from(bytes, 0).filter(0..bytes.len()))
+}
+
+/// What ends a walk: what broke, with the place that the refusal names, or an item that
+/// can't be read for another reason.
+type End = Option<(usize, Cause)>;
+
+/// The refusal with what a walk finds, if that stands where the refusal says.
+fn explained(refusal: Refusal, walk: impl FnOnce() -> Result<(), End>) -> Refusal {
+    if refusal.number != LIMIT {
+        return refusal;
+    }
+    match walk() {
+        Err(Some((place, cause))) if place as u64 == refusal.value => refusal.because(cause),
+        _ => refusal,
+    }
+}
+
+/// A place in bytes that are read item by item.
+struct Walk<'a> {
+    bytes: &'a [u8],
+    at: usize,
+    limits: Limits,
+}
+
+impl Walk<'_> {
+    fn from(bytes: &[u8], at: usize) -> Walk<'_> {
+        let limits = Limits::told();
+        Walk { bytes, at, limits }
+    }
+
+    /// A message up to its count of chunks, the last that has a limit.
+    fn message(&mut self) -> Result<(), End> {
+        self.hashes(List::Heads)?;
+        self.hashes(List::Need)?;
+        for k in 0..self.count(List::Haves, self.limits.haves)? {
+            self.hashes(List::LastSync(k as usize))?;
+            let string = raw::read_prefixed(self.bytes, self.at, self.bytes.len());
+            let [start, end, _] = answer(string).map_err(|_| None)?;
+            self.at = end as usize;
+            self.filter(start as usize..end as usize)?;
+        }
+        self.count(List::Chunks, self.limits.chunks)?;
+        Ok(())
+    }
+
+    fn hashes(&mut self, list: List) -> Result<(), End> {
+        let read = answer(raw::read_hashes(self.bytes, self.at, self.bytes.len()));
+        match read {
+            Ok([_, _, next]) => self.at = next as usize,
+            Err(refusal) if refusal.number == LIMIT => {
+                self.count(list, self.limits.hashes)?;
+            }
+            Err(_) => return Err(None),
+        }
+        Ok(())
+    }
+
+    /// A count that is within its limit.
+    fn count(&mut self, list: List, most: u64) -> Result<u64, End> {
+        let place = self.at;
+        let [count, next, _] =
+            answer(raw::read_number(self.bytes, place, self.bytes.len())).map_err(|_| None)?;
+        self.at = next as usize;
+        if count <= most {
+            return Ok(count);
+        }
+        let rule = Rule::Items { list, count, most };
+        Err(Some((place, Cause::new(rule, Some(place..self.at)))))
+    }
+
+    /// The filter that stands in these bytes.
+    fn filter(&self, string: Range<usize>) -> Result<(), End> {
+        match answer(raw::read_filter(self.bytes, string.start, string.end)) {
+            Ok(_) => Ok(()),
+            Err(refusal) if refusal.number == LIMIT => Err(self.filter_numbers(string)),
+            Err(_) => Err(None),
+        }
+    }
+
+    /// Which of a filter's numbers is too large.
+    fn filter_numbers(&self, string: Range<usize>) -> End {
+        let filter = string.start;
+        let number = |at: usize| answer(raw::read_filter_number(self.bytes, at, string.end)).ok();
+        let [entries, bits_at, _] = number(filter)?;
+        let [bits, probes_at, _] = number(bits_at as usize)?;
+        let [probes, end, _] = number(probes_at as usize)?;
+        let most = self.limits.probes;
+        if probes > most {
+            let rule = Rule::Probes {
+                filter,
+                probes,
+                most,
+            };
+            let place = probes_at as usize..end as usize;
+            return Some((filter, Cause::new(rule, Some(place))));
+        }
+        let bytes = entries.checked_mul(bits)?.div_ceil(8);
+        let most = self.limits.field;
+        let rule = Rule::Field {
+            filter,
+            bytes,
+            most,
+        };
+        let place = filter..probes_at as usize;
+        (bytes > most).then(|| (filter, Cause::new(rule, Some(place))))
+    }
+}
