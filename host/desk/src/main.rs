@@ -15,7 +15,7 @@ mod table;
 mod text;
 
 use failure::Failure;
-use std::io::Write;
+use std::io::{ErrorKind, Write};
 use std::process::ExitCode;
 
 fn main() -> ExitCode {
@@ -25,18 +25,30 @@ fn main() -> ExitCode {
         Ok(words) => run(&words),
         Err(word) => Err(Failure::usage(format!("{word:?} isn't text"), "")),
     };
-    let (shown, failure) = match done {
+    let (shown, failed) = match done {
         Ok(shown) => (shown, None),
         Err(failure) => (failure.shown.clone(), Some(failure)),
     };
-    // A reader that stops reading has what it wanted.
-    let _ = std::io::stdout().write_all(shown.as_bytes());
-    match failure {
-        None => ExitCode::SUCCESS,
-        Some(failure) => {
-            eprint!("{failure}");
-            failure.status()
-        }
+    let unwritten = print(&shown).err();
+    let failures = failed.into_iter().chain(unwritten);
+    failures.fold(ExitCode::SUCCESS, |_, failure| {
+        // Where standard error can't be written either, the status is all that is left.
+        let _ = write!(std::io::stderr(), "{failure}");
+        failure.status()
+    })
+}
+
+/// Writes what is shown to standard output.
+fn print(shown: &str) -> Result<(), Failure> {
+    let mut out = std::io::stdout().lock();
+    let written = out.write_all(shown.as_bytes()).and_then(|()| out.flush());
+    match written {
+        // A reader that stops reading has what it wanted.
+        Err(error) if error.kind() != ErrorKind::BrokenPipe => Err(Failure::file(
+            format!("standard output can't be written: {error}"),
+            "make room where it goes, or have it go elsewhere: what was shown isn't whole.",
+        )),
+        _ => Ok(()),
     }
 }
 

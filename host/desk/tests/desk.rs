@@ -38,10 +38,15 @@ fn run(words: &[&str]) -> Run {
 
 /// A run with bytes on its standard input.
 fn run_with(words: &[&str], input: &[u8]) -> Run {
+    run_into(words, input, Stdio::piped())
+}
+
+/// The same, with its standard output going there.
+fn run_into(words: &[&str], input: &[u8], out: Stdio) -> Run {
     let mut child = Command::new(env!("CARGO_BIN_EXE_bisquetower"))
         .args(words)
         .stdin(Stdio::piped())
-        .stdout(Stdio::piped())
+        .stdout(out)
         .stderr(Stdio::piped())
         .spawn()
         .expect("the command starts");

@@ -1,6 +1,6 @@
 //! The command itself: help, wrong words, and what it writes over.
 
-use crate::{folder, run, text};
+use crate::{folder, run, run_into, text};
 use std::fs;
 
 const COMMANDS: [&str; 5] = ["inspect", "table", "catch-up", "sample", "compare"];
@@ -69,6 +69,34 @@ fn a_folder_that_cant_be_made() {
     let file = folder.join("file");
     fs::write(&file, b"").unwrap();
     run(&["sample", text(&file.join("below"))]).ended(2);
+}
+
+/// A full disk loses no output in silence, whatever else went wrong.
+#[cfg(target_os = "linux")]
+#[test]
+fn output_that_cant_be_written() {
+    let message = b"\x42\0\0\0\0";
+    for (words, input) in [
+        (&["--help"][..], &b""[..]),
+        (&["inspect", "-"], message),
+        (&["table", "-"], &[0; 100]),
+    ] {
+        let full = fs::File::options().write(true).open("/dev/full");
+        let run = run_into(words, input, full.unwrap().into()).ended(2);
+        assert!(
+            run.err.contains("standard output can't be written"),
+            "{run:?}"
+        );
+    }
+}
+
+/// A reader that has gone away is no failure.
+#[test]
+fn a_reader_that_stops_reading() {
+    let (reader, writer) = std::io::pipe().unwrap();
+    drop(reader);
+    let run = run_into(&["--help"], b"", writer.into()).ended(0);
+    assert!(run.err.is_empty(), "{run:?}");
 }
 
 /// A pipe is no terminal.
