@@ -16,8 +16,9 @@ bisquetower: messages, tables and catch-ups, through the proved sync library
 A FILE that is - is standard input. Nothing is written over without --force.
 Colours are for terminals, and never used if NO_COLOR is set.
 
-Exit status: 0 done; 1 the library refused, or answers or tables contradict each
-other; 2 wrong words, or a file that can't be read or written.
+Exit status: 0 done; 1 the library refused, tables or answers contradict each
+other, or what a file holds is doubtful; 2 wrong words, or a file or output that
+can't be read or written.
 ";
 
 const INSPECT: &str = "\
@@ -29,7 +30,8 @@ what it means, and the bytes around the place that it names.
   --as KIND   message, state, filter, table or waiting (a table of changes that
               wait). Without it the end of the file's name says (x.message and
               so on), else the bytes: the first kind that takes all of them, of
-              which waiting is none.
+              which waiting is none, else the first that takes some. That is a
+              guess: if it ignores more than half of the bytes, the status is 1.
   --heads     of a message the version and the heads alone; what follows them
               isn't looked at, and may be bad
   --full      hashes whole and all of them

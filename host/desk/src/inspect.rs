@@ -5,6 +5,7 @@ mod shown;
 
 use crate::args::{Args, Options};
 use crate::failure::Failure;
+use crate::text::{count, number};
 use crate::{files, hex};
 use bisquetower::{Message, Refusal};
 pub use kind::Kind;
@@ -33,11 +34,30 @@ pub fn run(words: &[String]) -> Result<String, Failure> {
     let kind = named.unwrap_or_else(|| Kind::guess(&bytes));
     let shown = kind.show(&bytes, args.has("--full"));
     let shown = shown.map_err(|refusal| refused(&file, kind, &bytes, refusal))?;
-    let other = match named {
-        None => kind.hint(&bytes),
-        Some(_) => String::new(),
+    let shown = format!("{file}: {shown}");
+    match named {
+        Some(_) => Ok(shown),
+        None => guessed(&file, kind, &bytes, shown),
+    }
+}
+
+/// What is shown of a kind that was guessed: with what else the bytes may be, and as a
+/// failure if most of them are ignored.
+fn guessed(file: &str, kind: Kind, bytes: &[u8], shown: String) -> Result<String, Failure> {
+    let shown = shown + &kind.hint(bytes);
+    let ignored = kind.ignored(bytes);
+    if ignored <= bytes.len() / 2 {
+        return Ok(shown);
+    }
+    let many = match bytes.len() as u64 == files::most() {
+        true => "most of its bytes".to_string(),
+        false => format!("{} of its {}", number(ignored), count(bytes.len(), "byte")),
     };
-    Ok(format!("{file}: {shown}{other}"))
+    Err(Failure::refused(
+        format!("{file} was taken for a {kind}, which is doubtful: {many} are ignored"),
+        "say what it is with --as message, state, filter, table or waiting.",
+    )
+    .showing(shown))
 }
 
 /// The version and the heads alone, of a message that may be bad further on.

@@ -64,6 +64,12 @@ impl Kind {
         }
     }
 
+    /// How many bytes stand after all that is read; none of bytes that are refused.
+    pub fn ignored(self, bytes: &[u8]) -> usize {
+        let next = self.read(bytes).unwrap_or(bytes.len());
+        bytes.len() - next
+    }
+
     /// The place after all that is read.
     fn read(self, bytes: &[u8]) -> Result<usize, Refusal> {
         match self {

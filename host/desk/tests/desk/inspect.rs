@@ -276,6 +276,36 @@ fn a_kind_is_told_by_the_bytes() {
     assert!(text.contains("refusal 2, value 104"), "{text}");
 }
 
+/// A kind that isn't named and ignores more than half of the bytes is doubtful; one that is
+/// named, or that ignores half, isn't.
+#[test]
+fn a_doubtful_guess() {
+    let zeros = [0; 640];
+    let guess = inspect(&zeros).ended(1);
+    assert!(guess.out.contains("a filter, 3 bytes"), "{guess:?}");
+    let doubt = "- was taken for a filter, which is doubtful: 637 of its 640 bytes are ignored";
+    assert!(guess.err.contains(doubt), "{guess:?}");
+    assert!(
+        guess.err.contains("next: say what it is with --as "),
+        "{guess:?}"
+    );
+    let named = run_with(&["inspect", "--as", "filter", "-"], &zeros).ended(0);
+    assert_eq!(named.out, guess.out);
+
+    let folder = folder("inspect-doubtful");
+    let [by_name, nameless] = ["zeros.filter", "zeros"].map(|name| folder.join(name));
+    for path in [&by_name, &nameless] {
+        fs::write(path, zeros).unwrap();
+    }
+    run(&["inspect", text(&by_name)]).ended(0);
+    run(&["inspect", text(&nameless)]).ended(1);
+
+    let message = b"\x42\0\0\0\0\0";
+    let behind = |count: usize| inspect(&[&message[..], &vec![0x55; count]].concat());
+    behind(6).ended(0);
+    behind(7).ended(1);
+}
+
 /// A waiting table whose second row is the first again, and one that is cut.
 #[test]
 fn bad_waiting_tables() {
