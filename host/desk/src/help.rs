@@ -1,6 +1,7 @@
 //! Help, a screen at the most for each command.
 
 use crate::failure::Failure;
+use std::ffi::OsString;
 
 const ALL: &str = "\
 bisquetower: messages, tables and catch-ups, through the proved sync library
@@ -63,7 +64,8 @@ them after at most m + 1 rounds, where replies go by list: only of such a talk
 \"proved\" is said. Of tables that contradict each other the row is named.
 
   --json      the same as JSON
-  --svg FILE  draws the rounds: rows taken, waiting, sent and still missing
+  --svg FILE  draws the rounds: rows taken, waiting, sent and still missing; the
+              drawing is all that is shown if FILE is -
 
 Changes go as their names and dependencies, without contents.
 Exit status: 1 if the tables contradict each other, or an end doesn't hold the
@@ -89,15 +91,15 @@ row for each kind: inputs, those to which docs/DIFFERENCES.md says that answers
 stand apart, and differences, the smallest of which is shown.
 
   KIND         a name of the table's first column, in quotes; all if none
-  --seconds N  how long it takes; 120 if not told
-  --rounds N   so many rounds of each kind instead
+  --seconds N  how long it takes, 1 at least; 120 if not told
+  --rounds N   so many rounds of each kind instead, 1 at least
   --seed N     the inputs of this seed; others each time if not told
 ";
 
 /// The help of the command that is named, or of all.
-pub fn run(words: &[String]) -> Result<String, Failure> {
-    let command = words.first().map(String::as_str);
-    let text = match command {
+pub fn run(words: &[OsString]) -> Result<String, Failure> {
+    let command = words.first().map(|word| word.to_string_lossy());
+    let text = match command.as_deref() {
         None | Some("help" | "--help" | "-h") => ALL,
         Some("inspect") => INSPECT,
         Some("table") => TABLE,

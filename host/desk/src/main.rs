@@ -15,17 +15,13 @@ mod table;
 mod text;
 
 use failure::Failure;
+use std::ffi::OsString;
 use std::io::{ErrorKind, Write};
 use std::process::ExitCode;
 
 fn main() -> ExitCode {
-    let mut words = std::env::args_os().skip(1).map(|word| word.into_string());
-    let words = words.by_ref().collect::<Result<Vec<String>, _>>();
-    let done = match words {
-        Ok(words) => run(&words),
-        Err(word) => Err(Failure::usage(format!("{word:?} isn't text"), "")),
-    };
-    let (shown, failed) = match done {
+    let words: Vec<OsString> = std::env::args_os().skip(1).collect();
+    let (shown, failed) = match run(&words) {
         Ok(shown) => (shown, None),
         Err(failure) => (failure.shown.clone(), Some(failure)),
     };
@@ -53,11 +49,12 @@ fn print(shown: &str) -> Result<(), Failure> {
 }
 
 /// What is to be shown.
-fn run(words: &[String]) -> Result<String, Failure> {
+fn run(words: &[OsString]) -> Result<String, Failure> {
     let Some((first, rest)) = words.split_first() else {
         return Err(Failure::usage("no command is named", ""));
     };
-    let command: fn(&[String]) -> Result<String, Failure> = match first.as_str() {
+    let first = first.to_string_lossy();
+    let command: fn(&[OsString]) -> Result<String, Failure> = match &*first {
         "inspect" => inspect::run,
         "table" => table::run,
         "catch-up" => catch_up::run,

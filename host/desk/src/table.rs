@@ -7,6 +7,7 @@ use crate::inspect;
 use crate::paint::Paint;
 use crate::text::{count, hashes, number, Columns};
 use bisquetower::{Refusal, Table};
+use std::ffi::{OsStr, OsString};
 
 const OPTIONS: Options = Options {
     command: "table",
@@ -14,17 +15,17 @@ const OPTIONS: Options = Options {
     valued: &[],
 };
 
-pub fn run(words: &[String]) -> Result<String, Failure> {
+pub fn run(words: &[OsString]) -> Result<String, Failure> {
     let args = OPTIONS.read(words)?;
     let [file] = OPTIONS.names(&args, "one file")?;
     let bytes = files::read(&file)?;
-    let full = args.has("--full");
+    let (name, full) = (file.display(), args.has("--full"));
     let paint = Paint::of_output();
     match Table::new(&bytes[..]) {
         Ok(table) => {
             let shown = shown(&table, "none", full);
             let good = paint.good("a good change table");
-            Ok(format!("{file}: {good}\n{shown}"))
+            Ok(format!("{name}: {good}\n{shown}"))
         }
         // The rows before the first bad one are a table.
         Err(
@@ -36,19 +37,19 @@ pub fn run(words: &[String]) -> Result<String, Failure> {
             let before = before.expect("rows before the first bad one are good");
             let bad = paint.bad("a bad change table; of its rows before the first bad one");
             let shown = shown(&before, &number(value as usize), full);
-            Err(refused(&file, &bytes, refusal).showing(format!("{file}: {bad}\n{shown}")))
+            Err(refused(&file, &bytes, refusal).showing(format!("{name}: {bad}\n{shown}")))
         }
         Err(refusal) => Err(refused(&file, &bytes, refusal)),
     }
 }
 
 /// A table's file that has to be good.
-pub fn read(file: &str) -> Result<Table, Failure> {
+pub fn read(file: &OsStr) -> Result<Table, Failure> {
     let bytes = files::read(file)?;
     Table::new(bytes.clone()).map_err(|refusal| refused(file, &bytes, refusal))
 }
 
-fn refused(file: &str, bytes: &[u8], refusal: Refusal) -> Failure {
+fn refused(file: &OsStr, bytes: &[u8], refusal: Refusal) -> Failure {
     inspect::refused(file, inspect::Kind::Table, bytes, refusal)
 }
 

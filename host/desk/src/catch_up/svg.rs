@@ -97,7 +97,7 @@ fn bar(k: usize, round: &Round, talk: &Talk) -> String {
             svg += &format!(
                 "<rect x=\"{x:.1}\" y=\"{y:.1}\" width=\"{width:.1}\" height=\"{height:.1}\" \
                  fill=\"{colour}\"><title>round {}: {} {name}</title></rect>\n",
-                k + 1,
+                number(k + 1),
                 number(n)
             );
         }

@@ -5,6 +5,7 @@ use bisquetower::message::{CHUNKS, CHUNK_WORDS, HAVES, HAVE_WORDS};
 use bisquetower::raw;
 use bisquetower::refusal::answer;
 use bisquetower::{message, Filter, Message, Refusal, SavedState, Table, Waiting};
+use std::ffi::OsStr;
 use std::fmt;
 use std::ops::Range;
 use std::path::Path;
@@ -22,14 +23,14 @@ pub enum Kind {
 const TOLD: [Kind; 4] = [Kind::Message, Kind::State, Kind::Table, Kind::Filter];
 
 impl Kind {
-    pub fn named(name: &str) -> Option<Kind> {
+    pub fn named(name: &OsStr) -> Option<Kind> {
         let mut kinds = TOLD.into_iter().chain([Kind::Waiting]);
-        kinds.find(|kind| kind.name() == name)
+        kinds.find(|kind| name == kind.name())
     }
 
     /// As the end of a file's name says.
-    pub fn of_file(file: &str) -> Option<Kind> {
-        Kind::named(Path::new(file).extension()?.to_str()?)
+    pub fn of_file(file: &OsStr) -> Option<Kind> {
+        Kind::named(Path::new(file).extension()?)
     }
 
     /// The first kind that takes all the bytes, else one that takes some of them. What

@@ -119,6 +119,34 @@ fn json_says_the_same() {
     assert!(lines.contains(&format!("After {took} round")), "{lines}");
 }
 
+/// The drawing goes to standard output in place of the lines, and not beside JSON.
+#[test]
+fn a_drawing_on_standard_output() {
+    let folder = folder("catch-up-drawing");
+    let station = chain(&folder, "station.table", &[1, 2, 3, 4, 5]);
+    let validator = chain(&folder, "validator.table", &[1, 2, 3, 4]);
+    let words = ["catch-up", &station, &validator, "--svg", "-"];
+    let drawn = run(&words).ended(0).out;
+    assert!(
+        drawn.starts_with("<svg ") && drawn.ends_with("</svg>\n"),
+        "{drawn}"
+    );
+    let file = folder.join("rounds.svg");
+    run(&["catch-up", &station, &validator, "--svg", text(&file)]).ended(0);
+    assert_eq!(fs::read_to_string(&file).unwrap(), drawn);
+    let both = run(&[&words[..], &["--json"]].concat()).ended(2);
+    assert!(
+        both.err.contains("the JSON or the drawing, not both"),
+        "{both:?}"
+    );
+    assert!(both.out.is_empty(), "{both:?}");
+
+    let [station, validator] = past_a_gap(&folder, hash(57));
+    let failed = run(&["catch-up", &station, &validator, "--svg", "-"]).ended(1);
+    assert!(failed.out.starts_with("<svg "), "{failed:?}");
+    assert!(failed.err.contains("contradict each other"), "{failed:?}");
+}
+
 /// Rows are compared by what they depend on, and not by their numbers.
 #[test]
 fn rows_may_stand_in_another_order() {
@@ -251,6 +279,22 @@ fn a_validator_that_lacks_nothing() {
     assert!(shown.contains("After 0 rounds"), "{shown}");
     let json = run(&["catch-up", &table, &table, "--json"]).ended(0).out;
     assert!(json.contains("\"rounds\": []"), "{json}");
+}
+
+/// Every number of the lines has its thousands told apart, and none of the JSON.
+#[test]
+fn columns_of_large_numbers() {
+    let station = samples().join("station.table");
+    let words = ["catch-up", text(&station), "-"];
+    let shown = run_with(&words, b"").ended(0).out;
+    let columns = "
+round  held  asked  false yes            sent  waiting  to station  to validator
+    1     0      0          0  1,024 document        0          10        75,635
+";
+    assert!(shown.contains(columns), "{shown}");
+    let json = run_with(&[&words[..], &["--json"]].concat(), b"");
+    let json = json.ended(0).out;
+    assert_eq!(field(&json, "station_rows"), 1_024, "{json}");
 }
 
 /// A validator without rows gets the whole document.

@@ -19,6 +19,7 @@ fn the_samples() {
         first.contains("904 entries, 10 bits each, 7 probes"),
         "{first}"
     );
+    assert!(first.contains(" of 9,040 bits set"), "{first}");
     assert!(show("2-station.message").ended(0).out.contains("version 2"));
     assert!(show("station.table").ended(0).out.contains("1,024"));
     assert!(show("validator.state")
