@@ -12,7 +12,7 @@
 //!     |
 //!   message     a message that was read, part by part, without a copy
 //!     |
-//!   refusal     an answer as a result: numbers, or a refusal that can be read; Limits
+//!   refusal     an answer as a result: numbers, or a refusal that can be read
 //!     |
 //!   raw         the exported functions, on slices and numbers
 //!     |

@@ -173,6 +173,12 @@ fn a_message_that_is_too_long() {
     let sentence = "the message has more than 4,194,304 bytes";
     says(refused(Message::decode(&long), 4, 0), sentence, None);
     says(refused(Message::peek_heads(&long), 4, 0), sentence, None);
+    let heads = "the message has 1,025 heads, by the count at place 1; at most 1,024";
+    says(
+        refused(Message::peek_heads(b"\x42\x81\x08"), 4, 1),
+        heads,
+        1..3,
+    );
 }
 
 #[test]
