@@ -46,6 +46,8 @@ pub(crate) enum Rule {
     MessageBytes { bytes: Option<u64>, most: u64 },
     /// A table has at most so many rows.
     Rows { table: Rows, most: u64 },
+    /// The filter at a place has bits for its entries.
+    NoBits { filter: usize },
     /// The filter at a place has at most so many probes.
     Probes {
         filter: usize,
@@ -127,6 +129,13 @@ impl fmt::Display for Cause {
             }
             Rule::Rows { table, most } => {
                 write!(f, "the {table} has more than {} rows", grouped(most))
+            }
+            Rule::NoBits { filter } => {
+                let filter = shown(filter);
+                write!(
+                    f,
+                    "the filter at place {filter} has entries and 0 bits per entry"
+                )
             }
             Rule::Probes {
                 filter,

@@ -14,9 +14,10 @@ pub(crate) use written::{saved, writing};
 
 use crate::refusal::Refusal;
 
-/// The refusals that are looked into: a limit, a bad change table, a bad waiting table, bad
-/// numbers.
+/// The refusals that are looked into: a limit, a filter without bits, a bad change table, a
+/// bad waiting table, bad numbers.
 const LIMIT: u64 = 4;
+const NO_BITS: u64 = 5;
 const BAD_TABLE: u64 = 6;
 const BAD_WAITING: u64 = 9;
 const BAD_NUMBERS: u64 = 10;

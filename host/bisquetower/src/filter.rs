@@ -2,7 +2,7 @@
 
 use crate::hash::{bytes_of, ChangeHash};
 use crate::refusal::{answer, Refusal};
-use crate::{explain, raw, room};
+use crate::{raw, room};
 
 /// Bits per entry and probes of the filters that are made here.
 const BITS_PER_ENTRY: u32 = 10;
@@ -115,7 +115,7 @@ impl Filter {
     pub fn parse_counted(bytes: &[u8]) -> Result<(Filter, usize), Refusal> {
         let read = answer(raw::read_filter(bytes, 0, bytes.len()));
         let [entries, bits, probes, place, length, _, ignored] =
-            read.map_err(|refusal| explain::filter(bytes, refusal))?;
+            read.map_err(|refusal| crate::explain::filter(bytes, refusal))?;
         let filter = Filter {
             entries,
             bits,

@@ -3,7 +3,7 @@
 use crate::hash::{bytes_of, hashes_in, ChangeHash, HASH};
 use crate::refusal::Refusal;
 use crate::session::WORDS;
-use crate::{explain, raw, refusal, room};
+use crate::{raw, refusal, room};
 
 /// The part of a session that is worth keeping between connections: the heads that
 /// both units are known to hold.
@@ -46,7 +46,7 @@ pub(crate) fn read(bytes: &[u8]) -> Result<(Vec<u8>, [u64; WORDS]), Refusal> {
     // The heads stand in the bytes themselves, so these are room enough.
     let mut shared = vec![0; bytes.len()];
     let words = raw::read_state(bytes, &mut shared, &mut session);
-    let read = refusal::answer(words).map_err(|refusal| explain::state(bytes, refusal));
+    let read = refusal::answer(words).map_err(|refusal| crate::explain::state(bytes, refusal));
     let [count, ..] = read?;
     shared.truncate(HASH * count as usize);
     Ok((shared, session))
@@ -56,5 +56,5 @@ pub(crate) fn read(bytes: &[u8]) -> Result<(Vec<u8>, [u64; WORDS]), Refusal> {
 pub(crate) fn write(shared: &[u8], count: usize) -> Result<Vec<u8>, Refusal> {
     let room = shared.len() + 4;
     let written = room::written(room, |out| raw::write_state(shared, count, out));
-    written.map_err(|refusal| explain::saved(count, refusal))
+    written.map_err(|refusal| crate::explain::saved(count, refusal))
 }

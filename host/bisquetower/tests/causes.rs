@@ -183,6 +183,15 @@ fn a_message_that_is_too_long() {
 
 #[test]
 fn a_filter_that_cant_be_read() {
+    let no_bits = "the filter at place 0 has entries and 0 bits per entry";
+    says(
+        refused(Filter::parse(b"\x81\x01\0\x07"), 5, 0),
+        no_bits,
+        2..3,
+    );
+    let no_bits = "the filter at place 6 has entries and 0 bits per entry";
+    let refusal = refused(Message::decode(b"\x42\0\0\x01\0\x03\x01\0\x07"), 5, 6);
+    says(refusal, no_bits, 7..8);
     let refusal = refused(Filter::parse(b"\x01\x0a\x41\0\0"), 4, 0);
     says(
         refusal,
@@ -505,15 +514,9 @@ fn a_session_says_what_broke() {
 /// Refusals of other numbers say all there is.
 #[test]
 fn other_refusals_have_no_cause() {
-    for bytes in [
-        &b""[..],
-        b"\x41",
-        b"\x42",
-        b"\x42\x80\0",
-        b"\x42\0\0\x01\0\x03\x01\0\x07",
-    ] {
+    for bytes in [&b""[..], b"\x41", b"\x42", b"\x42\x80\0"] {
         let refusal = Message::decode(bytes).expect_err("a refusal");
-        assert_ne!(refusal.number, 4);
+        assert!((1..4).contains(&refusal.number), "{refusal}");
         assert_eq!(refusal.cause(), None, "{refusal}");
     }
 }

@@ -1,6 +1,7 @@
-//! Bytes that were read: which count, or which number of a filter, passes its limit.
+//! Bytes that were read: which count passes its limit, or which number of a filter isn't
+//! what it may be.
 
-use super::LIMIT;
+use super::{LIMIT, NO_BITS};
 use crate::cause::{Cause, List, Rule};
 use crate::refusal::{answer, Refusal};
 use crate::{raw, Limits};
@@ -35,7 +36,7 @@ type End = Option<(usize, Cause)>;
 
 /// The refusal with what a walk finds, if that stands where the refusal says.
 fn explained(refusal: Refusal, walk: impl FnOnce() -> Result<(), End>) -> Refusal {
-    if refusal.number != LIMIT {
+    if ![LIMIT, NO_BITS].contains(&refusal.number) {
         return refusal;
     }
     match walk() {
@@ -101,36 +102,47 @@ impl Walk<'_> {
     fn filter(&self, string: Range<usize>) -> Result<(), End> {
         match answer(raw::read_filter(self.bytes, string.start, string.end)) {
             Ok(_) => Ok(()),
-            Err(refusal) if refusal.number == LIMIT => Err(self.filter_numbers(string)),
+            Err(
+                Refusal {
+                    number: NO_BITS, ..
+                }
+                | Refusal { number: LIMIT, .. },
+            ) => Err(self.filter_numbers(string)),
             Err(_) => Err(None),
         }
     }
 
-    /// Which of a filter's numbers is too large.
+    /// Which of a filter's numbers is wrong, in the order in which 01 tests them.
     fn filter_numbers(&self, string: Range<usize>) -> End {
         let filter = string.start;
         let number = |at: usize| answer(raw::read_filter_number(self.bytes, at, string.end)).ok();
         let [entries, bits_at, _] = number(filter)?;
         let [bits, probes_at, _] = number(bits_at as usize)?;
         let [probes, end, _] = number(probes_at as usize)?;
-        let most = self.limits.probes;
-        if probes > most {
+        let [bits_at, probes_at, end] = [bits_at, probes_at, end].map(|place| place as usize);
+        let bytes = entries.checked_mul(bits)?.div_ceil(8);
+        let limits = &self.limits;
+        let (rule, place) = if bits == 0 {
+            (Rule::NoBits { filter }, bits_at..probes_at)
+        } else if probes > limits.probes {
+            let most = limits.probes;
             let rule = Rule::Probes {
                 filter,
                 probes,
                 most,
             };
-            let place = probes_at as usize..end as usize;
-            return Some((filter, Cause::new(rule, Some(place))));
-        }
-        let bytes = entries.checked_mul(bits)?.div_ceil(8);
-        let most = self.limits.field;
-        let rule = Rule::Field {
-            filter,
-            bytes,
-            most,
+            (rule, probes_at..end)
+        } else if bytes > limits.field {
+            let most = limits.field;
+            let rule = Rule::Field {
+                filter,
+                bytes,
+                most,
+            };
+            (rule, filter..probes_at)
+        } else {
+            return None;
         };
-        let place = filter..probes_at as usize;
-        (bytes > most).then(|| (filter, Cause::new(rule, Some(place))))
+        Some((filter, Cause::new(rule, Some(place))))
     }
 }

@@ -194,6 +194,7 @@ fn the_marks_of_a_long_field() {
 fn a_filter_without_bits() {
     let refused = inspect(b"\x42\0\0\x01\0\x03\x01\0\x07\0").ended(1).err;
     assert!(refused.contains("refusal 5, value 6"), "{refused}");
+    assert_eq!(marked(&refused), (vec![7], " 7"), "{refused}");
     let advice = "next: look at the sender: it built a filter with 0 bits for its entries, \
                   and sending it again won't help.";
     assert!(refused.contains(advice), "{refused}");
