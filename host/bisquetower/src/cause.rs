@@ -46,20 +46,8 @@ pub(crate) enum Rule {
     MessageBytes { bytes: Option<u64>, most: u64 },
     /// A table has at most so many rows.
     Rows { table: Rows, most: u64 },
-    /// The filter at a place has bits for its entries.
-    NoBits { filter: usize },
-    /// The filter at a place has at most so many probes.
-    Probes {
-        filter: usize,
-        probes: u64,
-        most: u64,
-    },
-    /// The filter at a place has a field of at most so many bytes.
-    Field {
-        filter: usize,
-        bytes: u64,
-        most: u64,
-    },
+    /// The filter at a place keeps to what filters are.
+    Filter { place: usize, rule: Numbers },
     /// A row keeps to what rows are.
     Row { table: Rows, row: usize, rule: Row },
 }
@@ -74,6 +62,17 @@ pub(crate) enum List {
     LastSync(usize),
     Chunks,
     SharedHeads,
+}
+
+/// What is wrong with a filter's numbers.
+#[derive(Clone, Copy, Debug, PartialEq, Eq)]
+pub(crate) enum Numbers {
+    /// It has entries and no bits for them.
+    NoBits,
+    /// It has more probes than there may be.
+    Probes { probes: u64, most: u64 },
+    /// Its field has more bytes than there may be.
+    Field { bytes: u64, most: u64 },
 }
 
 /// Which table.
@@ -130,34 +129,8 @@ impl fmt::Display for Cause {
             Rule::Rows { table, most } => {
                 write!(f, "the {table} has more than {} rows", grouped(most))
             }
-            Rule::NoBits { filter } => {
-                let filter = shown(filter);
-                write!(
-                    f,
-                    "the filter at place {filter} has entries and 0 bits per entry"
-                )
-            }
-            Rule::Probes {
-                filter,
-                probes,
-                most,
-            } => {
-                let (filter, probes, most) = (shown(filter), grouped(probes), grouped(most));
-                write!(
-                    f,
-                    "the filter at place {filter} has {probes} probes; at most {most}"
-                )
-            }
-            Rule::Field {
-                filter,
-                bytes,
-                most,
-            } => {
-                let (filter, bytes, most) = (shown(filter), grouped(bytes), grouped(most));
-                write!(
-                    f,
-                    "the filter at place {filter} has a field of {bytes} bytes; at most {most}"
-                )
+            Rule::Filter { place, rule } => {
+                write!(f, "the filter at place {} {rule}", shown(place))
             }
             Rule::Row { table, row, rule } => write!(f, "row {} of the {table} {rule}", shown(row)),
         }
@@ -178,6 +151,22 @@ impl List {
             List::LastSync(k) => format!("the have at index {k} has {count} last-sync hashes"),
             List::Chunks => format!("the message has {count} chunks"),
             List::SharedHeads => format!("the saved state has {count} shared heads"),
+        }
+    }
+}
+
+impl fmt::Display for Numbers {
+    fn fmt(&self, f: &mut fmt::Formatter<'_>) -> fmt::Result {
+        match *self {
+            Numbers::NoBits => write!(f, "has entries and 0 bits per entry"),
+            Numbers::Probes { probes, most } => {
+                let (probes, most) = (grouped(probes), grouped(most));
+                write!(f, "has {probes} probes; at most {most}")
+            }
+            Numbers::Field { bytes, most } => {
+                let (bytes, most) = (grouped(bytes), grouped(most));
+                write!(f, "has a field of {bytes} bytes; at most {most}")
+            }
         }
     }
 }

@@ -2,7 +2,7 @@
 //! what it may be.
 
 use super::{LIMIT, NO_BITS};
-use crate::cause::{Cause, List, Rule};
+use crate::cause::{Cause, List, Numbers, Rule};
 use crate::refusal::{answer, Refusal};
 use crate::{raw, Limits};
 use std::ops::Range;
@@ -74,22 +74,20 @@ impl Walk<'_> {
     }
 
     fn hashes(&mut self, list: List) -> Result<(), End> {
-        let read = answer(raw::read_hashes(self.bytes, self.at, self.bytes.len()));
-        match read {
-            Ok([_, _, next]) => self.at = next as usize,
-            Err(refusal) if refusal.number == LIMIT => {
-                self.count(list, self.limits.hashes)?;
-            }
-            Err(_) => return Err(None),
-        }
+        let read = raw::read_hashes(self.bytes, self.at, self.bytes.len());
+        let Ok([_, _, next]) = answer(read) else {
+            self.count(list, self.limits.hashes)?;
+            return Err(None);
+        };
+        self.at = next as usize;
         Ok(())
     }
 
     /// A count that is within its limit.
     fn count(&mut self, list: List, most: u64) -> Result<u64, End> {
         let place = self.at;
-        let [count, next, _] =
-            answer(raw::read_number(self.bytes, place, self.bytes.len())).map_err(|_| None)?;
+        let read = raw::read_number(self.bytes, place, self.bytes.len());
+        let [count, next, _] = answer(read).map_err(|_| None)?;
         self.at = next as usize;
         if count <= most {
             return Ok(count);
@@ -100,49 +98,33 @@ impl Walk<'_> {
 
     /// The filter that stands in these bytes.
     fn filter(&self, string: Range<usize>) -> Result<(), End> {
-        match answer(raw::read_filter(self.bytes, string.start, string.end)) {
-            Ok(_) => Ok(()),
-            Err(
-                Refusal {
-                    number: NO_BITS, ..
-                }
-                | Refusal { number: LIMIT, .. },
-            ) => Err(self.filter_numbers(string)),
-            Err(_) => Err(None),
-        }
+        let read = answer(raw::read_filter(self.bytes, string.start, string.end));
+        read.map(|_| ()).map_err(|_| self.filter_numbers(string))
     }
 
     /// Which of a filter's numbers is wrong, in the order in which 01 tests them.
     fn filter_numbers(&self, string: Range<usize>) -> End {
-        let filter = string.start;
-        let number = |at: usize| answer(raw::read_filter_number(self.bytes, at, string.end)).ok();
-        let [entries, bits_at, _] = number(filter)?;
-        let [bits, probes_at, _] = number(bits_at as usize)?;
-        let [probes, end, _] = number(probes_at as usize)?;
-        let [bits_at, probes_at, end] = [bits_at, probes_at, end].map(|place| place as usize);
-        let bytes = entries.checked_mul(bits)?.div_ceil(8);
-        let limits = &self.limits;
-        let (rule, place) = if bits == 0 {
-            (Rule::NoBits { filter }, bits_at..probes_at)
-        } else if probes > limits.probes {
-            let most = limits.probes;
-            let rule = Rule::Probes {
-                filter,
-                probes,
-                most,
-            };
-            (rule, probes_at..end)
-        } else if bytes > limits.field {
-            let most = limits.field;
-            let rule = Rule::Field {
-                filter,
-                bytes,
-                most,
-            };
-            (rule, filter..probes_at)
-        } else {
-            return None;
+        let start = string.start;
+        let number = |at: usize| {
+            let read = answer(raw::read_filter_number(self.bytes, at, string.end));
+            let [number, next, _] = read.ok()?;
+            Some((number, next as usize))
         };
-        Some((filter, Cause::new(rule, Some(place))))
+        let (entries, bits_at) = number(start)?;
+        let (bits, probes_at) = number(bits_at)?;
+        let (probes, end) = number(probes_at)?;
+        let bytes = entries.checked_mul(bits)?.div_ceil(8);
+        let (most, most_bytes) = (self.limits.probes, self.limits.field);
+        let (rule, field) = match bits {
+            0 => (Numbers::NoBits, bits_at..probes_at),
+            _ if probes > most => (Numbers::Probes { probes, most }, probes_at..end),
+            _ if bytes > most_bytes => {
+                let most = most_bytes;
+                (Numbers::Field { bytes, most }, start..probes_at)
+            }
+            _ => return None,
+        };
+        let rule = Rule::Filter { place: start, rule };
+        Some((start, Cause::new(rule, Some(field))))
     }
 }
