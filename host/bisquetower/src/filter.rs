@@ -121,8 +121,9 @@ impl Filter {
     /// # Ok::<(), bisquetower::Refusal>(())
     /// ```
     pub fn parse_counted(bytes: &[u8]) -> Result<(Filter, usize), Refusal> {
+        let read = answer(raw::read_filter(bytes, 0, bytes.len()));
         let [entries, bits, probes, place, length, _, ignored] =
-            answer(raw::read_filter(bytes, 0, bytes.len()))?;
+            read.map_err(|refusal| crate::explain::filter(bytes, refusal))?;
         let filter = Filter {
             entries,
             bits,

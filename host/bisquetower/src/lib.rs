@@ -38,13 +38,16 @@
 
 #![deny(missing_docs)]
 
+mod cause;
 mod error;
+mod explain;
 mod filter;
 mod flags;
 mod hash;
 mod have;
 mod host;
 mod index;
+mod limits;
 mod memory;
 pub mod message;
 pub mod raw;
@@ -56,12 +59,14 @@ mod selection;
 mod session;
 mod table;
 
+pub use cause::Cause;
 pub use error::Error;
 pub use filter::Filter;
 pub use flags::{MessageFlags, MessageVersion};
 pub use hash::{ChangeHash, NotAHash};
 pub use have::Have;
 pub use host::Host;
+pub use limits::Limits;
 pub use memory::{Change, Memory, MemoryError};
 pub use refusal::Refusal;
 pub use said::Message;

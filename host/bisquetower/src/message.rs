@@ -22,8 +22,8 @@
 //! assert_eq!((cut.number, cut.value), (1, 5));
 //! ```
 
-use crate::raw;
 use crate::refusal::{answer, Refusal};
+use crate::{explain, raw};
 
 /// Words of the answer.
 pub const ANSWER_WORDS: usize = 14;
@@ -90,7 +90,8 @@ impl<'a> View<'a> {
     ) -> Result<View<'a>, Refusal> {
         let mut ignored = [0; HAVES];
         let words = raw::read_message(bytes, haves, chunks, &mut ignored);
-        View::of(bytes, words, haves, chunks, ignored)
+        let read = View::of(bytes, words, haves, chunks, ignored);
+        read.map_err(|refusal| explain::message(bytes, refusal))
     }
 
     /// The message of an answer and of the lists that `raw::read_message` left with

@@ -1,15 +1,27 @@
 //! Answers as results, and refusals in words (document 01, Refusal numbers).
 
+use crate::cause::Cause;
 use std::fmt;
 
-/// Why a call refused: 01's number, and the value that goes with it.
-#[derive(Clone, Copy, Debug, PartialEq, Eq)]
+/// Why a call refused: 01's number, and the value that goes with it. Two refusals are the
+/// same if both are; what broke in particular ([`cause`](Refusal::cause)) is told beside
+/// them.
+#[derive(Clone, Copy, Debug)]
 pub struct Refusal {
     /// 1 to 12.
     pub number: u64,
     /// A place, a row, a byte, a length or 0, by the number.
     pub value: u64,
+    cause: Option<Cause>,
 }
+
+impl PartialEq for Refusal {
+    fn eq(&self, other: &Refusal) -> bool {
+        (self.number, self.value) == (other.number, other.value)
+    }
+}
+
+impl Eq for Refusal {}
 
 /// The words of an answer, of any length that an exported call has: build.rs writes
 /// an implementation for each.
@@ -42,23 +54,49 @@ pub(crate) fn numbers<const WORDS: usize, const NUMBERS: usize>(
     const { assert!(NUMBERS >= 1 && WORDS == NUMBERS + 1) };
     match words[0] {
         0 => Ok(std::array::from_fn(|k| words[k + 1])),
-        number => Err(Refusal {
-            number,
-            value: words[1],
-        }),
+        number => Err(Refusal::new(number, words[1])),
     }
 }
 
 impl Refusal {
-    /// What the refusal is, and what its value is, in plain words.
+    /// The refusal of a number and its value.
+    pub const fn new(number: u64, value: u64) -> Refusal {
+        Refusal {
+            number,
+            value,
+            cause: None,
+        }
+    }
+
+    /// The same, with what broke.
+    pub(crate) fn because(self, cause: Cause) -> Refusal {
+        let cause = Some(cause);
+        Refusal { cause, ..self }
+    }
+
+    /// What broke in particular, where it was looked for and found: in messages, saved
+    /// states, filters and tables that are values of this crate.
+    pub fn cause(&self) -> Option<Cause> {
+        self.cause
+    }
+
+    /// What broke, or else what the refusal and its value are, in plain words.
     pub fn sentence(&self) -> String {
-        let value = self.value;
+        if let Some(cause) = self.cause {
+            return cause.to_string();
+        }
+        let value = grouped(self.value);
         match self.number {
             1 => format!("the input ends inside the item that starts at place {value}"),
-            2 => format!("the first byte is {value:02x} (hexadecimal), which begins nothing that is read here"),
+            2 => format!(
+                "the first byte is {:02x} (hexadecimal), which begins nothing that is read here",
+                self.value
+            ),
             3 => format!("the number at place {value} isn't in its shortest form or is too large"),
             // A size without a place and the place 0 have the same value.
-            4 if value == 0 => "a limit is passed, by what stands at place 0 or as a whole".to_string(),
+            4 if self.value == 0 => {
+                "a limit is passed, by what stands at place 0 or as a whole".to_string()
+            }
             4 => format!("a limit is passed by the count or filter at place {value}"),
             5 => format!("the filter at place {value} has entries and 0 bits per entry"),
             6 => format!("row {value} is the first bad row of the change table"),
@@ -75,9 +113,26 @@ impl Refusal {
 
 impl fmt::Display for Refusal {
     fn fmt(&self, f: &mut fmt::Formatter<'_>) -> fmt::Result {
-        let Refusal { number, value } = self;
+        let (number, value) = (self.number, grouped(self.value));
         write!(f, "refusal {number}, value {value}: {}", self.sentence())
     }
+}
+
+/// A number as sentences show it, its thousands told apart.
+///
+/// ```
+/// assert_eq!(bisquetower::refusal::grouped(4_194_304), "4,194,304");
+/// ```
+pub fn grouped(n: u64) -> String {
+    let digits = n.to_string();
+    let mut text = String::new();
+    for (k, digit) in digits.chars().enumerate() {
+        if k > 0 && (digits.len() - k).is_multiple_of(3) {
+            text.push(',');
+        }
+        text.push(digit);
+    }
+    text
 }
 
 impl std::error::Error for Refusal {}
@@ -87,16 +142,13 @@ mod tests {
     use super::*;
 
     fn sentence(number: u64, value: u64) -> String {
-        Refusal { number, value }.sentence()
+        Refusal::new(number, value).sentence()
     }
 
     #[test]
     fn the_first_word_tells_answers_from_refusals() {
         assert_eq!(answer([0, 7, 8, 9]), Ok([7, 8, 9]));
-        let refusal = Refusal {
-            number: 7,
-            value: 64,
-        };
+        let refusal = Refusal::new(7, 64);
         assert_eq!(answer([7, 64, 0, 0]), Err(refusal));
         assert_eq!(answer([0, 1, 2, 3, 4, 5, 6, 8]), Ok([1, 2, 3, 4, 5, 6, 8]));
         let words = [7, 64, 0, 0, 0, 0, 0, 0, 0, 0, 0, 0, 0, 0];

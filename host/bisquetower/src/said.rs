@@ -5,7 +5,7 @@ use crate::hash::{bytes_of, hashes_in, ChangeHash, HASH};
 use crate::have::{self, Have};
 use crate::message::{self, CHUNK_WORDS, HAVES, HAVE_WORDS, NO_FLAGS};
 use crate::refusal::{answer, Refusal};
-use crate::{raw, room};
+use crate::{explain, raw, room};
 
 /// The most bytes that a number takes on the wire.
 const NUMBER: usize = 10;
@@ -58,11 +58,15 @@ impl Message {
         );
         let mut ignored = [0; HAVES];
         let mut words = raw::read_message(bytes, &mut haves, &mut chunks, &mut ignored);
-        if let Err(Refusal { number: 7, value }) = answer(words) {
+        if let Err(Refusal {
+            number: 7, value, ..
+        }) = answer(words)
+        {
             chunks.resize(value as usize, 0);
             words = raw::read_message(bytes, &mut haves, &mut chunks, &mut ignored);
         }
-        let view = message::View::of(bytes, words, &haves, &chunks, ignored)?;
+        let view = message::View::of(bytes, words, &haves, &chunks, ignored);
+        let view = view.map_err(|refusal| explain::message(bytes, refusal))?;
         Ok(Message {
             heads: hashes_in(view.heads()),
             need: hashes_in(view.need()),
@@ -93,25 +97,42 @@ impl Message {
     pub fn peek_heads(bytes: &[u8]) -> Result<(MessageVersion, Vec<ChangeHash>), Refusal> {
         let mut heads = vec![0; HASH * FEW_HEADS];
         let mut words = raw::peek_heads(bytes, &mut heads);
-        if let Err(Refusal { number: 7, value }) = answer(words) {
+        if let Err(Refusal {
+            number: 7, value, ..
+        }) = answer(words)
+        {
             heads.resize(value as usize, 0);
             words = raw::peek_heads(bytes, &mut heads);
         }
-        let [version, count, _] = answer(words)?;
+        let read = answer(words).map_err(|refusal| explain::message(bytes, refusal));
+        let [version, count, _] = read?;
         let heads = hashes_in(&heads[..HASH * count as usize]);
         Ok((MessageVersion::of(version), heads))
     }
 
-    /// Its bytes: refusal 4 if a part or the whole passes its limit.
+    /// Its bytes: refusal 4 if a part or the whole passes its limit, and the refusal says
+    /// which.
+    ///
+    /// ```
+    /// use bisquetower::{ChangeHash, Message};
+    ///
+    /// let message = Message { need: vec![ChangeHash([7; 32]); 1_025], ..Message::default() };
+    /// assert_eq!(
+    ///     message.encode().unwrap_err().to_string(),
+    ///     "refusal 4, value 0: the message needs 1,025 hashes; at most 1,024"
+    /// );
+    /// ```
     pub fn encode(&self) -> Result<Vec<u8>, Refusal> {
         let lent = Lent::new(self);
-        room::written(lent.room(), |out| lent.write(out))
+        let written = room::written(lent.room(), |out| lent.write(out));
+        written.map_err(|refusal| explain::writing(self, refusal))
     }
 
     /// Writes its bytes into a buffer of the caller's and tells how many: refusal 7 if
     /// the buffer is too short, with the length wanted.
     pub fn encode_into(&self, out: &mut [u8]) -> Result<usize, Refusal> {
-        let [length, ..] = answer(Lent::new(self).write(out))?;
+        let written = answer(Lent::new(self).write(out));
+        let [length, ..] = written.map_err(|refusal| explain::writing(self, refusal))?;
         Ok(length as usize)
     }
 

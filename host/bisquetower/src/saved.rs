@@ -46,7 +46,8 @@ pub(crate) fn read(bytes: &[u8]) -> Result<(Vec<u8>, [u64; WORDS]), Refusal> {
     // The heads stand in the bytes themselves, and are no more than a list has.
     let mut shared = vec![0; bytes.len().min(LIST)];
     let words = raw::read_state(bytes, &mut shared, &mut session);
-    let [count, ..] = refusal::answer(words)?;
+    let read = refusal::answer(words).map_err(|refusal| crate::explain::state(bytes, refusal));
+    let [count, ..] = read?;
     shared.truncate(HASH * count as usize);
     Ok((shared, session))
 }
@@ -54,5 +55,6 @@ pub(crate) fn read(bytes: &[u8]) -> Result<(Vec<u8>, [u64; WORDS]), Refusal> {
 /// The saved state of the first hashes of a list.
 pub(crate) fn write(shared: &[u8], count: usize) -> Result<Vec<u8>, Refusal> {
     let room = shared.len() + 4;
-    room::written(room, |out| raw::write_state(shared, count, out))
+    let written = room::written(room, |out| raw::write_state(shared, count, out));
+    written.map_err(|refusal| crate::explain::saved(count, refusal))
 }

@@ -3,7 +3,7 @@
 use crate::hash::{bytes_of, hashes_in, ChangeHash, HASH};
 use crate::index::Index;
 use crate::refusal::{answer, Refusal};
-use crate::{raw, room};
+use crate::{explain, raw, room};
 use std::collections::HashMap;
 
 /// Row numbers that a change row has room for, and hashes that a waiting row has.
@@ -45,7 +45,7 @@ impl Table {
     /// The table of records, if it is good.
     pub fn new(bytes: impl Into<Vec<u8>>) -> Result<Table, Refusal> {
         let bytes = bytes.into();
-        let index = Index::of(&bytes)?;
+        let index = Index::of(&bytes).map_err(|refusal| explain::table(&bytes, refusal))?;
         Ok(Table { bytes, index })
     }
 
@@ -94,6 +94,7 @@ impl Table {
                 Ok(())
             }
             Err(refusal) => {
+                let refusal = explain::table(&self.bytes, refusal);
                 self.bytes.truncate(before);
                 Err(refusal)
             }
@@ -194,7 +195,8 @@ impl Waiting {
     /// The table of records beside a change table, if it is good.
     pub fn new(bytes: impl Into<Vec<u8>>, table: &Table) -> Result<Waiting, Refusal> {
         let bytes = bytes.into();
-        answer(raw::check_tables(&table.bytes, table.index(), &bytes))?;
+        let checked = answer(raw::check_tables(&table.bytes, table.index(), &bytes));
+        checked.map_err(|refusal| explain::tables(&table.bytes, &bytes, refusal))?;
         Ok(Waiting(bytes))
     }
 

@@ -97,10 +97,7 @@ fn a_bad_message_is_refused_and_nothing_is_loaded() {
 }
 
 /// The refusal of what passes a limit as a whole.
-const PAST_A_LIMIT: Refusal = Refusal {
-    number: 4,
-    value: 0,
-};
+const PAST_A_LIMIT: Refusal = Refusal::new(4, 0);
 
 #[test]
 fn a_document_past_its_limit_is_refused() {

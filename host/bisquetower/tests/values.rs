@@ -16,7 +16,7 @@ fn hashes(count: usize) -> Vec<ChangeHash> {
 }
 
 fn refusal(number: u64, value: u64) -> Refusal {
-    Refusal { number, value }
+    Refusal::new(number, value)
 }
 
 /// Every part, more chunks than are read at first, and a filter of each kind.

@@ -1,12 +1,14 @@
-//! The words behind a command.
+//! The words behind a command. Names of files are as the system has them, which needn't be
+//! text.
 
 use crate::failure::Failure;
+use std::ffi::{OsStr, OsString};
 
 /// Words that name things, and options: switches, and some with a value.
 #[derive(Debug, Default)]
 pub struct Args {
-    pub names: Vec<String>,
-    options: Vec<(String, String)>,
+    pub names: Vec<OsString>,
+    options: Vec<(String, OsString)>,
 }
 
 /// What options a command has.
@@ -17,7 +19,7 @@ pub struct Options {
 }
 
 impl Options {
-    pub fn read(&self, words: &[String]) -> Result<Args, Failure> {
+    pub fn read(&self, words: &[OsString]) -> Result<Args, Failure> {
         let mut args = Args::default();
         let mut words = words.iter();
         while let Some(word) = words.next() {
@@ -25,21 +27,18 @@ impl Options {
                 args.names.extend(words.cloned());
                 break;
             }
-            if word == "-" || !word.starts_with('-') {
+            if word == "-" || !word.as_encoded_bytes().starts_with(b"-") {
                 args.names.push(word.clone());
                 continue;
             }
-            let (option, value) = match word.split_once('=') {
-                Some((option, value)) => (option, Some(value.to_string())),
-                None => (word.as_str(), None),
-            };
+            let (option, value) = self.option(word)?;
             let value = match (self.switches.contains(&option), value) {
-                (true, None) => String::new(),
+                (true, None) => OsString::new(),
                 (true, Some(_)) => return Err(self.wrong(format!("{option} takes no value"))),
                 (false, _) if !self.valued.contains(&option) => {
                     return Err(self.wrong(format!("there is no option {option}")));
                 }
-                (false, Some(value)) => value,
+                (false, Some(value)) => value.into(),
                 (false, None) => match words.next() {
                     Some(value) => value.clone(),
                     None => return Err(self.wrong(format!("{option} wants a value"))),
@@ -50,10 +49,23 @@ impl Options {
         Ok(args)
     }
 
+    /// An option, and its value if that stands in the same word.
+    fn option<'a>(&self, word: &'a OsStr) -> Result<(&'a str, Option<&'a str>), Failure> {
+        let Some(text) = word.to_str() else {
+            let word = word.display();
+            let what = format!("{word} isn't text: give the value as a word of its own");
+            return Err(self.wrong(what));
+        };
+        Ok(match text.split_once('=') {
+            Some((option, value)) => (option, Some(value)),
+            None => (text, None),
+        })
+    }
+
     /// Just so many names, as the command wants them.
-    pub fn names<const N: usize>(&self, args: &Args, what: &str) -> Result<[String; N], Failure> {
+    pub fn names<const N: usize>(&self, args: &Args, what: &str) -> Result<[OsString; N], Failure> {
         let names = args.names.clone().try_into();
-        names.map_err(|names: Vec<String>| {
+        names.map_err(|names: Vec<OsString>| {
             self.wrong(format!("{what} is wanted, not {} names", names.len()))
         })
     }
@@ -69,7 +81,7 @@ impl Args {
     }
 
     /// The last value of an option counts.
-    pub fn value(&self, option: &str) -> Option<&str> {
+    pub fn value(&self, option: &str) -> Option<&OsStr> {
         let mut options = self.options.iter().rev();
         let found = options.find(|(name, _)| name == option)?;
         Some(&found.1)
@@ -77,7 +89,7 @@ impl Args {
 }
 
 /// Whether the words ask for help.
-pub fn wants_help(words: &[String]) -> bool {
+pub fn wants_help(words: &[OsString]) -> bool {
     let mut words = words.iter().take_while(|word| *word != "--");
     words.any(|word| word == "--help" || word == "-h")
 }

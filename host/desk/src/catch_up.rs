@@ -2,12 +2,15 @@
 
 mod json;
 mod lines;
+mod premises;
 mod svg;
 mod talk;
 
 use crate::args::Options;
 use crate::failure::Failure;
+use crate::text::number;
 use crate::{files, table};
+use std::ffi::OsString;
 use std::path::Path;
 
 pub use talk::{Said, Talk};
@@ -18,26 +21,52 @@ const OPTIONS: Options = Options {
     valued: &["--svg"],
 };
 
-pub fn run(words: &[String]) -> Result<String, Failure> {
+pub fn run(words: &[OsString]) -> Result<String, Failure> {
     let args = OPTIONS.read(words)?;
-    let [station, validator] = OPTIONS.names(&args, "a station's table and a validator's")?;
-    if station == "-" && validator == "-" {
+    let names = OPTIONS.names(&args, "a station's table and a validator's")?;
+    if names.iter().all(|name| name == files::STANDARD) {
         return Err(OPTIONS.wrong("standard input can be one of the tables, not both"));
     }
-    let station = table::read(&station)?;
-    let validator = table::read(&validator)?;
-    let talk = Talk::of(&station, &validator)?;
-    let mut drawn = String::new();
-    if let Some(file) = args.value("--svg") {
-        files::write(
-            Path::new(file),
-            svg::draw(&talk).as_bytes(),
-            args.has("--force"),
-        )?;
-        drawn = format!("The rounds are drawn in {file}.\n");
+    let (json, svg) = (args.has("--json"), args.value("--svg"));
+    let drawn_alone = svg.is_some_and(|file| file == files::STANDARD);
+    if json && drawn_alone {
+        return Err(OPTIONS.wrong("standard output can be the JSON or the drawing, not both"));
     }
-    Ok(match args.has("--json") {
+    let [station, validator] = names.map(|name| table::read(&name));
+    let talk = Talk::of(&station?, &validator?)?;
+    if drawn_alone {
+        return judged(&talk, svg::draw(&talk));
+    }
+    let mut drawn = String::new();
+    if let Some(file) = svg {
+        let drawing = svg::draw(&talk);
+        files::write(Path::new(file), drawing.as_bytes(), args.has("--force"))?;
+        drawn = format!("The rounds are drawn in {}.\n", file.display());
+    }
+    let shown = match json {
         true => json::text(&talk),
         false => lines::text(&talk) + &drawn,
-    })
+    };
+    judged(&talk, shown)
+}
+
+/// What is shown of a talk that ended well; of another it is shown and has failed.
+fn judged(talk: &Talk, shown: String) -> Result<String, Failure> {
+    if talk.ended_well() {
+        return Ok(shown);
+    }
+    let (what, next) = match talk.contradiction() {
+        Some(row) => (
+            format!(
+                "the tables contradict each other at row {} of the validator's",
+                number(row.row)
+            ),
+            "find out which table is wrong: a change depends on the same changes everywhere.",
+        ),
+        None => (
+            lines::ended(talk),
+            "keep both tables: this must not happen, and they show how it did.",
+        ),
+    };
+    Err(Failure::refused(what, next).showing(shown))
 }

@@ -5,6 +5,7 @@ use crate::args::{Args, Options};
 use crate::failure::Failure;
 use compare::scale::case::Kind;
 use compare::scale::{progress, run as run_kinds, table, told, Until, KINDS};
+use std::ffi::OsString;
 use std::io::{IsTerminal, Write};
 use std::time::{Duration, Instant};
 
@@ -17,16 +18,10 @@ const OPTIONS: Options = Options {
 /// How long it takes if that isn't told.
 const SECONDS: u64 = 120;
 
-pub fn run(words: &[String]) -> Result<String, Failure> {
+pub fn run(words: &[OsString]) -> Result<String, Failure> {
     let args = OPTIONS.read(words)?;
     let seed = number(&args, "--seed")?.unwrap_or_else(clock);
-    let until = match number(&args, "--rounds")? {
-        Some(rounds) => Until::Rounds(rounds),
-        None => {
-            let seconds = number(&args, "--seconds")?;
-            Until::Time(Duration::from_secs(seconds.unwrap_or(SECONDS)))
-        }
-    };
+    let until = until(&args)?;
     let kinds = named(&args)?;
     let began = Instant::now();
     let mut line = Line::new();
@@ -52,12 +47,26 @@ pub fn run(words: &[String]) -> Result<String, Failure> {
     .showing(shown))
 }
 
+/// How long it takes, one way or the other. Nothing would be compared in no time.
+fn until(args: &Args) -> Result<Until, Failure> {
+    let [rounds, seconds] = ["--rounds", "--seconds"].map(|option| match number(args, option)? {
+        Some(0) => Err(OPTIONS.wrong(format!("{option} wants 1 or more"))),
+        told => Ok(told),
+    });
+    match (rounds?, seconds?) {
+        (Some(_), Some(_)) => Err(OPTIONS.wrong("--rounds and --seconds don't go together")),
+        (Some(rounds), None) => Ok(Until::Rounds(rounds)),
+        (None, seconds) => Ok(Until::Time(Duration::from_secs(seconds.unwrap_or(SECONDS)))),
+    }
+}
+
 fn number(args: &Args, option: &str) -> Result<Option<u64>, Failure> {
-    let wrong = |_| OPTIONS.wrong(format!("{option} wants a number"));
-    args.value(option)
-        .map(str::parse)
-        .transpose()
-        .map_err(wrong)
+    let Some(value) = args.value(option) else {
+        return Ok(None);
+    };
+    let number = value.to_str().and_then(|value| value.parse().ok());
+    let wrong = || OPTIONS.wrong(format!("{option} wants a number"));
+    number.map(Some).ok_or_else(wrong)
 }
 
 /// The kinds that are named, or all.
@@ -65,12 +74,13 @@ fn named(args: &Args) -> Result<Vec<Kind>, Failure> {
     if args.names.is_empty() {
         return Ok(KINDS.to_vec());
     }
-    let find = |name: &String| {
-        let found = KINDS.iter().find(|kind| kind.name == name);
+    let find = |name: &OsString| {
+        let found = KINDS.iter().find(|kind| name == kind.name);
         let all: Vec<&str> = KINDS.iter().map(|kind| kind.name).collect();
+        let (name, all) = (name.display(), all.join("; "));
         found
             .cloned()
-            .ok_or_else(|| OPTIONS.wrong(format!("{name} is none of: {}", all.join("; "))))
+            .ok_or_else(|| OPTIONS.wrong(format!("{name} is none of: {all}")))
     };
     args.names.iter().map(find).collect()
 }

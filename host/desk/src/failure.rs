@@ -4,7 +4,8 @@ use crate::paint::Paint;
 use std::fmt;
 use std::process::ExitCode;
 
-/// The exit status of a refusal; that of wrong words and of files that can't be had.
+/// The exit status of what is refused or found wrong; that of wrong words and of files and
+/// output that can't be had.
 const REFUSED: u8 = 1;
 const USAGE: u8 = 2;
 
@@ -32,7 +33,7 @@ impl Failure {
         }
     }
 
-    /// A file can't be read or written.
+    /// A file, or standard output, can't be read or written.
     pub fn file(what: impl Into<String>, next: impl Into<String>) -> Failure {
         Failure {
             status: USAGE,
@@ -42,7 +43,7 @@ impl Failure {
         }
     }
 
-    /// The library refused.
+    /// The library refused, or what was looked at is found wrong.
     pub fn refused(what: impl Into<String>, next: impl Into<String>) -> Failure {
         Failure {
             status: REFUSED,

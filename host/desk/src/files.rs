@@ -1,20 +1,30 @@
 //! Files that are read, up to what the library looks at, and files that are written.
 
 use crate::failure::Failure;
+use bisquetower::{Limits, Table, Waiting};
+use std::ffi::OsStr;
 use std::fs::{self, File, OpenOptions};
 use std::io::{ErrorKind, Read, Write};
 use std::path::Path;
 
-/// One byte more than the longest message: a file that goes on is refused or ignored
-/// just as these bytes are.
-pub const MOST: u64 = 4_194_304 + 1;
+/// The name of standard input, and of standard output.
+pub const STANDARD: &str = "-";
+
+/// One byte more than the longest message or table: a file that goes on is refused or
+/// ignored just as these bytes are.
+pub fn most() -> u64 {
+    let limits = Limits::told();
+    let table = limits.rows * Table::ROW as u64;
+    let waiting = limits.waiting_rows * Waiting::ROW as u64;
+    limits.message.max(table).max(waiting) + 1
+}
 
 /// The first bytes of a file, or of standard input for `-`.
-pub fn read(name: &str) -> Result<Vec<u8>, Failure> {
-    let mut bytes = Vec::new();
-    let done = match name {
-        "-" => std::io::stdin().take(MOST).read_to_end(&mut bytes),
-        name => File::open(name).and_then(|file| file.take(MOST).read_to_end(&mut bytes)),
+pub fn read(name: &OsStr) -> Result<Vec<u8>, Failure> {
+    let (most, mut bytes) = (most(), Vec::new());
+    let done = match name == STANDARD {
+        true => std::io::stdin().take(most).read_to_end(&mut bytes),
+        false => File::open(name).and_then(|file| file.take(most).read_to_end(&mut bytes)),
     };
     match done {
         Ok(_) => Ok(bytes),
@@ -27,7 +37,7 @@ pub fn read(name: &str) -> Result<Vec<u8>, Failure> {
                 _ => "name a file that holds bytes, or - for standard input.",
             };
             Err(Failure::file(
-                format!("{name} can't be read: {error}"),
+                format!("{} can't be read: {error}", name.display()),
                 next,
             ))
         }

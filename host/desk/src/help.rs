@@ -1,6 +1,7 @@
 //! Help, a screen at the most for each command.
 
 use crate::failure::Failure;
+use std::ffi::OsString;
 
 const ALL: &str = "\
 bisquetower: messages, tables and catch-ups, through the proved sync library
@@ -16,8 +17,9 @@ bisquetower: messages, tables and catch-ups, through the proved sync library
 A FILE that is - is standard input. Nothing is written over without --force.
 Colours are for terminals, and never used if NO_COLOR is set.
 
-Exit status: 0 done; 1 the library refused; 2 wrong words, or a file that can't
-be read or written.
+Exit status: 0 done; 1 the library refused, tables or answers contradict each
+other, or what a file holds is doubtful; 2 wrong words, or a file or output that
+can't be read or written.
 ";
 
 const INSPECT: &str = "\
@@ -29,7 +31,8 @@ what it means, and the bytes around the place that it names.
   --as KIND   message, state, filter, table or waiting (a table of changes that
               wait). Without it the end of the file's name says (x.message and
               so on), else the bytes: the first kind that takes all of them, of
-              which waiting is none.
+              which waiting is none, else the first that takes some. That is a
+              guess: if it ignores more than half of the bytes, the status is 1.
   --heads     of a message the version and the heads alone; what follows them
               isn't looked at, and may be bad
   --full      hashes whole and all of them
@@ -55,14 +58,18 @@ bisquetower catch-up STATION VALIDATOR [--json] [--svg FILE [--force]]
 Two units with these change tables talk through the proved sessions, the
 validator first, until both are silent. A line a round: rows that the validator
 held before it, asked for and was sent, false yeses of its filter among the rows
-that it lacked, rows that wait after it, and bytes both ways. A validator that
-holds a part of the station's table and misses m rows holds all of it after at
-most m + 1 rounds, where replies go by list.
+that it lacked, rows that wait after it, and bytes both ways. A validator whose
+rows are the station's, on the same changes, and that misses m rows holds all of
+them after at most m + 1 rounds, where replies go by list: only of such a talk
+\"proved\" is said. Of tables that contradict each other the row is named.
 
   --json      the same as JSON
-  --svg FILE  draws the rounds: rows taken, waiting, sent and still missing
+  --svg FILE  draws the rounds: rows taken, waiting, sent and still missing; the
+              drawing is all that is shown if FILE is -
 
 Changes go as their names and dependencies, without contents.
+Exit status: 1 if the tables contradict each other, or an end doesn't hold the
+rows of both in the end.
 ";
 
 const SAMPLE: &str = "\
@@ -84,15 +91,15 @@ row for each kind: inputs, those to which docs/DIFFERENCES.md says that answers
 stand apart, and differences, the smallest of which is shown.
 
   KIND         a name of the table's first column, in quotes; all if none
-  --seconds N  how long it takes; 120 if not told
-  --rounds N   so many rounds of each kind instead
+  --seconds N  how long it takes, 1 at least; 120 if not told
+  --rounds N   so many rounds of each kind instead, 1 at least
   --seed N     the inputs of this seed; others each time if not told
 ";
 
 /// The help of the command that is named, or of all.
-pub fn run(words: &[String]) -> Result<String, Failure> {
-    let command = words.first().map(String::as_str);
-    let text = match command {
+pub fn run(words: &[OsString]) -> Result<String, Failure> {
+    let command = words.first().map(|word| word.to_string_lossy());
+    let text = match command.as_deref() {
         None | Some("help" | "--help" | "-h") => ALL,
         Some("inspect") => INSPECT,
         Some("table") => TABLE,

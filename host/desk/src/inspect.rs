@@ -5,9 +5,11 @@ mod shown;
 
 use crate::args::{Args, Options};
 use crate::failure::Failure;
+use crate::text::{count, number};
 use crate::{files, hex};
 use bisquetower::{Message, Refusal};
 pub use kind::Kind;
+use std::ffi::{OsStr, OsString};
 
 const OPTIONS: Options = Options {
     command: "inspect",
@@ -15,7 +17,7 @@ const OPTIONS: Options = Options {
     valued: &["--as"],
 };
 
-pub fn run(words: &[String]) -> Result<String, Failure> {
+pub fn run(words: &[OsString]) -> Result<String, Failure> {
     let args = OPTIONS.read(words)?;
     let [file] = OPTIONS.names(&args, "one file")?;
     if args.has("--heads") {
@@ -23,6 +25,7 @@ pub fn run(words: &[String]) -> Result<String, Failure> {
     }
     let named = match args.value("--as") {
         Some(name) => Some(Kind::named(name).ok_or_else(|| {
+            let name = name.display();
             OPTIONS.wrong(format!(
                 "{name} is no kind: message, state, filter, table or waiting"
             ))
@@ -33,15 +36,35 @@ pub fn run(words: &[String]) -> Result<String, Failure> {
     let kind = named.unwrap_or_else(|| Kind::guess(&bytes));
     let shown = kind.show(&bytes, args.has("--full"));
     let shown = shown.map_err(|refusal| refused(&file, kind, &bytes, refusal))?;
-    let other = match named {
-        None => kind.hint(&bytes),
-        Some(_) => String::new(),
+    let shown = format!("{}: {shown}", file.display());
+    match named {
+        Some(_) => Ok(shown),
+        None => guessed(&file, kind, &bytes, shown),
+    }
+}
+
+/// What is shown of a kind that was guessed: with what else the bytes may be, and as a
+/// failure if most of them are ignored.
+fn guessed(file: &OsStr, kind: Kind, bytes: &[u8], shown: String) -> Result<String, Failure> {
+    let shown = shown + &kind.hint(bytes);
+    let ignored = kind.ignored(bytes);
+    if ignored <= bytes.len() / 2 {
+        return Ok(shown);
+    }
+    let many = match bytes.len() as u64 == files::most() {
+        true => "most of its bytes".to_string(),
+        false => format!("{} of its {}", number(ignored), count(bytes.len(), "byte")),
     };
-    Ok(format!("{file}: {shown}{other}"))
+    let file = file.display();
+    Err(Failure::refused(
+        format!("{file} was taken for a {kind}, which is doubtful: {many} are ignored"),
+        "say what it is with --as message, state, filter, table or waiting.",
+    )
+    .showing(shown))
 }
 
 /// The version and the heads alone, of a message that may be bad further on.
-fn heads(file: &str, args: &Args) -> Result<String, Failure> {
+fn heads(file: &OsStr, args: &Args) -> Result<String, Failure> {
     if args.value("--as").is_some_and(|kind| kind != "message") {
         return Err(OPTIONS.wrong("only a message has heads"));
     }
@@ -49,11 +72,12 @@ fn heads(file: &str, args: &Args) -> Result<String, Failure> {
     let peeked = Message::peek_heads(&bytes);
     let peeked = peeked.map_err(|refusal| refused(file, Kind::Message, &bytes, refusal))?;
     let shown = shown::heads(peeked.0, &peeked.1, args.has("--full"));
-    Ok(format!("{file}: {shown}"))
+    Ok(format!("{}: {shown}", file.display()))
 }
 
 /// The refusal, and the bytes at its place.
-pub fn refused(file: &str, kind: Kind, bytes: &[u8], refusal: Refusal) -> Failure {
+pub fn refused(file: &OsStr, kind: Kind, bytes: &[u8], refusal: Refusal) -> Failure {
+    let file = file.display();
     let mut what = format!("{file}, read as a {kind}: {refusal}\n");
     if let Some(place) = kind.place(refusal) {
         what += &hex::view(bytes, place);

@@ -15,37 +15,46 @@ mod table;
 mod text;
 
 use failure::Failure;
-use std::io::Write;
+use std::ffi::OsString;
+use std::io::{ErrorKind, Write};
 use std::process::ExitCode;
 
 fn main() -> ExitCode {
-    let mut words = std::env::args_os().skip(1).map(|word| word.into_string());
-    let words = words.by_ref().collect::<Result<Vec<String>, _>>();
-    let done = match words {
-        Ok(words) => run(&words),
-        Err(word) => Err(Failure::usage(format!("{word:?} isn't text"), "")),
-    };
-    let (shown, failure) = match done {
+    let words: Vec<OsString> = std::env::args_os().skip(1).collect();
+    let (shown, failed) = match run(&words) {
         Ok(shown) => (shown, None),
         Err(failure) => (failure.shown.clone(), Some(failure)),
     };
-    // A reader that stops reading has what it wanted.
-    let _ = std::io::stdout().write_all(shown.as_bytes());
-    match failure {
-        None => ExitCode::SUCCESS,
-        Some(failure) => {
-            eprint!("{failure}");
-            failure.status()
-        }
+    let unwritten = print(&shown).err();
+    let failures = failed.into_iter().chain(unwritten);
+    failures.fold(ExitCode::SUCCESS, |_, failure| {
+        // Where standard error can't be written either, the status is all that is left.
+        let _ = write!(std::io::stderr(), "{failure}");
+        failure.status()
+    })
+}
+
+/// Writes what is shown to standard output.
+fn print(shown: &str) -> Result<(), Failure> {
+    let mut out = std::io::stdout().lock();
+    let written = out.write_all(shown.as_bytes()).and_then(|()| out.flush());
+    match written {
+        // A reader that stops reading has what it wanted.
+        Err(error) if error.kind() != ErrorKind::BrokenPipe => Err(Failure::file(
+            format!("standard output can't be written: {error}"),
+            "make room where it goes, or have it go elsewhere: what was shown isn't whole.",
+        )),
+        _ => Ok(()),
     }
 }
 
 /// What is to be shown.
-fn run(words: &[String]) -> Result<String, Failure> {
+fn run(words: &[OsString]) -> Result<String, Failure> {
     let Some((first, rest)) = words.split_first() else {
         return Err(Failure::usage("no command is named", ""));
     };
-    let command: fn(&[String]) -> Result<String, Failure> = match first.as_str() {
+    let first = first.to_string_lossy();
+    let command: fn(&[OsString]) -> Result<String, Failure> = match &*first {
         "inspect" => inspect::run,
         "table" => table::run,
         "catch-up" => catch_up::run,

@@ -8,6 +8,7 @@ use crate::failure::Failure;
 use crate::files;
 use crate::text::count;
 use bisquetower::{Filter, Table};
+use std::ffi::OsString;
 use std::path::Path;
 
 const OPTIONS: Options = Options {
@@ -16,7 +17,7 @@ const OPTIONS: Options = Options {
     valued: &[],
 };
 
-pub fn run(words: &[String]) -> Result<String, Failure> {
+pub fn run(words: &[OsString]) -> Result<String, Failure> {
     let args = OPTIONS.read(words)?;
     let [folder] = OPTIONS.names(&args, "one folder")?;
     let force = args.has("--force");

@@ -6,7 +6,8 @@ use crate::files;
 use crate::inspect;
 use crate::paint::Paint;
 use crate::text::{count, hashes, number, Columns};
-use bisquetower::{raw, refusal, Refusal, Table};
+use bisquetower::{Refusal, Table};
+use std::ffi::{OsStr, OsString};
 
 const OPTIONS: Options = Options {
     command: "table",
@@ -14,42 +15,46 @@ const OPTIONS: Options = Options {
     valued: &[],
 };
 
-pub fn run(words: &[String]) -> Result<String, Failure> {
+pub fn run(words: &[OsString]) -> Result<String, Failure> {
     let args = OPTIONS.read(words)?;
     let [file] = OPTIONS.names(&args, "one file")?;
     let bytes = files::read(&file)?;
-    let full = args.has("--full");
+    let (name, full) = (file.display(), args.has("--full"));
     let paint = Paint::of_output();
-    match refusal::answer(raw::check_table(&bytes)) {
-        Ok(_) => {
-            let shown = shown(&bytes, "none", full);
+    match Table::new(&bytes[..]) {
+        Ok(table) => {
+            let shown = shown(&table, "none", full);
             let good = paint.good("a good change table");
-            Ok(format!("{file}: {good}\n{shown}"))
+            Ok(format!("{name}: {good}\n{shown}"))
         }
         // The rows before the first bad one are a table.
-        Err(refusal @ Refusal { number: 6, value }) => {
-            let before = &bytes[..Table::ROW * value as usize];
+        Err(
+            refusal @ Refusal {
+                number: 6, value, ..
+            },
+        ) => {
+            let before = Table::new(&bytes[..Table::ROW * value as usize]);
+            let before = before.expect("rows before the first bad one are good");
             let bad = paint.bad("a bad change table; of its rows before the first bad one");
-            let shown = shown(before, &value.to_string(), full);
-            Err(refused(&file, &bytes, refusal).showing(format!("{file}: {bad}\n{shown}")))
+            let shown = shown(&before, &number(value as usize), full);
+            Err(refused(&file, &bytes, refusal).showing(format!("{name}: {bad}\n{shown}")))
         }
         Err(refusal) => Err(refused(&file, &bytes, refusal)),
     }
 }
 
 /// A table's file that has to be good.
-pub fn read(file: &str) -> Result<Table, Failure> {
+pub fn read(file: &OsStr) -> Result<Table, Failure> {
     let bytes = files::read(file)?;
     Table::new(bytes.clone()).map_err(|refusal| refused(file, &bytes, refusal))
 }
 
-fn refused(file: &str, bytes: &[u8], refusal: Refusal) -> Failure {
+fn refused(file: &OsStr, bytes: &[u8], refusal: Refusal) -> Failure {
     inspect::refused(file, inspect::Kind::Table, bytes, refusal)
 }
 
 /// What good rows are, in columns.
-fn shown(rows: &[u8], first_bad: &str, full: bool) -> String {
-    let table = Table::new(rows).expect("rows before the first bad one are good");
+fn shown(table: &Table, first_bad: &str, full: bool) -> String {
     let mut columns = Columns::default();
     let heads = table.heads();
     columns.row("rows", &number(table.rows()), "");
@@ -58,7 +63,7 @@ fn shown(rows: &[u8], first_bad: &str, full: bool) -> String {
     if let Some(widest) = first_of_most(table.rows(), dependencies) {
         let on = count(dependencies(&widest), "row");
         columns.row("widest", &number(widest), &format!("depends on {on}"));
-        let depths = depths(&table);
+        let depths = depths(table);
         let deepest = first_of_most(table.rows(), |row| depths[*row]).unwrap_or(widest);
         let below = count(depths[deepest], "row");
         let told = format!("the longest way down passes {below}");

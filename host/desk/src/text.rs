@@ -1,5 +1,6 @@
 //! Numbers and hashes as they are shown.
 
+use bisquetower::refusal::grouped;
 use bisquetower::ChangeHash;
 
 /// Digits of a hash that is shown in short.
@@ -10,15 +11,7 @@ const FEW: usize = 4;
 
 /// A number with its thousands told apart.
 pub fn number(n: usize) -> String {
-    let digits = n.to_string();
-    let mut text = String::new();
-    for (k, digit) in digits.chars().enumerate() {
-        if k > 0 && (digits.len() - k).is_multiple_of(3) {
-            text.push(',');
-        }
-        text.push(digit);
-    }
-    text
+    grouped(n as u64)
 }
 
 /// A number of things, in the singular where it is one.
@@ -34,12 +27,16 @@ pub fn count(n: usize, thing: &str) -> String {
     }
 }
 
+/// The first digits of a hash.
+pub fn short(hash: &ChangeHash) -> String {
+    hash.to_string()[..SHORT].to_string()
+}
+
 /// Hashes in a line, or all of them in full.
 pub fn hashes(list: &[ChangeHash], full: bool) -> Vec<String> {
     if full {
         return list.iter().map(ChangeHash::to_string).collect();
     }
-    let short = |hash: &ChangeHash| hash.to_string()[..SHORT].to_string();
     let mut line: Vec<String> = list.iter().take(FEW).map(short).collect();
     if list.len() > FEW {
         line.push(format!("and {} more", number(list.len() - FEW)));

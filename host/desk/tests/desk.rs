@@ -10,6 +10,7 @@ mod comparison;
 #[path = "desk/inspect.rs"]
 mod inspect;
 
+use std::ffi::OsStr;
 use std::io::Write;
 use std::path::{Path, PathBuf};
 use std::process::{Command, Stdio};
@@ -38,10 +39,15 @@ fn run(words: &[&str]) -> Run {
 
 /// A run with bytes on its standard input.
 fn run_with(words: &[&str], input: &[u8]) -> Run {
+    run_into(words, input, Stdio::piped())
+}
+
+/// The same, with its standard output going there, of words that needn't be text.
+fn run_into<W: AsRef<OsStr>>(words: &[W], input: &[u8], out: Stdio) -> Run {
     let mut child = Command::new(env!("CARGO_BIN_EXE_bisquetower"))
         .args(words)
         .stdin(Stdio::piped())
-        .stdout(Stdio::piped())
+        .stdout(out)
         .stderr(Stdio::piped())
         .spawn()
         .expect("the command starts");

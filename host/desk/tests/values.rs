@@ -6,8 +6,12 @@ use compare::inputs::{Random, Seed};
 use crate_under_test::facade;
 
 /// Whether both read the bytes. A limit or a filter without bits (4 and 5) is refused
-/// by the library alone.
+/// by the library alone, and what broke is named.
 fn both<T, U, E>(ours: Result<T, Refusal>, theirs: Result<U, E>) -> Option<(T, U)> {
+    if let Err(refusal) = &ours {
+        let particular = matches!(refusal.number, 4 | 5);
+        assert_eq!(refusal.cause().is_some(), particular, "{refusal}");
+    }
     match (ours, theirs) {
         (Ok(ours), Ok(theirs)) => Some((ours, theirs)),
         (Err(refusal), Ok(_)) => {

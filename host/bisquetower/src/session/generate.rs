@@ -111,7 +111,7 @@ impl Session {
             )
         });
         self.trim();
-        let answer = answer(words)?;
+        let answer = answer(words).map_err(|why| crate::explain::tables(table, waiting, why))?;
         let [what, version, flags, document, head_count, need_count, have_count, ..] = answer;
         if what == NOTHING {
             return Ok(None);

@@ -90,6 +90,7 @@ impl Session {
             )
         });
         self.trim();
-        refusal::answer(words).map(|_| ())
+        let taken = refusal::answer(words).map(|_| ());
+        taken.map_err(|why| crate::explain::receiving(table, message, why))
     }
 }

@@ -2,6 +2,7 @@
 
 use super::case::Kind;
 use super::Count;
+use bisquetower::refusal::grouped;
 use std::fmt::Write as _;
 use std::time::Duration;
 
@@ -14,8 +15,14 @@ pub fn progress(counts: &[Count], since: Duration) -> String {
     let inputs = total(counts, |count| count.inputs);
     let differences = total(counts, |count| count.differences);
     let seconds = since.as_secs_f64();
-    let rate = inputs as f64 / seconds.max(0.001);
-    format!("{seconds:.0} s: {inputs} inputs, {rate:.0} a second, {differences} differences")
+    let rate = grouped(rate(inputs, since));
+    let (inputs, differences) = (grouped(inputs), grouped(differences));
+    format!("{seconds:.0} s: {inputs} inputs, {rate} a second, {differences} differences")
+}
+
+/// Inputs a second.
+fn rate(inputs: u64, took: Duration) -> u64 {
+    (inputs as f64 / took.as_secs_f64().max(0.001)).round() as u64
 }
 
 /// A row for each kind, and one for all.
@@ -25,10 +32,11 @@ pub fn table(kinds: &[Kind], counts: &[Count]) -> String {
         "kind", "inputs", "apart", "differences", "a second"
     );
     let mut row = |name: &str, inputs: u64, apart: u64, differences: u64, took: Duration| {
-        let rate = inputs as f64 / took.as_secs_f64().max(0.001);
+        let numbers = [inputs, apart, differences, rate(inputs, took)];
+        let [inputs, apart, differences, rate] = numbers.map(grouped);
         let _ = writeln!(
             text,
-            "{name:<24}{inputs:>12}{apart:>10}{differences:>13}{rate:>12.0}"
+            "{name:<24}{inputs:>12}{apart:>10}{differences:>13}{rate:>12}"
         );
     };
     for (kind, count) in kinds.iter().zip(counts) {

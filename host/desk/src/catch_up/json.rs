@@ -1,5 +1,7 @@
-//! A talk as JSON: numbers, true and false, null and two words, so nothing to escape.
+//! A talk as JSON: numbers, true and false, null, hashes and a few words, so nothing to
+//! escape.
 
+use super::premises::{Difference, How};
 use super::talk::{Round, Talk};
 
 pub fn text(talk: &Talk) -> String {
@@ -8,20 +10,55 @@ pub fn text(talk: &Talk) -> String {
         true => "[]".to_string(),
         false => format!("[\n    {}\n  ]", rounds.join(",\n    ")),
     };
+    let differs = talk.differs.as_ref();
+    let differs = differs.map_or("null".to_string(), difference);
     let fields = [
         ("station_rows", talk.station_rows.to_string()),
         ("validator_rows", talk.validator_rows.to_string()),
         ("missing", talk.missing.to_string()),
         ("foreign", talk.foreign.to_string()),
+        ("premises", talk.differs.is_none().to_string()),
+        ("contradict", talk.contradiction().is_some().to_string()),
+        ("differs", differs),
         ("bound", option(talk.bound())),
         ("by_list", talk.by_list().to_string()),
-        ("took", talk.took.to_string()),
+        ("silent", talk.silent.to_string()),
+        ("station_holds", talk.held[0].to_string()),
+        ("validator_holds", talk.held[1].to_string()),
+        ("holds", talk.holds.to_string()),
+        ("proved", talk.proved().to_string()),
+        ("took", option(talk.took())),
         ("messages", talk.messages.len().to_string()),
         ("bytes", talk.bytes().to_string()),
         ("rounds", rounds),
     ];
     let fields = fields.map(|(name, value)| format!("  \"{name}\": {value}"));
     format!("{{\n{}\n}}\n", fields.join(",\n"))
+}
+
+/// The row of the validator's that isn't as the station has it: `lacks` a dependency of
+/// the station's row, `adds` one, or is `unknown` there.
+fn difference(differs: &Difference) -> String {
+    let (how, station) = match differs.how {
+        How::Unknown => ("unknown", None),
+        How::Lacks {
+            station_row,
+            dependency,
+        } => ("lacks", Some((station_row, dependency))),
+        How::Adds {
+            station_row,
+            dependency,
+        } => ("adds", Some((station_row, dependency))),
+    };
+    let dependency = station.map_or("null".to_string(), |(_, hash)| format!("\"{hash}\""));
+    let fields = [
+        ("row", differs.row.to_string()),
+        ("hash", format!("\"{}\"", differs.hash)),
+        ("how", format!("\"{how}\"")),
+        ("station_row", option(station.map(|(row, _)| row))),
+        ("dependency", dependency),
+    ];
+    object(&fields)
 }
 
 fn round(round: &Round) -> String {
@@ -37,8 +74,15 @@ fn round(round: &Round) -> String {
         ("bytes_to_station", round.asked_bytes.to_string()),
         ("bytes_to_validator", round.reply_bytes.to_string()),
     ];
-    let fields = fields.map(|(name, value)| format!("\"{name}\": {value}"));
-    format!("{{{}}}", fields.join(", "))
+    object(&fields)
+}
+
+/// An object in a line.
+fn object(fields: &[(&str, String)]) -> String {
+    let fields = fields
+        .iter()
+        .map(|(name, value)| format!("\"{name}\": {value}"));
+    format!("{{{}}}", fields.collect::<Vec<_>>().join(", "))
 }
 
 fn option(n: Option<usize>) -> String {

@@ -18,19 +18,17 @@ const HEADS: [&str; 8] = [
 pub fn text(talk: &Talk) -> String {
     let paint = Paint::of_output();
     let station = count(talk.station_rows, "row");
+    let own = match talk.foreign {
+        0 => String::new(),
+        rows => format!(" and with {} of its own", number(rows)),
+    };
     let mut text = format!(
-        "A station of {station} and a validator of {}, {} short.\n\n",
+        "A station of {station} and a validator of {}, {} short{own}.\n\n",
         number(talk.validator_rows),
         number(talk.missing),
     );
     if !talk.rounds.is_empty() {
-        text += &format!("{}\n", paint.bold(&line(HEADS.map(str::to_string))));
-    }
-    for (k, round) in talk.rounds.iter().enumerate() {
-        text += &format!("{}\n", line(cells(k + 1, round)));
-    }
-    if !talk.rounds.is_empty() {
-        text += "\n";
+        text += &format!("{}\n", rounds(&talk.rounds, paint));
     }
     text += &outcome(talk, paint);
     let messages = count(talk.messages.len(), "message");
@@ -38,29 +36,77 @@ pub fn text(talk: &Talk) -> String {
 }
 
 fn outcome(talk: &Talk, paint: Paint) -> String {
-    let took = count(talk.took, "round");
+    if let Some(row) = talk.contradiction() {
+        let what = paint.bad("The tables contradict each other");
+        let ended = ended(talk);
+        return format!("{what}: {row}.\nOf such tables nothing is proved; {ended}.\n");
+    }
+    if !talk.ended_well() {
+        return format!("{}.\n", paint.bad(&format!("It failed: {}", ended(talk))));
+    }
+    let Some(bound) = talk.bound() else {
+        let rounds = count(talk.rounds.len(), "round");
+        let rows = count(talk.all_rows(), "row");
+        let done = paint.good(&format!("After {rounds} both ends hold {rows}"));
+        let foreign = count(talk.foreign, "row");
+        let why = format!("the validator held {foreign} that the station lacked");
+        return format!("{done}; m + 1 isn't promised here: {why}.\n");
+    };
+    let took = count(talk.took().unwrap_or_default(), "round");
     let all = "the validator holds the station's table";
     let done = paint.good(&format!("After {took} {all}"));
-    let promise = match talk.bound() {
-        Some(bound) if talk.by_list() => format!("proved: at most {} (m + 1)", number(bound)),
-        Some(bound) => {
-            let bound = number(bound);
+    let bound = number(bound);
+    let promise = match talk.proved() {
+        true => format!("proved: at most {bound} (m + 1)"),
+        false => {
             format!("m + 1 is {bound}, promised for replies by list, and the document went here")
-        }
-        None => {
-            let foreign = count(talk.foreign, "row");
-            format!(
-                "m + 1 isn't promised here: the validator holds {foreign} that the station lacked"
-            )
         }
     };
     format!("{done}; {promise}.\n")
 }
 
-fn cells(k: usize, round: &Round) -> [String; 8] {
+/// How a talk ended and what each end holds.
+pub fn ended(talk: &Talk) -> String {
+    let rounds = count(talk.talked, "round");
+    let how = match talk.silent {
+        true => format!("both were silent after {rounds}"),
+        false => format!("both were still talking after {rounds}"),
+    };
+    let all = count(talk.all_rows(), "row");
+    let [station, validator] = talk.held.map(number);
+    format!("{how}, and of the {all} of both tables the station holds {station}, the validator {validator}")
+}
+
+/// A line for each round, or for several that are alike, in columns as wide as what
+/// stands in them.
+fn rounds(rounds: &[Round], paint: Paint) -> String {
+    let mut rows = Vec::new();
+    let mut first = 1;
+    for alike in rounds.chunk_by(Round::eq) {
+        rows.push(cells(first, alike));
+        first += alike.len();
+    }
+    let heads = HEADS.map(str::to_string);
+    let widths: [usize; 8] = std::array::from_fn(|k| {
+        let lengths = rows.iter().map(|row| row[k].len());
+        lengths.fold(heads[k].len(), usize::max)
+    });
+    let mut text = format!("{}\n", paint.bold(&line(&heads, widths)));
+    for row in &rows {
+        text += &format!("{}\n", line(row, widths));
+    }
+    text
+}
+
+fn cells(first: usize, alike: &[Round]) -> [String; 8] {
+    let round = &alike[0];
+    let numbers = match alike.len() {
+        1 => number(first),
+        rounds => format!("{} to {}", number(first), number(first + rounds - 1)),
+    };
     let body = if round.document { " document" } else { "" };
     [
-        number(k),
+        numbers,
         number(round.held),
         number(round.need),
         round.false_yes.map_or("-".to_string(), number),
@@ -71,7 +117,10 @@ fn cells(k: usize, round: &Round) -> [String; 8] {
     ]
 }
 
-fn line(cells: [String; 8]) -> String {
-    let [round, held, asked, yes, sent, waiting, up, down] = cells;
-    format!("{round:>5}  {held:>6}  {asked:>6}  {yes:>9}  {sent:>6}  {waiting:>7}  {up:>10}  {down:>12}")
+fn line(cells: &[String; 8], widths: [usize; 8]) -> String {
+    let cells = cells.iter().zip(widths);
+    let cells: Vec<String> = cells
+        .map(|(cell, width)| format!("{cell:>width$}"))
+        .collect();
+    cells.join("  ")
 }

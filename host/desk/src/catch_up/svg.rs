@@ -31,11 +31,7 @@ pub fn draw(talk: &Talk) -> String {
         count(talk.missing, "row"),
         number(talk.station_rows)
     );
-    let rounds = count(talk.took, "round");
-    let bound = match talk.bound() {
-        Some(bound) => format!("{rounds}; at most {} by m + 1", number(bound)),
-        None => rounds,
-    };
+    let told = told(talk);
     let (width, height) = (LEFT + WIDTH + 24.0, TOP + HEIGHT + 72.0);
     let mut svg = format!(
         "<svg xmlns=\"http://www.w3.org/2000/svg\" viewBox=\"0 0 {width} {height}\" \
@@ -44,12 +40,31 @@ pub fn draw(talk: &Talk) -> String {
          <rect width=\"{width}\" height=\"{height}\" fill=\"#ffffff\"/>\n"
     );
     svg += &text(LEFT, 26.0, "start", 17, &title);
-    svg += &text(LEFT, 46.0, "start", 13, &bound);
+    svg += &text(LEFT, 46.0, "start", 13, &told);
     svg += &scale(talk.missing);
     for (k, round) in talk.rounds.iter().enumerate() {
         svg += &bar(k, round, talk);
     }
     svg + &legend() + "</svg>\n"
+}
+
+/// What came of the talk.
+fn told(talk: &Talk) -> String {
+    if let Some(row) = talk.contradiction() {
+        let row = number(row.row);
+        return format!("The tables contradict each other at row {row} of the validator's");
+    }
+    let Some(took) = talk.took() else {
+        let rounds = count(talk.talked, "round");
+        return format!("The validator doesn't hold all of them after {rounds}");
+    };
+    let rounds = count(took, "round");
+    match talk.bound() {
+        Some(bound) if talk.proved() => {
+            format!("{rounds}; proved: at most {} (m + 1)", number(bound))
+        }
+        _ => rounds,
+    }
 }
 
 /// Lines at none of the rows and at all of them.
@@ -82,7 +97,7 @@ fn bar(k: usize, round: &Round, talk: &Talk) -> String {
             svg += &format!(
                 "<rect x=\"{x:.1}\" y=\"{y:.1}\" width=\"{width:.1}\" height=\"{height:.1}\" \
                  fill=\"{colour}\"><title>round {}: {} {name}</title></rect>\n",
-                k + 1,
+                number(k + 1),
                 number(n)
             );
         }

@@ -1,11 +1,15 @@
 //! The talk of two units, and what came of each round.
 
+use super::premises::Difference;
 use crate::failure::Failure;
-use bisquetower::{Change, ChangeHash, Error, Host, Memory, MemoryError, Plan, Session, Table};
+use bisquetower::refusal::grouped;
+use bisquetower::{
+    Change, ChangeHash, Error, Host, Limits, Memory, MemoryError, Plan, Session, Table,
+};
 use std::collections::HashSet;
 
 /// A round: the validator speaks, the station replies.
-#[derive(Debug, Default)]
+#[derive(Debug, Default, PartialEq, Eq)]
 pub struct Round {
     /// Rows of the station's table that the validator held before the round, and those
     /// that waited there.
@@ -33,9 +37,17 @@ pub struct Talk {
     /// Rows that the validator lacked, and those that the station did.
     pub missing: usize,
     pub foreign: usize,
+    /// Where the validator's table isn't a part of the station's.
+    pub differs: Option<Difference>,
+    /// The rounds until both held the rows of both tables.
     pub rounds: Vec<Round>,
-    /// The round after which the validator held the station's table.
-    pub took: usize,
+    /// Whether both fell silent, and after how many rounds.
+    pub silent: bool,
+    pub talked: usize,
+    /// Rows that the station and the validator held in the end.
+    pub held: [usize; 2],
+    /// Whether the validator held every row of the station's table in the end.
+    pub holds: bool,
     /// Every message, in order.
     pub messages: Vec<Said>,
     /// The validator's waiting table when it was longest.
@@ -56,11 +68,22 @@ struct Unit {
     session: Session,
 }
 
+impl Round {
+    /// What the validator says of the rows that it lacks.
+    fn asks(&mut self, plan: &Plan, lacked: &[ChangeHash]) {
+        self.need = plan.message.need.len();
+        self.false_yes = plan.message.have.first().map(|have| {
+            let yes = have.bloom.contains_hashes(lacked);
+            yes.iter().filter(|yes| **yes).count()
+        });
+    }
+}
+
 impl Talk {
-    /// The most rounds for a validator that holds a part of the station's table; none
-    /// for another.
+    /// The most rounds for a validator whose table is a part of the station's; none for
+    /// another.
     pub fn bound(&self) -> Option<usize> {
-        (self.foreign == 0).then_some(self.missing + 1)
+        self.differs.is_none().then_some(self.missing + 1)
     }
 
     /// Whether every reply was a list of changes, as the bound wants it.
@@ -68,44 +91,77 @@ impl Talk {
         self.rounds.iter().all(|round| !round.document)
     }
 
+    /// Whether it is a talk of which the bound is proved.
+    pub fn proved(&self) -> bool {
+        self.bound().is_some() && self.by_list() && self.holds
+    }
+
+    /// The row of which the tables say two things.
+    pub fn contradiction(&self) -> Option<&Difference> {
+        self.differs.as_ref().filter(|row| row.contradicts())
+    }
+
+    /// How many rounds began before the validator held every row of the station's table;
+    /// none if it never did.
+    pub fn took(&self) -> Option<usize> {
+        let lacking = |round: &&Round| round.held < self.station_rows;
+        let rounds = self.rounds.iter().filter(lacking).count();
+        self.holds.then_some(rounds)
+    }
+
+    /// The rows of both tables together.
+    pub fn all_rows(&self) -> usize {
+        self.station_rows + self.foreign
+    }
+
+    /// Whether both fell silent and hold the rows of both tables, of which the tables say
+    /// the same.
+    pub fn ended_well(&self) -> bool {
+        let agree = self.contradiction().is_none();
+        agree && self.silent && self.held == [self.all_rows(); 2]
+    }
+
     pub fn bytes(&self) -> usize {
         self.messages.iter().map(|said| said.bytes.len()).sum()
     }
 
-    /// Has units with these tables talk until both are silent.
+    /// Has units with these tables talk until both are silent, or have talked for longer
+    /// than any two tables ask that agree.
     pub fn of(station: &Table, validator: &Table) -> Result<Talk, Failure> {
-        let (all, own) = (station.hashes(), validator.hashes());
-        let lacks = |held: &[ChangeHash], of: &[ChangeHash]| {
-            let held: HashSet<_> = held.iter().collect();
-            of.iter().filter(|hash| !held.contains(hash)).count()
-        };
+        let (mut all, own) = (station.hashes(), validator.hashes());
+        let foreign = lacking(&all, &own);
         let mut talk = Talk {
             station_rows: all.len(),
             validator_rows: own.len(),
-            missing: lacks(&own, &all),
-            foreign: lacks(&all, &own),
+            missing: lacking(&own, &all).len(),
+            foreign: foreign.len(),
+            differs: Difference::first(station, validator),
             ..Talk::default()
         };
+        all.extend(foreign);
         let mut units = [unit(station)?, unit(validator)?];
         // Twice the bound of either way is never reached.
         let most = 2 * (talk.missing + talk.foreign) + 8;
-        for _ in 0..most {
-            let silent = talk.round(&mut units, &all)?;
-            if silent {
-                talk.states = units.map(|unit| unit.session.encode());
-                return Ok(talk);
-            }
+        while talk.talked < most && !talk.silent {
+            talk.silent = talk.round(&mut units, &all)?;
+            talk.talked += usize::from(!talk.silent);
         }
-        Err(Failure::refused(
-            format!("the units were still talking after {most} rounds"),
-            "keep both tables: this must not happen, and they show how it did.",
-        ))
+        talk.held = [0, 1].map(|k| standing(&units[k].memory, &all).0);
+        let rows = &all[..talk.station_rows];
+        talk.holds = standing(&units[1].memory, rows).0 == rows.len();
+        talk.states = units.map(|unit| unit.session.encode());
+        Ok(talk)
     }
 
-    /// One round; whether nobody had anything to say.
+    /// One round, of units that are to hold all these rows, the station's first; whether
+    /// nobody had anything to say.
     fn round(&mut self, units: &mut [Unit; 2], all: &[ChangeHash]) -> Result<bool, Failure> {
+        let holds = |unit: &Unit| standing(&unit.memory, all).0 == all.len();
+        // What is said once all is held closes the talk and is no round of its own.
+        let closing = self.contradiction().is_none() && units.iter().all(holds);
+        let rows = &all[..self.station_rows];
         let [station, validator] = units;
-        let (held, waited, lacked) = standing(&validator.memory, all);
+        let (held, waited, lacked) = standing(&validator.memory, rows);
         let mut round = Round {
             held,
             waited,
@@ -113,11 +169,7 @@ impl Talk {
         };
         let question = say(validator, station)?;
         if let Some((plan, bytes)) = &question {
-            round.need = plan.message.need.len();
-            round.false_yes = plan.message.have.first().map(|have| {
-                let yes = have.bloom.contains_hashes(&lacked);
-                yes.iter().filter(|yes| **yes).count()
-            });
+            round.asks(plan, &lacked);
             round.asked_bytes = bytes.len();
             self.said(false, bytes);
         }
@@ -131,13 +183,11 @@ impl Talk {
         if waits.len() > self.waiting.len() {
             self.waiting = waits.into_owned();
         }
-        let (_, waiting, missing) = standing(&validator.memory, all);
+        let (_, waiting, missing) = standing(&validator.memory, rows);
         (round.waiting, round.missing) = (waiting, missing.len());
         let silent = question.is_none() && reply.is_none();
-        // What is said once all is held closes the talk and is no round of its own.
-        if held < all.len() && !silent {
+        if !closing && !silent {
             self.rounds.push(round);
-            self.took = self.rounds.len();
         }
         Ok(silent)
     }
@@ -146,6 +196,13 @@ impl Talk {
         let bytes = bytes.to_vec();
         self.messages.push(Said { by_station, bytes });
     }
+}
+
+/// The hashes that aren't among those that are held.
+fn lacking(held: &[ChangeHash], of: &[ChangeHash]) -> Vec<ChangeHash> {
+    let held: HashSet<_> = held.iter().collect();
+    let lacked = of.iter().filter(|hash| !held.contains(hash));
+    lacked.copied().collect()
 }
 
 /// The unit of a table, whose changes have no contents.
@@ -179,9 +236,10 @@ fn say(from: &mut Unit, to: &mut Unit) -> Result<Option<(Plan, Vec<u8>)>, Failur
 }
 
 fn failed(why: Error<MemoryError>) -> Failure {
+    let rows = grouped(Limits::told().rows);
     Failure::refused(
         format!("the units can't go on: {why}"),
-        "both units together keep to 1,024 rows; docs/ABI.md lists the other limits.",
+        format!("both units together keep to {rows} rows; docs/ABI.md lists the other limits."),
     )
 }
 

@@ -5,7 +5,9 @@ use bisquetower::message::{CHUNKS, CHUNK_WORDS, HAVES, HAVE_WORDS};
 use bisquetower::raw;
 use bisquetower::refusal::answer;
 use bisquetower::{message, Filter, Message, Refusal, SavedState, Table, Waiting};
+use std::ffi::OsStr;
 use std::fmt;
+use std::ops::Range;
 use std::path::Path;
 
 #[derive(Clone, Copy, Debug, PartialEq, Eq)]
@@ -21,14 +23,14 @@ pub enum Kind {
 const TOLD: [Kind; 4] = [Kind::Message, Kind::State, Kind::Table, Kind::Filter];
 
 impl Kind {
-    pub fn named(name: &str) -> Option<Kind> {
+    pub fn named(name: &OsStr) -> Option<Kind> {
         let mut kinds = TOLD.into_iter().chain([Kind::Waiting]);
-        kinds.find(|kind| kind.name() == name)
+        kinds.find(|kind| name == kind.name())
     }
 
     /// As the end of a file's name says.
-    pub fn of_file(file: &str) -> Option<Kind> {
-        Kind::named(Path::new(file).extension()?.to_str()?)
+    pub fn of_file(file: &OsStr) -> Option<Kind> {
+        Kind::named(Path::new(file).extension()?)
     }
 
     /// The first kind that takes all the bytes, else one that takes some of them. What
@@ -61,6 +63,12 @@ impl Kind {
             true => String::new(),
             false => format!("  (it can be read otherwise too: {})\n", others.join(", ")),
         }
+    }
+
+    /// How many bytes stand after all that is read; none of bytes that are refused.
+    pub fn ignored(self, bytes: &[u8]) -> usize {
+        let next = self.read(bytes).unwrap_or(bytes.len());
+        bytes.len() - next
     }
 
     /// The place after all that is read.
@@ -101,18 +109,22 @@ impl Kind {
         Ok(text)
     }
 
-    /// Where a refusal points, if it points at a byte.
-    pub fn place(self, refusal: Refusal) -> Option<usize> {
-        let value = refusal.value as usize;
-        match (refusal.number, self) {
-            (2, _) => Some(0),
-            (6, _) => Some(Table::ROW * value),
-            (9, _) => Some(Waiting::ROW * value),
-            // As a whole, not at its first byte.
-            (4, Kind::Message | Kind::Table | Kind::Waiting) if value == 0 => None,
-            (1 | 3 | 4 | 5, _) => Some(value),
-            _ => None,
+    /// The bytes that a refusal points at, if it points at some.
+    pub fn place(self, refusal: Refusal) -> Option<Range<usize>> {
+        if let Some(cause) = refusal.cause() {
+            return cause.place();
         }
+        let value = refusal.value as usize;
+        let place = match (refusal.number, self) {
+            (2, _) => 0,
+            (6, _) => Table::ROW * value,
+            (9, _) => Waiting::ROW * value,
+            // As a whole, not at its first byte.
+            (4, Kind::Message | Kind::Table | Kind::Waiting) if value == 0 => return None,
+            (1 | 3 | 4 | 5, _) => value,
+            _ => return None,
+        };
+        Some(place..place + 1)
     }
 
     /// What to do about a refusal.
@@ -121,9 +133,9 @@ impl Kind {
             (1, _) => "the bytes end too early: have them sent or copied again, whole.",
             (2, Kind::State) => "a saved state begins with 43: name another kind with --as.",
             (2, _) => "a message begins with 42 or 43: name another kind with --as state, filter or table.",
-            (4, Kind::Table) => "a table has at most 1,024 rows of 64 bytes.",
-            (4, Kind::Waiting) => "a waiting table has at most 1,024 rows of 544 bytes.",
-            (4, _) => "a list has at most 1,024 hashes, a filter 8,192 bytes and 64 probes, a message 16 haves, 4,096 chunks and 4,194,304 bytes.",
+            (4, Kind::Table | Kind::Waiting) => "leave rows out: units that sync keep to that many.",
+            (4, _) => "look at the sender: it may not write more than that, and sending again won't help.",
+            (5, _) => "look at the sender: it built a filter with 0 bits for its entries, and sending it again won't help.",
             (6, _) => "look at that row: it must be whole, its hash stand once, what it depends on ascend and come before it.",
             (9, _) => "look at that row: it must be whole, its hash stand once, what is unused be zero.",
             _ => "the bytes break a rule of the format: have them sent or copied again.",

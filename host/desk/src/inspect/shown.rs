@@ -1,6 +1,6 @@
 //! What a message, a saved state, a filter and a table hold, in columns.
 
-use crate::files::MOST;
+use crate::files::most;
 use crate::paint::Paint;
 use crate::text::{count, hashes, number, Columns};
 use bisquetower::{ChangeHash, Filter, Have, Message, MessageFlags, MessageVersion};
@@ -96,13 +96,13 @@ fn told_filter(filter: &Filter) -> String {
     let entries = count(filter.num_entries() as usize, "entry");
     let set: u32 = filter.bits().iter().map(|byte| byte.count_ones()).sum();
     let field = 8 * filter.bits().len();
-    let bits = filter.num_bits_per_entry();
-    let probes = filter.num_probes();
+    let bits = count(filter.num_bits_per_entry() as usize, "bit");
+    let probes = count(filter.num_probes() as usize, "probe");
     let filled = match field {
         0 => String::new(),
-        _ => format!(", {set} of {field} bits set"),
+        _ => format!(", {} of {} bits set", number(set as usize), number(field)),
     };
-    format!("{entries}, {bits} bits each, {probes} probes{filled}")
+    format!("{entries}, {bits} each, {probes}{filled}")
 }
 
 pub fn table(table: &Table, full: bool) -> String {
@@ -137,10 +137,10 @@ pub fn waiting(waiting: &Waiting, full: bool) -> String {
 
 /// Bytes that no reader looks at; how many isn't known of a file that goes on.
 pub fn rest(bytes: usize, place: usize) -> String {
-    let many = match (place + bytes) as u64 == MOST {
+    let many = match (place + bytes) as u64 == most() {
         true => "all bytes".to_string(),
         false => count(bytes, "byte"),
     };
-    let told = format!("{many} from place {place} on, ignored");
+    let told = format!("{many} from place {} on, ignored", number(place));
     format!("  {}\n", Paint::of_output().faint(&told))
 }

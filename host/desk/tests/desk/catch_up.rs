@@ -1,7 +1,7 @@
 //! Catch-ups and tables.
 
 use crate::{folder, run, run_with, samples, text};
-use bisquetower::{ChangeHash, Table};
+use bisquetower::{ChangeHash, Filter, Table};
 use std::fs;
 use std::path::Path;
 
@@ -13,29 +13,41 @@ fn hash(n: u32) -> ChangeHash {
     ChangeHash(hash)
 }
 
-/// A file with the table of these changes, each on the one before it.
-fn chain(folder: &Path, name: &str, numbers: &[u32]) -> String {
-    let rows = numbers.iter().enumerate().map(|(k, &n)| {
-        let below: Vec<_> = k
-            .checked_sub(1)
-            .map(|k| hash(numbers[k]))
-            .into_iter()
-            .collect();
-        (hash(n), below)
-    });
+/// Changes, and the changes that each depends on.
+type Rows = Vec<(ChangeHash, Vec<ChangeHash>)>;
+
+/// These changes, each on the one before it.
+fn chained(hashes: &[ChangeHash]) -> Rows {
+    let below = hashes.windows(2).map(|two| vec![two[0]]);
+    let below = std::iter::once(vec![]).chain(below);
+    hashes.iter().copied().zip(below).collect()
+}
+
+/// A file with the table of these changes.
+fn table(folder: &Path, name: &str, rows: Rows) -> String {
     let table = Table::from_changes(rows).unwrap();
     let path = folder.join(name);
     fs::write(&path, table.as_bytes()).unwrap();
     text(&path).to_string()
 }
 
+/// A file with the table of these changes, each on the one before it.
+fn chain(folder: &Path, name: &str, numbers: &[u32]) -> String {
+    let hashes: Vec<ChangeHash> = numbers.iter().copied().map(hash).collect();
+    table(folder, name, chained(&hashes))
+}
+
+/// What stands behind a name in JSON, up to the end of its line.
+fn value<'a>(json: &'a str, name: &str) -> &'a str {
+    let mut lines = json.lines();
+    let start = format!("  \"{name}\": ");
+    let value = lines.find_map(|line| line.strip_prefix(&start));
+    value.expect("the field").trim_end_matches(',')
+}
+
 /// The number behind a name in JSON.
 fn field(json: &str, name: &str) -> usize {
-    let (_, rest) = json
-        .split_once(&format!("\"{name}\": "))
-        .expect("the field");
-    let digits: String = rest.chars().take_while(char::is_ascii_digit).collect();
-    digits.parse().expect("a number")
+    value(json, name).parse().expect("a number")
 }
 
 /// Three false yeses hide each other: a round for each, and the first.
@@ -53,10 +65,11 @@ fn the_sample_takes_four_rounds() {
     let shown = run(&words).ended(0).out;
     assert!(shown.contains("A station of 1,024 rows and a validator of 904, 120 short."));
     let rounds = "
-    1     904       0          7     117        1       1,401         9,572
-    2   1,020       1          -       1        2       1,000         2,009
-    3   1,020       1          -       1        3       1,000         2,009
-    4   1,020       1          -       1        0       1,000         2,009
+round   held  asked  false yes  sent  waiting  to station  to validator
+    1    904      0          7   117        1       1,401         9,572
+    2  1,020      1          -     1        2       1,000         2,009
+    3  1,020      1          -     1        3       1,000         2,009
+    4  1,020      1          -     1        0       1,000         2,009
 ";
     assert!(shown.contains(rounds), "{shown}");
     assert!(shown.contains("After 4 rounds"), "{shown}");
@@ -90,8 +103,172 @@ fn json_says_the_same() {
     let took = field(&json, "took");
     assert!((1..=11).contains(&took), "{json}");
     assert_eq!(json.matches("\"held\"").count(), took);
+    for (name, is) in [
+        ("premises", "true"),
+        ("contradict", "false"),
+        ("differs", "null"),
+        ("holds", "true"),
+        ("proved", "true"),
+        ("silent", "true"),
+        ("station_holds", "60"),
+        ("validator_holds", "60"),
+    ] {
+        assert_eq!(value(&json, name), is, "{name}: {json}");
+    }
     let lines = run(&["catch-up", &station, &validator]).ended(0).out;
     assert!(lines.contains(&format!("After {took} round")), "{lines}");
+}
+
+/// The drawing goes to standard output in place of the lines, and not beside JSON.
+#[test]
+fn a_drawing_on_standard_output() {
+    let folder = folder("catch-up-drawing");
+    let station = chain(&folder, "station.table", &[1, 2, 3, 4, 5]);
+    let validator = chain(&folder, "validator.table", &[1, 2, 3, 4]);
+    let words = ["catch-up", &station, &validator, "--svg", "-"];
+    let drawn = run(&words).ended(0).out;
+    assert!(
+        drawn.starts_with("<svg ") && drawn.ends_with("</svg>\n"),
+        "{drawn}"
+    );
+    let file = folder.join("rounds.svg");
+    run(&["catch-up", &station, &validator, "--svg", text(&file)]).ended(0);
+    assert_eq!(fs::read_to_string(&file).unwrap(), drawn);
+    let both = run(&[&words[..], &["--json"]].concat()).ended(2);
+    assert!(
+        both.err.contains("the JSON or the drawing, not both"),
+        "{both:?}"
+    );
+    assert!(both.out.is_empty(), "{both:?}");
+
+    let [station, validator] = past_a_gap(&folder, hash(57));
+    let failed = run(&["catch-up", &station, &validator, "--svg", "-"]).ended(1);
+    assert!(failed.out.starts_with("<svg "), "{failed:?}");
+    assert!(failed.err.contains("contradict each other"), "{failed:?}");
+}
+
+/// Rows are compared by what they depend on, and not by their numbers.
+#[test]
+fn rows_may_stand_in_another_order() {
+    let folder = folder("catch-up-order");
+    let [a, b, c, d] = [1, 2, 3, 4].map(hash);
+    let rows = vec![(a, vec![]), (b, vec![]), (c, vec![a, b]), (d, vec![c])];
+    let station = table(&folder, "station.table", rows);
+    let rows = vec![(b, vec![]), (a, vec![]), (c, vec![a, b])];
+    let validator = table(&folder, "validator.table", rows);
+    let json = run(&["catch-up", &station, &validator, "--json"])
+        .ended(0)
+        .out;
+    assert_eq!(value(&json, "premises"), "true", "{json}");
+    let shown = run(&["catch-up", &station, &validator]).ended(0).out;
+    assert!(shown.contains("proved: at most 2 (m + 1)"), "{shown}");
+}
+
+/// A station's table of 100 rows in a line, of which row 57 has this hash, and that of a
+/// validator without it, whose row 57 is the station's row 58 on its row 56.
+fn past_a_gap(folder: &Path, row_57: ChangeHash) -> [String; 2] {
+    let mut all: Vec<ChangeHash> = (0..100).map(hash).collect();
+    all[57] = row_57;
+    let station = table(folder, "station.table", chained(&all));
+    all.remove(57);
+    [station, table(folder, "validator.table", chained(&all))]
+}
+
+/// The validator's filter takes the row in the gap for held, so it never gets it: that the
+/// station's table is held, or that anything is proved, isn't said.
+#[test]
+fn a_row_that_never_comes() {
+    let held: Vec<ChangeHash> = (0..100).filter(|n| *n != 57).map(hash).collect();
+    let filter = Filter::from_hashes(&held).unwrap();
+    let tried: Vec<ChangeHash> = (1_000..3_000).map(hash).collect();
+    let mut taken_for_held = tried.iter().zip(filter.contains_hashes(&tried));
+    let (row_57, _) = taken_for_held.find(|(_, yes)| *yes).expect("a false yes");
+    let folder = folder("catch-up-never");
+    let [station, validator] = past_a_gap(&folder, *row_57);
+
+    let ended = run(&["catch-up", &station, &validator]).ended(1);
+    let shown = &ended.out;
+    assert!(shown.contains("a validator of 99, 1 short."), "{shown}");
+    let row = hash(58).to_string()[..16].to_string();
+    let gap = row_57.to_string()[..16].to_string();
+    let sentence = format!(
+        "The tables contradict each other: row 57 of the validator's, {row}, doesn't depend on \
+         {gap}, and row 58 of the station's, the same change, does."
+    );
+    assert!(shown.contains(&sentence), "{shown}");
+    let holds = "of the 100 rows of both tables the station holds 100, the validator 99";
+    assert!(shown.contains(holds), "{shown}");
+    for claim in ["holds the station's table", "proved:"] {
+        assert!(!shown.contains(claim), "{shown}");
+    }
+    assert!(
+        ended.err.contains("at row 57 of the validator's"),
+        "{ended:?}"
+    );
+
+    let json = run(&["catch-up", &station, &validator, "--json"])
+        .ended(1)
+        .out;
+    for (name, is) in [
+        ("missing", "1"),
+        ("premises", "false"),
+        ("contradict", "true"),
+        ("bound", "null"),
+        ("holds", "false"),
+        ("proved", "false"),
+        ("took", "null"),
+        ("validator_holds", "99"),
+    ] {
+        assert_eq!(value(&json, name), is, "{name}: {json}");
+    }
+    let differs = format!(
+        "{{\"row\": 57, \"hash\": \"{}\", \"how\": \"lacks\", \"station_row\": 58, \
+         \"dependency\": \"{row_57}\"}}",
+        hash(58)
+    );
+    assert_eq!(value(&json, "differs"), differs);
+}
+
+/// The row in the gap comes, and the units never agree on their heads.
+#[test]
+fn units_that_never_agree() {
+    let folder = folder("catch-up-still-talking");
+    let [station, validator] = past_a_gap(&folder, hash(57));
+    let svg = folder.join("rounds.svg");
+    let words = ["catch-up", &station, &validator, "--svg", text(&svg)];
+    let shown = run(&words).ended(1).out;
+    assert!(shown.contains("contradict each other: row 57"), "{shown}");
+    assert!(
+        shown.contains("both were still talking after 10 rounds"),
+        "{shown}"
+    );
+    assert!(shown.contains("\n3 to 10 "), "{shown}");
+    let drawn = fs::read_to_string(&svg).unwrap();
+    let told = "The tables contradict each other at row 57 of the validator's";
+    assert!(drawn.contains(told) && !drawn.contains("proved"), "{drawn}");
+}
+
+/// A dependency more than the station's row has.
+#[test]
+fn a_row_on_another_change_too() {
+    let folder = folder("catch-up-adds");
+    let hashes: Vec<ChangeHash> = (0..20).map(hash).collect();
+    let station = table(&folder, "station.table", chained(&hashes));
+    let mut rows = chained(&hashes);
+    rows[12].1.push(hashes[3]);
+    rows.truncate(15);
+    let validator = table(&folder, "validator.table", rows);
+    let shown = run(&["catch-up", &station, &validator]).ended(1).out;
+    assert!(shown.contains("contradict each other: row 12"), "{shown}");
+    assert!(!shown.contains("holds the station's table"), "{shown}");
+    let json = run(&["catch-up", &station, &validator, "--json"])
+        .ended(1)
+        .out;
+    assert!(
+        value(&json, "differs").contains("\"how\": \"adds\""),
+        "{json}"
+    );
+    assert_eq!(value(&json, "proved"), "false", "{json}");
 }
 
 #[test]
@@ -104,13 +281,32 @@ fn a_validator_that_lacks_nothing() {
     assert!(json.contains("\"rounds\": []"), "{json}");
 }
 
+/// Every number of the lines has its thousands told apart, and none of the JSON.
+#[test]
+fn columns_of_large_numbers() {
+    let station = samples().join("station.table");
+    let words = ["catch-up", text(&station), "-"];
+    let shown = run_with(&words, b"").ended(0).out;
+    let columns = "
+round  held  asked  false yes            sent  waiting  to station  to validator
+    1     0      0          0  1,024 document        0          10        75,635
+";
+    assert!(shown.contains(columns), "{shown}");
+    let json = run_with(&[&words[..], &["--json"]].concat(), b"");
+    let json = json.ended(0).out;
+    assert_eq!(field(&json, "station_rows"), 1_024, "{json}");
+}
+
 /// A validator without rows gets the whole document.
 #[test]
 fn a_validator_without_rows() {
     let folder = folder("catch-up-empty");
     let station = chain(&folder, "station.table", &[1, 2, 3, 4]);
     let shown = run_with(&["catch-up", &station, "-"], b"").ended(0).out;
-    assert!(shown.contains("4 document"), "{shown}");
+    let columns = "
+round  held  asked  false yes        sent  waiting  to station  to validator
+    1     0      0          0  4 document        0 ";
+    assert!(shown.contains(columns), "{shown}");
     assert!(shown.contains("After 1 round the"), "{shown}");
     assert!(
         shown.contains("m + 1 is 5, promised for replies by list"),
@@ -130,13 +326,40 @@ fn a_validator_with_rows_of_its_own() {
     );
     let shown = run(&["catch-up", &station, &validator]).ended(0).out;
     assert!(
-        shown.contains("m + 1 isn't promised here: the validator holds 2 rows"),
+        shown.contains("a validator of 11, 1 short and with 2 of its own."),
+        "{shown}"
+    );
+    assert!(shown.contains("both ends hold 12 rows"), "{shown}");
+    assert!(
+        shown.contains("m + 1 isn't promised here: the validator held 2 rows"),
         "{shown}"
     );
     let json = run(&["catch-up", &station, &validator, "--json"])
         .ended(0)
         .out;
-    assert!(json.contains("\"bound\": null"), "{json}");
+    for (name, is) in [
+        ("premises", "false"),
+        ("contradict", "false"),
+        ("bound", "null"),
+        ("holds", "true"),
+        ("proved", "false"),
+        ("station_holds", "12"),
+        ("validator_holds", "12"),
+    ] {
+        assert_eq!(value(&json, name), is, "{name}: {json}");
+    }
+    assert!(value(&json, "differs").contains("\"row\": 9, "), "{json}");
+}
+
+/// What the station takes is talked about too.
+#[test]
+fn a_validator_that_alone_has_news() {
+    let folder = folder("catch-up-ahead");
+    let station = chain(&folder, "station.table", &[1, 2, 3, 4]);
+    let validator = chain(&folder, "validator.table", &[1, 2, 3, 4, 5]);
+    let shown = run(&["catch-up", &station, &validator]).ended(0).out;
+    assert!(shown.contains("0 short and with 1 of its own."), "{shown}");
+    assert!(shown.contains("rounds both ends hold 5 rows"), "{shown}");
 }
 
 #[test]

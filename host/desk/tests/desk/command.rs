@@ -1,7 +1,8 @@
 //! The command itself: help, wrong words, and what it writes over.
 
-use crate::{folder, run, text};
+use crate::{folder, run, run_into, text};
 use std::fs;
+use std::process::Stdio;
 
 const COMMANDS: [&str; 5] = ["inspect", "table", "catch-up", "sample", "compare"];
 
@@ -69,6 +70,90 @@ fn a_folder_that_cant_be_made() {
     let file = folder.join("file");
     fs::write(&file, b"").unwrap();
     run(&["sample", text(&file.join("below"))]).ended(2);
+}
+
+/// Names of files are any bytes, and are shown as well as can be.
+#[cfg(target_os = "linux")]
+#[test]
+fn names_that_arent_text() {
+    use std::ffi::{OsStr, OsString};
+    use std::os::unix::ffi::OsStrExt;
+
+    let folder = folder("command-names").into_os_string();
+    let name = |bytes: &[u8]| -> OsString {
+        let parts = [
+            &folder,
+            OsStr::from_bytes(b"/caf\xe9"),
+            OsStr::from_bytes(bytes),
+        ];
+        parts.into_iter().collect()
+    };
+    let run = |words: &[&OsStr]| run_into(words, b"", Stdio::piped());
+    let (message, table) = (name(b".message"), name(b".table"));
+    fs::write(&message, b"\x42\0\0\0\0").unwrap();
+    fs::write(&table, b"").unwrap();
+    let shown = run(&["inspect".as_ref(), &message]).ended(0).out;
+    assert!(shown.contains("caf\u{fffd}.message: a message"), "{shown}");
+    let shown = run(&["table".as_ref(), &table]).ended(0).out;
+    assert!(
+        shown.contains("caf\u{fffd}.table: a good change table"),
+        "{shown}"
+    );
+    let svg = name(b".svg");
+    run(&["catch-up".as_ref(), &table, &table, "--svg".as_ref(), &svg]).ended(0);
+    assert!(fs::read(&svg).unwrap().starts_with(b"<svg "));
+    let samples = name(b"");
+    run(&["sample".as_ref(), &samples]).ended(0);
+    assert!(std::path::Path::new(&samples).join("cut.message").exists());
+
+    let wrong = |words: &[&OsStr], what: &str| {
+        let run = run(words).ended(2);
+        assert!(run.err.contains(what), "{run:?}");
+    };
+    let odd = OsStr::from_bytes(b"caf\xe9");
+    wrong(&["inspect".as_ref(), odd], "caf\u{fffd} can't be read");
+    wrong(&[odd], "there is no command caf\u{fffd}");
+    wrong(
+        &["inspect".as_ref(), &message, "--as".as_ref(), odd],
+        "caf\u{fffd} is no kind",
+    );
+    wrong(
+        &["inspect".as_ref(), OsStr::from_bytes(b"--as=\xe9")],
+        "isn't text",
+    );
+    wrong(&["compare".as_ref(), odd], "caf\u{fffd} is none of");
+    wrong(
+        &["compare".as_ref(), "--seed".as_ref(), odd],
+        "--seed wants a number",
+    );
+}
+
+/// A full disk loses no output in silence, whatever else went wrong.
+#[cfg(target_os = "linux")]
+#[test]
+fn output_that_cant_be_written() {
+    let message = b"\x42\0\0\0\0";
+    for (words, input) in [
+        (&["--help"][..], &b""[..]),
+        (&["inspect", "-"], message),
+        (&["table", "-"], &[0; 100]),
+    ] {
+        let full = fs::File::options().write(true).open("/dev/full");
+        let run = run_into(words, input, full.unwrap().into()).ended(2);
+        assert!(
+            run.err.contains("standard output can't be written"),
+            "{run:?}"
+        );
+    }
+}
+
+/// A reader that has gone away is no failure.
+#[test]
+fn a_reader_that_stops_reading() {
+    let (reader, writer) = std::io::pipe().unwrap();
+    drop(reader);
+    let run = run_into(&["--help"], b"", writer.into()).ended(0);
+    assert!(run.err.is_empty(), "{run:?}");
 }
 
 /// A pipe is no terminal.

@@ -6,7 +6,8 @@ use crate::run;
 fn counts(shown: &str, kind: &str) -> Vec<u64> {
     let row = shown.lines().find_map(|line| line.strip_prefix(kind));
     let words = row.expect("a row").split_whitespace().take(3);
-    words.map(|word| word.parse().expect("a number")).collect()
+    let numbers = words.map(|word| word.replace(',', "").parse());
+    numbers.map(|number| number.expect("a number")).collect()
 }
 
 #[test]
@@ -48,4 +49,9 @@ fn wrong_words() {
     run(&["compare", "fares"]).ended(2);
     run(&["compare", "--seconds", "soon"]).ended(2);
     run(&["compare", "--seed", "-1"]).ended(2);
+    for option in ["--seconds", "--rounds"] {
+        let none = run(&["compare", option, "0"]).ended(2);
+        assert!(none.err.contains("wants 1 or more"), "{none:?}");
+    }
+    run(&["compare", "--seconds", "1", "--rounds", "1"]).ended(2);
 }

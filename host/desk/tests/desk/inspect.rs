@@ -19,6 +19,7 @@ fn the_samples() {
         first.contains("904 entries, 10 bits each, 7 probes"),
         "{first}"
     );
+    assert!(first.contains(" of 9,040 bits set"), "{first}");
     assert!(show("2-station.message").ended(0).out.contains("version 2"));
     assert!(show("station.table").ended(0).out.contains("1,024"));
     assert!(show("validator.state")
@@ -40,7 +41,7 @@ fn the_samples() {
     assert!(refused("long-number.message").contains("refusal 3, value 1"));
     assert!(refused("no-bits.filter").contains("refusal 5, value 0"));
     assert!(refused("bad-row.table").contains("refusal 6, value 700"));
-    assert!(refused("cut.table").contains("refusal 6, value 1023"));
+    assert!(refused("cut.table").contains("refusal 6, value 1,023"));
 }
 
 #[test]
@@ -139,6 +140,66 @@ fn the_mark_is_under_the_place() {
     assert!(refused.contains("^^ place 1 the end"), "{refused}");
 }
 
+/// The columns under which there are marks, and the label behind them.
+fn marked(refused: &str) -> (Vec<usize>, &str) {
+    let mut lines = refused.lines();
+    let marks = lines.find(|line| line.trim_start().starts_with("^^"));
+    let marks = marks.expect("marks");
+    let columns = marks.match_indices("^^").map(|(k, _)| (k - 12) / 3);
+    let (_, label) = marks.split_once(" place").expect("a label");
+    (columns.collect(), label)
+}
+
+/// What broke is said, and its bytes are marked: not the filter's first, nor the row's.
+#[test]
+fn the_marks_are_under_the_field() {
+    let probes = inspect(b"\x42\0\0\x01\0\x05\x01\x0a\x41\0\0").ended(1).err;
+    let sentence = "refusal 4, value 6: the filter at place 6 has 65 probes; at most 64\n";
+    assert!(probes.contains(sentence), "{probes}");
+    assert_eq!(marked(&probes), (vec![8], " 8"), "{probes}");
+
+    let heads = inspect(b"\x42\x81\x08").ended(1).err;
+    assert!(heads.contains("1,025 heads"), "{heads}");
+    assert_eq!(marked(&heads), (vec![1, 2], "s 1 to 2"), "{heads}");
+
+    let mut rows = fs::read(samples().join("station.table")).unwrap();
+    // The second dependency of row 64, which has three.
+    let field = 64 * 64 + 32 + 4;
+    rows[field..field + 2].copy_from_slice(&[0, 4]);
+    let row = run_with(&["inspect", "--as", "table", "-"], &rows)
+        .ended(1)
+        .err;
+    let sentence = "row 64 of the change table depends on row 1,024, which doesn't stand before it";
+    assert!(row.contains(sentence), "{row}");
+    assert_eq!(marked(&row), (vec![4, 5], "s 4,132 to 4,133"), "{row}");
+    let table = run_with(&["table", "-"], &rows).ended(1);
+    assert!(table.err.contains(sentence), "{table:?}");
+    assert_eq!(marked(&table.err), marked(&row), "{table:?}");
+}
+
+/// A long field is marked in its first lines.
+#[test]
+fn the_marks_of_a_long_field() {
+    let cut = run_with(&["inspect", "--as", "waiting", "-"], &[0; 543])
+        .ended(1)
+        .err;
+    assert!(cut.contains("is cut: it has 543 of 544 bytes"), "{cut}");
+    let marks = cut.lines().filter(|line| line.contains("^^"));
+    assert_eq!(marks.count(), 4, "{cut}");
+    assert!(cut.contains("^^ places 0 to 542"), "{cut}");
+}
+
+/// Bits for no entry are the sender's fault.
+#[test]
+fn a_filter_without_bits() {
+    let refused = inspect(b"\x42\0\0\x01\0\x03\x01\0\x07\0").ended(1).err;
+    assert!(refused.contains("refusal 5, value 6"), "{refused}");
+    assert_eq!(marked(&refused), (vec![7], " 7"), "{refused}");
+    let advice = "next: look at the sender: it built a filter with 0 bits for its entries, \
+                  and sending it again won't help.";
+    assert!(refused.contains(advice), "{refused}");
+}
+
 #[test]
 fn no_bytes() {
     let refused = inspect(b"").ended(1).err;
@@ -217,6 +278,36 @@ fn a_kind_is_told_by_the_bytes() {
     assert!(text.contains("refusal 2, value 104"), "{text}");
 }
 
+/// A kind that isn't named and ignores more than half of the bytes is doubtful; one that is
+/// named, or that ignores half, isn't.
+#[test]
+fn a_doubtful_guess() {
+    let zeros = [0; 640];
+    let guess = inspect(&zeros).ended(1);
+    assert!(guess.out.contains("a filter, 3 bytes"), "{guess:?}");
+    let doubt = "- was taken for a filter, which is doubtful: 637 of its 640 bytes are ignored";
+    assert!(guess.err.contains(doubt), "{guess:?}");
+    assert!(
+        guess.err.contains("next: say what it is with --as "),
+        "{guess:?}"
+    );
+    let named = run_with(&["inspect", "--as", "filter", "-"], &zeros).ended(0);
+    assert_eq!(named.out, guess.out);
+
+    let folder = folder("inspect-doubtful");
+    let [by_name, nameless] = ["zeros.filter", "zeros"].map(|name| folder.join(name));
+    for path in [&by_name, &nameless] {
+        fs::write(path, zeros).unwrap();
+    }
+    run(&["inspect", text(&by_name)]).ended(0);
+    run(&["inspect", text(&nameless)]).ended(1);
+
+    let message = b"\x42\0\0\0\0\0";
+    let behind = |count: usize| inspect(&[&message[..], &vec![0x55; count]].concat());
+    behind(6).ended(0);
+    behind(7).ended(1);
+}
+
 /// A waiting table whose second row is the first again, and one that is cut.
 #[test]
 fn bad_waiting_tables() {
@@ -226,7 +317,8 @@ fn bad_waiting_tables() {
     assert!(show(row).ended(0).out.contains("waiting  1"));
     let twice = show(&[row, row].concat()).ended(1).err;
     assert!(twice.contains("refusal 9, value 1"), "{twice}");
-    assert!(twice.contains("^^ place 544"), "{twice}");
+    assert!(twice.contains("has the hash of row 0"), "{twice}");
+    assert!(twice.contains("^^ places 544 to 575"), "{twice}");
     assert!(show(&table[..543])
         .ended(1)
         .err

@@ -1,0 +1,220 @@
+//! What broke a rule, in particular.
+
+use crate::refusal::grouped;
+use std::fmt;
+use std::ops::Range;
+
+/// What broke a rule, where what was lent shows it: which list is too long and by how
+/// much, which field of a row is wrong. [`Refusal::cause`](crate::Refusal::cause) has it.
+///
+/// ```
+/// use bisquetower::{ChangeHash, Table};
+///
+/// let [a, b] = [b'a', b'b'].map(|name| ChangeHash([name; 32]));
+/// let mut rows = Table::lay([(a, vec![]), (b, vec![a])]);
+/// rows[64 + 32] = 16;
+/// let cause = Table::new(rows).unwrap_err().cause().unwrap();
+/// assert_eq!(cause.to_string(), "row 1 of the change table counts 16 dependencies; at most 15");
+/// assert_eq!(cause.place(), Some(96..98));
+/// ```
+#[derive(Clone, Copy, Debug, PartialEq, Eq)]
+pub struct Cause {
+    rule: Rule,
+    /// The first byte, and the place after the last.
+    place: Option<(usize, usize)>,
+}
+
+impl Cause {
+    pub(crate) fn new(rule: Rule, place: Option<Range<usize>>) -> Cause {
+        let place = place.map(|place| (place.start, place.end));
+        Cause { rule, place }
+    }
+
+    /// The bytes that break the rule; none where no bytes were read, or they break it as a
+    /// whole.
+    pub fn place(&self) -> Option<Range<usize>> {
+        self.place.map(|(start, end)| start..end)
+    }
+}
+
+/// A rule, and what breaks it.
+#[derive(Clone, Copy, Debug, PartialEq, Eq)]
+pub(crate) enum Rule {
+    /// A list has at most so many items.
+    Items { list: List, count: u64, most: u64 },
+    /// A message has at most so many bytes; how many it would take, where it was written.
+    MessageBytes { bytes: Option<u64>, most: u64 },
+    /// A table has at most so many rows.
+    Rows { table: Rows, most: u64 },
+    /// The filter at a place keeps to what filters are.
+    Filter { place: usize, rule: Numbers },
+    /// A row keeps to what rows are.
+    Row { table: Rows, row: usize, rule: Row },
+}
+
+/// Whose items are counted.
+#[derive(Clone, Copy, Debug, PartialEq, Eq)]
+pub(crate) enum List {
+    Heads,
+    Need,
+    Haves,
+    /// Of the have at this index.
+    LastSync(usize),
+    Chunks,
+    SharedHeads,
+}
+
+/// What is wrong with a filter's numbers.
+#[derive(Clone, Copy, Debug, PartialEq, Eq)]
+pub(crate) enum Numbers {
+    /// It has entries and no bits for them.
+    NoBits,
+    /// It has more probes than there may be.
+    Probes { probes: u64, most: u64 },
+    /// Its field has more bytes than there may be.
+    Field { bytes: u64, most: u64 },
+}
+
+/// Which table.
+#[derive(Clone, Copy, Debug, PartialEq, Eq)]
+pub(crate) enum Rows {
+    Change,
+    Waiting,
+}
+
+/// What is wrong with a row.
+#[derive(Clone, Copy, Debug, PartialEq, Eq)]
+pub(crate) enum Row {
+    /// It ends before its last byte.
+    Cut { bytes: usize, whole: usize },
+    /// It counts more dependencies than a change may have.
+    Count { count: u64, most: u64 },
+    /// It depends on a row that doesn't stand before it.
+    NotBefore(u64),
+    /// A row number isn't above the one that it follows.
+    NotAscending { number: u64, after: u64 },
+    /// A row number that isn't in use isn't zero.
+    UnusedNumber(u64),
+    /// The bytes behind the count aren't all zero.
+    BehindCount,
+    /// A dependency's hash that isn't in use isn't zero; its index.
+    UnusedHash(usize),
+    /// An earlier row has its hash.
+    Twice(usize),
+    /// A row of the change table has its hash.
+    Held(usize),
+}
+
+impl fmt::Display for Cause {
+    fn fmt(&self, f: &mut fmt::Formatter<'_>) -> fmt::Result {
+        match self.rule {
+            Rule::Items { list, count, most } => {
+                let (count, most) = (grouped(count), grouped(most));
+                let by = match self.place {
+                    Some((place, _)) => format!(", by the count at place {}", shown(place)),
+                    None => String::new(),
+                };
+                write!(f, "{}{by}; at most {most}", list.with(&count))
+            }
+            Rule::MessageBytes { bytes: None, most } => {
+                write!(f, "the message has more than {} bytes", grouped(most))
+            }
+            Rule::MessageBytes {
+                bytes: Some(bytes),
+                most,
+            } => {
+                let (bytes, most) = (grouped(bytes), grouped(most));
+                write!(f, "the message takes {bytes} bytes; at most {most}")
+            }
+            Rule::Rows { table, most } => {
+                write!(f, "the {table} has more than {} rows", grouped(most))
+            }
+            Rule::Filter { place, rule } => {
+                write!(f, "the filter at place {} {rule}", shown(place))
+            }
+            Rule::Row { table, row, rule } => write!(f, "row {} of the {table} {rule}", shown(row)),
+        }
+    }
+}
+
+fn shown(n: usize) -> String {
+    grouped(n as u64)
+}
+
+impl List {
+    /// Who has so many of what.
+    fn with(self, count: &str) -> String {
+        match self {
+            List::Heads => format!("the message has {count} heads"),
+            List::Need => format!("the message needs {count} hashes"),
+            List::Haves => format!("the message has {count} haves"),
+            List::LastSync(k) => format!("the have at index {k} has {count} last-sync hashes"),
+            List::Chunks => format!("the message has {count} chunks"),
+            List::SharedHeads => format!("the saved state has {count} shared heads"),
+        }
+    }
+}
+
+impl fmt::Display for Numbers {
+    fn fmt(&self, f: &mut fmt::Formatter<'_>) -> fmt::Result {
+        match *self {
+            Numbers::NoBits => write!(f, "has entries and 0 bits per entry"),
+            Numbers::Probes { probes, most } => {
+                let (probes, most) = (grouped(probes), grouped(most));
+                write!(f, "has {probes} probes; at most {most}")
+            }
+            Numbers::Field { bytes, most } => {
+                let (bytes, most) = (grouped(bytes), grouped(most));
+                write!(f, "has a field of {bytes} bytes; at most {most}")
+            }
+        }
+    }
+}
+
+impl fmt::Display for Rows {
+    fn fmt(&self, f: &mut fmt::Formatter<'_>) -> fmt::Result {
+        f.write_str(match self {
+            Rows::Change => "change table",
+            Rows::Waiting => "waiting table",
+        })
+    }
+}
+
+impl fmt::Display for Row {
+    fn fmt(&self, f: &mut fmt::Formatter<'_>) -> fmt::Result {
+        match *self {
+            Row::Cut { bytes, whole } => write!(f, "is cut: it has {bytes} of {whole} bytes"),
+            Row::Count { count, most } => {
+                let (count, most) = (grouped(count), grouped(most));
+                write!(f, "counts {count} dependencies; at most {most}")
+            }
+            Row::NotBefore(number) => {
+                let number = grouped(number);
+                write!(f, "depends on row {number}, which doesn't stand before it")
+            }
+            Row::NotAscending { number, after } => {
+                let (number, after) = (grouped(number), grouped(after));
+                write!(
+                    f,
+                    "names row {number} after row {after}; row numbers ascend"
+                )
+            }
+            Row::UnusedNumber(number) => {
+                let number = grouped(number);
+                write!(
+                    f,
+                    "has {number} as a row number that isn't in use; those are 0"
+                )
+            }
+            Row::BehindCount => write!(f, "has a byte behind its count that isn't 0"),
+            Row::UnusedHash(k) => {
+                write!(
+                    f,
+                    "has a hash at index {k} that isn't in use; those are zero"
+                )
+            }
+            Row::Twice(row) => write!(f, "has the hash of row {}", shown(row)),
+            Row::Held(row) => write!(f, "has the hash of row {} of the change table", shown(row)),
+        }
+    }
+}

@@ -1,0 +1,132 @@
+//! Tables that were lent: what is wrong with the row that a refusal names.
+
+use super::{BAD_TABLE, BAD_WAITING, LIMIT};
+use crate::cause::{Cause, Row, Rows, Rule};
+use crate::hash::HASH;
+use crate::refusal::Refusal;
+use crate::{Limits, Table, Waiting};
+use std::ops::Range;
+
+/// The refusal of a change table.
+pub(crate) fn table(table: &[u8], refusal: Refusal) -> Refusal {
+    tables(table, &[], refusal)
+}
+
+/// The refusal of a change table and of the waiting table beside it.
+pub(crate) fn tables(table: &[u8], waiting: &[u8], refusal: Refusal) -> Refusal {
+    let row = refusal.value as usize;
+    let cause = match (refusal.number, refusal.value) {
+        (LIMIT, 0) => long(table, waiting),
+        (BAD_TABLE, _) => change_row(table, row),
+        (BAD_WAITING, _) => waiting_row(table, waiting, row),
+        _ => None,
+    };
+    cause.map_or(refusal, |cause| refusal.because(cause))
+}
+
+/// The table that has more bytes than the most rows.
+fn long(table: &[u8], waiting: &[u8]) -> Option<Cause> {
+    let limits = Limits::told();
+    let rows = |bytes: &[u8], size: usize| bytes.len().div_ceil(size) as u64;
+    let both = [
+        (Rows::Change, rows(table, Table::ROW), limits.rows),
+        (
+            Rows::Waiting,
+            rows(waiting, Waiting::ROW),
+            limits.waiting_rows,
+        ),
+    ];
+    let long = both.into_iter().find(|(_, rows, most)| rows > most);
+    long.map(|(table, _, most)| Cause::new(Rule::Rows { table, most }, None))
+}
+
+/// What is wrong with a row, and which of its bytes are.
+type Wrong = (Row, Range<usize>);
+
+fn change_row(table: &[u8], row: usize) -> Option<Cause> {
+    let own = record(table, Table::ROW, row)?;
+    let wrong = cut(own, Table::ROW)
+        .or_else(|| row_numbers(own, row))
+        .or_else(|| {
+            let earlier = row_of(own, table, Table::ROW, row)?;
+            Some((Row::Twice(earlier), 0..HASH))
+        });
+    wrong.map(|wrong| in_row(Rows::Change, Table::ROW, row, wrong))
+}
+
+fn waiting_row(table: &[u8], waiting: &[u8], row: usize) -> Option<Cause> {
+    let own = record(waiting, Waiting::ROW, row)?;
+    let wrong = cut(own, Waiting::ROW)
+        .or_else(|| hashes(own))
+        .or_else(|| {
+            let earlier = row_of(own, waiting, Waiting::ROW, row)?;
+            Some((Row::Twice(earlier), 0..HASH))
+        })
+        .or_else(|| {
+            let held = row_of(own, table, Table::ROW, table.len() / Table::ROW)?;
+            Some((Row::Held(held), 0..HASH))
+        });
+    wrong.map(|wrong| in_row(Rows::Waiting, Waiting::ROW, row, wrong))
+}
+
+/// A row's bytes, as far as they are there.
+fn record(table: &[u8], size: usize, row: usize) -> Option<&[u8]> {
+    table.chunks(size).nth(row)
+}
+
+/// The cause that a row is, whose bytes count from its own first.
+fn in_row(table: Rows, size: usize, row: usize, (rule, place): Wrong) -> Cause {
+    let start = size * row;
+    let place = start + place.start..start + place.end;
+    Cause::new(Rule::Row { table, row, rule }, Some(place))
+}
+
+fn cut(own: &[u8], whole: usize) -> Option<Wrong> {
+    let bytes = own.len();
+    (bytes < whole).then_some((Row::Cut { bytes, whole }, 0..bytes))
+}
+
+/// The count and the row numbers of a change row.
+fn row_numbers(own: &[u8], row: usize) -> Option<Wrong> {
+    let fields = own[HASH..].chunks_exact(2);
+    let fields: Vec<u64> = fields
+        .map(|f| u16::from_le_bytes([f[0], f[1]]).into())
+        .collect();
+    let place = |k: usize| HASH + 2 * k..HASH + 2 * (k + 1);
+    let (count, most) = (fields[0], Limits::told().dependencies);
+    if count > most {
+        return Some((Row::Count { count, most }, place(0)));
+    }
+    let wrong = |k: usize| {
+        let (number, after) = (fields[k], fields[k - 1]);
+        match k as u64 <= count {
+            true if number >= row as u64 => Some(Row::NotBefore(number)),
+            true if k > 1 && number <= after => Some(Row::NotAscending { number, after }),
+            false if number != 0 => Some(Row::UnusedNumber(number)),
+            _ => None,
+        }
+    };
+    (1..fields.len()).find_map(|k| Some((wrong(k)?, place(k))))
+}
+
+/// The count and the hashes of a waiting row.
+fn hashes(own: &[u8]) -> Option<Wrong> {
+    let (count, most) = (own[HASH].into(), Limits::told().dependencies);
+    if count > most {
+        return Some((Row::Count { count, most }, HASH..HASH + 1));
+    }
+    let used = |byte: &u8| *byte != 0;
+    if let Some(k) = own[HASH + 1..2 * HASH].iter().position(used) {
+        let place = HASH + 1 + k;
+        return Some((Row::BehindCount, place..place + 1));
+    }
+    let mut hashes = own[2 * HASH..].chunks_exact(HASH).enumerate();
+    let unused = hashes.find(|(k, hash)| *k as u64 >= count && hash.iter().any(used));
+    unused.map(|(k, _)| (Row::UnusedHash(k), HASH * (k + 2)..HASH * (k + 3)))
+}
+
+/// The first of so many rows of a table that has the hash of this one.
+fn row_of(own: &[u8], table: &[u8], size: usize, rows: usize) -> Option<usize> {
+    let mut rows = table.chunks_exact(size).take(rows);
+    rows.position(|row| row[..HASH] == own[..HASH])
+}

@@ -1,0 +1,110 @@
+//! Values that were to be written: which part of one passes its limit.
+
+use super::{BAD_NUMBERS, LIMIT};
+use crate::cause::{Cause, List, Rule};
+use crate::hash::HASH;
+use crate::refusal::Refusal;
+use crate::{Limits, Message};
+
+/// Bytes of a message's first byte, and of its flags section.
+const FIRST: u64 = 1;
+const FLAGS: u64 = 3;
+
+/// The refusal of a message's bytes.
+pub(crate) fn writing(message: &Message, refusal: Refusal) -> Refusal {
+    if refusal.number != LIMIT {
+        return refusal;
+    }
+    let limits = Limits::told();
+    let haves = message.have.iter().enumerate();
+    let synced = haves.map(|(k, have)| (List::LastSync(k), have.last_sync.len(), limits.hashes));
+    let lists = [
+        (List::Heads, message.heads.len(), limits.hashes),
+        (List::Need, message.need.len(), limits.hashes),
+        (List::Haves, message.have.len(), limits.haves),
+        (List::Chunks, message.changes.len(), limits.chunks),
+    ];
+    let lists = lists.into_iter().chain(synced);
+    let long = lists
+        .into_iter()
+        .find_map(|(list, count, most)| items(list, count, most));
+    match long.or_else(|| large(message, limits.message)) {
+        Some(cause) => refusal.because(cause),
+        None => refusal,
+    }
+}
+
+/// The refusal of the bytes of a saved state with so many heads.
+pub(crate) fn saved(heads: usize, refusal: Refusal) -> Refusal {
+    if refusal.number != BAD_NUMBERS {
+        return refusal;
+    }
+    let long = items(List::SharedHeads, heads, Limits::told().hashes);
+    long.map_or(refusal, |cause| refusal.because(cause))
+}
+
+fn items(list: List, count: usize, most: u64) -> Option<Cause> {
+    let count = count as u64;
+    let rule = Rule::Items { list, count, most };
+    (count > most).then(|| Cause::new(rule, None))
+}
+
+fn large(message: &Message, most: u64) -> Option<Cause> {
+    let bytes = size(message);
+    let rule = Rule::MessageBytes {
+        bytes: Some(bytes),
+        most,
+    };
+    (bytes > most).then(|| Cause::new(rule, None))
+}
+
+/// How many bytes a message takes (01, Wire).
+fn size(message: &Message) -> u64 {
+    let hashes = |count: usize| counted(count) + (HASH * count) as u64;
+    let prefixed = |bytes: usize| counted(bytes) + bytes as u64;
+    let haves = message.have.iter();
+    let haves =
+        haves.map(|have| hashes(have.last_sync.len()) + prefixed(have.bloom.to_bytes().len()));
+    let chunks = message.changes.iter().map(|chunk| prefixed(chunk.len()));
+    FIRST
+        + hashes(message.heads.len())
+        + hashes(message.need.len())
+        + counted(message.have.len())
+        + haves.sum::<u64>()
+        + counted(message.changes.len())
+        + chunks.sum::<u64>()
+        + message.flags.map_or(0, |_| FLAGS)
+}
+
+/// Bytes of a number: seven bits each, and one for 0.
+fn counted(n: usize) -> u64 {
+    u64::from((usize::BITS - n.leading_zeros()).div_ceil(7).max(1))
+}
+
+#[cfg(test)]
+mod tests {
+    use super::*;
+    use crate::{ChangeHash, Filter, Have, MessageFlags};
+
+    #[test]
+    fn the_size_is_what_is_written() {
+        let hashes = |count: usize| vec![ChangeHash([7; 32]); count];
+        let have = |count: usize| Have {
+            last_sync: hashes(count),
+            bloom: Filter::from_hashes(&hashes(count)).unwrap(),
+        };
+        for count in [0, 1, 127, 128, 129, 1_024] {
+            for flags in [None, Some(MessageFlags::new())] {
+                let message = Message {
+                    heads: hashes(count),
+                    need: hashes(count / 2),
+                    have: vec![have(count), Have::default()],
+                    changes: vec![vec![1; 200 * count], vec![], vec![2; 127], vec![3; 128]],
+                    flags,
+                    ..Message::default()
+                };
+                assert_eq!(size(&message), message.encode().unwrap().len() as u64);
+            }
+        }
+    }
+}
