@@ -359,9 +359,10 @@ fn bad_waiting_rows() {
 
 /// A message with two of everything.
 fn sample() -> Vec<u8> {
-    let have = |count| Have {
-        last_sync: hashes(count),
-        bloom: Filter::from_hashes(&hashes(count)).unwrap(),
+    let have = |count| {
+        let last_sync = hashes(count);
+        let bloom = Filter::from_hashes(&last_sync).unwrap();
+        Have { last_sync, bloom }
     };
     let message = Message {
         heads: hashes(2),

@@ -89,9 +89,10 @@ mod tests {
     #[test]
     fn the_size_is_what_is_written() {
         let hashes = |count: usize| vec![ChangeHash([7; 32]); count];
-        let have = |count: usize| Have {
-            last_sync: hashes(count),
-            bloom: Filter::from_hashes(&hashes(count)).unwrap(),
+        let have = |count: usize| {
+            let last_sync = hashes(count);
+            let bloom = Filter::from_hashes(&last_sync).unwrap();
+            Have { last_sync, bloom }
         };
         for count in [0, 1, 127, 128, 129, 1_024] {
             for flags in [None, Some(MessageFlags::new())] {
