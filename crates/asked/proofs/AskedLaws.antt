@@ -8,33 +8,33 @@ use native.Mathlib.Omega.{arith}
 use borrow.Author.Tests.{ltb-false, lt-ltb, le-ltb, not-true}
 use lib.ListN.{length, replicate, length-replicate}
 use Rattle.bloom.specs.Filter.{fieldSize}
-use Rattle.decide.specs.Draft.{PlanParts, SmallDraft}
-use Rattle.decide.specs.declared.decide.Draft.{Draft}
-use Rattle.draft.specs.Make.{carriedBody, BlankMarks, PlanCounted, ReadyRooms, DraftMade, Finished}
-use Rattle.draft.specs.declared.make.PlanCounts.{PlanCounts}
-use Rattle.draft.proofs.MadeLaws.{small-made, plan-called}
-use Rattle.graph.proofs.MarkLaws.{blank}
-use Rattle.graph.proofs.PickLaws.{marked-most}
-use Rattle.index.specs.Index.{Indexed}
-use Rattle.lent.specs.Good.{heardGood, lentOf, sessionGood}
-use Rattle.lent.proofs.GoodSessions.{list-parts, session-tests, session-parts, heard-within}
-use Rattle.lists.specs.Lists.{few}
-use Rattle.missing.specs.Ask.{FoundUpTo}
-use Rattle.planned.specs.Call.{Buffers}
-use Rattle.planned.specs.declared.answer.PlanAnswer.{PlanAnswer}
-use Rattle.planning.specs.Made.{Setting}
-use Rattle.probe.proofs.BuildLaws.{rules-field}
+use Rattle.plan_decide.specs.Internal.Draft.{PlanParts, SmallDraft}
+use Rattle.plan_decide.specs.declared.decide.Draft.{Draft}
+use Rattle.plan_make.specs.Internal.PlanMake.{carriedBody, BlankMarks, PlanCounted, ReadyRooms, DraftMade, Finished}
+use Rattle.plan_make.specs.declared.make.PlanCounts.{PlanCounts}
+use Rattle.plan_make.proofs.MadeLaws.{small-made, plan-called}
+use Rattle.table_graph.proofs.MarkLaws.{blank}
+use Rattle.table_graph.proofs.PickLaws.{marked-most}
+use Rattle.table_index.specs.Index.{Indexed}
+use Rattle.session_check.specs.SessionGood.{heardGood, lentOf, sessionGood}
+use Rattle.session_check.proofs.GoodSessions.{list-parts, session-tests, session-parts, heard-within}
+use Rattle.hash_lists.specs.Internal.Lists.{few}
+use Rattle.waiting_missing.specs.Ask.{FoundUpTo}
+use Rattle.session.specs.PlanCall.{Buffers}
+use Rattle.session.specs.declared.plan_answer.PlanAnswer.{PlanAnswer}
+use Rattle.plan_parts.specs.Internal.PlanParts.{Setting}
+use Rattle.bloom_probe.proofs.BuildLaws.{rules-field}
 use Rattle.rules.specs.Hash.{hashesAt}
 use Rattle.rules.specs.Sizes.{sizes}
 use Rattle.rules.proofs.Cases.{both}
 use Rattle.session.proofs.PlanLaws.{list-few}
-use Rattle.state.specs.Value.{Lent, heardCount, stateOf}
-use Rattle.state.specs.declared.session.Heard.{Heard}
-use Rattle.state.specs.declared.session.Heard.the-variants.{Nothing, Count}
-use Rattle.state.specs.declared.session.Session.{Session}
-use Rattle.tables.specs.Bytes.{rowsAt}
-use Rattle.tables.proofs.TableLaws.{length-rows-at}
-use Rattle.asked.specs.Asked.{shortField, asksFew, NeedRoom, AskedCalled}
+use Rattle.session_state.specs.Value.{Lent, heardCount, stateOf}
+use Rattle.session_state.specs.declared.session.Heard.{Heard}
+use Rattle.session_state.specs.declared.session.Heard.the-variants.{Nothing, Count}
+use Rattle.session_state.specs.declared.session.Session.{Session}
+use Rattle.table.specs.TableBytes.{rowsAt}
+use Rattle.table.proofs.TableLaws.{length-rows-at}
+use Rattle.asked.specs.Internal.Asked.{shortField, asksFew, NeedRoom, AskedCalled}
 
 -- ---- what is asked for
 

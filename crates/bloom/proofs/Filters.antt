@@ -16,16 +16,16 @@ use Rattle.rules.specs.declared.refusal.Refusal.the-variants.{Cut, PastSize, No
 use Rattle.rules.proofs.Cases.{split}
 use Rattle.rules.proofs.Hash.{slice-append, slice-parts}
 use Rattle.wire.specs.Item.{leftAt, afterNumber}
-use Rattle.numbers.specs.Number.{shortest, numberAt, mostFilter, Put}
-use Rattle.numbers.specs.declared.leb128.Number.{Number}
-use Rattle.numbers.specs.declared.leb128.Number.the-variants.{Value, Refused as NoValue}
+use Rattle.leb128.specs.Number.{shortest, numberAt, mostFilter, Put}
+use Rattle.leb128.specs.declared.leb128.Number.{Number}
+use Rattle.leb128.specs.declared.leb128.Number.the-variants.{Value, Refused as NoValue}
 use Rattle.wire.proofs.Item.{left-is}
-use Rattle.numbers.proofs.Meaning.{Inside, number-inside, number-most, number-written, written-number}
-use Rattle.numbers.proofs.Number.{slice-past, put-joined}
+use Rattle.leb128.proofs.Meaning.{Inside, number-inside, number-most, number-written, written-number}
+use Rattle.leb128.proofs.Number.{slice-past, put-joined}
 use Rattle.bloom.specs.Filter.{Filter, filterOf4, fieldSize, filterRules, filterBytes, defaultBits, defaultProbes}
 use Rattle.bloom.specs.Have.{numbersOf, filterWith}
-use Rattle.bloom.specs.Means.{FilterMeans}
-use Rattle.bloom.specs.Read.{fieldAt, numbersAt, filterAt}
+use Rattle.bloom.specs.FilterMeans.{FilterMeans}
+use Rattle.bloom.specs.FilterRead.{fieldAt, numbersAt, filterAt}
 use Rattle.bloom.specs.declared.have.FilterNumbers.{FilterNumbers}
 use Rattle.bloom.specs.declared.parse.Parsed.the-variants.{Filter as Read, Refused}
 use Rattle.bloom.proofs.Rules.{capacity-none, ruled, rules, rules-none, full-of}

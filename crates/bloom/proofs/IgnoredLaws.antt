@@ -11,8 +11,8 @@ use Rattle.rules.specs.declared.refusal.Refusal.{Refusal}
 use Rattle.wire.specs.Item.{leftAt}
 use Rattle.wire.proofs.Item.{left-is}
 use Rattle.bloom.specs.Filter.{Filter, filterRules, filterBytes}
-use Rattle.bloom.specs.Ignored.{ignoredAt, countedAt, asParsed}
-use Rattle.bloom.specs.Read.{filterAt, afterFilter}
+use Rattle.bloom.specs.FilterIgnored.{ignoredAt, countedAt, asParsed}
+use Rattle.bloom.specs.FilterRead.{filterAt, afterFilter}
 use Rattle.bloom.specs.declared.have.FilterNumbers.{FilterNumbers}
 use Rattle.bloom.specs.declared.parse.CountedFilter.the-variants.{Filter as Count, Refused as NotCounted}
 use Rattle.bloom.specs.declared.parse.Parsed.{Parsed}

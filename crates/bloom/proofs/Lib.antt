@@ -1,4 +1,3 @@
--- Laws that the crates above cite.
 pub mod Filters
 pub mod HaveLaws
 pub mod IgnoredLaws

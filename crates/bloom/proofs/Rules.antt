@@ -9,7 +9,7 @@ use borrow.Author.Tests.{ltb-true, ltb-false, leb-true, eqb-true, lt-ltb, le-ltb
 use lib.Dec.{ltb, leb, eqb}
 use Rattle.rules.specs.Sizes.{sizes}
 use Rattle.rules.proofs.Cases.{split, both, other}
-use Rattle.numbers.specs.Number.{mostFilter}
+use Rattle.leb128.specs.Number.{mostFilter}
 use Rattle.bloom.specs.Filter.{fieldSize, filterRules, defaultBits, defaultProbes}
 
 -- ---- the size of a field

@@ -7,7 +7,7 @@ use lib.ListN.{length}
 use Rattle.rules.specs.Output.{Output}
 use Rattle.rules.specs.Sizes.{sizes}
 use Rattle.rules.specs.declared.refusal.Refusal.the-variants.{BadNumbers}
-use Rattle.numbers.specs.Number.{shortest, mostFilter}
+use Rattle.leb128.specs.Number.{shortest, mostFilter}
 
 -- Entries n, bits per entry b, probes p, and the bit field's bytes.
 pub record Filter : Type 0 where

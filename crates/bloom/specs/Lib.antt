@@ -1,5 +1,5 @@
 pub mod Filter
+pub mod FilterIgnored
+pub mod FilterMeans
+pub mod FilterRead
 pub mod Have
-pub mod Ignored
-pub mod Means
-pub mod Read

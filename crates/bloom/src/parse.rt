@@ -1,17 +1,17 @@
 // A filter read.
 use crate::have::FilterNumbers;
 use crate::rule::bits_capacity;
-use numbers::leb128::Number;
-use numbers::leb128::leb128_u32;
+use leb128::leb128::Number;
+use leb128::leb128::leb128_u32;
 use rules::refusal::Refusal;
 use rules::sizes::FIELD_SIZE;
 use rules::sizes::PROBES;
 use wire::parse::left;
 ghost use mathlib.Core.Path.{_≡_};
 ghost use Prim.Native.Nat.{_≤_};
-ghost use Rattle.bloom.specs.Ignored.{countedAt};
-ghost use Rattle.bloom.specs.Read.{filterAt, numbersAt, fieldAt};
-ghost use Rattle.numbers.specs.Number.{mostFilter};
+ghost use Rattle.bloom.specs.FilterIgnored.{countedAt};
+ghost use Rattle.bloom.specs.FilterRead.{filterAt, numbersAt, fieldAt};
+ghost use Rattle.leb128.specs.Number.{mostFilter};
 
 // 1% of false yeses; what a filter of no bytes has, and what filters are built with.
 pub const BITS_PER_ENTRY: u64 = 10;

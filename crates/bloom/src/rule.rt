@@ -1,11 +1,11 @@
 // The filter rules, for a filter that is passed as numbers.
-use numbers::leb128::MOST_FILTER;
+use leb128::leb128::MOST_FILTER;
 use rules::sizes::FIELD_SIZE;
 use rules::sizes::PROBES;
 ghost use mathlib.Core.Path.{_≡_};
 ghost use Prim.Native.Nat.{_≤_};
 ghost use Rattle.bloom.specs.Filter.{fieldSize, filterRules};
-ghost use Rattle.numbers.specs.Number.{mostFilter};
+ghost use Rattle.leb128.specs.Number.{mostFilter};
 
 // Bytes of a bit field, in whole numbers, which agree with the crate's f64 inside the sizes.
 pub fn bits_capacity(entries: u64, bits: u64) -> u64

@@ -1,7 +1,7 @@
 // A filter written.
 use crate::rule::filter_rules;
-use numbers::leb128::put_unsigned;
-use numbers::leb128::unsigned_size;
+use leb128::leb128::put_unsigned;
+use leb128::leb128::unsigned_size;
 use rules::output::Write;
 use rules::put::copy_into;
 use rules::refusal::Refusal;
@@ -10,7 +10,7 @@ ghost use Prim.Native.Nat.{_+_, _≤_, _<_};
 ghost use lib.ListN.{length};
 ghost use Rattle.bloom.specs.Filter.{filterBytes, filterOutput, filterOf4};
 ghost use Rattle.rules.specs.Output.{Written};
-ghost use Rattle.numbers.specs.Number.{Put};
+ghost use Rattle.leb128.specs.Number.{Put};
 
 // How many bytes a filter has when it is written.
 pub fn filter_size(entries: u64, bits: u64, probes: u64, field: &[u8]) -> usize

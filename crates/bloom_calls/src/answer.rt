@@ -1,9 +1,9 @@
 // An answer as words.
-use answers::answer::refusal_words;
 use bloom::parse::CountedFilter;
-use probe::contains::Contained;
+use bloom_probe::contains::Contained;
+use call_words::answer::refusal_words;
 ghost use mathlib.Core.Path.{_≡_};
-ghost use Rattle.bloom_calls.specs.Answer.{filterWords, containedWords};
+ghost use Rattle.bloom_calls.specs.BloomWords.{filterWords, containedWords};
 
 pub fn filter_words(f: CountedFilter) -> [u64; 8]
     ensures { λ w. ⌜ w ≡ filterWords f ⌝ }

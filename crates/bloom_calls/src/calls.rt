@@ -1,14 +1,14 @@
-// Calls of the crates `bloom` and `probe`.
+// Calls of the crates `bloom` and `bloom_probe`.
 use crate::answer::contained_words;
 use crate::answer::filter_words;
-use answers::answer::write_words;
+use call_words::answer::write_words;
 ghost use mathlib.Core.Path.{_≡_};
-ghost use Rattle.probe.specs.Build.{buildOutput};
+ghost use Rattle.bloom_probe.specs.Build.{buildOutput};
 ghost use Rattle.bloom.specs.Filter.{filterOutput, filterOf4};
-ghost use Rattle.bloom.specs.Ignored.{countedAt};
-ghost use Rattle.probe.specs.Contains.{containedIn};
-ghost use Rattle.answers.specs.Answer.{Answered};
-ghost use Rattle.bloom_calls.specs.Answer.{filterWords, containedWords};
+ghost use Rattle.bloom.specs.FilterIgnored.{countedAt};
+ghost use Rattle.bloom_probe.specs.Contains.{containedIn};
+ghost use Rattle.call_words.specs.Answer.{Answered};
+ghost use Rattle.bloom_calls.specs.BloomWords.{filterWords, containedWords};
 
 // Reads the filter that starts at place `at` of `bytes` and ends before place `end`. Answer: 0, entries, bits per entry, probes, the place of the
 // field, its length, the place behind what was read, the bytes ignored behind the field.
@@ -47,7 +47,7 @@ pub extern "C" fn bt_build_filter(
 )
     ensures { λ _. ⌜ Answered (buildOutput bits probes (now (hashes .entry))) (now (field .entry)) (now (field .exit)) (now (answer .exit)) ⌝ }
 {
-    *answer = write_words(probe::build::from_hashes(field, bits, probes, hashes));
+    *answer = write_words(bloom_probe::build::from_hashes(field, bits, probes, hashes));
 }
 
 // Asks whether the filter of some have contains the hash in `hash`. The haves are records of seven words over `bytes`. Answer: 0, then 1 for yes or
@@ -61,5 +61,5 @@ pub extern "C" fn bt_filters_contain(
 )
     ensures { λ _. ⌜ now (answer .exit) ≡ containedWords (containedIn (now (bytes .entry)) (now (haves .entry)) (now (hash .entry))) ⌝ }
 {
-    *answer = contained_words(probe::contains::filters_contain(bytes, haves, hash));
+    *answer = contained_words(bloom_probe::contains::filters_contain(bytes, haves, hash));
 }

@@ -1,3 +1,3 @@
-// Exported calls of the crates `bloom` and `probe`.
+// Exported calls of the crates `bloom` and `bloom_probe`.
 pub mod answer;
 pub mod calls;

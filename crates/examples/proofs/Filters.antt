@@ -10,14 +10,14 @@ use lib.Seq.{slice, drop-drop}
 use Rattle.bloom.proofs.Filters.{filter-numbers, numbers-read, field-no-bits, field-probes, filter-written}
 use Rattle.bloom.specs.Filter.{filterOf4, filterBytes, filterRules, fieldSize, defaultBits, defaultProbes}
 use Rattle.bloom.specs.Have.{numbersOf, filterWith}
-use Rattle.bloom.specs.Read.{fieldAt, filterAt}
+use Rattle.bloom.specs.FilterRead.{fieldAt, filterAt}
 use Rattle.bloom.specs.declared.parse.Parsed.the-variants.{Filter as Found, Refused}
-use Rattle.numbers.proofs.Number.{find-end}
-use Rattle.numbers.specs.Number.{shortest, sevens, mostFilter, find, answerAt, numberAt}
-use Rattle.numbers.specs.declared.leb128.Number.the-variants.{Value}
-use Rattle.probe.specs.Build.{setBit, setBits, addHash, addHashes, filterOf}
-use Rattle.probe.specs.Contains.{clearAt, noneClear, contains}
-use Rattle.probe.specs.Probes.{probesFrom, probesOf, bitAt}
+use Rattle.leb128.proofs.Number.{find-end}
+use Rattle.leb128.specs.Number.{shortest, sevens, mostFilter, find, answerAt, numberAt}
+use Rattle.leb128.specs.declared.leb128.Number.the-variants.{Value}
+use Rattle.bloom_probe.specs.Build.{setBit, setBits, addHash, addHashes, filterOf}
+use Rattle.bloom_probe.specs.Contains.{clearAt, noneClear, contains}
+use Rattle.bloom_probe.specs.Probes.{probesFrom, probesOf, bitAt}
 use Rattle.rules.specs.Hash.{hashBytes}
 use Rattle.rules.specs.LittleEndian.{u32At}
 use Rattle.rules.specs.declared.refusal.Refusal.the-variants.{PastSize, NoBits}

@@ -1,4 +1,3 @@
--- What shows the examples, and the list.
 pub mod Examples
 pub mod Filters
 pub mod Messages

@@ -5,20 +5,20 @@ use mathlib.Core.List.{List, [], _∷_}
 use mathlib.Core.Path.{_≡_, refl}
 use Rattle.bloom.specs.Filter.{filterBytes, fieldSize, defaultBits, defaultProbes}
 use Rattle.bloom.specs.Have.{havesFrom, havesOf}
-use Rattle.decode.specs.Read.{headsAt, openingAt, sectionAt, afterOpening, afterSection, listsAt, needAt, messageAt, messageIn}
-use Rattle.decode.specs.declared.parse.Places.{Places}
-use Rattle.graph.specs.Graph.{heads, beyond}
-use Rattle.items.specs.Items.{afterItem, haveItem, chunkItem, manyAt, afterList, listFrom, listAt, havesAt, chunksAt, chunksOf}
-use Rattle.lists.specs.Lists.{same}
+use Rattle.message_read.specs.MessageRead.{headsAt, openingAt, sectionAt, afterOpening, afterSection, listsAt, needAt, messageAt, messageIn}
+use Rattle.message_read.specs.declared.parse.Places.{Places}
+use Rattle.table_graph.specs.Graph.{heads, beyond}
+use Rattle.message_items.specs.Items.{afterItem, haveItem, chunkItem, manyAt, afterList, listFrom, listAt, havesAt, chunksAt, chunksOf}
+use Rattle.hash_lists.specs.Internal.Lists.{same}
 use Rattle.message.specs.Flags.{flagsOf, addFlags, flagsIn, sectionBytes}
 use Rattle.message.specs.Message.{joined, counted, haveBytes, messageBytes}
 use Rattle.message.specs.declared.flags.Section.the-variants.{Absent, Present}
 use Rattle.message.specs.declared.flags.Section.{Section}
 use Rattle.message.specs.declared.version.MessageVersion.the-variants.{V1}
-use Rattle.missing.specs.Missing.{asksFrom, missing}
-use Rattle.numbers.specs.Number.{shortest, sevens, goOn, find, answerAt, numberAt}
-use Rattle.order.specs.Order.{keep, every, ascend}
-use Rattle.probe.specs.Build.{addHashes, filterOf}
+use Rattle.waiting_missing.specs.Missing.{asksFrom, missing}
+use Rattle.leb128.specs.Number.{shortest, sevens, goOn, find, answerAt, numberAt}
+use Rattle.hash_order.specs.Order.{keep, every, ascend}
+use Rattle.bloom_probe.specs.Build.{addHashes, filterOf}
 use Rattle.rules.specs.Hash.{hashesAt, hashesBytes}
 use Rattle.session.specs.Plan.{
   needOf,
@@ -39,9 +39,9 @@ use Rattle.session.specs.Plan.{
   planReset,
   plan,
 }
-use Rattle.state.specs.Session.{fresh, freshReadOnly, setReadOnly}
-use Rattle.tables.specs.Table.{rowsFrom, rowsWhere}
-use Rattle.turns.specs.Talk.{listChunks, chunksFor, messageFor}
+use Rattle.session_state.specs.Session.{fresh, freshReadOnly, setReadOnly}
+use Rattle.table.specs.Table.{rowsFrom, rowsWhere}
+use Rattle.walk_sessions.specs.Talk.{listChunks, chunksFor, messageFor}
 use Rattle.wire.specs.Item.{run, leftAt, afterNumber, afterPart, afterListed, countAt, prefixedAt, hashListAt, prefixedBytes, hashListBytes}
 use Rattle.examples.specs.Examples.{Reads, Writes, emptyMessage}
 

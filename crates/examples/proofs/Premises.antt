@@ -5,11 +5,11 @@ use mathlib.Core.Path.{refl}
 use borrow.Author.Tests.{ltb-true}
 use Rattle.bloom.specs.Filter.{filterOf4}
 use Rattle.bloom.specs.Have.{Have}
-use Rattle.members.specs.Members.{lastSyncs, filters}
-use Rattle.order.proofs.KeepLaws.{once-ascends}
-use Rattle.order.specs.Order.{ascends}
-use Rattle.probe.specs.Contains.{clearAt, noneClear, contains, anyContains}
-use Rattle.probe.specs.Probes.{probesFrom, probesOf, bitAt}
+use Rattle.send_members.specs.Internal.Members.{lastSyncs, filters}
+use Rattle.hash_order.proofs.KeepLaws.{once-ascends}
+use Rattle.hash_order.specs.Order.{ascends}
+use Rattle.bloom_probe.specs.Contains.{clearAt, noneClear, contains, anyContains}
+use Rattle.bloom_probe.specs.Probes.{probesFrom, probesOf, bitAt}
 use Rattle.rules.specs.Hash.{bigEndian, bigEndianBytes, hashBytes}
 use Rattle.rules.specs.LittleEndian.{u32At}
 use Rattle.walk.proofs.Example.{wordsHash}

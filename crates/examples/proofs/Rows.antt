@@ -7,17 +7,17 @@ use native.Mathlib.Omega.{arith}
 use borrow.Author.Tests.{eqb-true, eq-eqb}
 use lib.Dec.{eqb}
 use Rattle.bloom.specs.Have.{Have}
-use Rattle.graph.specs.Graph.{needed, heads, belowRow, beyond}
-use Rattle.members.proofs.MemberLaws.{s-equation}
-use Rattle.members.specs.Members.{filters, candidate, inTheS, theS, someOf}
-use Rattle.order.proofs.KeepLaws.{once-first, once-tail}
-use Rattle.order.proofs.OrderLaws.{member-here, member-there, member-none}
-use Rattle.order.specs.Order.{member, keep, insertOnce, ascend, Once}
-use Rattle.order.specs.Reach.{someBelow, reachIn, reach}
-use Rattle.probe.specs.Contains.{anyContains}
+use Rattle.table_graph.specs.Graph.{needed, heads, belowRow, beyond}
+use Rattle.send_members.proofs.MemberLaws.{s-equation}
+use Rattle.send_members.specs.Internal.Members.{filters, candidate, inTheS, theS, someOf}
+use Rattle.hash_order.proofs.KeepLaws.{once-first, once-tail}
+use Rattle.hash_order.proofs.OrderLaws.{member-here, member-there, member-none}
+use Rattle.hash_order.specs.Order.{member, keep, insertOnce, ascend, Once}
+use Rattle.hash_order.specs.Reach.{someBelow, reachIn, reach}
+use Rattle.bloom_probe.specs.Contains.{anyContains}
 use Rattle.rules.proofs.Cases.{split, either, true-false}
-use Rattle.selection.specs.ToSend.{toSend}
-use Rattle.tables.specs.Table.{Row, rows, hashOf, depsOf, held, rowsFrom, rowsWhere}
+use Rattle.send.specs.ToSend.{toSend}
+use Rattle.table.specs.Table.{Row, rows, hashOf, depsOf, held, rowsFrom, rowsWhere}
 use Rattle.walk.proofs.Example.{only}
 use Rattle.examples.specs.Examples.{four, OnlyMissed}
 

@@ -7,32 +7,32 @@ use mathlib.Core.Path.{_≡_}
 use lib.Seq.{slice}
 use Rattle.bloom.specs.Filter.{filterOf4, filterBytes, defaultBits, defaultProbes}
 use Rattle.bloom.specs.Have.{Have, filterWith}
-use Rattle.bloom.specs.Read.{filterAt}
+use Rattle.bloom.specs.FilterRead.{filterAt}
 use Rattle.bloom.specs.declared.have.FilterNumbers.{FilterNumbers}
 use Rattle.bloom.specs.declared.parse.Parsed.the-variants.{Filter as Found, Refused}
 use Rattle.bloom.specs.declared.parse.Parsed.{Parsed}
-use Rattle.decode.specs.Read.{read, messageAt, messageIn}
-use Rattle.decode.specs.declared.parse.Places.{Places}
-use Rattle.graph.specs.Graph.{beyond, heads}
-use Rattle.members.specs.Members.{lastSyncs, filters}
+use Rattle.message_read.specs.MessageRead.{read, messageAt, messageIn}
+use Rattle.message_read.specs.declared.parse.Places.{Places}
+use Rattle.table_graph.specs.Graph.{beyond, heads}
+use Rattle.send_members.specs.Internal.Members.{lastSyncs, filters}
 use Rattle.message.specs.Flags.{flagsOf}
 use Rattle.message.specs.Message.{Message, messageBytes}
 use Rattle.message.specs.declared.flags.Section.the-variants.{Absent, Present}
 use Rattle.message.specs.declared.flags.Section.{Section}
 use Rattle.message.specs.declared.version.MessageVersion.the-variants.{V1}
-use Rattle.order.specs.Order.{Once}
-use Rattle.probe.specs.Build.{filterOf}
-use Rattle.probe.specs.Contains.{contains, anyContains}
-use Rattle.probe.specs.Probes.{probesOf}
+use Rattle.hash_order.specs.Order.{Once}
+use Rattle.bloom_probe.specs.Build.{filterOf}
+use Rattle.bloom_probe.specs.Contains.{contains, anyContains}
+use Rattle.bloom_probe.specs.Probes.{probesOf}
 use Rattle.rules.specs.Hash.{IsHash, hashBytes}
 use Rattle.rules.specs.LittleEndian.{u32At}
 use Rattle.rules.specs.Refusal.{numberOf, valueOf}
 use Rattle.rules.specs.declared.refusal.Refusal.{Refusal}
-use Rattle.selection.specs.ToSend.{toSend}
+use Rattle.send.specs.ToSend.{toSend}
 use Rattle.session.specs.Plan.{Plan, Planned, plan}
-use Rattle.state.specs.Session.{State, fresh, freshReadOnly, setReadOnly}
-use Rattle.tables.specs.Table.{Row}
-use Rattle.turns.specs.Talk.{Host, messageFor}
+use Rattle.session_state.specs.Session.{State, fresh, freshReadOnly, setReadOnly}
+use Rattle.table.specs.Table.{Row}
+use Rattle.walk_sessions.specs.Talk.{Host, messageFor}
 
 -- P1 to P3, reading: bytes are read as a message.
 pub record Reads (s : List ℕ) (m : Message) : Type 0 where

@@ -8,7 +8,7 @@ use lib.ListN.{length, getD}
 use lib.Seq.{slice}
 use Rattle.message.specs.Flags.{addFlags, flagsOf}
 use Rattle.message.specs.declared.flags.MessageFlags.{MessageFlags}
-use Rattle.numbers.proofs.Number.{slice-past, slice-next}
+use Rattle.leb128.proofs.Number.{slice-past, slice-next}
 
 module _ (s : List ℕ) (end f i : ℕ) where
   pub flags-end : end ≤ i → addFlags f (slice i end s) ≡ f

@@ -1,4 +1,3 @@
--- Laws that the crates above cite.
 pub mod FlagLaws
 pub mod Promises
 pub mod WriteLaws

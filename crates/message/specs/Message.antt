@@ -5,7 +5,7 @@ use lib.ListN.{length}
 use Rattle.bloom.specs.Filter.{filterBytes}
 use Rattle.bloom.specs.Have.{Have}
 use Rattle.wire.specs.Item.{prefixedBytes, hashListBytes}
-use Rattle.numbers.specs.Number.{shortest}
+use Rattle.leb128.specs.Number.{shortest}
 use Rattle.message.specs.Flags.{sectionBytes}
 use Rattle.message.specs.declared.flags.Section.{Section}
 use Rattle.message.specs.declared.version.MessageVersion.{MessageVersion}

@@ -3,6 +3,6 @@
 //   42 or 43 | heads | need | count, haves | count, chunks | flags section, if there is one
 //             a have:  last-sync hashes | filter, prefixed        a chunk: prefixed
 //
-// The crates `decode` and `encode` read and write it.
+// The crates `message_read` and `message_write` read and write it.
 pub mod flags;
 pub mod version;

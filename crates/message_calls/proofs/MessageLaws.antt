@@ -4,20 +4,20 @@ use Prim.Native.Nat.{ℕ, _≤_, _<_}
 use mathlib.Core.List.{List}
 use mathlib.Core.Path.{_≡_, refl, sym, ap, ap₂, subst, _∙_}
 use borrow.Author.Tests.{eq-eqb, ne-eqb, lt-ltb, le-ltb}
-use Rattle.decode.specs.Ignored.{DecodedInto}
-use Rattle.decode.specs.declared.decode.CountedMessage.{CountedMessage}
+use Rattle.message_read.specs.MessageIgnored.{DecodedInto}
+use Rattle.message_read.specs.declared.decode.CountedMessage.{CountedMessage}
 use Rattle.message.specs.Write.{partsOf, messageOutput}
 use Rattle.message.specs.Flags.{flagsOf}
 use Rattle.message.specs.declared.flags.Section.{Section}
 use Rattle.message.specs.declared.flags.Section.the-variants.{Absent, Present}
 use Rattle.message.specs.declared.version.MessageVersion.{MessageVersion}
 use Rattle.message.specs.declared.version.MessageVersion.the-variants.{V1, V2}
-use Rattle.peek.specs.Peek.{PeekedInto}
-use Rattle.peek.specs.declared.peek.Peeked.{Peeked}
+use Rattle.message_peek.specs.Peek.{PeekedInto}
+use Rattle.message_peek.specs.declared.peek.Peeked.{Peeked}
 use Rattle.rules.specs.Output.{Output, Written}
 use Rattle.rules.specs.declared.output.Write.{Write}
-use Rattle.answers.proofs.Answers.{answered}
-use Rattle.answers.specs.Answer.{writeWords, Answered}
+use Rattle.call_words.proofs.Answers.{answered}
+use Rattle.call_words.specs.Answer.{writeWords, Answered}
 use Rattle.message_calls.specs.MessageWords.{versionWord, versionOf, sectionWord, sectionOf, decodedWords, MessageAnswered, peekedWords, PeekAnswered}
 
 -- ---- the words that are passed

@@ -4,8 +4,8 @@ use contract.Lifetimes.{Lfts}
 use denote.Ref.{now}
 use denote.Triple.Clauses.{AtExit}
 use denote.Triple.Entry.{Args}
-use Rattle.answers.specs.Answer.{Answered}
-use Rattle.answers.specs.Ties.{Ties}
+use Rattle.call_words.specs.Answer.{Answered}
+use Rattle.call_words.specs.Ties.{Ties}
 use Rattle.message.specs.Write.{partsOf, messageOutput}
 use Rattle.message_calls.specs.MessageWords.{versionOf, sectionOf}
 use Rattle.message_calls.proofs.calls.bt_write_message as of-bt-write-message

@@ -5,19 +5,19 @@ use mathlib.Core.List.{List, [], _∷_}
 use mathlib.Core.Path.{_≡_}
 use lib.Dec.{ltb, eqb}
 use lib.ListN.{length}
-use Rattle.answers.specs.Answer.{refusalWords}
-use Rattle.decode.specs.Ignored.{countedOf, ignoredInto}
-use Rattle.decode.specs.Read.{openingAt, readWith, havesInto, chunksInto}
-use Rattle.decode.specs.declared.decode.CountedMessage.{CountedMessage}
-use Rattle.decode.specs.declared.decode.CountedMessage.the-variants.{Message, Refused}
+use Rattle.call_words.specs.Answer.{refusalWords}
+use Rattle.message_read.specs.MessageIgnored.{countedOf, ignoredInto}
+use Rattle.message_read.specs.MessageRead.{openingAt, readWith, havesInto, chunksInto}
+use Rattle.message_read.specs.declared.decode.CountedMessage.{CountedMessage}
+use Rattle.message_read.specs.declared.decode.CountedMessage.the-variants.{Message, Refused}
 use Rattle.message.specs.Flags.{flagsOf}
 use Rattle.message.specs.declared.flags.Section.{Section}
 use Rattle.message.specs.declared.flags.Section.the-variants.{Absent, Present}
 use Rattle.message.specs.declared.version.MessageVersion.{MessageVersion}
 use Rattle.message.specs.declared.version.MessageVersion.the-variants.{V1, V2}
-use Rattle.peek.specs.Peek.{peekedAt, headsInto}
-use Rattle.peek.specs.declared.peek.Peeked.{Peeked}
-use Rattle.peek.specs.declared.peek.Peeked.the-variants.{Heads, Refused as NotPeeked}
+use Rattle.message_peek.specs.Peek.{peekedAt, headsInto}
+use Rattle.message_peek.specs.declared.peek.Peeked.{Peeked}
+use Rattle.message_peek.specs.declared.peek.Peeked.the-variants.{Heads, Refused as NotPeeked}
 use Rattle.rules.specs.Refusal.{numberOf, valueOf}
 
 -- 1 or 2; any other number than 2 is version 1.

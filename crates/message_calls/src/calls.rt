@@ -1,11 +1,11 @@
-// Calls of the crates `decode`, `peek` and `encode`.
+// Calls of the crates `message_read`, `message_peek` and `message_write`.
 use crate::message_words::decoded_words;
 use crate::message_words::peeked_words;
 use crate::message_words::section_of;
 use crate::message_words::version_of;
-use answers::answer::write_words;
+use call_words::answer::write_words;
 ghost use Rattle.message.specs.Write.{partsOf, messageOutput};
-ghost use Rattle.answers.specs.Answer.{Answered};
+ghost use Rattle.call_words.specs.Answer.{Answered};
 ghost use Rattle.message_calls.specs.MessageWords.{versionOf, sectionOf, MessageAnswered, PeekAnswered};
 
 // Reads the message in `bytes`. The seven words of each have go to the start of `haves`, the place and the length of each chunk to the start of
@@ -23,7 +23,7 @@ pub extern "C" fn bt_read_message(
     ensures { λ _. ⌜ MessageAnswered (now (bytes .entry)) (now (haves .entry)) (now (haves .exit)) (now (chunks .entry)) (now (chunks .exit))
         (now (ignored .entry)) (now (ignored .exit)) (now (answer .exit)) ⌝ }
 {
-    *answer = decoded_words(decode::decode::decode(bytes, haves, chunks, ignored));
+    *answer = decoded_words(message_read::decode::decode(bytes, haves, chunks, ignored));
 }
 
 // Reads the version and the heads of the message in `bytes` from its first part alone, and copies the heads to the start of `out`; what follows
@@ -32,7 +32,7 @@ pub extern "C" fn bt_read_message(
 pub extern "C" fn bt_peek_heads(bytes: &[u8], out: &mut [u8], answer: &mut [u64; 4])
     ensures { λ _. ⌜ PeekAnswered (now (bytes .entry)) (now (out .entry)) (now (out .exit)) (now (answer .exit)) ⌝ }
 {
-    *answer = peeked_words(peek::peek::peek_heads(bytes, out));
+    *answer = peeked_words(message_peek::peek::peek_heads(bytes, out));
 }
 
 // Writes a message at the start of `out`: `version` 2 is version 2 and any other number version 1; the hashes in `heads` and in `need`; haves as
@@ -56,7 +56,7 @@ pub extern "C" fn bt_write_message(
 {
     let v = version_of(version);
     let f = section_of(flags);
-    *answer = write_words(encode::encode::encode(
+    *answer = write_words(message_write::encode::encode(
         out,
         v,
         heads,

@@ -1,10 +1,10 @@
 // A message as words.
-use answers::answer::refusal_words;
-use decode::decode::CountedMessage;
+use call_words::answer::refusal_words;
 use message::flags::MessageFlags;
 use message::flags::Section;
 use message::version::MessageVersion;
-use peek::peek::Peeked;
+use message_peek::peek::Peeked;
+use message_read::decode::CountedMessage;
 ghost use mathlib.Core.Path.{_≡_};
 ghost use Rattle.message_calls.specs.MessageWords.{versionWord, versionOf, sectionWord, sectionOf, decodedWords, peekedWords};
 

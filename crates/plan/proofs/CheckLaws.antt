@@ -4,31 +4,31 @@ use mathlib.Core.Bool.{Bool, true, false, cond, not}
 use mathlib.Core.List.{List}
 use mathlib.Core.Path.{_≡_, refl, sym, _∙_}
 use native.Mathlib.Omega.{arith}
-use Rattle.asked.specs.Asked.{PlanChecked}
+use Rattle.asked.specs.Internal.Asked.{PlanChecked}
 use Rattle.bloom.specs.Filter.{defaultBits, defaultProbes}
 use Rattle.bloom.proofs.Rules.{rules-default}
-use Rattle.index.specs.Index.{Indexed, indexChecked}
-use Rattle.index.proofs.CheckLaws.{checked-table, checked-indexed}
-use Rattle.lent.specs.Good.{sessionGood}
-use Rattle.planned.specs.Call.{Buffers, afterTables, planWith, plannedAnswer, plannedRoomed, putInto, PlanCalled}
-use Rattle.planned.specs.declared.answer.PlanAnswer.the-variants as answer
-use Rattle.planning.specs.Made.{Setting}
+use Rattle.table_index.specs.Index.{Indexed, indexChecked}
+use Rattle.table_index.proofs.CheckLaws.{checked-table, checked-indexed}
+use Rattle.session_check.specs.SessionGood.{sessionGood}
+use Rattle.session.specs.PlanCall.{Buffers, afterTables, planWith, plannedAnswer, plannedRoomed, putInto, PlanCalled}
+use Rattle.session.specs.declared.plan_answer.PlanAnswer.the-variants as answer
+use Rattle.plan_parts.specs.Internal.PlanParts.{Setting}
 use Rattle.rules.specs.Hash.{hashesBytes}
 use Rattle.rules.specs.declared.refusal.Refusal.{Refusal}
 use Rattle.rules.specs.declared.refusal.Refusal.the-variants.{BadNumbers}
 use Rattle.session.specs.Laid.{laidBytes}
 use Rattle.session.specs.Plan.{Planned, plan}
-use Rattle.state.specs.Value.{Lent, stateOf}
-use Rattle.state.specs.declared.session.Session.{Session}
-use Rattle.tables.specs.Bytes.{rowsAt, tableOf}
-use Rattle.tables.specs.Calls.{passedOn}
-use Rattle.tables.specs.Table.{Row}
-use Rattle.tables.specs.declared.check.Checked.{Checked as TableChecked}
-use Rattle.tables.specs.declared.check.Checked.the-variants as tables
-use Rattle.tables.proofs.TableLaws.{table-good}
-use Rattle.waiting.specs.Bytes.{waitingOf, waitingChecked}
-use Rattle.waiting.specs.Calls.{tablesChecked}
-use Rattle.plan.specs.Checks.{besideChecked, besideTable, checkedPlan}
+use Rattle.session_state.specs.Value.{Lent, stateOf}
+use Rattle.session_state.specs.declared.session.Session.{Session}
+use Rattle.table.specs.TableBytes.{rowsAt, tableOf}
+use Rattle.table.specs.TableCalls.{passedOn}
+use Rattle.table.specs.Table.{Row}
+use Rattle.table.specs.declared.check.Checked.{Checked as TableChecked}
+use Rattle.table.specs.declared.check.Checked.the-variants as tables
+use Rattle.table.proofs.TableLaws.{table-good}
+use Rattle.waiting.specs.WaitingBytes.{waitingOf, waitingChecked}
+use Rattle.waiting.specs.WaitingCalls.{tablesChecked}
+use Rattle.plan.specs.Internal.PlanChecks.{besideChecked, besideTable, checkedPlan}
 use Rattle.plan.specs.declared.check.PlanChecks.{PlanChecks}
 use Rattle.plan.specs.declared.check.PlanChecks.the-variants.{Good, Refused}
 

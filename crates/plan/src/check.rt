@@ -1,13 +1,13 @@
 // The tests that come before planning.
-use index::check::check_indexed;
-use lent::good::session_good;
 use rules::refusal::Refusal;
-use state::session::Session;
-use tables::check::Checked;
+use session_check::good::session_good;
+use session_state::session::Session;
+use table::check::Checked;
+use table_index::check::check_indexed;
 use waiting::check::check_waiting;
 ghost use mathlib.Core.Path.{_≡_};
-ghost use Rattle.lent.specs.Good.{lentOf};
-ghost use Rattle.plan.specs.Checks.{checkedPlan};
+ghost use Rattle.session_check.specs.SessionGood.{lentOf};
+ghost use Rattle.plan.specs.Internal.PlanChecks.{checkedPlan};
 
 // How many rows both tables have, which are good beside a good session; or the first refusal.
 pub enum PlanChecks {

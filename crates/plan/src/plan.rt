@@ -4,12 +4,12 @@ use crate::check::check_plan;
 use asked::asked::plan_checked;
 use bloom::parse::BITS_PER_ENTRY;
 use bloom::parse::NUM_PROBES;
-use planned::answer::PlanAnswer;
-use state::session::Session;
+use session::plan_answer::PlanAnswer;
+use session_state::session::Session;
 ghost use Rattle.bloom.specs.Filter.{defaultBits, defaultProbes};
-ghost use Rattle.lent.specs.Good.{lentOf};
-ghost use Rattle.planned.specs.Call.{planWith, buffersOf, PlanCalled};
-ghost use Rattle.planning.specs.Made.{Setting};
+ghost use Rattle.session_check.specs.SessionGood.{lentOf};
+ghost use Rattle.session.specs.PlanCall.{planWith, buffersOf, PlanCalled};
+ghost use Rattle.plan_parts.specs.Internal.PlanParts.{Setting};
 
 // The plan with a filter of these bits and probes.
 pub fn plan(

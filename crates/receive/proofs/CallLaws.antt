@@ -7,41 +7,41 @@ use native.Mathlib.Omega.{arith}
 use borrow.Author.Tests.{ltb-false}
 use lib.Dec.{ltb}
 use lib.ListN.{length}
-use Rattle.decode.specs.Read.{Reading, messageAt, decodedOf}
-use Rattle.decode.specs.declared.parse.Decoded.{Decoded}
-use Rattle.decode.specs.declared.parse.Decoded.the-variants.{Message as Placed, Refused as NotRead}
-use Rattle.decode.specs.declared.parse.Places.{Places}
-use Rattle.decode.proofs.ReadLaws.{not-placed}
-use Rattle.index.specs.Index.{indexChecked}
-use Rattle.index.proofs.CheckLaws.{checked-table, checked-indexed}
-use Rattle.lent.specs.Good.{sessionGood}
-use Rattle.lent.proofs.GoodSessions.{session-parts}
+use Rattle.message_read.specs.MessageRead.{Reading, messageAt, decodedOf}
+use Rattle.message_read.specs.declared.parse.Decoded.{Decoded}
+use Rattle.message_read.specs.declared.parse.Decoded.the-variants.{Message as Placed, Refused as NotRead}
+use Rattle.message_read.specs.declared.parse.Places.{Places}
+use Rattle.message_read.proofs.ReadLaws.{not-placed}
+use Rattle.table_index.specs.Index.{indexChecked}
+use Rattle.table_index.proofs.CheckLaws.{checked-table, checked-indexed}
+use Rattle.session_check.specs.SessionGood.{sessionGood}
+use Rattle.session_check.proofs.GoodSessions.{session-parts}
 use Rattle.message.specs.Flags.{syncReset, hasFlag}
 use Rattle.rules.specs.Hash.{Bytes}
 use Rattle.rules.specs.declared.refusal.Refusal.{Refusal}
 use Rattle.rules.specs.declared.refusal.Refusal.the-variants.{BadNumbers, BadRowsBefore}
 use Rattle.rules.proofs.Cases.{split}
-use Rattle.hearing.specs.Receive.{Received, told, receive, receiveRead, receiveBytes}
-use Rattle.state.specs.Value.{Lent, stateOf}
-use Rattle.state.specs.declared.session.Session.{Session}
-use Rattle.tables.specs.Bytes.{rowsAt, tableOf}
-use Rattle.tables.specs.declared.check.Checked.{Checked}
-use Rattle.tables.specs.declared.check.Checked.the-variants as tables
-use Rattle.tables.proofs.TableLaws.{table-good}
-use Rattle.receiving.specs.Made.{flaggedCounts}
-use Rattle.receive.specs.Call.{afterTable, receiveWith, receivedRoomed, refusalAnswer, receivedAnswer, keptIn, receivedRooms, ReceiveCalled}
-use Rattle.drafting.specs.Checks.{besideRows, afterRows, checked, Accepted}
-use Rattle.drafting.specs.Made.{saidAt, Prepared, Stands, Makes, ReceiptMade}
-use Rattle.taking.specs.Receipt.{receiptDecided, SmallReceipt, ReceiptParts, receiptPuts, ReceiptFits, receiptPut}
-use Rattle.taking.specs.declared.answer.ReceiveAnswer.{ReceiveAnswer}
-use Rattle.taking.specs.declared.answer.ReceiveAnswer.the-variants.{Refused}
-use Rattle.drafting.specs.declared.check.ReceiptChecks.the-variants as checks
-use Rattle.taking.specs.declared.decide.Receipt.{Receipt}
+use Rattle.session.specs.Receive.{Received, told, receive, receiveRead, receiveBytes}
+use Rattle.session_state.specs.Value.{Lent, stateOf}
+use Rattle.session_state.specs.declared.session.Session.{Session}
+use Rattle.table.specs.TableBytes.{rowsAt, tableOf}
+use Rattle.table.specs.declared.check.Checked.{Checked}
+use Rattle.table.specs.declared.check.Checked.the-variants as tables
+use Rattle.table.proofs.TableLaws.{table-good}
+use Rattle.receive_parts.specs.Internal.ReceiveParts.{flaggedCounts}
+use Rattle.session.specs.ReceiveCall.{afterTable, receiveWith, receivedRoomed, refusalAnswer, receivedAnswer, keptIn, receivedRooms, ReceiveCalled}
+use Rattle.receive_make.specs.Internal.ReceiveChecks.{besideRows, afterRows, checked, Accepted}
+use Rattle.receive_make.specs.Internal.ReceiveMake.{saidAt, Prepared, Stands, Makes, ReceiptMade}
+use Rattle.receive_decide.specs.Internal.Receipt.{receiptDecided, SmallReceipt, ReceiptParts, receiptPuts, ReceiptFits, receiptPut}
+use Rattle.session.specs.declared.receive_answer.ReceiveAnswer.{ReceiveAnswer}
+use Rattle.session.specs.declared.receive_answer.ReceiveAnswer.the-variants.{Refused}
+use Rattle.receive_make.specs.declared.check.ReceiptChecks.the-variants as checks
+use Rattle.receive_decide.specs.declared.decide.Receipt.{Receipt}
 use Rattle.receive.proofs.DraftLaws.{forgets-most, DraftedAs, Drafted, draft-small}
 use Rattle.receive.proofs.OtherLaws.{Other, message-other, table-other}
 use Rattle.receive.proofs.Outcomes.{Outcomes, outcome, same-answer}
 use Rattle.receive.proofs.KeptLaws.{puts-fit, puts-kept}
-use Rattle.drafting.proofs.SaidLaws.{read-receives}
+use Rattle.receive_make.proofs.SaidLaws.{read-receives}
 
 -- ---- the tests before, taken apart
 

@@ -9,19 +9,19 @@ use borrow.Author.Tests.{ltb-true, lt-ltb, ne-eqb}
 use lib.Dec.{ltb, eqb}
 use lib.ListN.{length, take}
 use Rattle.bloom.specs.Have.{haveWords}
-use Rattle.decode.specs.Read.{messageAt, decodedOf}
-use Rattle.decode.specs.declared.parse.Decoded.the-variants.{Message as Placed}
-use Rattle.decode.specs.declared.parse.Places.{Places}
-use Rattle.graph.specs.Graph.{heads, below}
-use Rattle.hearing.specs.Receive.{Said, told, sentFlagged, flagged, loads, sharedLoaded, sharedAfter, sentLeft, lastSentAfter, received}
-use Rattle.lent.proofs.GoodSessions.{session-parts}
-use Rattle.lent.specs.Good.{sessionGood}
-use Rattle.lists.specs.Lists.{same}
+use Rattle.message_read.specs.MessageRead.{messageAt, decodedOf}
+use Rattle.message_read.specs.declared.parse.Decoded.the-variants.{Message as Placed}
+use Rattle.message_read.specs.declared.parse.Places.{Places}
+use Rattle.table_graph.specs.Graph.{heads, below}
+use Rattle.session.specs.Receive.{Said, told, sentFlagged, flagged, loads, sharedLoaded, sharedAfter, sentLeft, lastSentAfter, received}
+use Rattle.session_check.proofs.GoodSessions.{session-parts}
+use Rattle.session_check.specs.SessionGood.{sessionGood}
+use Rattle.hash_lists.specs.Internal.Lists.{same}
 use Rattle.message.specs.Flags.{syncReset, hasFlag}
 use Rattle.message.specs.declared.flags.Section.{Section}
-use Rattle.order.proofs.KeepLaws.{keep-most}
-use Rattle.order.specs.Order.{keep}
-use Rattle.receiving.specs.Made.{flaggedCounts, sharedRoom, SharedMade}
+use Rattle.hash_order.proofs.KeepLaws.{keep-most}
+use Rattle.hash_order.specs.Order.{keep}
+use Rattle.receive_parts.specs.Internal.ReceiveParts.{flaggedCounts, sharedRoom, SharedMade}
 use Rattle.rules.proofs.Cases.{split}
 use Rattle.rules.proofs.Hash.{length-hashes-at}
 use Rattle.rules.specs.Hash.{hashesAt}
@@ -29,20 +29,20 @@ use Rattle.rules.specs.Output.{Gathered}
 use Rattle.rules.specs.Sizes.{sizes}
 use Rattle.session.specs.Plan.{empty}
 use Rattle.session.specs.Rooms.{orShort}
-use Rattle.state.proofs.ValueLaws.{hashes-counted, haves-counted}
-use Rattle.state.specs.Session.{State}
-use Rattle.state.specs.Value.{Lent, stateOf, countsOf}
-use Rattle.state.specs.declared.session.Session.{Session}
-use Rattle.tables.proofs.TableLaws.{take-rows-at}
-use Rattle.tables.specs.Bytes.{rowsAt}
-use Rattle.tables.specs.Table.{Row}
-use Rattle.receive.specs.Call.{shortFor}
-use Rattle.drafting.specs.Made.{saidAt, toldHeads, lastSentCount, keptHashes, ReceiptMade}
-use Rattle.taking.specs.Receipt.{SmallReceipt, receivedCounts, orWanted, shortWith, ReceiptParts}
-use Rattle.taking.specs.declared.answer.SessionRooms.{SessionRooms}
-use Rattle.taking.specs.declared.decide.Receipt.{Receipt}
-use Rattle.drafting.proofs.SaidLaws.{read-words, haves-many}
-use Rattle.drafting.proofs.MakeLaws.{kept-most}
+use Rattle.session_state.proofs.ValueLaws.{hashes-counted, haves-counted}
+use Rattle.session_state.specs.Session.{State}
+use Rattle.session_state.specs.Value.{Lent, stateOf, countsOf}
+use Rattle.session_state.specs.declared.session.Session.{Session}
+use Rattle.table.proofs.TableLaws.{take-rows-at}
+use Rattle.table.specs.TableBytes.{rowsAt}
+use Rattle.table.specs.Table.{Row}
+use Rattle.session.specs.ReceiveCall.{shortFor}
+use Rattle.receive_make.specs.Internal.ReceiveMake.{saidAt, toldHeads, lastSentCount, keptHashes, ReceiptMade}
+use Rattle.receive_decide.specs.Internal.Receipt.{SmallReceipt, receivedCounts, orWanted, shortWith, ReceiptParts}
+use Rattle.session.specs.declared.receive_answer.SessionRooms.{SessionRooms}
+use Rattle.receive_decide.specs.declared.decide.Receipt.{Receipt}
+use Rattle.receive_make.proofs.SaidLaws.{read-words, haves-many}
+use Rattle.receive_make.proofs.MakeLaws.{kept-most}
 
 -- ---- counts of a good session
 

@@ -11,13 +11,13 @@ use lib.Dec.{ltb}
 use lib.ListN.{length, take, drop, take-append-drop}
 use lib.Seq.{sets, slice, sets-eq, slice-empty, length-take-le}
 use Rattle.bloom.specs.Have.{haveWords, havesFrom, havesOf}
-use Rattle.decode.specs.Read.{messageAt, decodedOf}
-use Rattle.decode.specs.declared.parse.Decoded.the-variants.{Message as Placed}
-use Rattle.decode.specs.declared.parse.Places.{Places}
-use Rattle.graph.specs.Graph.{heads}
-use Rattle.lent.specs.Good.{sessionGood}
-use Rattle.lent.proofs.GoodSessions.{session-parts}
-use Rattle.lists.specs.Lists.{same}
+use Rattle.message_read.specs.MessageRead.{messageAt, decodedOf}
+use Rattle.message_read.specs.declared.parse.Decoded.the-variants.{Message as Placed}
+use Rattle.message_read.specs.declared.parse.Places.{Places}
+use Rattle.table_graph.specs.Graph.{heads}
+use Rattle.session_check.specs.SessionGood.{sessionGood}
+use Rattle.session_check.proofs.GoodSessions.{session-parts}
+use Rattle.hash_lists.specs.Internal.Lists.{same}
 use Rattle.rules.specs.Hash.{Bytes, hashesAt, hashesBytes}
 use Rattle.rules.specs.Sizes.{sizes}
 use Rattle.rules.proofs.Cases.{split}
@@ -25,23 +25,23 @@ use Rattle.rules.proofs.Hash.{hashes-at-bytes}
 use Rattle.rules.proofs.Outputs.{gathered-bytes}
 use Rattle.session.specs.Laid.{laidBytes, laidFrom, laidWords}
 use Rattle.session.specs.Plan.{empty}
-use Rattle.hearing.specs.Receive.{Said, Received, lastSentAfter, received}
-use Rattle.state.specs.Session.{State}
-use Rattle.state.specs.Value.{Lent, stateOf}
-use Rattle.state.specs.declared.session.Session.{Session}
-use Rattle.tables.specs.Bytes.{rowsAt}
-use Rattle.tables.specs.Table.{Row}
-use Rattle.laying.specs.Made.{Layable}
-use Rattle.receive.specs.Call.{keptIn, receivedRooms}
-use Rattle.drafting.specs.Made.{saidAt, havesWords, Stands}
-use Rattle.taking.specs.Receipt.{orWanted, shortWith, receiptDecided, ReceiptParts, noReceipt, receiptPuts, ReceiptFits, receiptPut}
-use Rattle.taking.specs.declared.answer.ReceiveAnswer.{ReceiveAnswer}
-use Rattle.taking.specs.declared.answer.SessionRooms.{SessionRooms}
-use Rattle.taking.specs.declared.decide.Receipt.{Receipt}
+use Rattle.session.specs.Receive.{Said, Received, lastSentAfter, received}
+use Rattle.session_state.specs.Session.{State}
+use Rattle.session_state.specs.Value.{Lent, stateOf}
+use Rattle.session_state.specs.declared.session.Session.{Session}
+use Rattle.table.specs.TableBytes.{rowsAt}
+use Rattle.table.specs.Table.{Row}
+use Rattle.receive_haves.specs.Internal.HavesLaid.{Layable}
+use Rattle.session.specs.ReceiveCall.{keptIn, receivedRooms}
+use Rattle.receive_make.specs.Internal.ReceiveMake.{saidAt, havesWords, Stands}
+use Rattle.receive_decide.specs.Internal.Receipt.{orWanted, shortWith, receiptDecided, ReceiptParts, noReceipt, receiptPuts, ReceiptFits, receiptPut}
+use Rattle.session.specs.declared.receive_answer.ReceiveAnswer.{ReceiveAnswer}
+use Rattle.session.specs.declared.receive_answer.SessionRooms.{SessionRooms}
+use Rattle.receive_decide.specs.declared.decide.Receipt.{Receipt}
 use Rattle.receive.proofs.DraftLaws.{DraftedAs, Drafted, shared-gathered, sent-made, told-made, told-few, told-within, sent-within, draft-small}
 use Rattle.receive.proofs.Outcomes.{Outcome, Outcomes}
-use Rattle.drafting.proofs.SaidLaws.{read-words, read-layable}
-use Rattle.taking.proofs.PutLaws.{lents-same}
+use Rattle.receive_make.proofs.SaidLaws.{read-words, read-layable}
+use Rattle.receive_decide.proofs.PutLaws.{lents-same}
 
 -- ---- nothing put
 

@@ -7,35 +7,35 @@ use mathlib.Core.Path.{_≡_, refl}
 use lib.Dec.{ltb, leb, eqb}
 use lib.ListN.{length, getD}
 use Rattle.bloom.specs.Filter.{fieldSize}
-use Rattle.bloom.specs.Read.{fieldAt, numbersAt, filterAt, afterFilter}
+use Rattle.bloom.specs.FilterRead.{fieldAt, numbersAt, filterAt, afterFilter}
 use Rattle.bloom.specs.declared.have.FilterNumbers.{FilterNumbers}
 use Rattle.bloom.specs.declared.parse.Parsed.{Parsed}
 use Rattle.bloom.specs.declared.parse.Parsed.the-variants.{Filter, Refused as NoFilter}
-use Rattle.decode.specs.Read.{Reading, headsAt, openingAt, sectionAt, afterOpening, afterSection, listsAt, needAt, messageAt}
-use Rattle.decode.specs.declared.opening.Opening.{Opening}
-use Rattle.decode.specs.declared.opening.Opening.the-variants.{Heads, Refused as NotOpened}
-use Rattle.decode.specs.declared.parse.Flagged.{Flagged}
-use Rattle.decode.specs.declared.parse.Flagged.the-variants.{Section as Sectioned, Refused as NoSection}
-use Rattle.index.specs.Index.{indexFits, indexChecked}
-use Rattle.items.specs.Items.{Item, afterItem, haveAt, haveWordsOf, haveItem, chunkItem, manyAt, ItemList, afterList, listFrom, listAt, havesAt, chunksAt}
-use Rattle.items.specs.declared.haves.HaveRead.{HaveRead}
-use Rattle.items.specs.declared.haves.HaveRead.the-variants.{Have, Refused as NoHave}
+use Rattle.message_read.specs.MessageRead.{Reading, headsAt, openingAt, sectionAt, afterOpening, afterSection, listsAt, needAt, messageAt}
+use Rattle.message_read.specs.declared.opening.Opening.{Opening}
+use Rattle.message_read.specs.declared.opening.Opening.the-variants.{Heads, Refused as NotOpened}
+use Rattle.message_read.specs.declared.parse.Flagged.{Flagged}
+use Rattle.message_read.specs.declared.parse.Flagged.the-variants.{Section as Sectioned, Refused as NoSection}
+use Rattle.table_index.specs.Index.{indexFits, indexChecked}
+use Rattle.message_items.specs.Items.{Item, afterItem, haveAt, haveWordsOf, haveItem, chunkItem, manyAt, ItemList, afterList, listFrom, listAt, havesAt, chunksAt}
+use Rattle.message_items.specs.declared.haves.HaveRead.{HaveRead}
+use Rattle.message_items.specs.declared.haves.HaveRead.the-variants.{Have, Refused as NoHave}
 use Rattle.message.specs.declared.flags.Section.{Section}
 use Rattle.message.specs.Message.{typeOf}
 use Rattle.message.specs.declared.version.MessageVersion.{MessageVersion}
 use Rattle.message.specs.declared.version.MessageVersion.the-variants.{V1, V2}
-use Rattle.numbers.specs.Number.{Found, answerAt, numberAt}
-use Rattle.numbers.specs.declared.leb128.Number.{Number}
-use Rattle.numbers.specs.declared.leb128.Number.the-variants.{Value, Refused}
+use Rattle.leb128.specs.Number.{Found, answerAt, numberAt}
+use Rattle.leb128.specs.declared.leb128.Number.{Number}
+use Rattle.leb128.specs.declared.leb128.Number.the-variants.{Value, Refused}
 use Rattle.rules.specs.Refusal.{numberOf}
 use Rattle.rules.specs.Sizes.{sizes}
 use Rattle.rules.specs.declared.refusal.Refusal.{Refusal}
 use Rattle.rules.specs.declared.refusal.Refusal.the-variants.{BadIndex, LoadFailed}
 use Rattle.rules.proofs.Cases.{split}
-use Rattle.tables.specs.Bytes.{rowSize, rowGoodOf, firstBad, checkedWith, tableOf, tableCheckedOf, tableChecked}
-use Rattle.tables.specs.Calls.{passedOn}
-use Rattle.tables.specs.declared.check.Checked.{Checked}
-use Rattle.tables.specs.declared.check.Checked.the-variants.{Good, Refused as BadTable}
+use Rattle.table.specs.TableBytes.{rowSize, rowGoodOf, firstBad, checkedWith, tableOf, tableCheckedOf, tableChecked}
+use Rattle.table.specs.TableCalls.{passedOn}
+use Rattle.table.specs.declared.check.Checked.{Checked}
+use Rattle.table.specs.declared.check.Checked.the-variants.{Good, Refused as BadTable}
 use Rattle.wire.specs.Item.{leftAt, afterNumber, afterPart, afterListed, countAt, prefixedAt, hashListAt}
 use Rattle.wire.specs.declared.parse.Listed.{Listed}
 use Rattle.wire.specs.declared.parse.Listed.the-variants.{Items, Refused as NotListed}

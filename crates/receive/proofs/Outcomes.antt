@@ -8,28 +8,28 @@ use native.Mathlib.Omega.{arith}
 use borrow.Author.Tests.{ltb-true, ltb-false, lt-ltb, le-ltb}
 use lib.Dec.{ltb}
 use lib.ListN.{length}
-use Rattle.decode.specs.Read.{messageAt, decodedOf}
-use Rattle.decode.specs.declared.parse.Decoded.the-variants.{Message as Placed}
-use Rattle.decode.specs.declared.parse.Places.{Places}
-use Rattle.lent.specs.Good.{sessionGood}
+use Rattle.message_read.specs.MessageRead.{messageAt, decodedOf}
+use Rattle.message_read.specs.declared.parse.Decoded.the-variants.{Message as Placed}
+use Rattle.message_read.specs.declared.parse.Places.{Places}
+use Rattle.session_check.specs.SessionGood.{sessionGood}
 use Rattle.rules.specs.Sizes.{sizes}
 use Rattle.rules.specs.declared.refusal.Refusal.{Refusal}
 use Rattle.rules.specs.declared.refusal.Refusal.the-variants.{PastSize, NoRoom, LoadFailed}
 use Rattle.rules.proofs.Cases.{split}
-use Rattle.hearing.specs.Receive.{Said, Received, flagged, loads, sharedAfter, received, receiveJoined, receive}
-use Rattle.state.specs.Session.{State}
-use Rattle.state.specs.Value.{Lent, stateOf, countsOf}
-use Rattle.state.specs.declared.session.Session.{Session}
-use Rattle.tables.specs.Bytes.{rowsAt}
-use Rattle.tables.specs.Table.{Row}
-use Rattle.receiving.specs.Made.{flaggedCounts}
-use Rattle.receive.specs.Call.{unlessShort, receivedRoomed, refusalAnswer, receivedAnswer}
-use Rattle.drafting.specs.Made.{saidAt}
-use Rattle.taking.specs.Receipt.{receivedCounts, shortWith, receiptDecided, ReceiptParts, noReceipt, receiptPuts}
-use Rattle.taking.specs.declared.answer.ReceiveAnswer.{ReceiveAnswer}
-use Rattle.taking.specs.declared.answer.ReceiveAnswer.the-variants.{Took, Failed, Refused}
-use Rattle.taking.specs.declared.answer.SessionRooms.{SessionRooms}
-use Rattle.taking.specs.declared.decide.Receipt.{Receipt}
+use Rattle.session.specs.Receive.{Said, Received, flagged, loads, sharedAfter, received, receiveJoined, receive}
+use Rattle.session_state.specs.Session.{State}
+use Rattle.session_state.specs.Value.{Lent, stateOf, countsOf}
+use Rattle.session_state.specs.declared.session.Session.{Session}
+use Rattle.table.specs.TableBytes.{rowsAt}
+use Rattle.table.specs.Table.{Row}
+use Rattle.receive_parts.specs.Internal.ReceiveParts.{flaggedCounts}
+use Rattle.session.specs.ReceiveCall.{unlessShort, receivedRoomed, refusalAnswer, receivedAnswer}
+use Rattle.receive_make.specs.Internal.ReceiveMake.{saidAt}
+use Rattle.receive_decide.specs.Internal.Receipt.{receivedCounts, shortWith, receiptDecided, ReceiptParts, noReceipt, receiptPuts}
+use Rattle.session.specs.declared.receive_answer.ReceiveAnswer.{ReceiveAnswer}
+use Rattle.session.specs.declared.receive_answer.ReceiveAnswer.the-variants.{Took, Failed, Refused}
+use Rattle.session.specs.declared.receive_answer.SessionRooms.{SessionRooms}
+use Rattle.receive_decide.specs.declared.decide.Receipt.{Receipt}
 use Rattle.receive.proofs.DraftLaws.{Drafted, flagged-counts, shared-made, shared-many, shared-gathered, received-counts, wantedOf, short-is}
 
 module _ (d : Receipt) (r : SessionRooms) (after : Session) (new : State) where

@@ -8,22 +8,22 @@ use native.Mathlib.Omega.{arith}
 use borrow.Author.Tests.{leb-true, le-leb, lt-leb}
 use lib.Dec.{leb}
 use lib.ListN.{length, replicate, length-replicate}
-use Rattle.decode.specs.declared.parse.Places.{Places}
-use Rattle.graph.specs.Marks.{Blank}
-use Rattle.graph.proofs.MarkLaws.{blank}
-use Rattle.index.specs.Index.{Indexed}
-use Rattle.index.proofs.CheckLaws.{checked-indexed}
-use Rattle.lent.proofs.GoodSessions.{session-parts}
+use Rattle.message_read.specs.declared.parse.Places.{Places}
+use Rattle.table_graph.specs.Internal.Marks.{Blank}
+use Rattle.table_graph.proofs.MarkLaws.{blank}
+use Rattle.table_index.specs.Index.{Indexed}
+use Rattle.table_index.proofs.CheckLaws.{checked-indexed}
+use Rattle.session_check.proofs.GoodSessions.{session-parts}
 use Rattle.rules.specs.Sizes.{sizes}
 use Rattle.rules.proofs.Cases.{both, true-false}
-use Rattle.state.specs.Value.{Lent}
-use Rattle.state.specs.declared.session.Session.{Session}
-use Rattle.receiving.specs.Made.{HeadsMarked, sharedRoom}
-use Rattle.drafting.specs.Checks.{Accepted}
-use Rattle.drafting.specs.Made.{saidAt, Prepared}
-use Rattle.drafting.proofs.SaidLaws.{read-words}
-use Rattle.lists.specs.Lists.{few}
-use Rattle.receive.specs.Few.{hearsFew}
+use Rattle.session_state.specs.Value.{Lent}
+use Rattle.session_state.specs.declared.session.Session.{Session}
+use Rattle.receive_parts.specs.Internal.ReceiveParts.{HeadsMarked, sharedRoom}
+use Rattle.receive_make.specs.Internal.ReceiveChecks.{Accepted}
+use Rattle.receive_make.specs.Internal.ReceiveMake.{saidAt, Prepared}
+use Rattle.receive_make.proofs.SaidLaws.{read-words}
+use Rattle.hash_lists.specs.Internal.Lists.{few}
+use Rattle.receive.specs.Internal.Few.{hearsFew}
 
 -- ---- whether they are few
 

@@ -1,4 +1,3 @@
--- Laws that the crates above cite.
 pub mod Cases
 pub mod Hash
 pub mod Outputs

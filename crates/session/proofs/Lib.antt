@@ -1,4 +1,10 @@
--- Laws that the crates above cite.
+pub mod Arms
+pub mod GoodLaws
+pub mod KeptCalls
+pub mod KeptSessions
 pub mod LaidLaws
 pub mod PlanLaws
+pub mod PlanOnce
 pub mod Promises
+pub mod ReceiveLaws
+pub mod Stands

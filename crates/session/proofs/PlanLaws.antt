@@ -10,22 +10,22 @@ use borrow.Author.Tests.{ltb-true, ltb-false, lt-ltb, le-ltb}
 use lib.Dec.{ltb}
 use lib.ListN.{length}
 use Rattle.bloom.specs.Have.{Have}
-use Rattle.graph.specs.Graph.{heads}
-use Rattle.lists.specs.Lists.{same}
-use Rattle.missing.specs.Missing.{missing}
-use Rattle.order.proofs.KeepLaws.{every-one}
-use Rattle.order.proofs.OrderLaws.{ascend-ascends, ascend-members, member-append}
-use Rattle.order.specs.Order.{member, every, ascends}
+use Rattle.table_graph.specs.Graph.{heads}
+use Rattle.hash_lists.specs.Internal.Lists.{same}
+use Rattle.waiting_missing.specs.Missing.{missing}
+use Rattle.hash_order.proofs.KeepLaws.{every-one}
+use Rattle.hash_order.proofs.OrderLaws.{ascend-ascends, ascend-members, member-append}
+use Rattle.hash_order.specs.Order.{member, every, ascends}
 use Rattle.rules.proofs.Cases.{split, true-false, and-false}
 use Rattle.rules.specs.Hash.{AreHashes}
 use Rattle.rules.specs.Sizes.{sizes}
 use Rattle.rules.specs.declared.refusal.Refusal.the-variants.{PastSize}
 use Rattle.rules.specs.declared.refusal.Refusal.{Refusal}
-use Rattle.selection.proofs.SelectLaws.{less-few, less-held, less-hashes}
-use Rattle.selection.specs.ToSend.{toSendLess}
-use Rattle.state.specs.Session.{State}
-use Rattle.tables.proofs.TableLaws.{length-rows}
-use Rattle.tables.specs.Table.{Row, GoodTable, rows, held}
+use Rattle.send.proofs.SelectLaws.{less-few, less-held, less-hashes}
+use Rattle.send.specs.ToSend.{toSendLess}
+use Rattle.session_state.specs.Session.{State}
+use Rattle.table.proofs.TableLaws.{length-rows}
+use Rattle.table.specs.Table.{Row, GoodTable, rows, held}
 use Rattle.waiting.specs.Waiting.{Waiting}
 use Rattle.session.specs.Plan.{
   Body,

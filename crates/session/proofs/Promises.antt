@@ -15,3 +15,22 @@ pub use Rattle.session.proofs.PlanLaws.{
   plan-says,
   own-filters,
 }
+pub use Rattle.session.proofs.GoodLaws.{body-few, restored-good, fresh-read-only-good, set-read-only-good, after-good, said-sound, said-back}
+pub use Rattle.session.proofs.ReceiveLaws.{
+  joined-heads,
+  join-again,
+  advance-ascends,
+  shared-few,
+  flagged-keeps,
+  flagged-lands,
+  flagged-sent,
+  flagged-forgets,
+  receive-took,
+  load-failed,
+  refused-keeps,
+}
+pub use Rattle.session.proofs.PlanOnce.{plan-called-once}
+pub use Rattle.session.proofs.Arms.{probes-inside, planned-rows}
+pub use Rattle.session.proofs.KeptCalls.{plan-stays-good, receive-stays-good, refuse-stays-good}
+pub use Rattle.session.proofs.KeptSessions.{counts-back}
+pub use Rattle.session.proofs.Stands.{stand-same}

@@ -1,3 +1,9 @@
+pub mod Arms
+pub mod GoodState
+pub mod Kept
 pub mod Laid
 pub mod Plan
+pub mod PlanCall
+pub mod Receive
+pub mod ReceiveCall
 pub mod Rooms

@@ -8,21 +8,21 @@ use lib.Dec.{ltb}
 use lib.ListN.{length}
 use Rattle.bloom.specs.Filter.{filterOf4, defaultBits, defaultProbes}
 use Rattle.bloom.specs.Have.{Have}
-use Rattle.graph.specs.Graph.{heads, beyond}
-use Rattle.lists.specs.Lists.{same}
+use Rattle.table_graph.specs.Graph.{heads, beyond}
+use Rattle.hash_lists.specs.Internal.Lists.{same}
 use Rattle.message.specs.Flags.{syncReset, readOnly, supportsSyncReset, flagsOf}
 use Rattle.message.specs.declared.flags.MessageFlags.{MessageFlags}
 use Rattle.message.specs.declared.version.MessageVersion.the-variants.{V1, V2}
 use Rattle.message.specs.declared.version.MessageVersion.{MessageVersion}
-use Rattle.missing.specs.Missing.{missing}
-use Rattle.order.specs.Order.{member, every, ascend}
-use Rattle.probe.specs.Build.{filterOf}
+use Rattle.waiting_missing.specs.Missing.{missing}
+use Rattle.hash_order.specs.Order.{member, every, ascend}
+use Rattle.bloom_probe.specs.Build.{filterOf}
 use Rattle.rules.specs.Sizes.{sizes}
 use Rattle.rules.specs.declared.refusal.Refusal.the-variants.{PastSize}
 use Rattle.rules.specs.declared.refusal.Refusal.{Refusal}
-use Rattle.selection.specs.ToSend.{toSendLess}
-use Rattle.state.specs.Session.{State}
-use Rattle.tables.specs.Table.{Row, rows, held}
+use Rattle.send.specs.ToSend.{toSendLess}
+use Rattle.session_state.specs.Session.{State}
+use Rattle.table.specs.Table.{Row, rows, held}
 use Rattle.waiting.specs.Waiting.{Waiting}
 
 -- What a message carries: hashes, whose changes the host lends, and whether these go as the whole document. Nothing is a list of none.

@@ -1,2 +1,9 @@
-// What a unit says next (`generate_sync_message` of src/sync.rs), as a step on values, and how a session keeps the haves that it heard: specs/ has both,
-// proofs/ what holds of them. The code stands in the crates up to `plan`; what a message does to a session stands in `hearing`.
+// A session's two steps, and what the two calls answer and leave: what a reader must believe of sessions stands in specs/, a page a subject.
+//
+//   on values             Plan (generate_sync_message of src/sync.rs), Receive (receive_sync_message), GoodState, Laid (haves as a session keeps them)
+//   over what is lent     PlanCall, ReceiveCall: every refusal in its order, the answer, and the content of every buffer at exit
+//   between two calls     Kept: a session that stands in lent lists is good and read back as itself; Arms: M-105's two theorems
+//
+// The types of both answers are here; the code that plans stands in the crates plan_.. up to `plan`, the code that receives in receive_.. up to `receive`.
+pub mod plan_answer;
+pub mod receive_answer;

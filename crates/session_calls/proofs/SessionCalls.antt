@@ -5,15 +5,15 @@ use mathlib.Core.List.{List, [], _∷_}
 use mathlib.Core.Path.{_≡_, sym, ap, _∙_}
 use mir.Val.{boolByte}
 use Rattle.bloom.specs.Filter.{defaultBits, defaultProbes}
-use Rattle.planned.specs.Call.{Buffers, PlanCalled, planWith}
-use Rattle.planned.specs.declared.answer.PlanAnswer.{PlanAnswer}
-use Rattle.planned.specs.declared.answer.Stated.{Stated}
-use Rattle.receive.specs.Call.{ReceiveCalled, receiveWith}
-use Rattle.session_words.proofs.WordLaws.{flag-byte}
-use Rattle.session_words.specs.Words.{sessionOf}
-use Rattle.state.specs.Value.{Lent}
-use Rattle.state.specs.declared.session.Session.{Session}
-use Rattle.taking.specs.declared.answer.ReceiveAnswer.{ReceiveAnswer}
+use Rattle.session.specs.PlanCall.{Buffers, PlanCalled, planWith}
+use Rattle.session.specs.declared.plan_answer.PlanAnswer.{PlanAnswer}
+use Rattle.session.specs.declared.plan_answer.Stated.{Stated}
+use Rattle.session.specs.ReceiveCall.{ReceiveCalled, receiveWith}
+use Rattle.call_words.proofs.WordLaws.{flag-byte}
+use Rattle.call_words.specs.SessionWords.{sessionOf}
+use Rattle.session_state.specs.Value.{Lent}
+use Rattle.session_state.specs.declared.session.Session.{Session}
+use Rattle.session.specs.declared.receive_answer.ReceiveAnswer.{ReceiveAnswer}
 use Rattle.session_calls.specs.SessionCalls.{versionNumber, statedWords, plannedWords, plannedSession, PlanAnswered}
 use Rattle.session_calls.specs.SessionCalls.{receivedWords, receivedSession, ReceiveAnswered}
 

@@ -4,10 +4,10 @@ use contract.Lifetimes.{Lfts}
 use denote.Ref.{now}
 use denote.Triple.Clauses.{AtExit}
 use denote.Triple.Entry.{Args}
-use Rattle.answers.specs.Ties.{Ties}
-use Rattle.lent.specs.Good.{lentOf}
-use Rattle.planned.specs.Call.{buffersOf}
-use Rattle.session_words.specs.Words.{flagOf}
+use Rattle.call_words.specs.Ties.{Ties}
+use Rattle.session_check.specs.SessionGood.{lentOf}
+use Rattle.session.specs.PlanCall.{buffersOf}
+use Rattle.call_words.specs.SessionWords.{flagOf}
 use Rattle.session_calls.specs.SessionCalls.{PlanAnswered, ReceiveAnswered}
 use Rattle.session_calls.proofs.calls.bt_plan as of-bt-plan
 use Rattle.session_calls.proofs.calls.bt_receive as of-bt-receive

@@ -3,21 +3,21 @@ use Prim.Native.Nat.{ℕ}
 use mathlib.Core.Bool.{Bool}
 use mathlib.Core.List.{List, [], _∷_}
 use mathlib.Core.Path.{_≡_}
-use Rattle.answers.specs.Answer.{refusalWords}
+use Rattle.call_words.specs.Answer.{refusalWords}
 use Rattle.bloom.specs.Filter.{defaultBits, defaultProbes}
 use Rattle.message.specs.declared.version.MessageVersion.{MessageVersion}
 use Rattle.message.specs.declared.version.MessageVersion.the-variants.{V1, V2}
-use Rattle.planned.specs.Call.{Buffers, planWith, plannedRoomed, plannedRooms, plannedAnswer, putInto}
-use Rattle.planned.specs.declared.answer.PlanAnswer.{PlanAnswer}
-use Rattle.planned.specs.declared.answer.PlanAnswer.the-variants.{Refused, Silent, Reset, Says}
-use Rattle.planned.specs.declared.answer.Stated.{Stated}
-use Rattle.receive.specs.Call.{receiveWith, receivedRoomed as roomedFor, receivedRooms as roomsOf, receivedAnswer as answerFor, keptIn}
+use Rattle.session.specs.PlanCall.{Buffers, planWith, plannedRoomed, plannedRooms, plannedAnswer, putInto}
+use Rattle.session.specs.declared.plan_answer.PlanAnswer.{PlanAnswer}
+use Rattle.session.specs.declared.plan_answer.PlanAnswer.the-variants.{Refused, Silent, Reset, Says}
+use Rattle.session.specs.declared.plan_answer.Stated.{Stated}
+use Rattle.session.specs.ReceiveCall.{receiveWith, receivedRoomed as roomedFor, receivedRooms as roomsOf, receivedAnswer as answerFor, keptIn}
 use Rattle.rules.specs.Refusal.{numberOf, valueOf}
 use Rattle.rules.specs.declared.refusal.Refusal.the-variants.{LoadFailed}
-use Rattle.session_words.specs.Words.{flagWord, sessionWords, sessionOf}
-use Rattle.state.specs.Value.{Lent, stateOf as sessionValue}
-use Rattle.taking.specs.declared.answer.ReceiveAnswer.{ReceiveAnswer}
-use Rattle.taking.specs.declared.answer.ReceiveAnswer.the-variants.{Took, Failed, Refused as NotTaken}
+use Rattle.call_words.specs.SessionWords.{flagWord, sessionWords, sessionOf}
+use Rattle.session_state.specs.Value.{Lent, stateOf as sessionValue}
+use Rattle.session.specs.declared.receive_answer.ReceiveAnswer.{ReceiveAnswer}
+use Rattle.session.specs.declared.receive_answer.ReceiveAnswer.the-variants.{Took, Failed, Refused as NotTaken}
 
 -- A version as a word.
 abbrev pub versionNumber : MessageVersion → ℕ
@@ -82,7 +82,7 @@ pub record PlanAnswered (session₀ session₁ : List ℕ) (l : Lent) (table ind
   pub buffers : after ≡ putInto (planFor session₀ l table index waiting before) before
 
 -- What is received for a session's words, once there is room.
-abbrev pub receiveFor : List ℕ → Lent → List ℕ → List ℕ → ℕ → List ℕ → Bool → Rattle.hearing.specs.Receive.Received
+abbrev pub receiveFor : List ℕ → Lent → List ℕ → List ℕ → ℕ → List ℕ → Bool → Rattle.session.specs.Receive.Received
 receiveFor words l table index before message loaded =
     roomedFor (roomsOf l) (sessionValue (sessionOf words) l) (receiveWith loaded before (sessionOf words) l table index message)
 

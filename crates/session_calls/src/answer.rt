@@ -1,11 +1,11 @@
 // Answers of planning and receiving as words, and the session's words that they leave.
-use answers::answer::refusal_words;
+use call_words::answer::refusal_words;
+use call_words::words::session_words;
 use message::version::MessageVersion;
-use planned::answer::PlanAnswer;
-use planned::answer::Stated;
 use rules::refusal::Refusal;
-use session_words::words::session_words;
-use taking::answer::ReceiveAnswer;
+use session::plan_answer::PlanAnswer;
+use session::plan_answer::Stated;
+use session::receive_answer::ReceiveAnswer;
 ghost use mathlib.Core.Path.{_≡_};
 ghost use Rattle.session_calls.specs.SessionCalls.{
   versionNumber,

@@ -3,10 +3,10 @@ use crate::answer::planned_session;
 use crate::answer::planned_words;
 use crate::answer::received_session;
 use crate::answer::received_words;
-use session_words::words::session_of;
-ghost use Rattle.lent.specs.Good.{lentOf};
-ghost use Rattle.planned.specs.Call.{buffersOf};
-ghost use Rattle.session_words.specs.Words.{flagOf};
+use call_words::words::session_of;
+ghost use Rattle.session_check.specs.SessionGood.{lentOf};
+ghost use Rattle.session.specs.PlanCall.{buffersOf};
+ghost use Rattle.call_words.specs.SessionWords.{flagOf};
 ghost use Rattle.session_calls.specs.SessionCalls.{PlanAnswered, ReceiveAnswered};
 
 // Plans what a unit says next, and changes its session: the words, and the lists `last_sent` and `sent`. `table`, `index` and `waiting` are the

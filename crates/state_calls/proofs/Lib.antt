@@ -1,3 +1,3 @@
 pub mod Promises
-pub mod SessionWords
+pub mod StateCalls
 pub mod Ties

@@ -5,9 +5,9 @@ use denote.Ref.{now}
 use denote.Triple.Clauses.{AtExit}
 use denote.Triple.Entry.{Args}
 use mathlib.Core.Path.{_≡_}
-use Rattle.answers.specs.Ties.{Ties}
-use Rattle.session_words.specs.Words.{sessionWords}
-use Rattle.state.specs.Counts.{freshCounts}
+use Rattle.call_words.specs.Ties.{Ties}
+use Rattle.call_words.specs.SessionWords.{sessionWords}
+use Rattle.session_state.specs.Counts.{freshCounts}
 use Rattle.state_calls.proofs.calls.bt_fresh as of-bt-fresh
 
 -- bt_fresh: the words of a session, which it writes.

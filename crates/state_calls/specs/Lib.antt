@@ -1,1 +1,1 @@
-pub mod SessionWords
+pub mod StateCalls

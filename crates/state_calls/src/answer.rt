@@ -1,10 +1,10 @@
 // An answer as words.
-use answers::answer::refusal_words;
+use call_words::answer::refusal_words;
+use call_words::words::session_words;
 use rules::refusal::Refusal;
-use saved::saved::Loaded;
-use session_words::words::session_words;
+use session_saved::saved::Loaded;
 ghost use mathlib.Core.Path.{_≡_};
-ghost use Rattle.state_calls.specs.SessionWords.{goodWords, loadedWords, loadedSession};
+ghost use Rattle.state_calls.specs.StateCalls.{goodWords, loadedWords, loadedSession};
 
 pub fn good_words(good: bool) -> [u64; 4]
     ensures { λ w. ⌜ w ≡ goodWords good ⌝ }

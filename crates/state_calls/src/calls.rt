@@ -1,18 +1,18 @@
-// Calls of the crates `state`, `lent` and `saved`.
+// Calls of the crates `session_state`, `session_check` and `session_saved`.
 use crate::answer::good_words;
 use crate::answer::loaded_session;
 use crate::answer::loaded_words;
-use answers::answer::write_words;
-use session_words::words::session_of;
-use session_words::words::session_words;
-use state::session::Session;
+use call_words::answer::write_words;
+use call_words::words::session_of;
+use call_words::words::session_words;
+use session_state::session::Session;
 ghost use mathlib.Core.Path.{_≡_};
-ghost use Rattle.lent.specs.Good.{lentOf, sessionGood};
-ghost use Rattle.saved.specs.Saved.{stateOutput};
-ghost use Rattle.state.specs.Counts.{freshCounts, freshReadOnlyCounts, setReadOnlyCounts};
-ghost use Rattle.answers.specs.Answer.{Answered};
-ghost use Rattle.session_words.specs.Words.{flagOf, sessionWords, sessionOf};
-ghost use Rattle.state_calls.specs.SessionWords.{goodWords, StateRead};
+ghost use Rattle.session_check.specs.SessionGood.{lentOf, sessionGood};
+ghost use Rattle.session_saved.specs.Saved.{stateOutput};
+ghost use Rattle.session_state.specs.Counts.{freshCounts, freshReadOnlyCounts, setReadOnlyCounts};
+ghost use Rattle.call_words.specs.Answer.{Answered};
+ghost use Rattle.call_words.specs.SessionWords.{flagOf, sessionWords, sessionOf};
+ghost use Rattle.state_calls.specs.StateCalls.{goodWords, StateRead};
 
 // Writes the words of a session in which nothing was said yet.
 #[no_mangle]
@@ -54,7 +54,7 @@ pub extern "C" fn bt_check_session(
     ensures { λ _. ⌜ now (answer .exit) ≡ goodWords (sessionGood (sessionOf (now (session .entry))) (lentOf (now (shared .entry)) (now («last_sent» .entry))
         (now («their_heads» .entry)) (now («their_need» .entry)) (now (haves .entry)) (now (bytes .entry)) (now (sent .entry)))) ⌝ }
 {
-    *answer = good_words(lent::good::session_good(
+    *answer = good_words(session_check::good::session_good(
         session_of(*session),
         shared,
         last_sent,
@@ -71,7 +71,7 @@ pub extern "C" fn bt_check_session(
 pub extern "C" fn bt_write_state(shared: &[u8], count: usize, out: &mut [u8], answer: &mut [u64; 4])
     ensures { λ _. ⌜ Answered (stateOutput (now (shared .entry)) count) (now (out .entry)) (now (out .exit)) (now (answer .exit)) ⌝ }
 {
-    *answer = write_words(saved::saved::encode(out, shared, count));
+    *answer = write_words(session_saved::saved::encode(out, shared, count));
 }
 
 // Reads the saved state in `bytes`: its shared heads go to the start of `shared`, and `session` becomes the session that goes on from it. Answer:
@@ -86,7 +86,7 @@ pub extern "C" fn bt_read_state(
     ensures { λ _. ⌜ StateRead (now (bytes .entry)) (now (shared .entry)) (now (shared .exit)) (now (session .entry))
         (now (session .exit)) (now (answer .exit)) ⌝ }
 {
-    let loaded = saved::saved::decode(bytes, shared);
+    let loaded = session_saved::saved::decode(bytes, shared);
     *session = loaded_session(loaded, *session);
     *answer = loaded_words(loaded);
 }

@@ -1,3 +1,3 @@
-// Exported calls of the crates `state`, `lent` and `saved`. A session passes as sixteen words.
+// Exported calls of the crates `session_state`, `session_check` and `session_saved`. A session passes as sixteen words.
 pub mod answer;
 pub mod calls;

@@ -1,8 +1,8 @@
 // An answer as words.
-use answers::answer::refusal_words;
-use tables::check::Checked;
+use call_words::answer::refusal_words;
+use table::check::Checked;
 ghost use mathlib.Core.Path.{_≡_};
-ghost use Rattle.table_calls.specs.Answer.{checkedWords};
+ghost use Rattle.table_calls.specs.TableWords.{checkedWords};
 
 pub fn checked_words(k: Checked) -> [u64; 4]
     ensures { λ w. ⌜ w ≡ checkedWords k ⌝ }

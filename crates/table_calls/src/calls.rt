@@ -1,21 +1,21 @@
-// Calls of the crates `tables`, `indexing`, `waiting`, `graph` and `missing`.
+// Calls of the crates `table`, `table_index_build`, `waiting`, `table_graph` and `waiting_missing`.
 use crate::answer::checked_words;
-use answers::answer::write_words;
+use call_words::answer::write_words;
 ghost use mathlib.Core.Path.{_≡_};
-ghost use Rattle.answers.specs.Answer.{Answered};
-ghost use Rattle.table_calls.specs.Answer.{checkedWords};
-ghost use Rattle.tables.specs.Bytes.{tableChecked};
-ghost use Rattle.indexing.specs.Indexing.{builtOutput, extendedOutput};
-ghost use Rattle.waiting.specs.Calls.{tablesChecked};
-ghost use Rattle.graph.specs.Calls.{headsOutput, beyondOutput};
-ghost use Rattle.missing.specs.Calls.{missingOutput};
+ghost use Rattle.call_words.specs.Answer.{Answered};
+ghost use Rattle.table_calls.specs.TableWords.{checkedWords};
+ghost use Rattle.table.specs.TableBytes.{tableChecked};
+ghost use Rattle.table_index_build.specs.Indexing.{builtOutput, extendedOutput};
+ghost use Rattle.waiting.specs.WaitingCalls.{tablesChecked};
+ghost use Rattle.table_graph.specs.GraphCalls.{headsOutput, beyondOutput};
+ghost use Rattle.waiting_missing.specs.MissingCalls.{missingOutput};
 
 // Checks the change table in `table`. Answer: 0, its rows.
 #[no_mangle]
 pub extern "C" fn bt_check_table(table: &[u8], answer: &mut [u64; 4])
     ensures { λ _. ⌜ now (answer .exit) ≡ checkedWords (tableChecked (now (table .entry))) ⌝ }
 {
-    *answer = checked_words(indexing::check::check_alone(table));
+    *answer = checked_words(table_index_build::check::check_alone(table));
 }
 
 // Checks the change table in `table` beside its index in `index`, and the waiting table in `waiting` beside both. Answer: 0, the waiting rows.
@@ -32,7 +32,7 @@ pub extern "C" fn bt_check_tables(table: &[u8], index: &[u8], waiting: &[u8], an
 pub extern "C" fn bt_build_index(table: &[u8], out: &mut [u8], answer: &mut [u64; 4])
     ensures { λ _. ⌜ Answered (builtOutput (now (table .entry))) (now (out .entry)) (now (out .exit)) (now (answer .exit)) ⌝ }
 {
-    *answer = write_words(indexing::build::build_index(table, out));
+    *answer = write_words(table_index_build::build::build_index(table, out));
 }
 
 // Writes the index of the change table in `table` at the start of `out`, by extending `index`, which is that of all rows but the last; the bytes
@@ -41,7 +41,7 @@ pub extern "C" fn bt_build_index(table: &[u8], out: &mut [u8], answer: &mut [u64
 pub extern "C" fn bt_extend_index(table: &[u8], index: &[u8], out: &mut [u8], answer: &mut [u64; 4])
     ensures { λ _. ⌜ Answered (extendedOutput (now (table .entry)) (now (index .entry))) (now (out .entry)) (now (out .exit)) (now (answer .exit)) ⌝ }
 {
-    *answer = write_words(indexing::build::extend_index(table, index, out));
+    *answer = write_words(table_index_build::build::extend_index(table, index, out));
 }
 
 // Writes the heads of the table's first `before` rows at the start of `out`, ascending, 32 bytes each. `index` is the index of the whole table.
@@ -56,7 +56,7 @@ pub extern "C" fn bt_heads(
 )
     ensures { λ _. ⌜ Answered (headsOutput (now (table .entry)) (now (index .entry)) before) (now (out .entry)) (now (out .exit)) (now (answer .exit)) ⌝ }
 {
-    *answer = write_words(graph::heads::heads(table, index, before, out));
+    *answer = write_words(table_graph::heads::heads(table, index, before, out));
 }
 
 // Writes the rows that are neither in the list nor ancestors of it at the start of `out`, in table order, 32 bytes each. The list is the hashes in
@@ -72,7 +72,7 @@ pub extern "C" fn bt_beyond(
     ensures { λ _. ⌜ Answered (beyondOutput (now (table .entry)) (now (index .entry)) (now (hashes .entry)))
         (now (out .entry)) (now (out .exit)) (now (answer .exit)) ⌝ }
 {
-    *answer = write_words(graph::beyond::beyond(table, index, hashes, out));
+    *answer = write_words(table_graph::beyond::beyond(table, index, hashes, out));
 }
 
 // Writes what is missing from the hashes in `hashes` at the start of `out`, each hash once, ascending, 32 bytes each: the unknown ones, and what
@@ -89,5 +89,5 @@ pub extern "C" fn bt_missing(
     ensures { λ _. ⌜ Answered (missingOutput (now (table .entry)) (now (index .entry)) (now (waiting .entry)) (now (hashes .entry)))
         (now (out .entry)) (now (out .exit)) (now (answer .exit)) ⌝ }
 {
-    *answer = write_words(missing::missing::missing(table, index, waiting, hashes, out));
+    *answer = write_words(waiting_missing::missing::missing(table, index, waiting, hashes, out));
 }

@@ -7,11 +7,11 @@ use lib.ListN.{length}
 use Rattle.rules.specs.Sizes.{sizes}
 use Rattle.rules.specs.declared.refusal.Refusal.{Refusal}
 use Rattle.rules.specs.declared.refusal.Refusal.the-variants.{PastSize, BadWaitingRow}
-use Rattle.tables.specs.Bytes.{firstBad}
-use Rattle.tables.specs.Table.{Row}
-use Rattle.tables.specs.declared.check.Checked.the-variants.{Good, Refused}
-use Rattle.tables.proofs.CheckLaws.{check-past, check-bad, check-partial, check-good}
-use Rattle.waiting.specs.Bytes.{waitingSize, waitingCheckedOf, waitingChecked, Sorted, InOrder}
+use Rattle.table.specs.TableBytes.{firstBad}
+use Rattle.table.specs.Table.{Row}
+use Rattle.table.specs.declared.check.Checked.the-variants.{Good, Refused}
+use Rattle.table.proofs.CheckLaws.{check-past, check-bad, check-partial, check-good}
+use Rattle.waiting.specs.WaitingBytes.{waitingSize, waitingCheckedOf, waitingChecked, Sorted, InOrder}
 use Rattle.waiting.proofs.Today.{waitingGood}
 
 module _ (t : List Row) (s : List ℕ) where

@@ -1,4 +1,3 @@
--- Laws that the crates above cite.
 pub mod CheckLaws
 pub mod FindLaws
 pub mod Promises

@@ -3,8 +3,8 @@ use Prim.Native.Nat.{ℕ}
 use mathlib.Core.Bool.{Bool}
 use mathlib.Core.List.{List}
 use Rattle.rules.specs.Sizes.{sizes}
-use Rattle.tables.specs.Table.{Row}
-use Rattle.waiting.specs.Bytes.{asksPlaceOf, waitingGoodOf}
+use Rattle.table.specs.Table.{Row}
+use Rattle.waiting.specs.WaitingBytes.{asksPlaceOf, waitingGoodOf}
 
 abbrev pub asksPlace : ℕ → ℕ
 asksPlace i = asksPlaceOf (sizes .dependencies) i

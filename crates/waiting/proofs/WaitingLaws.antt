@@ -10,19 +10,19 @@ use borrow.Author.Tests.{ltb-true, ltb-false, leb-true, eqb-true, eqb-false, not
 use lib.Dec.{ltb, leb, eqb}
 use lib.ListN.{length, getD, length-map}
 use lib.Seq.{slice, slice-empty, slice-cons}
-use Rattle.order.proofs.KeepLaws.{index-once}
-use Rattle.order.specs.Order.{member, Once}
+use Rattle.hash_order.proofs.KeepLaws.{index-once}
+use Rattle.hash_order.specs.Order.{member, Once}
 use Rattle.rules.proofs.Cases.{split, both}
 use Rattle.rules.proofs.Hash.{length-hashes-at, hash-is-hash, hashes-are-hashes}
 use Rattle.rules.specs.Hash.{Bytes, AreHashes, bigEndian, hashAt, hashesAt}
 use Rattle.rules.specs.Sizes.{sizes}
 use Rattle.rules.specs.declared.refusal.Refusal.the-variants.{BadWaitingRow}
-use Rattle.tables.proofs.CheckLaws.{fewer, accepted, good-is-accepted}
-use Rattle.tables.proofs.TableLaws.{length-rows, index-tells, index-of-entry, member-is, index-of-member, entry-at-index}
-use Rattle.tables.specs.Bytes.{zeros, checkedWith, firstBad}
-use Rattle.tables.specs.Table.{Row, rows, indexIn, held}
-use Rattle.tables.specs.declared.check.Checked.the-variants.{Good, Refused}
-use Rattle.waiting.specs.Bytes.{waitingSizeOf, asksCountOf, asksPlaceOf, waitingRowOf, waitingRowsOf, wholeWaitingOf, fillOf, unaskedOf, waitingGoodOf, waitingCheckedOf, waitingSize, asksCount, waitingsAt, waitingOf, bytesAt, waitingChecked}
+use Rattle.table.proofs.CheckLaws.{fewer, accepted, good-is-accepted}
+use Rattle.table.proofs.TableLaws.{length-rows, index-tells, index-of-entry, member-is, index-of-member, entry-at-index}
+use Rattle.table.specs.TableBytes.{zeros, checkedWith, firstBad}
+use Rattle.table.specs.Table.{Row, rows, indexIn, held}
+use Rattle.table.specs.declared.check.Checked.the-variants.{Good, Refused}
+use Rattle.waiting.specs.WaitingBytes.{waitingSizeOf, asksCountOf, asksPlaceOf, waitingRowOf, waitingRowsOf, wholeWaitingOf, fillOf, unaskedOf, waitingGoodOf, waitingCheckedOf, waitingSize, asksCount, waitingsAt, waitingOf, bytesAt, waitingChecked}
 use Rattle.waiting.specs.Waiting.{Waiting, noWaiting, waiting, asksOf}
 use Rattle.waiting.proofs.Today.{asksPlace, waitingGood}
 

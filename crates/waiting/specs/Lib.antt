@@ -1,3 +1,3 @@
-pub mod Bytes
-pub mod Calls
 pub mod Waiting
+pub mod WaitingBytes
+pub mod WaitingCalls

@@ -2,7 +2,7 @@
 use Prim.Native.Nat.{ℕ}
 use mathlib.Core.List.{List, [], map}
 use lib.ListN.{getD}
-use Rattle.tables.specs.Table.{indexIn}
+use Rattle.table.specs.Table.{indexIn}
 
 -- A waiting change: its hash, and the hashes that it asks for.
 pub record Waiting : Type 0 where

@@ -3,22 +3,22 @@ use crate::find::ORDER_SIZE;
 use crate::find::find_waiting;
 use crate::row::ASKS_PLACE;
 use crate::row::WAITING_SIZE;
-use index::check::check_indexed;
-use index::look::look_up;
-use indexing::extend::extend;
 use rules::refusal::Refusal;
 use rules::sizes::DEPENDENCIES;
 use rules::sizes::HASH_SIZE;
 use rules::sizes::WAITING_ROWS;
-use tables::check::Checked;
+use table::check::Checked;
+use table_index::check::check_indexed;
+use table_index::look::look_up;
+use table_index_build::extend::extend;
 ghost use mathlib.Core.Path.{_≡_};
 ghost use Prim.Native.Nat.{_+_, _*_, _≤_};
 ghost use lib.ListN.{length};
-ghost use Rattle.index.specs.Index.{Indexed};
+ghost use Rattle.table_index.specs.Index.{Indexed};
 ghost use Rattle.rules.specs.Sizes.{sizes};
-ghost use Rattle.tables.specs.Bytes.{rowsAt, zeros};
-ghost use Rattle.waiting.specs.Bytes.{waitingSize, asksCount, bytesAt, waitingGoodOf, waitingChecked, Sorted, FirstBad, InOrder};
-ghost use Rattle.waiting.specs.Calls.{tablesChecked};
+ghost use Rattle.table.specs.TableBytes.{rowsAt, zeros};
+ghost use Rattle.waiting.specs.WaitingBytes.{waitingSize, asksCount, bytesAt, waitingGoodOf, waitingChecked, Sorted, FirstBad, InOrder};
+ghost use Rattle.waiting.specs.WaitingCalls.{tablesChecked};
 
 // How many hashes waiting row i says that it asks for.
 pub fn asks_count(waiting: &[u8], i: usize) -> usize

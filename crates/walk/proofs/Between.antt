@@ -8,16 +8,16 @@ use mathlib.Core.Logic.{_⊎_, inl, inr}
 use mathlib.Core.Path.{_≡_, refl, sym, _∙_}
 use native.Mathlib.Omega.{arith}
 use lib.ListN.{length}
-use Rattle.graph.proofs.BelowLaws.{row-induction}
-use Rattle.graph.proofs.HeadLaws.{head-held}
-use Rattle.graph.specs.Graph.{heads}
-use Rattle.missing.proofs.MissingLaws.{missing-member}
-use Rattle.missing.specs.Missing.{unknown, Missing, itself, through, missing}
-use Rattle.order.proofs.KeepLaws.{member-long, keep-member, not-every}
-use Rattle.order.proofs.OrderLaws.{member-here, member-none}
-use Rattle.order.specs.Order.{member, keep, every}
+use Rattle.table_graph.proofs.BelowLaws.{row-induction}
+use Rattle.table_graph.proofs.HeadLaws.{head-held}
+use Rattle.table_graph.specs.Graph.{heads}
+use Rattle.waiting_missing.proofs.MissingLaws.{missing-member}
+use Rattle.waiting_missing.specs.Missing.{unknown, Missing, itself, through, missing}
+use Rattle.hash_order.proofs.KeepLaws.{member-long, keep-member, not-every}
+use Rattle.hash_order.proofs.OrderLaws.{member-here, member-none}
+use Rattle.hash_order.specs.Order.{member, keep, every}
 use Rattle.rules.proofs.Cases.{split, true-false, and-true}
-use Rattle.tables.specs.Table.{Row, GoodTable, rows, held, deps}
+use Rattle.table.specs.Table.{Row, GoodTable, rows, held, deps}
 use Rattle.waiting.specs.Waiting.{Waiting, waiting, asks}
 use Rattle.walk.specs.Round.{Part}
 use Rattle.walk.proofs.Loaded.{Beside}

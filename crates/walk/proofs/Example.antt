@@ -13,25 +13,25 @@ use lib.ListN.{length, replicate}
 use Rattle.bloom.proofs.Rules.{rules-default}
 use Rattle.bloom.specs.Filter.{fieldSize, defaultBits, defaultProbes}
 use Rattle.bloom.specs.Have.{Have}
-use Rattle.graph.proofs.BelowLaws.{beyond-few}
-use Rattle.graph.specs.Graph.{belowRow, below, beyond, needed, heads}
-use Rattle.members.specs.Members.{lastSyncs, filters, candidate, missed, inTheS, theS}
-use Rattle.missing.specs.Missing.{unknown, askedRow, asksFrom, missing}
-use Rattle.order.proofs.KeepLaws.{once-none, once-cons}
-use Rattle.order.proofs.OrderLaws.{member-none}
-use Rattle.order.specs.Order.{member, keep, every, often, ascends, insertOnce, ascend}
-use Rattle.order.specs.Reach.{someBelow, reachIn, reach}
-use Rattle.probe.specs.Build.{setBit, setBits, addHash, addHashes, filterOf}
-use Rattle.probe.specs.Contains.{clearAt, noneClear, contains, anyContains}
-use Rattle.probe.specs.Probes.{probesFrom, probesOf, bitAt}
+use Rattle.table_graph.proofs.BelowLaws.{beyond-few}
+use Rattle.table_graph.specs.Graph.{belowRow, below, beyond, needed, heads}
+use Rattle.send_members.specs.Internal.Members.{lastSyncs, filters, candidate, missed, inTheS, theS}
+use Rattle.waiting_missing.specs.Missing.{unknown, askedRow, asksFrom, missing}
+use Rattle.hash_order.proofs.KeepLaws.{once-none, once-cons}
+use Rattle.hash_order.proofs.OrderLaws.{member-none}
+use Rattle.hash_order.specs.Order.{member, keep, every, often, ascends, insertOnce, ascend}
+use Rattle.hash_order.specs.Reach.{someBelow, reachIn, reach}
+use Rattle.bloom_probe.specs.Build.{setBit, setBits, addHash, addHashes, filterOf}
+use Rattle.bloom_probe.specs.Contains.{clearAt, noneClear, contains, anyContains}
+use Rattle.bloom_probe.specs.Probes.{probesFrom, probesOf, bitAt}
 use Rattle.rules.proofs.Cases.{split, either, true-false}
 use Rattle.rules.specs.Hash.{bigEndian, bigEndianBytes, hashBytes}
 use Rattle.rules.specs.LittleEndian.{u32At}
 use Rattle.rules.specs.Sizes.{sizes}
-use Rattle.selection.specs.ToSend.{toSend, toSendLess}
+use Rattle.send.specs.ToSend.{toSend, toSendLess}
 use Rattle.session.specs.Plan.{haveOf, havesFor}
-use Rattle.tables.proofs.ExtendLaws.{good-append}
-use Rattle.tables.specs.Table.{Row, rows, hashOf, depsOf, GoodTable, indexIn, rowNumber, held, deps, rowsFrom, rowsWhere}
+use Rattle.table.proofs.ExtendLaws.{good-append}
+use Rattle.table.specs.Table.{Row, rows, hashOf, depsOf, GoodTable, indexIn, rowNumber, held, deps, rowsFrom, rowsWhere}
 use Rattle.waiting.specs.Waiting.{Waiting, waiting, asks, asksOf}
 use Rattle.walk.specs.Round.{Part, trim, Moves, done, step, Loads}
 use Rattle.walk.specs.Walk.{At, starting, Walk01, heardIn, walkNeed, offerTo, holdsAll, lacking}

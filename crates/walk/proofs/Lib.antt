@@ -1,4 +1,3 @@
--- Laws that the crates above cite.
 pub mod Between
 pub mod Example
 pub mod Loaded

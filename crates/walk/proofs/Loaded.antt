@@ -7,10 +7,10 @@ use mathlib.Core.Path.{_≡_, sym, ap, _∙_}
 use native.Mathlib.Omega.{arith}
 use borrow.Author.Tests.{eqb-true}
 use lib.Dec.{eqb}
-use Rattle.order.specs.Order.{member, every, Once}
+use Rattle.hash_order.specs.Order.{member, every, Once}
 use Rattle.rules.proofs.Cases.{split, same-truth, either, or-left, or-right}
-use Rattle.tables.proofs.ExtendLaws.{good-append, deps-stay}
-use Rattle.tables.specs.Table.{Row, GoodTable, held, deps}
+use Rattle.table.proofs.ExtendLaws.{good-append, deps-stay}
+use Rattle.table.specs.Table.{Row, GoodTable, held, deps}
 use Rattle.waiting.specs.Waiting.{Waiting, waiting, asks}
 use Rattle.walk.specs.Round.{Part, Moves, Settles, done, step, Loads}
 use Rattle.walk.proofs.Loading.{Asked, move-held, move-fewer, move-other, move-asked}

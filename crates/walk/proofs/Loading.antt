@@ -9,13 +9,13 @@ use native.Mathlib.Omega.{arith}
 use borrow.Author.Tests.{eqb-true, eq-eqb, not-true}
 use lib.Dec.{eqb}
 use lib.ListN.{length}
-use Rattle.graph.proofs.BelowLaws.{member-map, map-member}
-use Rattle.order.proofs.KeepLaws.{member-long, keep-member, keep-parts, every-member, not-every, often-keep, once-ascends}
-use Rattle.order.proofs.OrderLaws.{ascend-ascends, ascend-members, member-append}
-use Rattle.order.specs.Order.{member, keep, every, ascend}
+use Rattle.table_graph.proofs.BelowLaws.{member-map, map-member}
+use Rattle.hash_order.proofs.KeepLaws.{member-long, keep-member, keep-parts, every-member, not-every, often-keep, once-ascends}
+use Rattle.hash_order.proofs.OrderLaws.{ascend-ascends, ascend-members, member-append}
+use Rattle.hash_order.specs.Order.{member, keep, every, ascend}
 use Rattle.rules.proofs.Cases.{split, both, true-false, same-truth, either, or-left, or-right}
-use Rattle.tables.proofs.TableLaws.{row-of-held, hash-of-held}
-use Rattle.tables.specs.Table.{Row, hashOf, rowNumber, held, deps}
+use Rattle.table.proofs.TableLaws.{row-of-held, hash-of-held}
+use Rattle.table.specs.Table.{Row, hashOf, rowNumber, held, deps}
 use Rattle.waiting.specs.Waiting.{Waiting, waiting, asks}
 use Rattle.walk.specs.Round.{Joins, Moves, Settles, done, step, Loads}
 use Rattle.walk.proofs.Tables.{held-added, waitingFor, waiting-for, asks-for}

@@ -7,19 +7,19 @@ use mathlib.Core.List.{List, [], _∷_}
 use mathlib.Core.Path.{_≡_, refl, sym, ap, _∙_}
 use native.Mathlib.Omega.{arith}
 use Rattle.bloom.specs.Have.{Have}
-use Rattle.graph.proofs.BelowLaws.{not-below-beyond}
-use Rattle.graph.specs.Graph.{heads, below}
-use Rattle.members.proofs.SLaws.{last-syncs-one, filters-one, s-least}
-use Rattle.members.specs.Members.{lastSyncs, filters, theS}
-use Rattle.missing.proofs.MissingLaws.{unknown-not-held, unknown-not-waiting, missing-unknown, missing-ascends, missing-induction}
-use Rattle.missing.specs.Missing.{missing}
-use Rattle.order.proofs.KeepLaws.{keep-member, often-none, often-some, once-ascends}
-use Rattle.order.specs.Order.{member, often, Once}
-use Rattle.probe.specs.Contains.{contains, anyContains}
+use Rattle.table_graph.proofs.BelowLaws.{not-below-beyond}
+use Rattle.table_graph.specs.Graph.{heads, below}
+use Rattle.send_members.proofs.SLaws.{last-syncs-one, filters-one, s-least}
+use Rattle.send_members.specs.Internal.Members.{lastSyncs, filters, theS}
+use Rattle.waiting_missing.proofs.MissingLaws.{unknown-not-held, unknown-not-waiting, missing-unknown, missing-ascends, missing-induction}
+use Rattle.waiting_missing.specs.Missing.{missing}
+use Rattle.hash_order.proofs.KeepLaws.{keep-member, often-none, often-some, once-ascends}
+use Rattle.hash_order.specs.Order.{member, often, Once}
+use Rattle.bloom_probe.specs.Contains.{contains, anyContains}
 use Rattle.rules.proofs.Cases.{split, both, true-false, either, or-left, and-true}
-use Rattle.selection.proofs.SelectLaws.{named-none, named, need-named, sent-held, less-named, less-new, less-sent, less-once}
-use Rattle.selection.specs.ToSend.{toSend}
-use Rattle.tables.specs.Table.{Row, held}
+use Rattle.send.proofs.SelectLaws.{named-none, named, need-named, sent-held, less-named, less-new, less-sent, less-once}
+use Rattle.send.specs.ToSend.{toSend}
+use Rattle.table.specs.Table.{Row, held}
 use Rattle.waiting.specs.Waiting.{Waiting, waiting}
 use Rattle.walk.specs.Round.{Part, Covers, Gives, one, none, trim, Picks}
 use Rattle.walk.specs.Walk.{At, walkNeed, offerTo}

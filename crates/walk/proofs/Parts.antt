@@ -4,11 +4,11 @@ use Prim.Native.Nat.{ℕ}
 use mathlib.Core.Bool.{true}
 use mathlib.Core.List.{List}
 use mathlib.Core.Path.{_≡_, refl, sym, _∙_}
-use Rattle.graph.proofs.BelowLaws.{only-rows, deps-held, below-held, below-listed, below-deps, below-least}
-use Rattle.graph.proofs.HeadLaws.{head-held, heads-cover}
-use Rattle.graph.specs.Graph.{heads, below}
-use Rattle.order.specs.Order.{member}
-use Rattle.tables.specs.Table.{Row, GoodTable, held, deps}
+use Rattle.table_graph.proofs.BelowLaws.{only-rows, deps-held, below-held, below-listed, below-deps, below-least}
+use Rattle.table_graph.proofs.HeadLaws.{head-held, heads-cover}
+use Rattle.table_graph.specs.Graph.{heads, below}
+use Rattle.hash_order.specs.Order.{member}
+use Rattle.table.specs.Table.{Row, GoodTable, held, deps}
 use Rattle.walk.specs.Round.{Part}
 
 -- a table is a part of itself

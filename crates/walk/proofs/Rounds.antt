@@ -10,15 +10,15 @@ use mathlib.Core.Path.{_≡_, refl, sym, ap, _∙_}
 use native.Mathlib.Omega.{arith}
 use lib.ListN.{length, length-append}
 use Rattle.bloom.specs.Have.{Have}
-use Rattle.graph.proofs.MarkLaws.{or-false}
-use Rattle.graph.specs.Graph.{heads}
-use Rattle.members.specs.Members.{lastSyncs}
-use Rattle.missing.specs.Missing.{missing}
-use Rattle.order.proofs.KeepLaws.{member-long, keep-member, keep-keep, keep-same, keep-parts, keep-none, once-none, once-keep, once-append, once-same}
-use Rattle.order.proofs.OrderLaws.{member-append, member-none}
-use Rattle.order.specs.Order.{member, keep, Once}
+use Rattle.table_graph.proofs.MarkLaws.{or-false}
+use Rattle.table_graph.specs.Graph.{heads}
+use Rattle.send_members.specs.Internal.Members.{lastSyncs}
+use Rattle.waiting_missing.specs.Missing.{missing}
+use Rattle.hash_order.proofs.KeepLaws.{member-long, keep-member, keep-keep, keep-same, keep-parts, keep-none, once-none, once-keep, once-append, once-same}
+use Rattle.hash_order.proofs.OrderLaws.{member-append, member-none}
+use Rattle.hash_order.specs.Order.{member, keep, Once}
 use Rattle.rules.proofs.Cases.{split, both, true-false, same-truth, either, and-true, or-right}
-use Rattle.tables.specs.Table.{Row, GoodTable, rows, held}
+use Rattle.table.specs.Table.{Row, GoodTable, rows, held}
 use Rattle.waiting.specs.Waiting.{Waiting, waiting}
 use Rattle.walk.specs.Round.{Part, Gives, trim, Picks, Loads}
 use Rattle.walk.specs.Walk.{At, starting, offerTo, lacking}

@@ -9,12 +9,12 @@ use native.Mathlib.Omega.{arith}
 use lib.Dec.{eqb}
 use lib.ListN.{length, getD, length-append}
 use lib.Seq.{getD-append-seam}
-use Rattle.graph.proofs.MarkLaws.{or-false}
-use Rattle.order.proofs.OrderLaws.{member-here, member-there}
-use Rattle.order.specs.Order.{member}
-use Rattle.tables.proofs.ExtendLaws.{rows-append, held-append, hash-stays, last-deps}
-use Rattle.tables.proofs.TableLaws.{length-rows, number-of-row, index-of-member, entry-at-index}
-use Rattle.tables.specs.Table.{Row, rows, hashOf, depsOf, GoodTable, rowNumber, held, deps, indexIn}
+use Rattle.table_graph.proofs.MarkLaws.{or-false}
+use Rattle.hash_order.proofs.OrderLaws.{member-here, member-there}
+use Rattle.hash_order.specs.Order.{member}
+use Rattle.table.proofs.ExtendLaws.{rows-append, held-append, hash-stays, last-deps}
+use Rattle.table.proofs.TableLaws.{length-rows, number-of-row, index-of-member, entry-at-index}
+use Rattle.table.specs.Table.{Row, rows, hashOf, depsOf, GoodTable, rowNumber, held, deps, indexIn}
 use Rattle.waiting.specs.Waiting.{Waiting, waiting, asks, asksOf}
 
 -- functions that agree on a list's members give the same list

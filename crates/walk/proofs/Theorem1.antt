@@ -7,15 +7,15 @@ use mathlib.Core.Path.{_≡_, refl, ap, _∙_}
 use native.Mathlib.Omega.{arith}
 use lib.ListN.{length}
 use Rattle.bloom.specs.Have.{Have}
-use Rattle.graph.proofs.HeadLaws.{head-held}
-use Rattle.graph.specs.Graph.{heads}
-use Rattle.members.proofs.SLaws.{last-syncs-one}
-use Rattle.members.specs.Members.{lastSyncs}
-use Rattle.order.proofs.KeepLaws.{every-member, every-one}
-use Rattle.order.proofs.OrderLaws.{member-none}
-use Rattle.order.specs.Order.{member}
+use Rattle.table_graph.proofs.HeadLaws.{head-held}
+use Rattle.table_graph.specs.Graph.{heads}
+use Rattle.send_members.proofs.SLaws.{last-syncs-one}
+use Rattle.send_members.specs.Internal.Members.{lastSyncs}
+use Rattle.hash_order.proofs.KeepLaws.{every-member, every-one}
+use Rattle.hash_order.proofs.OrderLaws.{member-none}
+use Rattle.hash_order.specs.Order.{member}
 use Rattle.rules.proofs.Cases.{same-truth, either, or-right}
-use Rattle.tables.specs.Table.{Row, GoodTable, rows, held}
+use Rattle.table.specs.Table.{Row, GoodTable, rows, held}
 use Rattle.waiting.specs.Waiting.{Waiting, waiting}
 use Rattle.walk.specs.Round.{Part, Gives, one, none, trim}
 use Rattle.walk.specs.Walk.{At, Walk, Round, heardIn, offerTo, holdsAll, lacking, Theorem1}

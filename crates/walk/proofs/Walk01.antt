@@ -6,13 +6,13 @@ use mathlib.Core.List.{List, _++_}
 use mathlib.Core.Path.{_≡_, refl, sym, subst}
 use lib.ListN.{length}
 use Rattle.bloom.specs.Have.{Have}
-use Rattle.graph.specs.Graph.{heads, beyond}
-use Rattle.missing.specs.Missing.{missing}
-use Rattle.order.specs.Order.{member, every}
-use Rattle.probe.proofs.FieldLaws.{accepted-contained}
+use Rattle.table_graph.specs.Graph.{heads, beyond}
+use Rattle.waiting_missing.specs.Missing.{missing}
+use Rattle.hash_order.specs.Order.{member, every}
+use Rattle.bloom_probe.proofs.FieldLaws.{accepted-contained}
 use Rattle.rules.proofs.Cases.{split}
 use Rattle.session.specs.Plan.{haveOf, havesFor}
-use Rattle.tables.specs.Table.{Row, GoodTable, held}
+use Rattle.table.specs.Table.{Row, GoodTable, held}
 use Rattle.waiting.specs.Waiting.{Waiting}
 use Rattle.walk.specs.Round.{Part, Covers, Gives, one, none, trim, Picks}
 use Rattle.walk.specs.Walk.{At, Walk, accepted, Walk01, Walk01Walks, Round01Rounds, Walk01New, Walk01Goes, heardIn, walkNeed, offerTo, holdsAll, lacking}

@@ -7,11 +7,11 @@ use mathlib.Core.Path.{_≡_}
 use lib.Dec.{eqb}
 use lib.ListN.{length}
 use Rattle.bloom.specs.Have.{Have}
-use Rattle.graph.specs.Graph.{below, beyond}
-use Rattle.missing.specs.Missing.{missing}
-use Rattle.order.specs.Order.{member, keep, every, often, ascends}
-use Rattle.probe.specs.Contains.{contains}
-use Rattle.tables.specs.Table.{Row, GoodTable, hashOf, held, deps}
+use Rattle.table_graph.specs.Graph.{below, beyond}
+use Rattle.waiting_missing.specs.Missing.{missing}
+use Rattle.hash_order.specs.Order.{member, keep, every, often, ascends}
+use Rattle.bloom_probe.specs.Contains.{contains}
+use Rattle.table.specs.Table.{Row, GoodTable, hashOf, held, deps}
 use Rattle.waiting.specs.Waiting.{Waiting, waiting, asks}
 
 -- B is a dependency-closed part of A: a good table, so that it holds what its rows depend on, whose rows are A's with A's dependencies. Row numbers may

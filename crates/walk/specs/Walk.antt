@@ -7,12 +7,12 @@ use mathlib.Core.Path.{_≡_}
 use lib.ListN.{length}
 use Rattle.bloom.specs.Filter.{fieldSize, filterRules}
 use Rattle.bloom.specs.Have.{Have}
-use Rattle.graph.specs.Graph.{heads, beyond}
-use Rattle.missing.specs.Missing.{missing}
-use Rattle.order.specs.Order.{member, keep, every, often}
-use Rattle.selection.specs.ToSend.{toSendLess}
+use Rattle.table_graph.specs.Graph.{heads, beyond}
+use Rattle.waiting_missing.specs.Missing.{missing}
+use Rattle.hash_order.specs.Order.{member, keep, every, often}
+use Rattle.send.specs.ToSend.{toSendLess}
 use Rattle.session.specs.Plan.{havesFor}
-use Rattle.tables.specs.Table.{Row, GoodTable, rows, held}
+use Rattle.table.specs.Table.{Row, GoodTable, rows, held}
 use Rattle.waiting.specs.Waiting.{Waiting}
 use Rattle.walk.specs.Round.{Part, Gives, trim, Picks, Loads}
 

@@ -17,13 +17,13 @@ use Rattle.rules.specs.declared.refusal.Refusal.the-variants.{Cut, PastSize}
 use Rattle.rules.proofs.Cases.{split}
 use Rattle.rules.proofs.Hash.{slice-append, slice-parts, length-hashes-at, length-hashes-bytes, hashes-at-bytes, hashes-there-and-back}
 use Rattle.wire.specs.Item.{run, leftAt, afterNumber, countAt, prefixedAt, hashListAt, prefixedBytes, hashListBytes}
-use Rattle.numbers.specs.Number.{shortest, numberAt, most64}
-use Rattle.numbers.specs.declared.leb128.Number.{Number}
-use Rattle.numbers.specs.declared.leb128.Number.the-variants.{Value, Refused}
+use Rattle.leb128.specs.Number.{shortest, numberAt, most64}
+use Rattle.leb128.specs.declared.leb128.Number.{Number}
+use Rattle.leb128.specs.declared.leb128.Number.the-variants.{Value, Refused}
 use Rattle.wire.specs.declared.parse.Listed.the-variants.{Items, Refused as NotListed}
 use Rattle.wire.specs.declared.parse.Prefixed.the-variants.{Part, Refused as NoPart}
 use Rattle.wire.specs.declared.parse.Run.{Run}
-use Rattle.numbers.proofs.Meaning.{number-inside, number-written, written-number}
+use Rattle.leb128.proofs.Meaning.{number-inside, number-written, written-number}
 
 pub left-is : (s : List ℕ) (at end : ℕ) → leftAt s at end ≡ min end (length s) - at
 unfolding leftAt

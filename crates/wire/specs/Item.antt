@@ -11,9 +11,9 @@ use Rattle.rules.specs.Passed.{passedHashes, afterPassed}
 use Rattle.rules.specs.Sizes.{sizes}
 use Rattle.rules.specs.declared.refusal.Refusal.{Refusal}
 use Rattle.rules.specs.declared.refusal.Refusal.the-variants.{Cut, PastSize}
-use Rattle.numbers.specs.Number.{shortest, numberAt, most64}
-use Rattle.numbers.specs.declared.leb128.Number.{Number}
-use Rattle.numbers.specs.declared.leb128.Number.the-variants.{Value, Refused}
+use Rattle.leb128.specs.Number.{shortest, numberAt, most64}
+use Rattle.leb128.specs.declared.leb128.Number.{Number}
+use Rattle.leb128.specs.declared.leb128.Number.the-variants.{Value, Refused}
 use Rattle.wire.specs.declared.parse.Listed.{Listed}
 use Rattle.wire.specs.declared.parse.Listed.the-variants.{Items, Refused as NotListed}
 use Rattle.wire.specs.declared.parse.Prefixed.{Prefixed}

@@ -1,7 +1,7 @@
 // Counts, prefixed strings and hash lists, read (the parsers of src/storage/parse.rs that sync uses).
-use numbers::leb128::Number;
-use numbers::leb128::leb128_u64;
-use numbers::leb128::within;
+use leb128::leb128::Number;
+use leb128::leb128::leb128_u64;
+use leb128::leb128::within;
 use rules::refusal::Refusal;
 use rules::sizes::HASH_SIZE;
 use rules::sizes::HASHES;

@@ -1,10 +1,10 @@
 // An answer as words.
-use answers::answer::refusal_words;
-use numbers::leb128::Number;
+use call_words::answer::refusal_words;
+use leb128::leb128::Number;
 use wire::parse::Listed;
 use wire::parse::Prefixed;
 ghost use mathlib.Core.Path.{_≡_};
-ghost use Rattle.wire_calls.specs.Answer.{numberWords, prefixedWords, hashListWords};
+ghost use Rattle.wire_calls.specs.WireWords.{numberWords, prefixedWords, hashListWords};
 
 pub fn number_words(n: Number) -> [u64; 4]
     ensures { λ w. ⌜ w ≡ numberWords n ⌝ }

@@ -1,7 +1,7 @@
 //! Fixed samples of the crate's answers, the same each time they are made. Inputs of
 //! the intended differences are left out.
 //!
-//! Those of wire items are bytes (`wire`), for the proved program crates/replay, which
+//! Those of wire items are bytes (`wire`), for the proved program crates/sample_replay, which
 //! has them as its standard input. Those of messages, saved states (and those with
 //! repeats), hashes to send, filters and steps of a session are text, a file of
 //! host/compare/samples for each:

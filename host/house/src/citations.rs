@@ -1,7 +1,7 @@
 //! What documents cite: `name` (CRATE FILE) or `name` (crates/CRATE/proofs/FILE.antt), a
 //! definition or a law of a crate.
 
-use crate::{read, root};
+use crate::{files, read, root};
 
 /// A name, and the crate and file that a document says it stands in.
 #[derive(Clone, Debug, PartialEq, Eq)]
@@ -61,9 +61,10 @@ pub fn stands(citation: &Citation) -> bool {
         let rest = line.strip_prefix(name.as_str());
         rest.is_some_and(|rest| rest.starts_with([' ', ':']) && rest.contains(':'))
     };
+    // A page of definitions may stand in a folder of specs/.
     ["specs", "proofs"].iter().any(|folder| {
-        let path = root().join("crates").join(krate).join(folder);
-        let path = path.join(file).with_extension("antt");
-        path.is_file() && read(&path).lines().any(declares)
+        let folder = root().join("crates").join(krate).join(folder);
+        let mut pages = files(&folder, &format!("/{file}.antt")).into_iter();
+        pages.any(|path| read(&path).lines().any(declares))
     })
 }

@@ -46,8 +46,9 @@ pub fn spec_imports(text: &str) -> Imports {
         };
         let path = path.replace("·specs", "");
         let steps: Vec<&str> = path.split('.').collect();
-        let [krate, "specs", file] = steps[..] else {
-            continue;
+        let (krate, file) = match steps[..] {
+            [krate, "specs", file] | [krate, "specs", "Internal", file] => (krate, file),
+            _ => continue,
         };
         for item in list.split(',').map(str::trim).filter(|i| !i.is_empty()) {
             let (name, alias) = item.split_once(" as ").unwrap_or((item, item));

@@ -98,7 +98,7 @@ fn every_edit_fits_its_file_once() {
 /// What all calls have in common, the words of a refusal, isn't counted.
 fn shared(home: &Home) -> bool {
     let Home { krate, file, .. } = home;
-    krate == "answers" || krate == "rules" && file == "refusal"
+    krate == "call_words" && file == "answer" || krate == "rules" && file == "refusal"
 }
 
 #[test]
@@ -135,6 +135,24 @@ fn types() -> Vec<Home> {
         }
     }
     found
+}
+
+/// A page of definitions has a name that no other has, in whichever crate.
+#[test]
+fn every_page_of_definitions_is_named_once() {
+    let mut pages = Vec::new();
+    for krate in crates() {
+        for path in files(&root().join("crates").join(&krate).join("specs"), ".antt") {
+            let page = path.file_stem().expect("a file's name").to_string_lossy();
+            if !["Lib", "Internal"].contains(&&page[..]) {
+                pages.push(page.to_string());
+            }
+        }
+    }
+    pages.sort();
+    let twice = pages.windows(2).filter(|two| two[0] == two[1]);
+    let twice: Vec<&String> = twice.map(|two| &two[0]).collect();
+    assert!(twice.is_empty() && pages.len() > 60, "{twice:?}");
 }
 
 /// A definition or a type has a name that no other has, in whichever crate.
@@ -200,12 +218,12 @@ fn every_edit_that_is_named_exists() {
 }
 
 /// The contract of every public function that requires nothing is shown to have one
-/// result: crates/binding has a line for it, or docs/LOOSE.md a reason. The program isn't
+/// result: crates/one_answer has a line for it, or docs/LOOSE.md a reason. The program isn't
 /// called by anyone.
 #[test]
 fn every_public_contract_is_bound() {
     let mut bound = Vec::new();
-    for path in files(&root().join("crates/binding/specs"), ".antt") {
+    for path in files(&root().join("crates/one_answer/specs"), ".antt") {
         let text = read(&path);
         let lines = text
             .lines()
@@ -238,7 +256,7 @@ fn every_public_contract_is_bound() {
         .collect();
     let open: Vec<String> = functions
         .iter()
-        .filter(|f| f.public && !f.requires() && f.home.krate != "replay")
+        .filter(|f| f.public && !f.requires() && f.home.krate != "sample_replay")
         .filter(|f| !is_bound(f) && !told.contains(&f.path()))
         .map(Function::path)
         .collect();

@@ -20,7 +20,7 @@ use bisquetower::raw::{Read, Reader};
 use std::collections::HashSet;
 
 /// From the repository's root on.
-pub const FILE: &str = "crates/replay/stdin";
+pub const FILE: &str = "crates/sample_replay/stdin";
 
 /// One record.
 #[derive(Clone, Debug, PartialEq, Eq)]

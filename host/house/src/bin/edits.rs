@@ -16,22 +16,22 @@ Each is a wrong program, or a wrong definition, of the same shape as what stands
 const READ: &[(&str, &str)] = &[
     ("bloom/have_hashes", "`returns-3` of `have::have_good`"),
     (
-        "decode/total_size",
+        "message_read/total_size",
         "`returns-3` of `opening::parse_opening`",
     ),
     (
-        "drafting/rows_before_beyond",
+        "receive_make/rows_before_beyond",
         "`returns-4` of `check::check_receive`",
     ),
     (
-        "drafting/told_in_spite_of_changes",
+        "receive_make/told_in_spite_of_changes",
         "`returns-2` of `make::told_heads`",
     ),
     (
-        "index/fits_equal_hashes",
+        "table_index/fits_equal_hashes",
         "`loop-again` of `fit::entries_fit`",
     ),
-    ("lists/all_in_itself", "`loop-again` of `compare::all_in`"),
+    ("hash_lists/all_in_itself", "`loop-again` of `compare::all_in`"),
     (
         "message/flag_read_only",
         "`returns` of `MessageFlags::read_only`",
@@ -58,7 +58,7 @@ const READ: &[(&str, &str)] = &[
         "`returns` of `MessageVersion::encode`",
     ),
     (
-        "missing/missing_no_room_to_tell",
+        "waiting_missing/missing_no_room_to_tell",
         "`returns-3` of `missing::missing_from`",
     ),
     (
@@ -66,18 +66,18 @@ const READ: &[(&str, &str)] = &[
         "`returns` of `plan::generate_sync_message`",
     ),
     (
-        "planning/told_other_heads",
+        "plan_parts/told_other_heads",
         "`returns-2` of `silence::is_told`",
     ),
     (
-        "reader/reads_first_byte",
+        "message_reader/reads_first_byte",
         "`returns` of `reader::hashes_at`",
     ),
     (
-        "probe/contains_past_field",
+        "bloom_probe/contains_past_field",
         "`clear-bit-requires` of `contains::contains_hash`",
     ),
-    ("replay/all_agree", "`loop-again` of `walk::walk`"),
+    ("sample_replay/all_agree", "`loop-again` of `walk::walk`"),
     ("rules/limits_order", "`returns` of `sizes::limits`"),
     ("rules/number_swapped", "`returns-9` of `Refusal::number`"),
     (
@@ -86,23 +86,23 @@ const READ: &[(&str, &str)] = &[
     ),
     ("rules/value_of_ten", "`returns-10` of `Refusal::value`"),
     (
-        "selection/need_twice",
+        "send/need_twice",
         "`returns-3` of `chosen::held_unmarked`",
     ),
     (
-        "tables/table_count",
+        "table/table_count",
         "`numbers-good-requires` of `check::row_good`",
     ),
     (
-        "tables/table_not_ascending",
+        "table/table_not_ascending",
         "`loop-again` of `check::numbers_good`",
     ),
     (
-        "tables/table_own_row",
+        "table/table_own_row",
         "`loop-again` of `check::numbers_good`",
     ),
     (
-        "taking/shared_heads_stay",
+        "receive_decide/shared_heads_stay",
         "`returns` of `decide::received_session`",
     ),
     (

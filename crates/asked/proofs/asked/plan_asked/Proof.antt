@@ -1,7 +1,7 @@
 -- `asked::asked::plan_asked` meets its contract: what was counted has room in the buffers for few, or in those for as many as there may be. Assumes nothing.
 use mathlib.Core.Path.{refl, sym, _∙_}
-use Rattle.draft.proofs.MakeLaws.{count-ready}
-use Rattle.planning.proofs.FieldLaws.{setting-numbers}
+use Rattle.plan_make.proofs.MakeLaws.{count-ready}
+use Rattle.plan_parts.proofs.FieldLaws.{setting-numbers}
 use Rattle.asked.proofs.AskedLaws.{blank-marks, carried-few, sent-few, few-rooms, many-rooms}
 use Rattle.asked.proofs.asked.plan_asked.Statement.{statement}
 use Rattle.asked.proofs.asked.plan_asked.Tie as tie

@@ -1,7 +1,7 @@
 -- `asked::asked::plan_checked` meets its contract: few hashes that are asked for are all of them, and more are looked for again. Assumes nothing.
 use mathlib.Core.Path.{refl, sym}
 use native.Mathlib.Omega.{arith}
-use Rattle.draft.proofs.MakeLaws.{heads-good}
+use Rattle.plan_make.proofs.MakeLaws.{heads-good}
 use Rattle.asked.proofs.AskedLaws.{need-room, few-found}
 use Rattle.asked.proofs.asked.plan_checked.Statement.{statement}
 use Rattle.asked.proofs.asked.plan_checked.Tie as tie

@@ -3,7 +3,7 @@
 use mathlib.Core.Path.{sym, _∙_}
 use denote.Ref.{now}
 use Rattle.rules.specs.Hash.{Bytes}
-use Rattle.numbers.proofs.Meaning.{number-most}
+use Rattle.leb128.proofs.Meaning.{number-most}
 use Rattle.bloom.proofs.Filters.{numbers-first, numbers-second, numbers-third, numbers-read}
 use borrow.Author.Needs.{needs}
 use Rattle.bloom.proofs.parse.parse_numbers.Statement.{statement}

@@ -4,8 +4,8 @@ use mathlib.Core.List.{List}
 use mathlib.Core.Path.{_≡_, sym, ap}
 use native.Mathlib.Omega.{arith}
 use lib.ListN.{length}
-use Rattle.numbers.specs.Number.{shortest}
-use Rattle.numbers.proofs.Number.{shortest-ten}
+use Rattle.leb128.specs.Number.{shortest}
+use Rattle.leb128.proofs.Number.{shortest-ten}
 use Rattle.bloom.specs.Filter.{filterOf4, filterBytes}
 use Rattle.bloom.proofs.Filters.{no-bytes, bytes-length}
 use borrow.Author.Needs.{needs}

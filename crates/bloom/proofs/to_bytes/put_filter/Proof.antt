@@ -4,7 +4,7 @@ use Prim.Native.Nat.{_+_, _≤_}
 use native.Mathlib.Omega.{arith}
 use denote.Ref.{now}
 use lib.ListN.{length}
-use Rattle.numbers.specs.Number.{shortest}
+use Rattle.leb128.specs.Number.{shortest}
 use Rattle.bloom.proofs.Filters.{bytes-length, put-nothing, put-parts}
 use borrow.Author.Needs.{needs}
 use Rattle.bloom.proofs.to_bytes.put_filter.Statement.{statement}

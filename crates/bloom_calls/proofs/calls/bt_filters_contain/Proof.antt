@@ -1,6 +1,6 @@
 -- `bloom_calls::calls::bt_filters_contain` meets its contract: the words of what the library's call ensures. Assumes nothing.
 use mathlib.Core.Path.{ap, _∙_}
-use Rattle.bloom_calls.specs.Answer.{containedWords}
+use Rattle.bloom_calls.specs.BloomWords.{containedWords}
 use borrow.Author.Needs.{needs}
 use Rattle.bloom_calls.proofs.calls.bt_filters_contain.Statement.{statement}
 use Rattle.bloom_calls.proofs.calls.bt_filters_contain.Tie as tie

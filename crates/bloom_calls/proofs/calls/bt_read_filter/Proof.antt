@@ -1,6 +1,6 @@
 -- `bloom_calls::calls::bt_read_filter` meets its contract: the words of what the library's call ensures. Assumes nothing.
 use mathlib.Core.Path.{ap, _∙_}
-use Rattle.bloom_calls.specs.Answer.{filterWords}
+use Rattle.bloom_calls.specs.BloomWords.{filterWords}
 use borrow.Author.Needs.{needs}
 use Rattle.bloom_calls.proofs.calls.bt_read_filter.Statement.{statement}
 use Rattle.bloom_calls.proofs.calls.bt_read_filter.Tie as tie

@@ -1,7 +1,7 @@
 -- `receive::receive::receive_checked` meets its contract: the tests passed, so each part is computed, decided and put. Assumes nothing.
 use Prim.Native.Nat.{ℕ}
 use lib.ListN.{length-replicate}
-use Rattle.drafting.specs.Made.{wordsRoom}
+use Rattle.receive_make.specs.Internal.ReceiveMake.{wordsRoom}
 use Rattle.receive.proofs.CallLaws.{can-make, can-prepare, is-small, has-room, received-called}
 use borrow.Author.Needs.{needs}
 use Rattle.receive.proofs.receive.receive_checked.Statement.{statement}

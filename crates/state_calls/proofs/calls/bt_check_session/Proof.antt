@@ -1,6 +1,6 @@
 -- `state_calls::calls::bt_check_session` meets its contract: the words of what the library's call ensures. Assumes nothing.
 use mathlib.Core.Path.{ap, _∙_}
-use Rattle.state_calls.specs.SessionWords.{goodWords}
+use Rattle.state_calls.specs.StateCalls.{goodWords}
 use borrow.Author.Needs.{needs}
 use Rattle.state_calls.proofs.calls.bt_check_session.Statement.{statement}
 use Rattle.state_calls.proofs.calls.bt_check_session.Tie as tie

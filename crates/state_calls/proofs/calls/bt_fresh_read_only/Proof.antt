@@ -1,6 +1,6 @@
 -- `state_calls::calls::bt_fresh_read_only` meets its contract: the words of what the library's call ensures. Assumes nothing.
 use mathlib.Core.Path.{ap, _∙_}
-use Rattle.session_words.specs.Words.{sessionWords}
+use Rattle.call_words.specs.SessionWords.{sessionWords}
 use borrow.Author.Needs.{needs}
 use Rattle.state_calls.proofs.calls.bt_fresh_read_only.Statement.{statement}
 use Rattle.state_calls.proofs.calls.bt_fresh_read_only.Tie as tie

@@ -1,5 +1,5 @@
 -- `state_calls::calls::bt_read_state` meets its contract: the words, the session and the buffer of what the reader ensures. Assumes nothing.
-use Rattle.state_calls.proofs.SessionWords.{state-read}
+use Rattle.state_calls.proofs.StateCalls.{state-read}
 use borrow.Author.Needs.{needs}
 use Rattle.state_calls.proofs.calls.bt_read_state.Statement.{statement}
 use Rattle.state_calls.proofs.calls.bt_read_state.Tie as tie

@@ -1,5 +1,5 @@
 -- `state_calls::calls::bt_write_state` meets its contract: the words and the buffer of what the writer ensures. Assumes nothing.
-use Rattle.answers.proofs.Answers.{answered}
+use Rattle.call_words.proofs.Answers.{answered}
 use borrow.Author.Needs.{needs}
 use Rattle.state_calls.proofs.calls.bt_write_state.Statement.{statement}
 use Rattle.state_calls.proofs.calls.bt_write_state.Tie as tie

@@ -3,7 +3,7 @@ use Prim.Native.Nat.{_+_, _*_}
 use native.Mathlib.Omega.{arith}
 use borrow.Author.Needs.{needs}
 use Rattle.rules.specs.Sizes.{sizes}
-use Rattle.waiting.specs.Bytes.{waitingSize, asksCountOf}
+use Rattle.waiting.specs.WaitingBytes.{waitingSize, asksCountOf}
 use Rattle.waiting.proofs.check.asks_count.Statement.{statement}
 use Rattle.waiting.proofs.check.asks_count.Tie as tie
 

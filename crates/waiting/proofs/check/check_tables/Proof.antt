@@ -4,14 +4,14 @@ use Prim.Native.Nat.{ℕ}
 use mathlib.Core.List.{List}
 use mathlib.Core.Path.{_≡_, sym, _∙_}
 use Rattle.rules.specs.declared.refusal.Refusal.{Refusal}
-use Rattle.index.specs.Index.{indexChecked}
-use Rattle.index.proofs.CheckLaws.{checked-table, checked-indexed}
-use Rattle.tables.specs.Bytes.{rowsAt}
-use Rattle.tables.specs.Calls.{passedOn}
-use Rattle.tables.specs.declared.check.Checked.the-variants.{Good, Refused}
-use Rattle.tables.proofs.TableLaws.{table-good}
-use Rattle.waiting.specs.Bytes.{waitingChecked}
-use Rattle.waiting.specs.Calls.{tablesChecked}
+use Rattle.table_index.specs.Index.{indexChecked}
+use Rattle.table_index.proofs.CheckLaws.{checked-table, checked-indexed}
+use Rattle.table.specs.TableBytes.{rowsAt}
+use Rattle.table.specs.TableCalls.{passedOn}
+use Rattle.table.specs.declared.check.Checked.the-variants.{Good, Refused}
+use Rattle.table.proofs.TableLaws.{table-good}
+use Rattle.waiting.specs.WaitingBytes.{waitingChecked}
+use Rattle.waiting.specs.WaitingCalls.{tablesChecked}
 use borrow.Author.Needs.{needs}
 use Rattle.waiting.proofs.check.check_tables.Statement.{statement}
 use Rattle.waiting.proofs.check.check_tables.Tie as tie

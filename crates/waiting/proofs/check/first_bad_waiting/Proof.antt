@@ -8,11 +8,11 @@ use mathlib.Core.Path.{_≡_, refl, sym, _∙_}
 use native.Mathlib.Nat.{not-suc-le-zero}
 use native.Mathlib.Omega.{arith}
 use lib.ListN.{length}
-use Rattle.index.specs.Index.{indexed, recordHash}
-use Rattle.indexing.proofs.ExtendLaws.{index-none}
-use Rattle.tables.specs.Bytes.{rowsAt, u16sAt, firstBad}
-use Rattle.tables.proofs.CheckLaws.{testing, test-starts, test-fails, test-on, test-ends}
-use Rattle.waiting.specs.Bytes.{waitingSize}
+use Rattle.table_index.specs.Index.{indexed, recordHash}
+use Rattle.table_index_build.proofs.ExtendLaws.{index-none}
+use Rattle.table.specs.TableBytes.{rowsAt, u16sAt, firstBad}
+use Rattle.table.proofs.CheckLaws.{testing, test-starts, test-fails, test-on, test-ends}
+use Rattle.waiting.specs.WaitingBytes.{waitingSize}
 use Rattle.waiting.proofs.FindLaws.{good-next, good-sorted, all-sorted}
 use Rattle.waiting.proofs.Today.{waitingGood}
 use Rattle.waiting.proofs.check.first_bad_waiting.Statement.{statement}

@@ -1,7 +1,7 @@
 -- `waiting::check::waiting_good` meets its contract: one law of WaitingLaws for each test that decides. Assumes nothing.
 use mathlib.Core.Path.{sym, _∙_}
 use borrow.Author.Tests.{not-true, not-false}
-use Rattle.tables.proofs.TableLaws.{length-rows-at}
+use Rattle.table.proofs.TableLaws.{length-rows-at}
 use Rattle.waiting.proofs.WaitingLaws.{waiting-many, waiting-fill, waiting-unasked, waiting-twice, waiting-held}
 use borrow.Author.Needs.{needs}
 use Rattle.waiting.proofs.check.waiting_good.Statement.{statement}

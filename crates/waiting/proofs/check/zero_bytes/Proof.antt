@@ -4,8 +4,8 @@ use Prim.Native.Nat.{_-_, _≤_}
 use borrow.Author.Needs.{needs}
 use mathlib.Core.Path.{_≡_, sym, _∙_}
 use native.Mathlib.Omega.{arith}
-use Rattle.tables.specs.Bytes.{zeros}
-use Rattle.waiting.specs.Bytes.{bytesAt}
+use Rattle.table.specs.TableBytes.{zeros}
+use Rattle.waiting.specs.WaitingBytes.{bytesAt}
 use Rattle.waiting.proofs.WaitingLaws.{blanking, blank-starts, blank-fails, blank-on, blank-ends}
 use Rattle.waiting.proofs.check.zero_bytes.Statement.{statement}
 use Rattle.waiting.proofs.check.zero_bytes.Tie as tie

@@ -1,6 +1,6 @@
 -- `wire_calls::calls::bt_read_filter_number` meets its contract: the words of what the reader ensures. Assumes nothing.
 use mathlib.Core.Path.{ap, _∙_}
-use Rattle.wire_calls.specs.Answer.{numberWords}
+use Rattle.wire_calls.specs.WireWords.{numberWords}
 use borrow.Author.Needs.{needs}
 use Rattle.wire_calls.proofs.calls.bt_read_filter_number.Statement.{statement}
 use Rattle.wire_calls.proofs.calls.bt_read_filter_number.Tie as tie

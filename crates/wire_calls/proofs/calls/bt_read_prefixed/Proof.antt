@@ -1,6 +1,6 @@
 -- `wire_calls::calls::bt_read_prefixed` meets its contract: the words of what the reader ensures. Assumes nothing.
 use mathlib.Core.Path.{ap, _∙_}
-use Rattle.wire_calls.specs.Answer.{prefixedWords}
+use Rattle.wire_calls.specs.WireWords.{prefixedWords}
 use borrow.Author.Needs.{needs}
 use Rattle.wire_calls.proofs.calls.bt_read_prefixed.Statement.{statement}
 use Rattle.wire_calls.proofs.calls.bt_read_prefixed.Tie as tie

@@ -1,9 +1,0 @@
--- What shows the lists.
-pub mod Binding
-pub mod Exported
-pub mod Messages
-pub mod Once
-pub mod Promises
-pub mod Sessions
-pub mod Tables
-pub mod Wire

@@ -1,2 +1,0 @@
--- What is promised of this crate: a law that stands here can't be taken out or renamed unseen.
-pub use Rattle.binding.proofs.Binding.{binding}

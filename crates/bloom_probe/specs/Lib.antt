@@ -1,0 +1,5 @@
+pub mod Build
+pub mod Contains
+pub mod Inside
+pub mod Internal
+pub mod Probes

@@ -1,3 +1,0 @@
-pub mod Ignored
-pub mod Means
-pub mod Read

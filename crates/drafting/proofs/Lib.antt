@@ -1,4 +1,0 @@
--- Laws that the crates above cite.
-pub mod CheckLaws
-pub mod MakeLaws
-pub mod SaidLaws

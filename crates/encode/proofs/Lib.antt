@@ -1,5 +1,0 @@
--- Laws that the crates above cite.
-pub mod Promises
-pub mod PutLaws
-pub mod RoundTrip
-pub mod SoundLaws

@@ -1,0 +1,144 @@
+-- A list from one of its hashes on, and what is found there: each law is one turn of a loop, with its test as a hypothesis.
+use Prim.Native.Nat.{ℕ, suc, _+_, _-_, _*_, _≤_, _<_}
+use mathlib.Core.Bool.{Bool, true, false, not}
+use mathlib.Core.List.{List, [], _∷_}
+use mathlib.Core.Path.{_≡_, sym, ap, _∙_}
+use native.Mathlib.Omega.{arith}
+use borrow.Author.Tests.{not-true, not-false}
+use lib.Dec.{eqb}
+use lib.ListN.{length}
+use Rattle.hash_order.specs.Order.{member, every}
+use Rattle.rules.proofs.Cases.{split}
+use Rattle.rules.proofs.Hash.{length-hashes-at}
+use Rattle.rules.specs.Hash.{hashAt, hashesAt}
+use Rattle.rules.specs.Sizes.{sizes}
+use Rattle.table.proofs.TableLaws.{member-of-index, unknown-of-index, index-at-most, length-rows, length-rows-at}
+use Rattle.table.specs.TableBytes.{rowsAt}
+use Rattle.table.specs.Table.{rows, indexIn, held}
+use Rattle.hash_lists.specs.Internal.Lists.{same}
+use Rattle.hash_lists.proofs.Lists.{same-equal}
+
+-- ---- a list from number k on
+
+module _ (s : List ℕ) (place count : ℕ) where
+  unfoldable pub onward : ℕ → List ℕ
+  onward k = hashesAt s (place + sizes .hash * k) (count - k)
+
+  pub onward-starts : onward 0 ≡ hashesAt s place count
+  unfolding onward
+  onward-starts =
+      let d : count - 0 ≡ count = omega arith in
+      let p : place + sizes .hash * 0 ≡ place = omega arith in
+      rw (d, p)
+
+  pub onward-first : (k : ℕ) → k < count → onward k ≡ hashAt s (place + sizes .hash * k) ∷ onward (k + 1)
+  unfolding onward hashesAt
+  onward-first k h =
+      let d : count - k ≡ suc (count - (k + 1)) = omega arith in
+      let p : place + sizes .hash * (k + 1) ≡ place + sizes .hash * k + sizes .hash = omega arith in
+      rw (d, p)
+
+  pub onward-back : (k : ℕ) → 0 < k → k ≤ count → onward (k - 1) ≡ hashAt s (place + sizes .hash * (k - 1)) ∷ onward k
+  onward-back k h f =
+      let next : k - 1 + 1 ≡ k = omega arith in
+      rw next at (onward-first (k - 1) (omega arith))
+
+  pub onward-ends : (k : ℕ) → count ≤ k → onward k ≡ []
+  unfolding onward hashesAt
+  onward-ends k h =
+      let d : count - k ≡ 0 = omega arith in
+      rw d
+
+-- ---- whether it has a hash
+
+module _ (h : ℕ) (s : List ℕ) (place count : ℕ) where
+  pub seek-starts : member h (onward s place count 0) ≡ member h (hashesAt s place count)
+  seek-starts = rw (onward-starts s place count)
+
+  pub seek-here : (k : ℕ) → k < count → eqb h (hashAt s (place + sizes .hash * k)) ≡ true → member h (onward s place count k) ≡ true
+  unfolding member
+  seek-here k l e = rw (onward-first s place count k l, e)
+
+  pub seek-on : (k : ℕ) → k < count → eqb h (hashAt s (place + sizes .hash * k)) ≡ false
+      → member h (onward s place count k) ≡ member h (onward s place count (k + 1))
+  unfolding member
+  seek-on k l e = rw (onward-first s place count k l, e)
+
+  pub seek-ends : (k : ℕ) → count ≤ k → member h (onward s place count k) ≡ false
+  unfolding member
+  seek-ends k l = rw (onward-ends s place count k l)
+
+-- what was answered, as its callers test it
+module _ (h : ℕ) (l : List ℕ) (r : Bool) (told : r ≡ member h l) where
+  pub told-in : not r ≡ false → member h l ≡ true
+  told-in e = sym told ∙ not-false r e
+
+  pub told-out : not r ≡ true → member h l ≡ false
+  told-out e = sym told ∙ not-true r e
+
+  pub told-old : r ≡ true → not (member h l) ≡ false
+  told-old e = rw (sym told, e)
+
+  pub told-new : r ≡ false → not (member h l) ≡ true
+  told-new e = rw (sym told, e)
+
+-- ---- whether every one passes a test
+
+module _ (p : ℕ → Bool) (s : List ℕ) (place count : ℕ) where
+  pub test-starts : every p (onward s place count 0) ≡ every p (hashesAt s place count)
+  test-starts = rw (onward-starts s place count)
+
+  pub test-fails : (k : ℕ) → k < count → p (hashAt s (place + sizes .hash * k)) ≡ false → every p (onward s place count k) ≡ false
+  unfolding every
+  test-fails k l e = rw (onward-first s place count k l, e)
+
+  pub test-on : (k : ℕ) → k < count → p (hashAt s (place + sizes .hash * k)) ≡ true
+      → every p (onward s place count k) ≡ every p (onward s place count (k + 1))
+  unfolding every
+  test-on k l e = rw (onward-first s place count k l, e)
+
+  pub test-ends : (k : ℕ) → count ≤ k → every p (onward s place count k) ≡ true
+  unfolding every
+  test-ends k l = rw (onward-ends s place count k l)
+
+-- ---- whether two are the same
+
+module _ (a b : List ℕ) (i j m n : ℕ) where
+  pub counts-differ : (m ≡ n → ⊥) → same (hashesAt a i m) (hashesAt b j n) ≡ false
+  counts-differ d =
+      split (same (hashesAt a i m) (hashesAt b j n))
+      (λ e.
+      let long : length (hashesAt a i m) ≡ length (hashesAt b j n) = ap length (same-equal (hashesAt a i m) (hashesAt b j n) e) in
+      absurd (d (sym (length-hashes-at a i m) ∙ long ∙ length-hashes-at b j n)))
+      (λ e. e)
+
+  pub same-starts : same (onward a i m 0) (onward b j n 0) ≡ same (hashesAt a i m) (hashesAt b j n)
+  same-starts = rw (onward-starts a i m, onward-starts b j n)
+
+  pub same-fails : (k : ℕ) → k < m → k < n → eqb (hashAt a (i + sizes .hash * k)) (hashAt b (j + sizes .hash * k)) ≡ false
+      → same (onward a i m k) (onward b j n k) ≡ false
+  unfolding same
+  same-fails k l f e = rw (onward-first a i m k l, onward-first b j n k f, e)
+
+  pub same-on : (k : ℕ) → k < m → k < n → eqb (hashAt a (i + sizes .hash * k)) (hashAt b (j + sizes .hash * k)) ≡ true
+      → same (onward a i m k) (onward b j n k) ≡ same (onward a i m (k + 1)) (onward b j n (k + 1))
+  unfolding same
+  same-on k l f e = rw (onward-first a i m k l, onward-first b j n k f, e)
+
+  pub same-ends : (k : ℕ) → m ≤ k → n ≤ k → same (onward a i m k) (onward b j n k) ≡ true
+  unfolding same
+  same-ends k l f = rw (onward-ends a i m k l, onward-ends b j n k f)
+
+-- ---- the row of a hash tells whether it is held
+
+module _ (table : List ℕ) (n h r : ℕ) (found : r ≡ indexIn (rows (rowsAt table 0 n)) h) where
+  long : length (rows (rowsAt table 0 n)) ≡ n
+  long = length-rows (rowsAt table 0 n) ∙ length-rows-at table 0 n
+
+  pub found-held : r < n → held (rowsAt table 0 n) h ≡ true
+  unfolding held
+  found-held l = member-of-index (rows (rowsAt table 0 n)) h (omega (arith, long))
+
+  pub found-unknown : n ≤ r → held (rowsAt table 0 n) h ≡ false
+  unfolding held
+  found-unknown l = unknown-of-index (rows (rowsAt table 0 n)) h (omega (arith, long, index-at-most (rows (rowsAt table 0 n)) h))

@@ -1,0 +1,4 @@
+pub mod CompareLaws
+pub mod JoinLaws
+pub mod Lists
+pub mod Promises

@@ -1,0 +1,85 @@
+// Lists compared, and looked up in one another or in a table.
+use hash_order::hashes::same_hash;
+use rules::sizes::HASH_SIZE;
+use table_index::look::look_up;
+ghost use mathlib.Core.Path.{_≡_};
+ghost use Prim.Native.Nat.{_+_, _*_, _≤_};
+ghost use lib.ListN.{length};
+ghost use Rattle.table_index.specs.Index.{Indexed};
+ghost use Rattle.hash_order.specs.Order.{member, every};
+ghost use Rattle.rules.specs.Hash.{hashAt, hashesAt};
+ghost use Rattle.rules.specs.Sizes.{sizes};
+ghost use Rattle.table.specs.TableBytes.{rowsAt};
+ghost use Rattle.table.specs.Table.{held};
+ghost use Rattle.hash_lists.specs.Internal.Lists.{same};
+
+// Whether two lists have the same hashes in the same order.
+pub fn same_list(a: &[u8], i: usize, m: usize, b: &[u8], j: usize, n: usize) -> bool
+    requires { ⌜ (i + sizes .hash * m ≤ length (now a)) × (j + sizes .hash * n ≤ length (now b)) ⌝ }
+    ensures { λ r. ⌜ r ≡ same (hashesAt (now (a .entry)) i m) (hashesAt (now (b .entry)) j n) ⌝ }
+{
+    if m != n {
+        return false;
+    }
+    let mut k = 0;
+    while k < m {
+        if !same_hash(a, i + HASH_SIZE * k, b, j + HASH_SIZE * k) {
+            return false;
+        }
+        k += 1;
+    }
+    true
+}
+
+// Whether the hash at a place stands in a list.
+pub fn is_in(bytes: &[u8], at: usize, list: &[u8], place: usize, count: usize) -> bool
+    requires { ⌜ (at + sizes .hash ≤ length (now bytes)) × (place + sizes .hash * count ≤ length (now list)) ⌝ }
+    ensures { λ r. ⌜ r ≡ member (hashAt (now (bytes .entry)) at) (hashesAt (now (list .entry)) place count) ⌝ }
+{
+    let mut k = 0;
+    while k < count {
+        if same_hash(bytes, at, list, place + HASH_SIZE * k) {
+            return true;
+        }
+        k += 1;
+    }
+    false
+}
+
+// Whether every hash of a list stands in another.
+pub fn all_in(bytes: &[u8], i: usize, m: usize, list: &[u8], place: usize, count: usize) -> bool
+    requires { ⌜ (i + sizes .hash * m ≤ length (now bytes)) × (place + sizes .hash * count ≤ length (now list)) ⌝ }
+    ensures { λ r. ⌜ r ≡ every (λ h. member h (hashesAt (now (list .entry)) place count)) (hashesAt (now (bytes .entry)) i m) ⌝ }
+{
+    let mut k = 0;
+    while k < m {
+        if !is_in(bytes, i + HASH_SIZE * k, list, place, count) {
+            return false;
+        }
+        k += 1;
+    }
+    true
+}
+
+// Whether a table holds every hash of a list.
+pub fn all_held(
+    table: &[u8],
+    index: &[u8],
+    n: usize,
+    bytes: &[u8],
+    place: usize,
+    count: usize,
+) -> bool
+    requires { ⌜ Indexed (now table) (now index) n × (place + sizes .hash * count ≤ length (now bytes)) ⌝ }
+    ensures { λ r. ⌜ r ≡ every (held (rowsAt (now (table .entry)) 0 n)) (hashesAt (now (bytes .entry)) place count) ⌝ }
+{
+    let mut k = 0;
+    while k < count {
+        let at = place + HASH_SIZE * k;
+        if n <= look_up(table, index, n, bytes, at) {
+            return false;
+        }
+        k += 1;
+    }
+    true
+}

@@ -1,4 +1,0 @@
--- Laws that the crates above cite.
-pub mod BuildLaws
-pub mod ExtendLaws
-pub mod Promises

@@ -1,6 +1,0 @@
--- Laws that the crates above cite.
-pub mod IgnoredLaws
-pub mod ItemLaws
-pub mod Meaning
-pub mod RoundTrip
-pub mod Words

@@ -1,2 +1,0 @@
-pub mod Arms
-pub mod Kept

@@ -1,5 +1,0 @@
--- Laws that the crates above cite.
-pub mod GoodLaws
-pub mod GoodSessions
-pub mod KeptLaws
-pub mod Promises

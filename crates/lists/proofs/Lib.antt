@@ -1,5 +1,0 @@
--- Laws that the crates above cite.
-pub mod CompareLaws
-pub mod JoinLaws
-pub mod Lists
-pub mod Promises

@@ -1,4 +1,0 @@
--- Laws that the crates above cite.
-pub mod AllBytes
-pub mod Rooms
-pub mod Zeroed

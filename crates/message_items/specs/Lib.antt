@@ -1,0 +1,3 @@
+pub mod ItemMeans
+pub mod Items
+pub mod ItemsIgnored

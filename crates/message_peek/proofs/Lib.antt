@@ -1,0 +1,2 @@
+pub mod PeekLaws
+pub mod Promises

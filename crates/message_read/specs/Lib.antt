@@ -1,0 +1,3 @@
+pub mod MessageIgnored
+pub mod MessageMeans
+pub mod MessageRead

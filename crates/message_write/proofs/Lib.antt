@@ -1,0 +1,4 @@
+pub mod Promises
+pub mod PutLaws
+pub mod RoundTrip
+pub mod SoundLaws

@@ -1,7 +1,0 @@
--- Laws that the crates above cite.
-pub mod AcceptedLaws
-pub mod AskBytes
-pub mod AskLaws
-pub mod MissingCalls
-pub mod MissingLaws
-pub mod Promises

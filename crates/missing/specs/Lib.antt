@@ -1,3 +1,0 @@
-pub mod Ask
-pub mod Calls
-pub mod Missing

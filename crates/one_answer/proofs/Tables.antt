@@ -1,0 +1,22 @@
+-- Calls over tables, and the hashes to send. Each contract is an equation, or one for each thing that it speaks of. Assumes nothing.
+use mathlib.Core.Path.{refl}
+use Rattle.one_answer.specs.Tables.{TablesBind}
+use Rattle.one_answer.proofs.Once.{once, joined, skip}
+
+pub tables-bind : TablesBind
+tables-bind =
+    record {
+      check-table = λ κs a x y u v p q. (once p q, refl);
+      check-tables = λ κs a x y u v p q. (once p q, refl);
+      check-indexed = λ κs a x y u v p q. (once p q, refl);
+      check-sound = λ κs a x y u v p q. (once p q, refl);
+      check-unfit = λ κs a x y u v p q. (once p q, refl);
+      check-alone = λ κs a x y u v p q. (once p q, refl);
+      build-index = λ κs a x y u v p q. (once (p .answer) (q .answer), skip (joined (once (p .content) (q .content)) refl));
+      extend-index = λ κs a x y u v p q. (once (p .answer) (q .answer), skip (skip (joined (once (p .content) (q .content)) refl)));
+      beyond = λ κs a x y u v p q. (once (p .answer) (q .answer), skip (skip (skip (joined (once (p .content) (q .content)) refl))));
+      heads = λ κs a x y u v p q. (once (p .answer) (q .answer), skip (skip (skip (joined (once (p .content) (q .content)) refl))));
+      missing = λ κs a x y u v p q. (once (p .answer) (q .answer), skip (skip (skip (skip (joined (once (p .content) (q .content)) refl)))));
+      get-hashes-to-send = λ κs a x y u v p q. (once (p .answer) (q .answer), skip (skip (skip (skip (skip (joined (once (p .content) (q .content)) refl))))));
+      summary-in = λ κs a x y u v p q. (once p q, refl);
+    }

@@ -1,0 +1,39 @@
+-- Calls over tables, and the hashes to send. 01, How tightly the statements bind.
+use Rattle.one_answer.specs.Binds.{Binds}
+use Rattle.table.proofs.check.check_table as of-check-table
+use Rattle.table_index.proofs.check.check_indexed as of-check-indexed
+use Rattle.table_index.proofs.check.check_sound as of-check-sound
+use Rattle.table_index.proofs.check.check_unfit as of-check-unfit
+use Rattle.table_index_build.proofs.check.check_alone as of-check-alone
+use Rattle.table_index_build.proofs.build.build_index as of-build-index
+use Rattle.table_index_build.proofs.build.extend_index as of-extend-index
+use Rattle.waiting.proofs.check.check_tables as of-check-tables
+use Rattle.table_graph.proofs.beyond.beyond as of-beyond
+use Rattle.table_graph.proofs.heads.heads as of-heads
+use Rattle.waiting_missing.proofs.missing.missing as of-missing
+use Rattle.send.proofs.to_send.get_hashes_to_send as of-get-hashes-to-send
+use Rattle.send_records.proofs.summary.summary_in as of-summary-in
+
+-- Tables, their index, what waits, and what is computed over them.
+pub record TablesBind : Type 0 where
+  -- the crate tables
+  pub check-table : Binds of-check-table.ended of-check-table.Reads.Post
+  -- the crate index
+  pub check-indexed : Binds of-check-indexed.ended of-check-indexed.Reads.Post
+  pub check-sound : Binds of-check-sound.ended of-check-sound.Reads.Post
+  pub check-unfit : Binds of-check-unfit.ended of-check-unfit.Reads.Post
+  -- the crate indexing
+  pub check-alone : Binds of-check-alone.ended of-check-alone.Reads.Post
+  pub build-index : Binds of-build-index.ended of-build-index.Reads.Post
+  pub extend-index : Binds of-extend-index.ended of-extend-index.Reads.Post
+  -- the crate waiting
+  pub check-tables : Binds of-check-tables.ended of-check-tables.Reads.Post
+  -- the crate graph
+  pub beyond : Binds of-beyond.ended of-beyond.Reads.Post
+  pub heads : Binds of-heads.ended of-heads.Reads.Post
+  -- the crate missing
+  pub missing : Binds of-missing.ended of-missing.Reads.Post
+  -- the crate selection
+  pub get-hashes-to-send : Binds of-get-hashes-to-send.ended of-get-hashes-to-send.Reads.Post
+  -- the crate summaries
+  pub summary-in : Binds of-summary-in.ended of-summary-in.Reads.Post

@@ -1,7 +1,0 @@
--- Laws that the crates above cite.
-pub mod Compare
-pub mod Insert
-pub mod KeepLaws
-pub mod OrderLaws
-pub mod Promises
-pub mod ReachLaws

@@ -1,0 +1,31 @@
+-- What internal contracts speak of: the tests before planning. No rule of 01 stands here.
+use Prim.Native.Nat.{ℕ}
+use mathlib.Core.Bool.{cond, not}
+use mathlib.Core.List.{List}
+use Rattle.table_index.specs.Index.{indexChecked}
+use Rattle.session_check.specs.SessionGood.{sessionGood}
+use Rattle.rules.specs.declared.refusal.Refusal.the-variants.{BadNumbers}
+use Rattle.session_state.specs.Value.{Lent}
+use Rattle.session_state.specs.declared.session.Session.{Session}
+use Rattle.table.specs.TableBytes.{tableOf}
+use Rattle.table.specs.Table.{Row}
+use Rattle.table.specs.declared.check.Checked.{Checked as TableChecked}
+use Rattle.table.specs.declared.check.Checked.the-variants as tables
+use Rattle.waiting.specs.WaitingBytes.{waitingChecked}
+use Rattle.plan.specs.declared.check.PlanChecks.{PlanChecks}
+use Rattle.plan.specs.declared.check.PlanChecks.the-variants.{Good, Refused}
+
+-- The rows of both tables, or the first refusal: 10, then 4 and 6, then 12, then 4 and 9.
+unfoldable pub besideChecked : ℕ → TableChecked → PlanChecks
+besideChecked n (tables.Good m) = Good n m
+besideChecked n (tables.Refused r) = Refused r
+
+-- After the change table and its index: the waiting table.
+unfoldable pub besideTable : TableChecked → List Row → List ℕ → PlanChecks
+besideTable (tables.Good n) t waiting = besideChecked n (waitingChecked t waiting)
+besideTable (tables.Refused r) t waiting = Refused r
+
+-- All of it, 10 first.
+unfoldable pub checkedPlan : Session → Lent → List ℕ → List ℕ → List ℕ → PlanChecks
+checkedPlan s l table index waiting =
+    cond (not (sessionGood s l)) (Refused BadNumbers) (besideTable (indexChecked table index) (tableOf table) waiting)

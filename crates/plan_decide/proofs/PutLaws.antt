@@ -1,0 +1,108 @@
+-- Where what stands ready starts with the bytes of what is said, what is put is what the call promises. Nothing is put after a refusal and in silence,
+-- which is no case of its own. Assumes nothing.
+use Prim.Native.Nat.{ℕ, _+_, _*_, _≤_}
+use mathlib.Core.List.{List, _++_}
+use mathlib.Core.Path.{_≡_, refl, sym, ap, _∙_}
+use native.Mathlib.Nat.{zero-add}
+use lib.ListN.{length, take}
+use lib.Seq.{sets}
+use Rattle.session.specs.PlanCall.{Buffers, syncsOf, filterNumbers, plannedAnswer, afterRoom, plannedRoomed}
+use Rattle.session.specs.PlanCall.{said, lastSentPut, sentPut, putInto}
+use Rattle.session.specs.declared.plan_answer.Room.{Room}
+use Rattle.session.specs.declared.plan_answer.Room.the-variants.{Enough, Short}
+use Rattle.session.specs.declared.plan_answer.Rooms.{Rooms}
+use Rattle.rules.specs.Hash.{Bytes, hashesAt, hashesBytes}
+use Rattle.rules.specs.Output.{Gathered}
+use Rattle.rules.specs.Sizes.{sizes}
+use Rattle.rules.specs.declared.refusal.Refusal.{Refusal}
+use Rattle.rules.proofs.Hash.{length-hashes-at, length-hashes-bytes}
+use Rattle.rules.proofs.Outputs.{sets-append, gathered-bytes}
+use Rattle.session.specs.Laid.{laidBytes}
+use Rattle.session.specs.Plan.{Planned}
+use Rattle.session_state.specs.declared.session.Session.{Session}
+use Rattle.plan_decide.specs.Internal.Draft.{PlanParts, putsOf}
+use Rattle.plan_decide.specs.Internal.Draft.{startPut, havePut, allPut}
+
+-- ---- bytes at the start of what stands ready
+
+-- What stands ready starts with what is said and with what the session's lists become.
+pub record Starts (q : Planned) (ready : PlanParts) : Type 0 where
+  pub heads : hashesAt (ready .heads) 0 (length (said q .heads)) ≡ said q .heads
+  pub need : hashesAt (ready .need) 0 (length (said q .need)) ≡ said q .need
+  pub have : hashesBytes (hashesAt (ready .shared) 0 (syncsOf (said q .haves))) ++ take (filterNumbers (said q .haves) .size) (ready .field)
+      ≡ laidBytes (said q .haves)
+  pub list : hashesAt (ready .list) 0 (length (said q .body .hashes)) ≡ said q .body .hashes
+  pub lastSent : hashesAt (ready .heads) 0 (length (lastSentPut q)) ≡ lastSentPut q
+  pub sent : hashesAt (ready .sent) 0 (length (sentPut q)) ≡ sentPut q
+
+pub buffers-same : {a a′ b b′ c c′ d d′ e e′ f f′ : List ℕ} → a ≡ a′ → b ≡ b′ → c ≡ c′ → d ≡ d′ → e ≡ e′ → f ≡ f′
+    → _≡_ {A = Buffers} (record { heads = a; need = b; have = c; list = d; lastSent = e; sent = f })
+    (record { heads = a′; need = b′; have = c′; list = d′; lastSent = e′; sent = f′ })
+buffers-same a b c d e f = rw (a, b, c, d, e, f)
+
+-- hashes at the start of a buffer
+start-put : (buffer part hs : List ℕ) → hashesAt part 0 (length hs) ≡ hs → startPut (length hs) part buffer ≡ sets buffer 0 (hashesBytes hs)
+start-put buffer part hs e = ap (λ (l : List ℕ). sets buffer 0 (hashesBytes l)) e
+
+-- the bytes of the first hashes of a part
+pub first-put : (part buffer next : List ℕ) (n : ℕ) → Bytes part → sizes .hash * n ≤ length part → next ≡ sets buffer 0 (take (sizes .hash * n) part)
+    → next ≡ startPut n part buffer
+first-put part buffer next n b h e =
+    let g : Gathered (hashesAt part 0 n) part n = record { many = sym (length-hashes-at part 0 n); list = refl } in
+    rw (gathered-bytes g b h) e
+
+-- one part after the other
+have-put : (buffer shared field bytes : List ℕ) (k n : ℕ) → hashesBytes (hashesAt shared 0 k) ++ take n field ≡ bytes
+    → havePut k shared n field buffer ≡ sets buffer 0 bytes
+have-put buffer shared field bytes k n e =
+    let first : List ℕ = hashesBytes (hashesAt shared 0 k) in
+    let long : 0 + length first ≡ sizes .hash * k =
+    zero-add _ ∙ length-hashes-bytes (hashesAt shared 0 k) ∙ ap (λ (m : ℕ). sizes .hash * m) (length-hashes-at shared 0 k)
+    in
+    let all : sets (sets buffer 0 first) (0 + length first) (take n field) ≡ sets buffer 0 (first ++ take n field) =
+    sets-append first (take n field) buffer 0
+    in
+    rw (long, e) at all
+
+module _ (s : Session) (ready : PlanParts) (b : Buffers) where
+  pub put-as-said : (q : Planned) → Starts q ready → allPut (putsOf (plannedAnswer s q)) ready b ≡ putInto q b
+  unfolding putsOf plannedAnswer putInto hashesAt hashesBytes laidBytes
+  put-as-said (Planned.refused r) f = refl
+  put-as-said Planned.silent f = refl
+  put-as-said (Planned.reset p) f =
+      buffers-same
+      (start-put _ _ _ (f .heads))
+      (start-put _ _ _ (f .need))
+      (have-put (b .have) (ready .shared) (ready .field) _ (syncsOf (p .haves)) (filterNumbers (p .haves) .size) (f .have))
+      (start-put _ _ _ (f .list))
+      refl
+      refl
+  put-as-said (Planned.says p after) f =
+      buffers-same
+      (start-put _ _ _ (f .heads))
+      (start-put _ _ _ (f .need))
+      (have-put (b .have) (ready .shared) (ready .field) _ (syncsOf (p .haves)) (filterNumbers (p .haves) .size) (f .have))
+      (start-put _ _ _ (f .list))
+      (start-put _ _ _ (f .lastSent))
+      (start-put _ _ _ (f .sent))
+
+-- nothing is at every start
+pub refused-starts : (r : Refusal) (ready : PlanParts) → Starts (Planned.refused r) ready
+unfolding hashesAt hashesBytes laidBytes
+refused-starts r ready = record { heads = refl; need = refl; have = refl; list = refl; lastSent = refl; sent = refl }
+
+pub silent-starts : (ready : PlanParts) → Starts Planned.silent ready
+unfolding hashesAt hashesBytes laidBytes
+silent-starts ready = record { heads = refl; need = refl; have = refl; list = refl; lastSent = refl; sent = refl }
+
+after-room : (x : Room) (q : Planned) (ready : PlanParts) → Starts q ready → Starts (afterRoom x q) ready
+unfolding afterRoom
+after-room Enough q ready f = f
+after-room (Short wanted) q ready f = refused-starts _ ready
+
+pub roomed-starts : (r : Rooms) (q : Planned) (ready : PlanParts) → Starts q ready → Starts (plannedRoomed r q) ready
+unfolding plannedRoomed
+roomed-starts r (Planned.refused e) ready f = f
+roomed-starts r Planned.silent ready f = f
+roomed-starts r (Planned.reset p) ready f = after-room _ _ ready f
+roomed-starts r (Planned.says p after) ready f = after-room _ _ ready (after-room _ _ ready f)

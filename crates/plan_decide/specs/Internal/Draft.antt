@@ -1,0 +1,193 @@
+-- What internal contracts speak of: numbers of a plan before it is decided, and what stands ready to be put. No rule of 01 stands here.
+use Prim.Native.Nat.{ℕ, _+_, _*_, _≤_}
+use mathlib.Core.Bool.{Bool, false, cond, _&&_, not}
+use mathlib.Core.List.{List}
+use lib.Dec.{ltb}
+use lib.ListN.{length, take}
+use lib.Seq.{sets}
+use Rattle.bloom.specs.Filter.{fieldSize, defaultBits, defaultProbes}
+use Rattle.bloom.specs.Have.{numbersOf}
+use Rattle.bloom.specs.declared.have.FilterNumbers.{FilterNumbers}
+use Rattle.message.specs.Flags.{flagsOf, supportsSyncReset}
+use Rattle.message.specs.declared.version.MessageVersion.the-variants.{V1}
+use Rattle.leb128.specs.Number.{mostFilter}
+use Rattle.session.specs.PlanCall.{Buffers, messageRoom, sessionRoom, plannedCounts}
+use Rattle.session.specs.declared.plan_answer.PlanAnswer.{PlanAnswer}
+use Rattle.session.specs.declared.plan_answer.PlanAnswer.the-variants.{Refused, Silent, Reset, Says}
+use Rattle.session.specs.declared.plan_answer.Room.{Room}
+use Rattle.session.specs.declared.plan_answer.Room.the-variants.{Enough, Short}
+use Rattle.session.specs.declared.plan_answer.Rooms.{Rooms}
+use Rattle.session.specs.declared.plan_answer.Stated.{Stated}
+use Rattle.rules.specs.Hash.{hashesAt, hashesBytes}
+use Rattle.rules.specs.Sizes.{sizes}
+use Rattle.rules.specs.declared.refusal.Refusal.the-variants.{PastSize, NoRoom}
+use Rattle.session.specs.Plan.{versionFor, flagsFor}
+use Rattle.session_state.specs.declared.session.Session.{Session}
+use Rattle.plan_decide.specs.declared.decide.Draft.{Draft}
+use Rattle.plan_decide.specs.declared.put.Puts.{Puts}
+
+-- ---- what is decided
+
+-- How many heads a message has: none where the peer is to think that all was lost here.
+unfoldable pub headsCount : Bool → Bool → ℕ → ℕ
+headsCount needsReset supportsReset n = cond (needsReset && not supportsReset) 0 n
+
+-- n where something is given, else 0.
+unfoldable pub countIf : Bool → ℕ → ℕ
+countIf given n = cond given n 0
+
+-- The numbers of a filter behind `syncs` last-sync hashes where one is given, else zeros.
+unfoldable pub filterIf : Bool → ℕ → ℕ → ℕ → ℕ → FilterNumbers
+filterIf given syncs entries bits probes =
+    cond given (numbersOf entries bits probes (sizes .hash * syncs) (fieldSize entries bits)) (numbersOf 0 0 0 0 0)
+
+-- The numbers of the message that is drafted, with a have or without one.
+abbrev pub drafted : Session → Draft → ℕ → ℕ → Stated
+drafted s d bits probes =
+    record {
+      version = versionFor (s .«supports_v2»);
+      flags = flagsFor (s .«read_only») (s .«needs_reset» && s .«supports_reset»);
+      document = d .body .document;
+      heads = headsCount (s .«needs_reset») (s .«supports_reset») (d .heads);
+      need = d .need;
+      haves = countIf (d .gives) 1;
+      syncs = countIf (d .gives) (s .«shared_heads»);
+      filter = filterIf (d .gives) (s .«shared_heads») (d .entries) bits probes;
+      hashes = d .body .hashes;
+    }
+
+-- Small enough for its bytes to be counted.
+pub record SmallStated (p : Stated) : Type 0 where
+  pub heads : p .heads ≤ sizes .rows
+  pub need : p .need ≤ sizes .hashes + 1
+  pub syncs : p .syncs ≤ sizes .hashes
+  pub field : p .filter .size ≤ sizes .field
+  pub hashes : p .hashes ≤ sizes .hashesToSend
+
+-- The numbers that a message is drafted from are small enough for its bytes to be counted.
+pub record SmallDraft (s : Session) (d : Draft) (bits : ℕ) : Type 0 where
+  pub heads : d .heads ≤ sizes .rows
+  pub need : d .need ≤ sizes .hashes + 1
+  pub shared : s .«shared_heads» ≤ sizes .hashes
+  pub entries : d .entries ≤ sizes .rows
+  pub few : bits ≤ mostFilter
+  pub field : fieldSize (d .entries) bits ≤ sizes .field
+  pub hashes : d .body .hashes ≤ sizes .hashesToSend
+  pub sent : d .sent ≤ sizes .sentHashes + 1
+
+-- The numbers of a reset's message: its heads, one empty have, no need and no body, in V1.
+abbrev pub resetStated : ℕ → Stated
+resetStated heads =
+    record {
+      version = V1;
+      flags = flagsOf supportsSyncReset;
+      document = false;
+      heads = heads;
+      need = 0;
+      haves = 1;
+      syncs = 0;
+      filter = numbersOf 0 defaultBits defaultProbes 0 0;
+      hashes = 0;
+    }
+
+-- An answer where there is room, else 7.
+unfoldable pub ifRoom : Room → PlanAnswer → PlanAnswer
+ifRoom Enough a = a
+ifRoom (Short wanted) a = Refused (NoRoom wanted)
+
+-- The message, where there is room.
+unfoldable pub saysWith : Session → Draft → ℕ → ℕ → Rooms → PlanAnswer
+saysWith s d bits probes r =
+    ifRoom (messageRoom (drafted s d bits probes) r)
+    (ifRoom (sessionRoom (d .heads) (d .sent) r) (Says (drafted s d bits probes) (plannedCounts s (d .heads) (d .sent))))
+
+-- What is decided from the numbers, in the order of the refusals.
+unfoldable pub decided : Session → Draft → ℕ → ℕ → Rooms → PlanAnswer
+decided s d bits probes r =
+    cond (ltb (sizes .hashes) (d .need))
+    (Refused (PastSize 0))
+    (cond (d .unknown)
+    (ifRoom (messageRoom (resetStated (d .heads)) r) (Reset (resetStated (d .heads))))
+    (cond (d .silent)
+    Silent
+    (cond (ltb (sizes .sentHashes) (d .sent)) (Refused (PastSize 0)) (saysWith s d bits probes r))))
+
+-- ---- what is put
+
+-- What stands ready to be put.
+pub record PlanParts : Type 0 where
+  pub heads : List ℕ
+  pub need : List ℕ
+  pub shared : List ℕ
+  pub field : List ℕ
+  pub list : List ℕ
+  pub sent : List ℕ
+
+-- The parts, in the order in which they are lent.
+abbrev pub planParts : List ℕ → List ℕ → List ℕ → List ℕ → List ℕ → List ℕ → PlanParts
+planParts heads need shared field list sent =
+    record { heads = heads; need = need; shared = shared; field = field; list = list; sent = sent }
+
+-- Nothing put.
+abbrev pub noPuts : Puts
+noPuts = record { heads = 0; need = 0; syncs = 0; field = 0; hashes = 0; «last_sent» = 0; sent = 0 }
+
+-- How many hashes and bytes a message puts into each buffer, and how many hashes the session's two lists get.
+abbrev pub putsFor : Stated → ℕ → ℕ → Puts
+putsFor p lastSent sent =
+    record {
+      heads = p .heads;
+      need = p .need;
+      syncs = p .syncs;
+      field = p .filter .size;
+      hashes = p .hashes;
+      «last_sent» = lastSent;
+      sent = sent;
+    }
+
+-- How many hashes and bytes an answer puts into each buffer: a refusal and silence none, a reset leaves the session's lists.
+unfoldable pub putsOf : PlanAnswer → Puts
+putsOf (Refused r) = noPuts
+putsOf Silent = noPuts
+putsOf (Reset p) = putsFor p 0 0
+putsOf (Says p s) = putsFor p (s .«last_sent_heads») (s .«sent_hashes»)
+
+-- n hashes stand in a part, and a buffer has room for them.
+pub record HashesFit (n : ℕ) (part buffer : List ℕ) : Type 0 where
+  pub there : sizes .hash * n ≤ length part
+  pub room : sizes .hash * n ≤ length buffer
+
+-- The last-sync hashes of a have and its field are there, and a buffer has room for the field behind the hashes.
+pub record HaveFits (n : ℕ) (shared : List ℕ) (size : ℕ) (field buffer : List ℕ) : Type 0 where
+  pub hashes : sizes .hash * n ≤ length shared
+  pub bytes : size ≤ length field
+  pub room : sizes .hash * n + size ≤ length buffer
+
+-- All that is put is there, and has room.
+pub record Fits (p : Puts) (ready : PlanParts) (b : Buffers) : Type 0 where
+  pub heads : HashesFit (p .heads) (ready .heads) (b .heads)
+  pub need : HashesFit (p .need) (ready .need) (b .need)
+  pub have : HaveFits (p .syncs) (ready .shared) (p .field) (ready .field) (b .have)
+  pub list : HashesFit (p .hashes) (ready .list) (b .list)
+  pub lastSent : HashesFit (p .«last_sent») (ready .heads) (b .lastSent)
+  pub sent : HashesFit (p .sent) (ready .sent) (b .sent)
+
+-- The first hashes of a part put at the start of a buffer.
+abbrev pub startPut : ℕ → List ℕ → List ℕ → List ℕ
+startPut n part buffer = sets buffer 0 (hashesBytes (hashesAt part 0 n))
+
+-- A have's buffer: n last-sync hashes at its start, and `size` bytes of the field behind them.
+abbrev pub havePut : ℕ → List ℕ → ℕ → List ℕ → List ℕ → List ℕ
+havePut n shared size field buffer = sets (startPut n shared buffer) (sizes .hash * n) (take size field)
+
+-- All of it put.
+abbrev pub allPut : Puts → PlanParts → Buffers → Buffers
+allPut p ready b =
+    record {
+      heads = startPut (p .heads) (ready .heads) (b .heads);
+      need = startPut (p .need) (ready .need) (b .need);
+      have = havePut (p .syncs) (ready .shared) (p .field) (ready .field) (b .have);
+      list = startPut (p .hashes) (ready .list) (b .list);
+      lastSent = startPut (p .«last_sent») (ready .heads) (b .lastSent);
+      sent = startPut (p .sent) (ready .sent) (b .sent);
+    }

@@ -1,0 +1,185 @@
+-- What is decided from the numbers of a plan is what is planned on values, as counts: stage by stage, in the order of the refusals. Assumes nothing.
+use Prim.Native.Nat.{ℕ, _+_, _*_, _≤_, _<_}
+use mathlib.Core.Bool.{Bool, true, false, cond, _&&_, not}
+use mathlib.Core.List.{List, [], _∷_}
+use mathlib.Core.Path.{_≡_, refl, sym, ap, _∙_}
+use native.Mathlib.Omega.{arith}
+use borrow.Author.Tests.{ltb-true, ltb-false, lt-ltb, le-ltb}
+use lib.Dec.{ltb}
+use lib.ListN.{length, length-replicate}
+use Rattle.bloom.specs.Filter.{fieldSize}
+use Rattle.bloom.specs.Have.{numbersOf}
+use Rattle.bloom.specs.declared.have.FilterNumbers.{FilterNumbers}
+use Rattle.plan_decide.specs.Internal.Draft.{PlanParts, headsCount, countIf, filterIf, drafted, resetStated, ifRoom, saysWith, decided}
+use Rattle.plan_decide.specs.declared.decide.Draft.{Draft}
+use Rattle.table_graph.specs.Graph.{heads}
+use Rattle.message.specs.declared.flags.MessageFlags.{MessageFlags}
+use Rattle.message.specs.declared.version.MessageVersion.{MessageVersion}
+use Rattle.waiting_missing.specs.Ask.{FoundUpTo}
+use Rattle.hash_order.specs.Order.{member, every}
+use Rattle.session.specs.PlanCall.{syncsOf, filterNumbers, statedOf, plannedAnswer, messageRoom, sessionRoom, afterRoom, plannedRoomed}
+use Rattle.session.specs.declared.plan_answer.PlanAnswer.the-variants.{Refused, Reset}
+use Rattle.session.specs.declared.plan_answer.PlanAnswer.{PlanAnswer}
+use Rattle.session.specs.declared.plan_answer.Room.the-variants.{Enough, Short}
+use Rattle.session.specs.declared.plan_answer.Room.{Room}
+use Rattle.session.specs.declared.plan_answer.Rooms.{Rooms}
+use Rattle.session.specs.declared.plan_answer.Stated.{Stated}
+use Rattle.plan_parts.specs.Internal.PlanParts.{FieldMade}
+use Rattle.bloom_probe.proofs.FieldLaws.{length-add-hashes}
+use Rattle.bloom_probe.specs.Build.{filterOf}
+use Rattle.rules.proofs.Cases.{split}
+use Rattle.rules.proofs.Hash.{length-hashes-at}
+use Rattle.rules.specs.Output.{Gathered}
+use Rattle.rules.specs.Sizes.{sizes}
+use Rattle.rules.specs.declared.refusal.Refusal.the-variants.{PastSize}
+use Rattle.session.specs.Plan.{Planned, heard, needOf, haveOf, havesFor, sentAfter, headsFor, planOf, planned, resetOf, planSent, planSilence, planReset, plan}
+use Rattle.session_state.specs.Value.{Lent, stateOf}
+use Rattle.session_state.specs.declared.session.Session.{Session}
+use Rattle.table.specs.Table.{Row}
+use Rattle.waiting.specs.Waiting.{Waiting}
+use Rattle.plan_make.specs.Internal.PlanMake.{DraftMade}
+
+-- ---- counts of parts
+
+-- room is asked before the answer is counted, or after
+room-answers : (s : Session) (x : Room) (q : Planned) → ifRoom x (plannedAnswer s q) ≡ plannedAnswer s (afterRoom x q)
+unfolding ifRoom plannedAnswer afterRoom
+room-answers s Enough q = refl
+room-answers s (Short wanted) q = refl
+
+-- a test decides the same on both sides
+both-ways : (f : Planned → PlanAnswer) (b : Bool) {x y : PlanAnswer} {p q : Planned} → x ≡ f p → y ≡ f q → cond b x y ≡ f (cond b p q)
+both-ways f true e g = e
+both-ways f false e g = g
+
+heads-count : (needs supports : Bool) (hs : List ℕ) → length (headsFor needs supports hs) ≡ headsCount needs supports (length hs)
+unfolding headsFor headsCount
+heads-count needs supports hs = split (needs && not supports) (λ e. rw e) (λ e. rw e)
+
+module _ (bits probes : ℕ) (hs field : List ℕ) (entries : ℕ) (f : FieldMade bits probes hs field entries) where
+  pub field-long : length (filterOf bits probes hs .field) ≡ fieldSize entries bits
+  unfolding filterOf
+  field-long = length-add-hashes probes _ hs ∙ length-replicate _ _ ∙ ap (λ (n : ℕ). fieldSize n bits) (sym (f .many))
+
+-- ---- lists with room for one more than there may be
+
+module _ {l after : List ℕ} {most count : ℕ} (f : FoundUpTo l (most + 1) after count) where
+  pub found-many : most < count → most < length l
+  found-many h = omega (arith, f .full (omega (arith, f .within)))
+
+  pub found-all : count ≤ most → Gathered l after count
+  found-all h = f .all (omega arith)
+
+-- ---- the counts of a message
+
+abbrev counted : MessageVersion → MessageFlags → Bool → ℕ → ℕ → ℕ → ℕ → FilterNumbers → ℕ → Stated
+counted version flags document heads need haves syncs filter hashes =
+    record {
+      version = version;
+      flags = flags;
+      document = document;
+      heads = heads;
+      need = need;
+      haves = haves;
+      syncs = syncs;
+      filter = filter;
+      hashes = hashes;
+    }
+
+counted-same : {version : MessageVersion} {flags : MessageFlags} {b b′ : Bool} {h h′ n n′ v v′ s s′ : ℕ} {f f′ : FilterNumbers} {k k′ : ℕ}
+    → b ≡ b′ → h ≡ h′ → n ≡ n′ → v ≡ v′ → s ≡ s′ → f ≡ f′ → k ≡ k′
+    → counted version flags b h n v s f k ≡ counted version flags b′ h′ n′ v′ s′ f′ k′
+counted-same b h n v s f k = rw (b, h, n, v, s, f, k)
+
+numbers-same : {bits probes e e′ p p′ z z′ : ℕ} → e ≡ e′ → p ≡ p′ → z ≡ z′ → numbersOf e bits probes p z ≡ numbersOf e′ bits probes p′ z′
+numbers-same e p z = rw (e, p, z)
+
+module _ (bits probes : ℕ) (t : List Row) (w : List Waiting) (s : Session) (l : Lent) (ready : PlanParts) (d : Draft)
+    (asked : ℕ) (m : DraftMade bits probes t (stateOf s l) asked ready d)
+    (f : FoundUpTo (needOf t w (s .«read_only») (heard (stateOf s l .theirHeads))) (sizes .hashes + 1) (ready .need) (d .need)) where
+  abbrev theirs : List ℕ
+  theirs = heard (stateOf s l .theirHeads)
+
+  abbrev needs : List ℕ
+  needs = needOf t w (s .«read_only») theirs
+
+  abbrev shared : List ℕ
+  shared = stateOf s l .sharedHeads
+
+  module _ (few : d .need ≤ sizes .hashes) where
+    gives-every : every (λ h. member h theirs) needs ≡ d .gives
+    gives-every = sym (rw (found-all f few .list) at (m .gives))
+
+    pub have-given : d .gives ≡ true → havesFor bits probes t needs theirs shared ≡ haveOf bits probes t shared ∷ []
+    unfolding havesFor
+    have-given e = rw (gives-every ∙ e)
+
+    pub have-none : d .gives ≡ false → havesFor bits probes t needs theirs shared ≡ []
+    unfolding havesFor
+    have-none e = rw (gives-every ∙ e)
+
+    given-numbers : d .gives ≡ true
+        → filterNumbers (haveOf bits probes t shared ∷ [])
+        ≡ numbersOf (d .entries) bits probes (sizes .hash * s .«shared_heads») (fieldSize (d .entries) bits)
+    unfolding haveOf filterOf
+    given-numbers e =
+        let g = m .field .made e in
+        numbers-same (sym (g .many)) (ap (λ (n : ℕ). sizes .hash * n) (length-hashes-at (l .shared) 0 (s .«shared_heads»)))
+        (field-long bits probes _ _ _ g)
+
+    given-syncs : syncsOf (haveOf bits probes t shared ∷ []) ≡ s .«shared_heads»
+    unfolding haveOf
+    given-syncs = length-hashes-at (l .shared) 0 (s .«shared_heads»)
+
+    pub stated-drafted : statedOf (planOf bits probes t w (stateOf s l)) ≡ drafted s d bits probes
+    unfolding planOf countIf filterIf
+    stated-drafted =
+        split (d .gives)
+        (λ e. rw (e, have-given e)
+        (counted-same (sym (m .body .document)) (heads-count _ _ _ ∙ ap (headsCount (s .«needs_reset») (s .«supports_reset»)) (sym (m .heads .many)))
+        (sym (found-all f few .many)) refl given-syncs (given-numbers e) (sym (m .body .hashes .many))))
+        (λ e. rw (e, have-none e)
+        (counted-same (sym (m .body .document)) (heads-count _ _ _ ∙ ap (headsCount (s .«needs_reset») (s .«supports_reset»)) (sym (m .heads .many)))
+        (sym (found-all f few .many)) refl refl refl (sym (m .body .hashes .many))))
+
+  -- ---- the stages
+
+  module _ (r : Rooms) where
+    abbrev answer : Planned → PlanAnswer
+    answer q = plannedAnswer s (plannedRoomed r q)
+
+    says-decided : d .need ≤ sizes .hashes → d .sent ≤ sizes .sentHashes
+        → saysWith s d bits probes r ≡ answer (Planned.says (planOf bits probes t w (stateOf s l)) (planned t (stateOf s l)))
+    unfolding saysWith plannedRoomed planned sentAfter plannedAnswer
+    says-decided few some =
+        let p = planOf bits probes t w (stateOf s l) in
+        let q : Planned = Planned.says p (planned t (stateOf s l)) in
+        let x : Room = sessionRoom (length (heads t)) (length (sentAfter t (stateOf s l))) r in
+        rw (sym (stated-drafted few), m .heads .many, m .sent .all some .many)
+        (ap (λ (a : PlanAnswer). ifRoom (messageRoom (statedOf p) r) a) (room-answers s x q) ∙ room-answers s (messageRoom (statedOf p) r) (afterRoom x q))
+
+    sent-decided : d .need ≤ sizes .hashes
+        → cond (ltb (sizes .sentHashes) (d .sent)) (Refused (PastSize 0)) (saysWith s d bits probes r) ≡ answer (planSent bits probes t w (stateOf s l))
+    unfolding planSent sentAfter plannedRoomed plannedAnswer
+    sent-decided few =
+        split (ltb (sizes .sentHashes) (d .sent))
+        (λ e. rw (e, lt-ltb _ _ (m .sent .many (ltb-true _ _ e))))
+        (λ e.
+        let some : d .sent ≤ sizes .sentHashes = ltb-false _ _ e in
+        let room : length (sentAfter t (stateOf s l)) ≤ sizes .sentHashes = omega (arith, m .sent .all some .many) in
+        rw (e, le-ltb _ _ room) (says-decided few some))
+
+    reset-decided : ifRoom (messageRoom (resetStated (d .heads)) r) (Reset (resetStated (d .heads))) ≡ answer (Planned.reset (resetOf t))
+    unfolding plannedRoomed resetOf plannedAnswer
+    reset-decided = rw (m .heads .many) (room-answers s (messageRoom (resetStated (length (heads t))) r) (Planned.reset (resetOf t)))
+
+    pub plan-decided : decided s d bits probes r ≡ answer (plan bits probes t w (stateOf s l))
+    unfolding decided plan planReset planSilence plannedRoomed plannedAnswer
+    plan-decided =
+        split (ltb (sizes .hashes) (d .need))
+        (λ e. rw (e, lt-ltb _ _ (found-many {most = sizes .hashes} f (ltb-true _ _ e))))
+        (λ e.
+        let few : d .need ≤ sizes .hashes = ltb-false _ _ e in
+        let some : length needs ≤ sizes .hashes = omega (arith, found-all {most = sizes .hashes} f few .many) in
+        rw (e, le-ltb _ _ some, sym (m .unknown), sym (m .silent))
+        (both-ways (λ q. plannedAnswer s (plannedRoomed r q)) (d .unknown) reset-decided (both-ways (λ q. plannedAnswer s (plannedRoomed r q)) (d .silent) refl (sent-decided few))))

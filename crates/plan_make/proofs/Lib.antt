@@ -1,0 +1,4 @@
+pub mod Decided
+pub mod FitLaws
+pub mod MadeLaws
+pub mod MakeLaws

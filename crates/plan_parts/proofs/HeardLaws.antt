@@ -1,0 +1,75 @@
+-- What was heard, as a count and a buffer: its hashes stand inside what is lent and are the list that was heard. What is missing from those of them
+-- that are asked for is the need, and comparing takes the list as it stands.
+use Prim.Native.Nat.{ℕ, _+_, _*_, _≤_}
+use mathlib.Core.Bool.{Bool, true, false, cond}
+use mathlib.Core.List.{List}
+use mathlib.Core.Path.{_≡_, _∙_}
+use native.Mathlib.Omega.{arith}
+use lib.ListN.{length}
+use Rattle.session_check.proofs.GoodSessions.{list-parts}
+use Rattle.session_check.specs.SessionGood.{heardGood}
+use Rattle.hash_lists.specs.Internal.Lists.{same}
+use Rattle.waiting_missing.proofs.MissingLaws.{missing-of-nothing}
+use Rattle.waiting_missing.specs.Ask.{FoundUpTo}
+use Rattle.waiting_missing.specs.Missing.{missing}
+use Rattle.hash_order.specs.Order.{member, every}
+use Rattle.rules.proofs.Cases.{split}
+use Rattle.rules.specs.Hash.{hashesAt}
+use Rattle.rules.specs.Sizes.{sizes}
+use Rattle.session.specs.Plan.{heard, heardAs, needOf}
+use Rattle.session_state.specs.Value.{heardCount, heardHashes}
+use Rattle.session_state.specs.declared.session.Heard.the-variants.{Nothing, Count}
+use Rattle.session_state.specs.declared.session.Heard.{Heard}
+use Rattle.table.specs.Table.{Row}
+use Rattle.waiting.specs.Waiting.{Waiting}
+
+-- ---- all of them
+
+pub heard-there : (s : List ℕ) (h : Heard) (k : ℕ) → k ≡ heardCount h → heardGood s h ≡ true → 0 + sizes .hash * k ≤ length s
+unfolding heardGood
+heard-there s Nothing k e g = omega arith
+heard-there s (Count n) k e g = omega (arith, list-parts s n g .there)
+
+pub heard-list : (s : List ℕ) (h : Heard) (k : ℕ) → k ≡ heardCount h → hashesAt s 0 k ≡ heard (heardHashes s h)
+unfolding heardHashes hashesAt
+heard-list s Nothing k e = rw e
+heard-list s (Count n) k e = rw e
+
+-- ---- those that are asked for
+
+module _ (s : List ℕ) (readOnlyUnit : Bool) (h : Heard) (k : ℕ) (e : k ≡ cond readOnlyUnit 0 (heardCount h)) where
+  none-asked : readOnlyUnit ≡ true → k ≡ 0
+  none-asked r = e ∙ rw r
+
+  all-asked : readOnlyUnit ≡ false → k ≡ heardCount h
+  all-asked r = e ∙ rw r
+
+  pub asked-there : heardGood s h ≡ true → 0 + sizes .hash * k ≤ length s
+  asked-there g = split readOnlyUnit (λ r. omega (arith, none-asked r)) (λ r. heard-there s h k (all-asked r) g)
+
+  need-asked : (t : List Row) (w : List Waiting) → missing t w (hashesAt s 0 k) ≡ needOf t w readOnlyUnit (heard (heardHashes s h))
+  unfolding needOf hashesAt
+  need-asked t w =
+      split readOnlyUnit (λ r. rw (none-asked r, r) (missing-of-nothing t w)) (λ r. rw (r, heard-list s h k (all-asked r)))
+
+  pub need-found : (t : List Row) (w : List Waiting) (most : ℕ) (list : List ℕ) (count : ℕ) → FoundUpTo (missing t w (hashesAt s 0 k)) most list count
+      → FoundUpTo (needOf t w readOnlyUnit (heard (heardHashes s h))) most list count
+  need-found t w most list count so = rw (need-asked t w) at so
+
+-- ---- compared
+
+pub all-heard : (s : List ℕ) (h : Heard) (k : ℕ) → k ≡ heardCount h → (l : List ℕ)
+    → every (λ x. member x (hashesAt s 0 k)) l ≡ every (λ x. member x (heard (heardHashes s h))) l
+all-heard s h k e l = rw (heard-list s h k e)
+
+module _ (s : List ℕ) (h : Heard) (l : List ℕ) where
+  pub as-nothing : h ≡ Nothing → false ≡ heardAs l (heardHashes s h)
+  unfolding heardHashes
+  as-nothing e = rw e
+
+  pub as-count : (n : ℕ) → h ≡ Count n → same (hashesAt s 0 n) l ≡ heardAs l (heardHashes s h)
+  unfolding heardHashes
+  as-count n e = rw e
+
+pub count-there : (s : List ℕ) (h : Heard) (n : ℕ) → h ≡ Count n → heardGood s h ≡ true → 0 + sizes .hash * n ≤ length s
+count-there s h n e g = heard-there s h n (rw e) g

@@ -1,9 +1,0 @@
--- Laws that the crates above cite.
-pub mod BodyLaws
-pub mod FieldLaws
-pub mod HeardLaws
-pub mod MarkedLaws
-pub mod RoomLaws
-pub mod SentLaws
-pub mod SyncLaws
-pub mod TestLaws

@@ -1,8 +1,0 @@
--- Laws that the crates above cite.
-pub mod BuildLaws
-pub mod FieldLaws
-pub mod InsideLaws
-pub mod ProbeLaws
-pub mod Promises
-pub mod Search
-pub mod StartLaws

@@ -1,0 +1,87 @@
+-- What the code decides, one law for each way out, with the code's tests as hypotheses. Assumes nothing.
+use Prim.Native.Nat.{ℕ, _*_, _≤_, _<_}
+use mathlib.Core.Bool.{Bool, true, false}
+use mathlib.Core.Path.{_≡_, ap}
+use borrow.Author.Tests.{lt-ltb, le-ltb}
+use Rattle.bloom.specs.Have.{haveWords}
+use Rattle.rules.specs.Sizes.{sizes}
+use Rattle.rules.specs.declared.refusal.Refusal.{Refusal}
+use Rattle.rules.specs.declared.refusal.Refusal.the-variants.{PastSize, NoRoom}
+use Rattle.session_state.specs.declared.session.Session.{Session}
+use Rattle.receive_decide.specs.Internal.Receipt.{receivedCounts, shortWith, receiptDecided, noReceipt, receiptPuts}
+use Rattle.session.specs.declared.receive_answer.ReceiveAnswer.{ReceiveAnswer}
+use Rattle.session.specs.declared.receive_answer.ReceiveAnswer.the-variants.{Took, Failed, Refused}
+use Rattle.session.specs.declared.receive_answer.SessionRooms.{SessionRooms}
+use Rattle.receive_decide.specs.declared.decide.Receipt.{Receipt}
+
+-- ---- room
+
+module _ (d : Receipt) (r : SessionRooms) where
+  pub shared-short : r .shared < sizes .hash * d .shared → sizes .hash * d .shared ≡ shortWith d r
+  unfolding shortWith
+  shared-short h = rw (lt-ltb _ _ h)
+
+  module _ (shared : sizes .hash * d .shared ≤ r .shared) where
+    pub last-short : r .«last_sent» < sizes .hash * d .«last_sent» → sizes .hash * d .«last_sent» ≡ shortWith d r
+    unfolding shortWith
+    last-short h = rw (le-ltb _ _ shared, lt-ltb _ _ h)
+
+    module _ (last : sizes .hash * d .«last_sent» ≤ r .«last_sent») where
+      pub heads-short : r .«their_heads» < sizes .hash * d .heads → sizes .hash * d .heads ≡ shortWith d r
+      unfolding shortWith
+      heads-short h = rw (le-ltb _ _ shared, le-ltb _ _ last, lt-ltb _ _ h)
+
+      module _ (heads : sizes .hash * d .heads ≤ r .«their_heads») where
+        pub need-short : r .«their_need» < sizes .hash * d .need → sizes .hash * d .need ≡ shortWith d r
+        unfolding shortWith
+        need-short h = rw (le-ltb _ _ shared, le-ltb _ _ last, le-ltb _ _ heads, lt-ltb _ _ h)
+
+        module _ (need : sizes .hash * d .need ≤ r .«their_need») where
+          pub haves-short : r .haves < haveWords * d .haves → haveWords * d .haves ≡ shortWith d r
+          unfolding shortWith
+          haves-short h = rw (le-ltb _ _ shared, le-ltb _ _ last, le-ltb _ _ heads, le-ltb _ _ need, lt-ltb _ _ h)
+
+          module _ (haves : haveWords * d .haves ≤ r .haves) where
+            pub bytes-short : r .bytes < d .bytes → d .bytes ≡ shortWith d r
+            unfolding shortWith
+            bytes-short h = rw (le-ltb _ _ shared, le-ltb _ _ last, le-ltb _ _ heads, le-ltb _ _ need, le-ltb _ _ haves, lt-ltb _ _ h)
+
+            pub enough : d .bytes ≤ r .bytes → 0 ≡ shortWith d r
+            unfolding shortWith
+            enough h = rw (le-ltb _ _ shared, le-ltb _ _ last, le-ltb _ _ heads, le-ltb _ _ need, le-ltb _ _ haves, le-ltb _ _ h)
+
+-- ---- the answer
+
+module _ (flagged : Session) (failed : Bool) (d : Receipt) (r : SessionRooms) where
+  pub is-failed : failed ≡ true → Failed flagged ≡ receiptDecided flagged failed d r
+  unfolding receiptDecided
+  is-failed e = rw e
+
+  module _ (fine : failed ≡ false) where
+    pub is-past : sizes .hashes < d .shared → Refused (PastSize 0) ≡ receiptDecided flagged failed d r
+    unfolding receiptDecided
+    is-past h = rw (fine, lt-ltb _ _ h)
+
+    module _ (few : d .shared ≤ sizes .hashes) (wanted : ℕ) (short : wanted ≡ shortWith d r) where
+      pub is-short : 0 < wanted → Refused (NoRoom wanted) ≡ receiptDecided flagged failed d r
+      unfolding receiptDecided
+      is-short h = rw (fine, le-ltb _ _ few, ← short, lt-ltb _ _ h)
+
+      pub is-taken : (next : Session) → wanted ≤ 0 → next ≡ receivedCounts flagged d → Took next ≡ receiptDecided flagged failed d r
+      unfolding receiptDecided
+      is-taken next h e = rw (fine, le-ltb _ _ few, ← short, le-ltb _ _ h) (ap Took e)
+
+-- ---- what an answer puts
+
+module _ (a : ReceiveAnswer) (d : Receipt) where
+  pub took-puts : (s : Session) → a ≡ Took s → d ≡ receiptPuts a d
+  unfolding receiptPuts
+  took-puts s e = rw e
+
+  pub failed-puts : (s : Session) → a ≡ Failed s → noReceipt ≡ receiptPuts a d
+  unfolding receiptPuts
+  failed-puts s e = rw e
+
+  pub refused-puts : (r : Refusal) → a ≡ Refused r → noReceipt ≡ receiptPuts a d
+  unfolding receiptPuts
+  refused-puts r e = rw e

@@ -1,0 +1,3 @@
+pub mod CheckLaws
+pub mod MakeLaws
+pub mod SaidLaws

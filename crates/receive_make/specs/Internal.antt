@@ -1,0 +1,3 @@
+-- What the contracts of internal functions cite; no rule of 01 stands here.
+pub mod ReceiveChecks
+pub mod ReceiveMake

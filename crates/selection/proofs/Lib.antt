@@ -1,5 +1,0 @@
--- Laws that the crates above cite.
-pub mod ChosenLaws
-pub mod Promises
-pub mod SelectLaws
-pub mod SendCalls

@@ -1,2 +1,0 @@
-pub mod Chosen
-pub mod ToSend

@@ -1,2 +1,0 @@
-// Exported calls of the crate `selection`.
-pub mod calls;

@@ -1,0 +1,4 @@
+pub mod ChosenLaws
+pub mod Promises
+pub mod SelectLaws
+pub mod SendCalls

@@ -1,0 +1,2 @@
+// Exported calls of the crate `send`.
+pub mod calls;

@@ -1,0 +1,3 @@
+pub mod MemberLaws
+pub mod Promises
+pub mod SLaws

@@ -1,0 +1,4 @@
+pub mod LaidLaws
+pub mod MeanLaws
+pub mod Promises
+pub mod SentLaws

@@ -1,0 +1,4 @@
+pub mod GoodLaws
+pub mod GoodSessions
+pub mod KeptLaws
+pub mod Promises

@@ -1,0 +1,4 @@
+pub mod CountsLaws
+pub mod Promises
+pub mod SessionLaws
+pub mod ValueLaws

@@ -1,2 +1,0 @@
-// How many bytes a message has that is written from its parts, with every test of them: what `encode` asks before it puts a byte.
-pub mod size;

@@ -1,5 +1,0 @@
--- Laws that the crates above cite.
-pub mod CountsLaws
-pub mod Promises
-pub mod SessionLaws
-pub mod ValueLaws

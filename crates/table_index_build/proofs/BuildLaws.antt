@@ -1,0 +1,212 @@
+-- What building and extending write: entries and their bytes, and one law for each way through the tests.
+use Prim.Native.Nat.{ℕ, zero, suc, _+_, _-_, _*_, _/_, _%_, _≤_, _<_}
+use mathlib.Core.Bool.{true, false}
+use mathlib.Core.List.{List, [], _∷_}
+use mathlib.Core.Path.{_≡_, refl, sym, ap, _∙_}
+use native.Mathlib.Nat.{add-zero, zero-add}
+use native.Mathlib.Omega.{arith}
+use borrow.Author.Tests.{ltb-true, lt-ltb, eq-eqb}
+use lib.Dec.{ltb}
+use lib.ListN.{length, getD, take, drop, List·getD-append}
+use lib.Seq.{sets, slice, sets-eq, slice-empty, slice-cons, ext-getD}
+use Rattle.table_index.proofs.ByteLaws.{length-u16s, entry}
+use Rattle.table_index.proofs.CheckLaws.{checked-sound}
+use Rattle.table_index.proofs.FitLaws.{index-fitting}
+use Rattle.table_index.proofs.IndexLaws.{index-length, index-member-below}
+use Rattle.table_index.proofs.LookLaws.{good-fits, fits-is-index}
+use Rattle.table_index.specs.Index.{put, indexed, indexOf, fits, indexFits, indexChecked, soundChecked}
+use Rattle.hash_order.proofs.OrderLaws.{member-here, member-there}
+use Rattle.hash_order.specs.Order.{member}
+use Rattle.rules.proofs.Cases.{both}
+use Rattle.rules.specs.Hash.{Bytes}
+use Rattle.rules.specs.LittleEndian.{u16At}
+use Rattle.rules.specs.Output.{Output}
+use Rattle.rules.specs.Sizes.{sizes}
+use Rattle.rules.specs.declared.refusal.Refusal.the-variants.{PastSize, BadRow, BadIndex}
+use Rattle.rules.specs.declared.refusal.Refusal.{Refusal}
+use Rattle.table.proofs.CheckLaws.{check-past}
+use Rattle.table.proofs.TableLaws.{table-good}
+use Rattle.table.proofs.Today.{rowGood}
+use Rattle.table.specs.TableBytes.{u16sAt, rowSize, rowsAt, tableOf, wholeRowsOf, tableChecked, tableCheckedOf}
+use Rattle.table.specs.TableCalls.{afterCheck, passedOn}
+use Rattle.table.specs.Table.{Row, hashOf}
+use Rattle.table.specs.declared.check.Checked.the-variants.{Good, Refused}
+use Rattle.table.specs.declared.check.Checked.{Checked}
+use Rattle.table_index_build.specs.Indexing.{entryLimit, indexBytes, builtOutput, fitsButLast, extendedOutput}
+use Rattle.table_index_build.proofs.ExtendLaws.{u16-same, index-next}
+
+-- ---- entries and their bytes
+
+pub length-index-bytes : (l : List ℕ) → length (indexBytes l) ≡ 2 * length l
+unfolding indexBytes
+length-index-bytes [] = refl
+length-index-bytes (i ∷ l) = omega (arith, length-index-bytes l)
+
+pub index-size : (s : List ℕ) (n : ℕ) → 2 * n ≡ length (indexBytes (u16sAt s 0 n))
+index-size s n = sym (length-index-bytes (u16sAt s 0 n) ∙ ap (λ (k : ℕ). 2 * k) (length-u16s s 0 n))
+
+-- entries that are read are the bytes they are read from
+index-at-bytes : (s : List ℕ) (at count : ℕ) → Bytes s → at + 2 * count ≤ length s → indexBytes (u16sAt s at count) ≡ slice at (at + 2 * count) s
+unfolding indexBytes u16sAt u16At
+index-at-bytes s at zero b h = rw (add-zero, slice-empty)
+index-at-bytes s at (suc count) b h =
+    let e : at + 2 * suc count ≡ at + 2 + 2 * count = omega arith in
+    let two : suc (suc at) ≡ at + 2 = omega arith in
+    let one : suc at ≡ at + 1 = omega arith in
+    let low : (getD s at 0 + 256 * getD s (at + 1) 0) % 256 ≡ getD s at 0 = omega (arith, b at) in
+    let high : (getD s at 0 + 256 * getD s (at + 1) 0) / 256 ≡ getD s (at + 1) 0 = omega (arith, b at) in
+    let first : slice at (at + 2 + 2 * count) s ≡ getD s at 0 ∷ slice (suc at) (at + 2 + 2 * count) s = slice-cons at (at + 2 + 2 * count) s 0 (omega arith) (omega arith) in
+    let second : slice (suc at) (at + 2 + 2 * count) s ≡ getD s (suc at) 0 ∷ slice (suc (suc at)) (at + 2 + 2 * count) s = slice-cons (suc at) (at + 2 + 2 * count) s 0 (omega arith) (omega arith) in
+    rw (low, high, e, index-at-bytes s (at + 2) count b (omega arith), first, second, two, one)
+
+pub index-put : (s out next : List ℕ) (n : ℕ) → Bytes s → 2 * n ≤ length s → next ≡ sets out 0 (take (2 * n) s) → next ≡ sets out 0 (indexBytes (u16sAt s 0 n))
+index-put s out next n b h e =
+    let same : indexBytes (u16sAt s 0 n) ≡ take (2 * n) s = rw zero-add at (index-at-bytes s 0 n b (omega arith)) in
+    rw same e
+
+-- bytes of entries are read back
+entries-behind : (x y : ℕ) (s : List ℕ) (at count : ℕ) → u16sAt (x ∷ y ∷ s) (at + 2) count ≡ u16sAt s at count
+unfolding u16sAt u16At
+entries-behind x y s at zero = refl
+entries-behind x y s at (suc count) =
+    let e : at + 2 ≡ suc (suc at) = omega arith in
+    let f : at + 2 + 1 ≡ suc (suc (at + 1)) = omega arith in
+    let first : getD (x ∷ y ∷ s) (at + 2) 0 ≡ getD s at 0 = ap (λ (i : ℕ). getD (x ∷ y ∷ s) i 0) e in
+    let second : getD (x ∷ y ∷ s) (at + 2 + 1) 0 ≡ getD s (at + 1) 0 = ap (λ (i : ℕ). getD (x ∷ y ∷ s) i 0) f in
+    rw (first, second, entries-behind x y s (at + 2) count)
+
+pub entries-back : (l : List ℕ) → u16sAt (indexBytes l) 0 (length l) ≡ l
+unfolding indexBytes u16sAt u16At
+entries-back [] = refl
+entries-back (i ∷ l) =
+    let whole : i % 256 + 256 * (i / 256) ≡ i = omega arith in
+    let rest : u16sAt (i % 256 ∷ i / 256 ∷ indexBytes l) 2 (length l) ≡ l = entries-behind (i % 256) (i / 256) (indexBytes l) 0 (length l) ∙ entries-back l in
+    rw (whole, rest)
+
+-- and are bytes where the entries are numbers of two
+pub entries-bytes : (l : List ℕ) → ((x : ℕ) → member x l ≡ true → x < entryLimit) → Bytes (indexBytes l)
+unfolding indexBytes
+entries-bytes [] h k = omega arith
+entries-bytes (i ∷ l) h zero = omega arith
+entries-bytes (i ∷ l) h (suc zero) = omega (arith, h i (member-here i l))
+entries-bytes (i ∷ l) h (suc (suc k)) = entries-bytes l (λ x m. h x (member-there x i l m)) k
+
+-- bytes that were copied to the start of others have the same entries
+pub entries-copied : (x d next : List ℕ) (n : ℕ) → length x ≡ 2 * n → length x ≤ length d → next ≡ sets d 0 x → u16sAt next 0 n ≡ u16sAt x 0 n
+entries-copied x d next n long room e =
+    let here : (j : ℕ) → j < length x → getD next j 0 ≡ getD x j 0 =
+    λ j b. rw (e, sets-eq x d 0 (omega arith)) (List·getD-append x (drop (0 + length x) d) 0 j b)
+    in
+    ext-getD 0 (u16sAt next 0 n) (u16sAt x 0 n) (length-u16s next 0 n ∙ sym (length-u16s x 0 n))
+    (λ k b.
+    let c : k < n = omega (arith, length-u16s next 0 n) in
+    entry next n k c
+    ∙ u16-same next x (2 * k) (2 * k) (here (2 * k) (omega arith)) (here (2 * k + 1) (omega arith))
+    ∙ sym (entry x n k c))
+
+-- ---- the table's check
+
+pub fitted-decides : (s l : List ℕ) (n : ℕ) → n ≡ length s / rowSize → fits (rowsAt s 0 n) l ≡ true → soundChecked s ≡ tableChecked s
+unfolding soundChecked wholeRowsOf
+fitted-decides s l n e ok = sym (checked-sound s l (rw e at ok))
+
+module _ (s : List ℕ) where
+  past : sizes .rows * rowSize < length s → tableChecked s ≡ Refused (PastSize 0)
+  unfolding tableCheckedOf
+  past h = check-past (λ i. Refused (BadRow i)) (rowGood s) rowSize (sizes .rows) (length s) h
+
+  -- ---- built
+
+  pub built-refused : (r : Refusal) → tableChecked s ≡ Refused r → builtOutput s ≡ Output.refuse r
+  unfolding builtOutput afterCheck
+  built-refused r e = rw e
+
+  pub built-past : sizes .rows * rowSize < length s → builtOutput s ≡ Output.refuse (PastSize 0)
+  built-past h = built-refused (PastSize 0) (past h)
+
+  pub built-written : (n k : ℕ) (l : List ℕ) → tableChecked s ≡ Good k → n ≡ length s / rowSize → l ≡ indexOf (rowsAt s 0 n)
+      → builtOutput s ≡ Output.bytes (indexBytes l)
+  unfolding builtOutput afterCheck wholeRowsOf
+  built-written n k l good e is = rw (good, is, e)
+
+  -- ---- extended
+
+  module _ (x : List ℕ) where
+    pub extend-refused : (r : Refusal) → tableChecked s ≡ Refused r → extendedOutput s x ≡ Output.refuse r
+    unfolding extendedOutput afterCheck
+    extend-refused r e = rw e
+
+    pub extend-past : sizes .rows * rowSize < length s → extendedOutput s x ≡ Output.refuse (PastSize 0)
+    extend-past h = extend-refused (PastSize 0) (past h)
+
+    pub last-none : (n : ℕ) → n ≡ 0 → fitsButLast s n x ≡ false
+    unfolding fitsButLast
+    last-none n e = rw e
+
+    pub last-some : (n : ℕ) → (n ≡ 0 → ⊥) → fitsButLast s n x ≡ indexFits (rowsAt s 0 (n - 1)) x
+    unfolding fitsButLast
+    last-some n d = rw (lt-ltb 0 n (omega arith))
+
+    -- what fits all rows but the last is their index
+    pub last-fits : (n : ℕ) → fitsButLast s n x ≡ true
+        → (0 < n) × (length x ≡ 2 * (n - 1)) × (u16sAt x 0 (n - 1) ≡ indexOf (rowsAt s 0 (n - 1)))
+    unfolding fitsButLast
+    last-fits n e =
+        let p = both (ltb 0 n) (indexFits (rowsAt s 0 (n - 1)) x) e in
+        let q = index-fitting s x (n - 1) (p .1) in
+        (ltb-true 0 n (p .0), q .0, fits-is-index (rowsAt s 0 (n - 1)) (u16sAt x 0 (n - 1)) (q .1))
+
+    -- with the last row put in it is the index of all
+    last-put : (n : ℕ) → n ≡ length s / rowSize → fitsButLast s n x ≡ true → put (hashOf (tableOf s)) (n - 1) (u16sAt x 0 (n - 1)) ≡ indexOf (tableOf s)
+    unfolding wholeRowsOf
+    last-put n e ok =
+        let f = last-fits n ok in
+        let m : n - 1 + 1 ≡ length s / rowSize = omega (arith, f .0) in
+        rw m at (sym (index-next s x (n - 1) (f .2)))
+
+    -- an index extended by the last row is the one built afresh
+    pub extended-is-built : (n : ℕ) → tableChecked s ≡ Good n → fitsButLast s n x ≡ true → extendedOutput s x ≡ builtOutput s
+    unfolding extendedOutput builtOutput afterCheck
+    extended-is-built n good ok = rw (good, ok, last-put n (table-good s n good .count) ok)
+
+    module _ (n : ℕ) (e : n ≡ length s / rowSize) where
+      pub extend-unfit : (k : ℕ) → tableChecked s ≡ Good k → fitsButLast s n x ≡ false → extendedOutput s x ≡ Output.refuse BadIndex
+      unfolding extendedOutput afterCheck
+      extend-unfit k good unfit =
+          let same : n ≡ k = e ∙ sym (table-good s k good .count) in
+          rw (good, rw same at unfit)
+
+      pub extend-written : fitsButLast s n x ≡ true → extendedOutput s x ≡ builtOutput s
+      extend-written ok = decided (tableChecked s) refl
+        where
+          decided : (c : Checked) → tableChecked s ≡ c → extendedOutput s x ≡ builtOutput s
+          decided (Good k) q = extended-is-built k q (let same : n ≡ k = e ∙ sym (table-good s k q .count) in rw same at ok)
+          decided (Refused r) q = extend-refused r q ∙ sym (built-refused r q)
+
+-- ---- what is built fits
+
+module _ (s : List ℕ) (n : ℕ) (good : tableChecked s ≡ Good n) where
+  pub built-fits : indexFits (tableOf s) (indexBytes (indexOf (tableOf s))) ≡ true
+  unfolding indexFits indexOf
+  built-fits =
+      let t : List Row = tableOf s in
+      let long : length (indexed (hashOf t) (length t)) ≡ length t = index-length (hashOf t) (length t) in
+      let size : length (indexBytes (indexed (hashOf t) (length t))) ≡ 2 * length t =
+      length-index-bytes (indexed (hashOf t) (length t)) ∙ ap (λ (k : ℕ). 2 * k) long
+      in
+      let back : u16sAt (indexBytes (indexed (hashOf t) (length t))) 0 (length t) ≡ indexed (hashOf t) (length t) =
+      rw long at (entries-back (indexed (hashOf t) (length t)))
+      in
+      rw (eq-eqb (length (indexBytes (indexed (hashOf t) (length t)))) (2 * length t) size, back) (good-fits t (table-good s n good .good))
+
+  pub built-bytes : Bytes (indexBytes (indexOf (tableOf s)))
+  unfolding indexOf
+  built-bytes =
+      let t : List Row = tableOf s in
+      let d = table-good s n good in
+      entries-bytes (indexed (hashOf t) (length t)) (λ x m. omega (arith, index-member-below (hashOf t) (length t) x m, d .long, d .few))
+
+  -- so the table is accepted beside it
+  pub built-accepted : indexChecked s (indexBytes (indexOf (tableOf s))) ≡ Good n
+  unfolding indexChecked passedOn
+  built-accepted = rw (good, built-fits)

@@ -1,0 +1,3 @@
+pub mod BuildLaws
+pub mod ExtendLaws
+pub mod Promises

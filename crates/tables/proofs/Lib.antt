@@ -1,9 +1,0 @@
--- Laws that the crates above cite.
-pub mod CheckLaws
-pub mod ExtendLaws
-pub mod FindLaws
-pub mod GoodLaws
-pub mod Promises
-pub mod RowLaws
-pub mod TableLaws
-pub mod Today

@@ -1,0 +1,3 @@
+pub mod Ask
+pub mod Missing
+pub mod MissingCalls

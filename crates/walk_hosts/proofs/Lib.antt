@@ -1,0 +1,14 @@
+pub mod AllBytes
+pub mod Contracts
+pub mod Demand
+pub mod Example
+pub mod Goes
+pub mod Planning
+pub mod Promises
+pub mod Receiving
+pub mod Rooms
+pub mod Speaking
+pub mod States
+pub mod Talk
+pub mod Writing
+pub mod Zeroed

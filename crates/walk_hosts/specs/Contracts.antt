@@ -1,0 +1,98 @@
+-- What a talk of calls takes each call for is that call's contract: PlanMade, WriteMade, Hears and Fresh, held beside the arguments in the order in which C
+-- lends them. 01, The catch-up walk, its last rule, is about the session calls; so nothing of it rests on reading a contract beside Calls.antt.
+use Prim.Native.Nat.{ℕ, _*_, _≤_}
+use mathlib.Core.Bool.{true, cond}
+use mathlib.Core.List.{List, []}
+use mathlib.Core.Path.{_≡_}
+use contract.Lifetimes.{Lfts}
+use denote.Ref.{now}
+use denote.Triple.Clauses.{AtExit}
+use denote.Triple.Entry.{Args}
+use lib.Dec.{eqb}
+use lib.ListN.{length, getD, take}
+use Rattle.call_words.specs.Ties.{Ties}
+use Rattle.session_check.specs.SessionGood.{lentOf}
+use Rattle.walk_hosts.specs.Memory.{OfBytes, Roomy, Fresh, Out}
+use Rattle.message.specs.Message.{total}
+use Rattle.message.specs.Write.{chunksFrom}
+use Rattle.rules.specs.Hash.{Bytes}
+use Rattle.rules.specs.Sizes.{sizes}
+use Rattle.call_words.specs.SessionWords.{flagOf}
+use Rattle.session_state.specs.Value.{Lent}
+use Rattle.walk_sessions.specs.Talk.{Host, chunksFor}
+use Rattle.walk_hosts.specs.Calls.{haveWordsIn, planIn, PlanMade, WriteMade, Hears}
+use Rattle.session_calls.proofs.calls.bt_plan as of-bt-plan
+use Rattle.session_calls.proofs.calls.bt_receive as of-bt-receive
+use Rattle.message_calls.proofs.calls.bt_write_message as of-bt-write-message
+use Rattle.state_calls.proofs.calls.bt_fresh as of-bt-fresh
+
+-- bt_plan, over a host's memory, its tables and its buffers: what it leaves is PlanMade. What slices of bytes hold are bytes.
+abbrev pub PlanSaid : (κs : Lfts (of-bt-plan.ended .signature .lifetimes)) → Args (of-bt-plan.ended .signature) κs → AtExit of-bt-plan.ended κs → Type 0
+PlanSaid κs
+    (session, (shared, (last-sent, (their-heads, (their-need, (haves, (bytes, (sent, (table, (index, (waiting, (heads, (need, (have, (list, (answer, _))))))))))))))))
+    (session′, (_, (last-sent′, (_, (_, (_, (_, (sent′, (_, (_, (_, (heads′, (need′, (have′, (list′, (answer′, _)))))))))))))))) =
+    OfBytes (lentOf (now shared) (now last-sent′) (now their-heads) (now their-need) (now haves) (now bytes) (now sent′))
+    → PlanMade (now table) (now index) (now waiting)
+    (record {
+      words = now session;
+      lists = lentOf (now shared) (now last-sent) (now their-heads) (now their-need) (now haves) (now bytes) (now sent);
+    })
+    (record {
+      words = now session′;
+      lists = lentOf (now shared) (now last-sent′) (now their-heads) (now their-need) (now haves) (now bytes) (now sent′);
+    })
+    (record { heads = now heads; need = now need; have = now have; list = now list })
+    (record { heads = now heads′; need = now need′; have = now have′; list = now list′ })
+    (now answer′)
+
+-- bt_write_message, lent the parts of a plan as they stand, the chunks that the host has for it and a buffer of limit size: what it leaves is WriteMade.
+abbrev pub WriteSaid : (κs : Lfts (of-bt-write-message.ended .signature .lifetimes)) → Args (of-bt-write-message.ended .signature) κs
+    → AtExit of-bt-write-message.ended κs
+    → Type 0
+WriteSaid κs
+    (version, (heads, (need, (bytes, (haves, (chunks, (lengths, (flags, (out, (answer, _))))))))))
+    (_, (_, (_, (_, (_, (_, (_, (_, (out′, (answer′, _)))))))))) =
+    (host : Host) (plan : List ℕ) (o : Out)
+    → version ≡ getD plan 2 0
+    → now heads ≡ take (sizes .hash * getD plan 5 0) (o .heads)
+    → now need ≡ take (sizes .hash * getD plan 6 0) (o .need)
+    → now bytes ≡ o .have
+    → now haves ≡ haveWordsIn plan
+    → flags ≡ getD plan 3 0
+    → chunksFrom (now chunks) 0 (now lengths) ≡ chunksFor host (planIn plan o)
+    → total (now lengths) ≤ length (now chunks)
+    → sizes .message ≤ length (now out)
+    → WriteMade host plan o (now answer′) (cond (eqb (getD (now answer′) 0 0) 0) (take (getD (now answer′) 1 0) (now out′)) [])
+
+-- bt_receive, over a host's memory, its table after loading and a message whose changes have loaded: what it leaves is Hears, with
+-- its answer.
+abbrev pub ReceiveSaid : (κs : Lfts (of-bt-receive.ended .signature .lifetimes)) → Args (of-bt-receive.ended .signature) κs
+    → AtExit of-bt-receive.ended κs
+    → Type 0
+ReceiveSaid κs
+    (session, (shared, (last-sent, (their-heads, (their-need, (haves, (bytes, (sent, (table, (index, (before, (message, (loaded, (answer, _))))))))))))))
+    (session′, (shared′, (last-sent′, (their-heads′, (their-need′, (haves′, (bytes′, (sent′, (_, (_, (_, (_, (_, (answer′, _)))))))))))))) =
+    flagOf loaded ≡ true
+    → Bytes (now message)
+    → OfBytes (lentOf (now shared′) (now last-sent′) (now their-heads′) (now their-need′) (now haves′) (now bytes′) (now sent′))
+    → (h : Hears (now table) (now index) before (now message)
+    (record {
+      words = now session;
+      lists = lentOf (now shared) (now last-sent) (now their-heads) (now their-need) (now haves) (now bytes) (now sent);
+    })
+    (record {
+      words = now session′;
+      lists = lentOf (now shared′) (now last-sent′) (now their-heads′) (now their-need′) (now haves′) (now bytes′) (now sent′);
+    }))
+    × (h .answer ≡ now answer′)
+
+-- bt_fresh, whose words stand beside lists of bytes with room: what it leaves is Fresh.
+abbrev pub FreshSaid : (κs : Lfts (of-bt-fresh.ended .signature .lifetimes)) → Args (of-bt-fresh.ended .signature) κs → AtExit of-bt-fresh.ended κs → Type 0
+FreshSaid κs _ (session′, _) = (lists : Lent) → OfBytes lists → Roomy lists → Fresh (record { words = now session′; lists = lists })
+
+-- The four calls that a talk is made of.
+pub record Contracts : Type 0 where
+  pub plan : Ties of-bt-plan.ended of-bt-plan.Reads.Post PlanSaid
+  pub write : Ties of-bt-write-message.ended of-bt-write-message.Reads.Post WriteSaid
+  pub receive : Ties of-bt-receive.ended of-bt-receive.Reads.Post ReceiveSaid
+  pub fresh : Ties of-bt-fresh.ended of-bt-fresh.Reads.Post FreshSaid

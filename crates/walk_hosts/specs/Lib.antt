@@ -1,0 +1,5 @@
+pub mod Calls
+pub mod Contracts
+pub mod Demand
+pub mod Memory
+pub mod States

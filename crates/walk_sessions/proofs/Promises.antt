@@ -1,0 +1,4 @@
+-- What is promised of this crate: a law that stands here can't be taken out or renamed unseen.
+pub use Rattle.walk_sessions.proofs.Corollary.{corollary}
+pub use Rattle.walk_sessions.proofs.Talk.{theorem-2}
+pub use Rattle.walk_sessions.proofs.TalkExample.{talk-takes-all}

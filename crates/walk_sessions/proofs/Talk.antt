@@ -1,0 +1,384 @@
+-- Two fresh sessions state the walk: their sides stand before round one, each round that is granted keeps them, and its tables, waiting rows and reply are
+-- the walk's. That B's table stays a part of A is theorem 1's. Assumes nothing.
+use Prim.Native.Nat.{ℕ, zero, suc, _+_, _/_, _≤_, _<_}
+use mathlib.Core.Bool.{true, false}
+use mathlib.Core.List.{List, [], _++_}
+use mathlib.Core.Path.{_≡_, refl, sym, ap, ap₂, _∙_}
+use native.Mathlib.Nat.{le-trans}
+use native.Mathlib.Omega.{arith}
+use lib.ListN.{length}
+use Rattle.bloom.proofs.Rules.{rules-default}
+use Rattle.bloom.specs.Filter.{fieldSize, filterRules, defaultBits, defaultProbes}
+use Rattle.bloom.specs.Have.{Have}
+use Rattle.table_graph.proofs.BelowLaws.{beyond-few}
+use Rattle.table_graph.specs.Graph.{heads, beyond}
+use Rattle.session.proofs.GoodLaws.{fresh-good}
+use Rattle.session.specs.Receive.{Said, Received, sharedAfter, received, receiveBytes}
+use Rattle.message.specs.Message.{counted, messageBytes}
+use Rattle.message.specs.declared.version.MessageVersion.{MessageVersion}
+use Rattle.waiting_missing.specs.Missing.{missing}
+use Rattle.hash_order.proofs.OrderLaws.{member-none}
+use Rattle.rules.specs.Sizes.{sizes}
+use Rattle.send.specs.ToSend.{toSendLess}
+use Rattle.session.specs.Plan.{Body, Plan, Planned, documentPart, empty, havesFor, bodyOf, planOf, planned, plan, after}
+use Rattle.session_state.specs.Session.{State}
+use Rattle.table.specs.Table.{Row}
+use Rattle.waiting.specs.Waiting.{Waiting}
+use Rattle.walk.proofs.Loaded.{loads-more}
+use Rattle.walk.proofs.Theorem1.{theorem-1}
+use Rattle.walk.proofs.Walk01.{walk01-walks}
+use Rattle.walk.specs.Round.{Part, Loads, trim}
+use Rattle.walk.specs.Walk.{At, accepted, Walk01, heardIn}
+use Rattle.wire.specs.Item.{prefixedBytes}
+use Rattle.walk_sessions.specs.Talk.{
+  Host,
+  listChunks,
+  chunksFor,
+  messageFor,
+  bytesFor,
+  goes,
+  left,
+  Pair,
+  asked,
+  toA,
+  answered,
+  toB,
+  pairAt,
+  carried,
+  Reached,
+  Granted,
+  Underway,
+  Tables,
+  Agrees,
+  Statement2,
+  Theorem2,
+}
+use Rattle.walk_sessions.proofs.Answers.{Answers, answers}
+use Rattle.walk_sessions.proofs.Asks.{Asks, asks}
+use Rattle.walk_sessions.proofs.Message.{heardSaid}
+use Rattle.walk_sessions.proofs.Returns.{Returns, returns}
+use Rattle.walk_sessions.proofs.Sides.{Fixed, nothing, SideA, SideB, Going}
+use Rattle.walk_sessions.proofs.Small.{mostWords}
+use Rattle.walk_sessions.proofs.Waits.{waits-none, loads-longer, loads-waits, part-few}
+
+-- 10 bits and 7 probes may be set
+pub default-setting : (A : List Row) → length A ≤ sizes .rows
+    → (n : ℕ) → n ≤ length A
+    → filterRules n defaultBits defaultProbes (fieldSize n defaultBits) ≡ true
+default-setting A few n h = rules-default n (le-trans h few)
+
+module _ (bits probes : ℕ) (A : List Row) (B : ℕ → List Row) (W U : ℕ → List Waiting) (hosts : ℕ → Host) (tables : Tables bits probes A B W U hosts) where
+  fixed : Fixed bits probes A
+  fixed = record { sound = record { good = tables .good; are = tables .hashes; few = tables .limit }; setting = tables .setting }
+
+  abbrev pair : ℕ → Pair bits probes A B W U hosts
+  pair k = pairAt bits probes A B W U hosts k
+
+  abbrev lastSync : ℕ → List ℕ
+  lastSync j = pair j .atB .sharedHeads
+
+  abbrev place : ℕ → List ℕ → List ℕ → At
+  place k sent named = record { table = B k; waits = W k; sent = sent; named = named }
+
+  abbrev Walked : ℕ → At → Type 0
+  Walked = Walk01 (λ j. bits) (λ j. probes) lastSync A (B 0)
+
+  -- What stands before round k: a walk came here, and both sides are as they were.
+  pub record Standing (k : ℕ) : Type 0 where
+    -- the walk's T
+    pub sent : List ℕ
+    -- all that its replies named, which is all that the messages carried
+    pub named : List ℕ
+    pub carries : named ≡ carried bits probes A B W U hosts k
+    -- a walk whose last-sync hashes are B's shared heads came to B's tables
+    pub walk : Walked k (place k sent named)
+    pub sideA : SideA A k sent (pair k .atA)
+    pub sideB : SideB A (B k) (W k) k (pair k .atB)
+
+  first-walk : Walked 0 (place 0 [] [])
+  first-walk = rw (tables .nothing) Walk01.start
+
+  first-a : SideA A 0 [] (pair 0 .atA)
+  unfolding pairAt
+  first-a =
+      record {
+        good = fresh-good;
+        writes = refl;
+        keeps = refl;
+        first = λ e. refl;
+        sent = λ h. refl;
+        own = λ h m. absurd (member-none h m);
+      }
+
+  first-b : SideB A (B 0) (W 0) 0 (pair 0 .atB)
+  unfolding pairAt
+  first-b =
+      record {
+        part = tables .part;
+        waits = rw (tables .nothing) (waits-none A);
+        good = fresh-good;
+        writes = refl;
+        peer = refl;
+        keeps = refl;
+        lands = refl;
+        sent = refl;
+        shared = λ h m. absurd (member-none h m);
+        heard-so = nothing refl refl refl;
+      }
+
+  pub start : Standing 0
+  unfolding carried
+  start =
+      record {
+        sent = [];
+        named = [];
+        carries = refl;
+        walk = first-walk;
+        sideA = first-a;
+        sideB = first-b;
+      }
+
+  pub start-sent : start .sent ≡ []
+  unfolding start
+  start-sent = refl
+
+  -- ---- a round
+
+  module _ (k : ℕ) (st : Standing k) (going : Going A (B k) k) where
+    abbrev a : State
+    a = pair k .atA
+
+    abbrev b : State
+    b = pair k .atB
+
+    abbrev need : List ℕ
+    need = missing (B k) (W k) (heardIn k A)
+
+    abbrev haves : List Have
+    haves = havesFor bits probes (B k) need (heardIn k A) (b .sharedHeads)
+
+    abbrev ask : Plan
+    ask = planOf bits probes (B k) (W k) b
+
+    abbrev m : Said
+    m = heardSaid ask
+
+    -- B speaks
+    asking : Asks bits probes A (B k) (W k) k b
+    asking = asks bits probes A (B k) (W k) k b fixed going (st .sideB)
+
+    asked-is : asked bits probes A B W U hosts k (pair k) ≡ Planned.says ask (planned (B k) b)
+    unfolding asked
+    asked-is = asking .says
+
+    -- A's session when it has heard B, and its answer
+    abbrev mid : State
+    mid = received (length A) A a m
+
+    abbrev reply : Plan
+    reply = planOf bits probes A (U k) mid
+
+    answering : Answers bits probes A (B k) (U k) k (st .sent) a need haves m
+    answering =
+        answers bits probes A (B k) (U k) k (st .sent) a need haves m fixed (st .sideB .part) going (st .sideA) (asking .known) (asking .hears)
+
+    toA-is : toA bits probes A B W U hosts k (pair k) ≡ Received.took mid
+    unfolding toA bytesFor
+    toA-is =
+        ap (λ (p : Planned). receiveBytes true (length A) A a (bytesFor (hosts k) p)) asked-is
+        ∙ asking .crosses (hosts k) (length A) A a (omega arith)
+        ∙ answering .takes
+
+    answered-is : answered bits probes A B W U hosts k (pair k) ≡ Planned.says reply (planned A mid)
+    unfolding answered
+    answered-is = ap (λ (r : Received). plan bits probes A (U k) (left r)) toA-is ∙ answering .says
+
+    document-is : bodyOf A mid .document ≡ reply .body .document
+    document-is = ap (λ (x : Body). x .document) (sym (answering .body-is))
+
+    hashes-are : reply .body .hashes ≡ bodyOf A mid .hashes
+    hashes-are = ap (λ (x : Body). x .hashes) (answering .body-is)
+
+    by-list : reply .body .document ≡ false → reply .body .hashes ≡ toSendLess A haves need (trim A (heads (B k)) (st .sent))
+    by-list e = hashes-are ∙ answering .list (document-is ∙ e)
+
+    pub agrees : Agrees bits probes A B W U hosts k (st .sent)
+    agrees =
+        record {
+          said = ask;
+          next = planned (B k) b;
+          speaks = asked-is;
+          heads-agree = asking .heads-are;
+          need-agrees = asking .need-are;
+          haves-agree = asking .haves-are;
+          holds = st .sideB .shared;
+          carries-none = asking .body-is;
+          heard = mid;
+          hears = toA-is;
+          reply = reply;
+          next′ = planned A mid;
+          replies = answered-is;
+          by-list = λ e.
+              by-list e
+              ∙ ap₂ (λ (v : List Have) (n : List ℕ). toSendLess A v n (trim A (heads (B k)) (st .sent)))
+              (sym (asking .haves-are))
+              (sym (asking .need-are));
+        }
+
+    goes-is : goes (answered bits probes A B W U hosts k (pair k)) ≡ reply .body .hashes
+    unfolding goes
+    goes-is = ap goes answered-is
+
+    pub reply-heads : heardSaid reply .heads ≡ heads A
+    reply-heads = answering .hears .heads-are
+
+    -- ---- what grants it, in the walk's words
+
+    -- the walk's reply
+    abbrev offer : List ℕ
+    offer = toSendLess A haves need (trim A (heads (B k)) (st .sent))
+
+    -- B has heads, and the reply is no more than its part of the rows, its chunks leave room, and it loads
+    module _ (found : empty (heads (B k)) ≡ false) (short : length offer ≤ length A / documentPart)
+        (room : (v : MessageVersion) → mostWords + length (counted prefixedBytes (listChunks (hosts k) v offer)) ≤ sizes .message) where
+      listed : reply .body .document ≡ false
+      listed = sym document-is ∙ answering .short found short
+
+      fits : length (bytesFor (hosts k) (answered bits probes A B W U hosts k (pair k))) ≤ sizes .message
+      unfolding bytesFor chunksFor
+      fits = rw answered-is (answering .fits (hosts k) (rw (listed, by-list listed) (room (reply .version))))
+
+      pub round-granted : Loads A (B k) (W k) offer (B (suc k)) (W (suc k)) → length (W (suc k)) ≤ sizes .waitingRows → Granted bits probes A B W U hosts k
+      round-granted loads few =
+          record {
+            list =
+                λ q s e.
+                let both : Planned.says q s ≡ Planned.says reply (planned A mid) = sym e ∙ answered-is in
+                let is : q ≡ reply = cc in
+                rw is listed;
+            small = fits;
+            loads = rw (goes-is, by-list listed) loads;
+            few = few;
+          }
+
+    -- ---- and what is granted in it
+
+    module _ (granted : Granted bits probes A B W U hosts k) where
+      list : reply .body .document ≡ false
+      list = granted .list reply (planned A mid) answered-is
+
+      loaded : Loads A (B k) (W k) (reply .body .hashes) (B (suc k)) (W (suc k))
+      loaded = rw goes-is at (granted .loads)
+
+      abbrev sent′ : List ℕ
+      sent′ = trim A (heads (B k)) (st .sent) ++ reply .body .hashes
+
+      abbrev named′ : List ℕ
+      named′ = st .named ++ reply .body .hashes
+
+      -- B's filter is over no more rows than A's
+      set : accepted bits probes (B k) (lastSync k) ≡ true
+      set = tables .setting (length (beyond (B k) (lastSync k))) (le-trans (beyond-few (B k) (lastSync k)) (part-few A (fixed .sound) (B k) (st .sideB .part)))
+
+      walked : Walked (suc k) (place (suc k) sent′ named′)
+      walked =
+          Walk01.round haves (reply .body .hashes) (st .walk)
+          (record { holds = st .sideB .shared; setting = set; have = refl; whole = by-list list; loads = loaded; sends = refl; names = refl })
+
+      part′ : Part A (B (suc k))
+      part′ =
+          theorem-1 A (B 0) (tables .good) (tables .part) .part (suc k) _
+          (walk01-walks (λ j. bits) (λ j. probes) lastSync A (B 0) (tables .good) (tables .part) (suc k) _ walked)
+
+      -- B hears the answer
+      returning : Returns A (B k) (W k) (B (suc k)) (W (suc k)) k b (heardSaid reply)
+      returning =
+          returns A (B k) (W k) (B (suc k)) (W (suc k)) k b (heardSaid reply) bits probes fixed (st .sideB) (asking .good) (asking .sent) part′
+          (loads-waits loaded)
+          (loads-more loaded)
+          (answering .hears)
+
+      abbrev end : State
+      end = received (length (B k)) (B (suc k)) (planned (B k) b) (heardSaid reply)
+
+      small : length (messageBytes (messageFor (hosts k) reply)) ≤ sizes .message
+      unfolding bytesFor
+      small = rw answered-is at (granted .small)
+
+      pub toB-is : toB bits probes A B W U hosts k (pair k) ≡ Received.took end
+      unfolding toB bytesFor
+      toB-is =
+          ap₂ (λ (p q : Planned). receiveBytes true (length (B k)) (B (suc k)) (after p b) (bytesFor (hosts k) q)) asked-is answered-is
+          ∙ answering .crosses (hosts k) small (length (B k)) (B (suc k)) (planned (B k) b) (loads-longer loaded)
+          ∙ returning .takes
+
+      a-is : pair (suc k) .atA ≡ planned A mid
+      unfolding pairAt
+      a-is = ap (λ (p : Planned). after p (left (toA bits probes A B W U hosts k (pair k)))) answered-is
+
+      b-is : pair (suc k) .atB ≡ end
+      unfolding pairAt
+      b-is = ap left toB-is
+
+      asks-none : goes (asked bits probes A B W U hosts k (pair k)) ≡ []
+      unfolding goes
+      asks-none = ap goes asked-is ∙ ap (λ (x : Body). x .hashes) (asking .body-is)
+
+      carries′ : named′ ≡ carried bits probes A B W U hosts (suc k)
+      unfolding carried
+      carries′ = ap₂ (λ (x y : List ℕ). x ++ y) (st .carries) (sym (ap₂ (λ (x y : List ℕ). x ++ y) asks-none goes-is))
+
+      pub next : Standing (suc k)
+      next =
+          record {
+            sent = sent′;
+            named = named′;
+            carries = carries′;
+            walk = walked;
+            sideA = rw (a-is, hashes-are) (answering .next (document-is ∙ list));
+            sideB = rw b-is (returning .next);
+          }
+
+      -- T afterwards
+      pub next-sent : next .sent ≡ trim A (heads (B k)) (st .sent) ++ offer
+      unfolding next
+      next-sent = ap (λ (l : List ℕ). trim A (heads (B k)) (st .sent) ++ l) (by-list list)
+
+      -- B's last-sync hashes afterwards
+      pub next-shared : lastSync (suc k) ≡ sharedAfter (length (B k)) (B (suc k)) (planned (B k) b) (heardSaid reply)
+      unfolding received
+      next-shared = ap (λ (s : State). s .sharedHeads) b-is
+
+  -- ---- all rounds
+
+  pub standing : (k : ℕ) → ((j : ℕ) → j < k → Going A (B j) j) → ((j : ℕ) → j < k → Granted bits probes A B W U hosts j) → Standing k
+  standing zero f g = start
+  standing (suc k) f g = next k (standing k (λ j h. f j (omega arith)) (λ j h. g j (omega arith))) (f k (omega arith)) (g k (omega arith))
+
+  -- a round that is reached is still to be talked
+  pub reached-going : (k : ℕ) → Reached bits probes A B W U hosts k → Going A (B k) k
+  reached-going zero f h = absurd (omega arith)
+  reached-going (suc k) f h = f k (omega arith)
+
+  pub inside-standing : (k : ℕ) → Underway bits probes A B W U hosts k → Standing k
+  inside-standing k i = standing k (λ j h. reached-going j (λ l e. i .reached l (omega arith))) (i .granted)
+
+  pub statement-2 : Statement2 bits probes A B W U hosts
+  statement-2 =
+      record {
+        stated = λ k i.
+            let st = inside-standing k i in
+            record {
+              at = place k (st .sent) (st .named);
+              walk = st .walk;
+              table = refl;
+              waits = refl;
+              replies = st .carries;
+              round = agrees k st (reached-going k (i .reached));
+            };
+        taken = λ k i g. (_, toB-is k (inside-standing k i) (reached-going k (i .reached)) g);
+      }
+
+-- Theorem 2.
+pub theorem-2 : Theorem2
+theorem-2 bits probes A B W U hosts tables = statement-2 bits probes A B W U hosts tables
