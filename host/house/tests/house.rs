@@ -6,7 +6,8 @@ use house::functions::{self, Function};
 use house::names::{home, names, Home};
 use house::reach::House;
 use house::{crates, document, files, read, root};
-use std::collections::BTreeMap;
+use std::collections::{BTreeMap, BTreeSet};
+use std::path::PathBuf;
 
 /// The functions that stand in a document: `crate::file::name` or, in a line that names
 /// the file so, `name` alone.
@@ -180,20 +181,66 @@ fn every_definition_is_told() {
     assert!(untold.is_empty(), "{untold:#?}");
 }
 
+/// README.md and every page of docs/.
+fn pages() -> Vec<PathBuf> {
+    let mut pages = files(&root().join("docs"), ".md");
+    pages.push(root().join("README.md"));
+    pages
+}
+
 /// What the documents cite stands where they say.
 #[test]
 fn every_citation_stands() {
     let mut count = 0;
-    for path in files(&root().join("docs"), ".md")
-        .into_iter()
-        .chain([root().join("README.md")])
-    {
+    for path in pages() {
         for citation in of_text(&read(&path)) {
             assert!(stands(&citation), "{}: {citation:?}", path.display());
             count += 1;
         }
     }
     assert!(count > 200, "{count}");
+}
+
+/// docs/PROOFS.md names no law without saying where it stands. A law's name is small
+/// letters and numbers with hyphens.
+#[test]
+fn every_law_of_the_list_is_cited() {
+    let page = document("PROOFS.md");
+    let cited: BTreeSet<String> = of_text(&page).into_iter().map(|c| c.name).collect();
+    let hyphened = |name: &&str| {
+        let plain = |c: char| c.is_ascii_lowercase() || c.is_ascii_digit() || c == '-';
+        name.contains('-') && name.chars().all(plain)
+    };
+    let laws: Vec<&str> = page
+        .split('`')
+        .skip(1)
+        .step_by(2)
+        .filter(hyphened)
+        .collect();
+    assert!(laws.len() > 100, "{}", laws.len());
+    let uncited: Vec<&&str> = laws.iter().filter(|law| !cited.contains(**law)).collect();
+    assert!(uncited.is_empty(), "{uncited:#?}");
+}
+
+/// The files and folders of crates/ that the documents name are there. A crate in capitals
+/// stands for any.
+#[test]
+fn every_path_into_the_crates_exists() {
+    let part_of_a_path = |c: char| c.is_alphanumeric() || "_-./".contains(c);
+    let mut count = 0;
+    for page in pages() {
+        let text = read(&page);
+        let words = text.split(|c| !part_of_a_path(c));
+        for path in words.filter(|word| word.starts_with("crates/")) {
+            let path = path.trim_end_matches(['.', '/']);
+            let krate = path.split('/').nth(1).unwrap_or_default();
+            if krate.starts_with(|c: char| c.is_ascii_lowercase()) {
+                assert!(root().join(path).exists(), "{}: {path}", page.display());
+                count += 1;
+            }
+        }
+    }
+    assert!(count > 30, "{count}");
 }
 
 /// The edits that docs/RULES.md names, in tables with a column of them, are edits.
