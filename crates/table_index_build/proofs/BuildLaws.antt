@@ -25,11 +25,12 @@ use Rattle.rules.specs.Sizes.{sizes}
 use Rattle.rules.specs.declared.refusal.Refusal.the-variants.{PastSize, BadRow, BadIndex}
 use Rattle.rules.specs.declared.refusal.Refusal.{Refusal}
 use Rattle.table.proofs.CheckLaws.{check-past}
+use Rattle.table.proofs.GoodLaws.{accepted-rows, good-part}
 use Rattle.table.proofs.TableLaws.{table-good}
 use Rattle.table.proofs.Today.{rowGood}
 use Rattle.table.specs.TableBytes.{u16sAt, rowSize, rowsAt, tableOf, wholeRowsOf, tableChecked, tableCheckedOf}
 use Rattle.table.specs.TableCalls.{afterCheck, passedOn}
-use Rattle.table.specs.Table.{Row, hashOf}
+use Rattle.table.specs.Table.{Row, GoodTable, hashOf}
 use Rattle.table.specs.declared.check.Checked.the-variants.{Good, Refused}
 use Rattle.table.specs.declared.check.Checked.{Checked}
 use Rattle.table_index_build.specs.Indexing.{entryLimit, indexBytes, builtOutput, fitsButLast, extendedOutput}
@@ -185,19 +186,31 @@ module _ (s : List ℕ) where
 
 -- ---- what is built fits
 
+-- the index of a good table fits it as bytes
+bytes-fit : (t : List Row) → GoodTable t → indexFits t (indexBytes (indexOf t)) ≡ true
+unfolding indexFits indexOf
+bytes-fit t good =
+    let long : length (indexed (hashOf t) (length t)) ≡ length t = index-length (hashOf t) (length t) in
+    let size : length (indexBytes (indexed (hashOf t) (length t))) ≡ 2 * length t =
+    length-index-bytes (indexed (hashOf t) (length t)) ∙ ap (λ (k : ℕ). 2 * k) long
+    in
+    let back : u16sAt (indexBytes (indexed (hashOf t) (length t))) 0 (length t) ≡ indexed (hashOf t) (length t) =
+    rw long at (entries-back (indexed (hashOf t) (length t)))
+    in
+    rw (eq-eqb (length (indexBytes (indexed (hashOf t) (length t)))) (2 * length t) size, back) (good-fits t good)
+
+-- so the index of all rows but the last is extended, never refused, and gives the index that is built of them all
+pub built-extends : (s : List ℕ) (n : ℕ) → tableChecked s ≡ Good n → 0 < n
+    → extendedOutput s (indexBytes (indexOf (rowsAt s 0 (n - 1)))) ≡ builtOutput s
+unfolding fitsButLast
+built-extends s n good some =
+    let part = good-part s n (n - 1) (accepted-rows s n good) (omega arith) in
+    extended-is-built s (indexBytes (indexOf (rowsAt s 0 (n - 1)))) n good
+    (rw (lt-ltb 0 n some) (bytes-fit (rowsAt s 0 (n - 1)) (part .good)))
+
 module _ (s : List ℕ) (n : ℕ) (good : tableChecked s ≡ Good n) where
   pub built-fits : indexFits (tableOf s) (indexBytes (indexOf (tableOf s))) ≡ true
-  unfolding indexFits indexOf
-  built-fits =
-      let t : List Row = tableOf s in
-      let long : length (indexed (hashOf t) (length t)) ≡ length t = index-length (hashOf t) (length t) in
-      let size : length (indexBytes (indexed (hashOf t) (length t))) ≡ 2 * length t =
-      length-index-bytes (indexed (hashOf t) (length t)) ∙ ap (λ (k : ℕ). 2 * k) long
-      in
-      let back : u16sAt (indexBytes (indexed (hashOf t) (length t))) 0 (length t) ≡ indexed (hashOf t) (length t) =
-      rw long at (entries-back (indexed (hashOf t) (length t)))
-      in
-      rw (eq-eqb (length (indexBytes (indexed (hashOf t) (length t)))) (2 * length t) size, back) (good-fits t (table-good s n good .good))
+  built-fits = bytes-fit (tableOf s) (table-good s n good .good)
 
   pub built-bytes : Bytes (indexBytes (indexOf (tableOf s)))
   unfolding indexOf
