@@ -34,9 +34,6 @@ use Rattle.session.specs.Plan.{
   versionFor,
   planOf,
   planned,
-  planSent,
-  planSilence,
-  planReset,
   plan,
 }
 use Rattle.session_state.specs.Session.{fresh, freshReadOnly, setReadOnly}
@@ -105,9 +102,6 @@ pub writes : Writes fresh (0x42 ∷ 0x00 ∷ 0x00 ∷ 0x01 ∷ 0x00 ∷ 0x00 ∷
 unfolding
     setReadOnly
     plan
-    planReset
-    planSilence
-    planSent
     planOf
     planned
     needOf

@@ -32,7 +32,8 @@ use Rattle.rules.proofs.Hash.{length-hashes-at}
 use Rattle.rules.specs.Output.{Gathered}
 use Rattle.rules.specs.Sizes.{sizes}
 use Rattle.rules.specs.declared.refusal.Refusal.the-variants.{PastSize}
-use Rattle.session.specs.Plan.{Planned, heard, needOf, haveOf, havesFor, sentAfter, headsFor, planOf, planned, resetOf, planSent, planSilence, planReset, plan}
+use Rattle.session.specs.Plan.{Planned, heard, needOf, haveOf, havesFor, sentAfter, headsFor, planOf, planned, resetOf, plan}
+use Rattle.session.proofs.PlanStages.{fromSent}
 use Rattle.session_state.specs.Value.{Lent, stateOf}
 use Rattle.session_state.specs.declared.session.Session.{Session}
 use Rattle.table.specs.Table.{Row}
@@ -159,8 +160,8 @@ module _ (bits probes : ℕ) (t : List Row) (w : List Waiting) (s : Session) (l 
         (ap (λ (a : PlanAnswer). ifRoom (messageRoom (statedOf p) r) a) (room-answers s x q) ∙ room-answers s (messageRoom (statedOf p) r) (afterRoom x q))
 
     sent-decided : d .need ≤ sizes .hashes
-        → cond (ltb (sizes .sentHashes) (d .sent)) (Refused (PastSize 0)) (saysWith s d bits probes r) ≡ answer (planSent bits probes t w (stateOf s l))
-    unfolding planSent sentAfter plannedRoomed plannedAnswer
+        → cond (ltb (sizes .sentHashes) (d .sent)) (Refused (PastSize 0)) (saysWith s d bits probes r) ≡ answer (fromSent bits probes t w (stateOf s l))
+    unfolding sentAfter plannedRoomed plannedAnswer
     sent-decided few =
         split (ltb (sizes .sentHashes) (d .sent))
         (λ e. rw (e, lt-ltb _ _ (m .sent .many (ltb-true _ _ e))))
@@ -174,7 +175,7 @@ module _ (bits probes : ℕ) (t : List Row) (w : List Waiting) (s : Session) (l 
     reset-decided = rw (m .heads .many) (room-answers s (messageRoom (resetStated (length (heads t))) r) (Planned.reset (resetOf t)))
 
     pub plan-decided : decided s d bits probes r ≡ answer (plan bits probes t w (stateOf s l))
-    unfolding decided plan planReset planSilence plannedRoomed plannedAnswer
+    unfolding decided plan plannedRoomed plannedAnswer
     plan-decided =
         split (ltb (sizes .hashes) (d .need))
         (λ e. rw (e, lt-ltb _ _ (found-many {most = sizes .hashes} f (ltb-true _ _ e))))

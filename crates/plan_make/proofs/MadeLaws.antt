@@ -23,7 +23,8 @@ use Rattle.rules.proofs.Cases.{split}
 use Rattle.rules.proofs.Hash.{length-hashes-at}
 use Rattle.session.specs.Laid.{laidBytes}
 use Rattle.session.specs.Plan.{Planned, heard, needOf, haveOf, havesFor, silence, sentAfter}
-use Rattle.session.specs.Plan.{headsFor, planOf, planned, resetOf, planSent, planSilence, planReset, plan, unknownSync}
+use Rattle.session.specs.Plan.{headsFor, planOf, planned, resetOf, plan, unknownSync}
+use Rattle.session.proofs.PlanStages.{fromSent, fromSilence, fromReset}
 use Rattle.session_state.specs.Value.{Lent, stateOf}
 use Rattle.session_state.specs.declared.session.Session.{Session}
 use Rattle.table.specs.Table.{Row, rows}
@@ -139,20 +140,17 @@ module _ (bits probes : ℕ) (t : List Row) (w : List Waiting) (s : Session) (l 
       (λ e. absurd (omega (arith, m .sent .many (ltb-true _ _ e))))
       (λ e. ltb-false _ _ e)
 
-  sent-starts : d .need ≤ sizes .hashes → Starts (planSent bits probes t w (stateOf s l)) ready
-  unfolding planSent
+  sent-starts : d .need ≤ sizes .hashes → Starts (fromSent bits probes t w (stateOf s l)) ready
   sent-starts few =
       test-starts (ltb (sizes .sentHashes) (length (sentAfter t (stateOf s l)))) (Planned.refused (PastSize 0)) _ ready
       (λ e. refused-starts _ ready)
       (λ e. says-start few (few-sent (ltb-false _ _ e)))
 
-  silence-starts : d .need ≤ sizes .hashes → Starts (planSilence bits probes t w (stateOf s l)) ready
-  unfolding planSilence
+  silence-starts : d .need ≤ sizes .hashes → Starts (fromSilence bits probes t w (stateOf s l)) ready
   silence-starts few =
       test-starts (silence t (stateOf s l)) Planned.silent _ ready (λ e. silent-starts ready) (λ e. sent-starts few)
 
-  reset-starts : d .need ≤ sizes .hashes → Starts (planReset bits probes t w (stateOf s l)) ready
-  unfolding planReset
+  reset-starts : d .need ≤ sizes .hashes → Starts (fromReset bits probes t w (stateOf s l)) ready
   reset-starts few =
       test-starts (unknownSync t (stateOf s l .theirHave)) (Planned.reset (resetOf t)) _ ready (λ e. reset-start) (λ e. silence-starts few)
 

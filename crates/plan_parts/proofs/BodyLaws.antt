@@ -1,6 +1,6 @@
 -- A body's hashes as marks: all rows, none, or what was chosen; and which of these goes, a law for each way through the tests.
 use Prim.Native.Nat.{ℕ, suc, _*_, _/_, _≤_}
-use mathlib.Core.Bool.{Bool, true, false, cond, _&&_}
+use mathlib.Core.Bool.{Bool, true, false, cond, _&&_, _||_}
 use mathlib.Core.List.{List, [], _∷_}
 use mathlib.Core.Path.{_≡_, refl, sym, _∙_}
 use native.Mathlib.Omega.{arith}
@@ -14,13 +14,14 @@ use Rattle.table_index.specs.Index.{Indexed}
 use Rattle.session_check.specs.SessionGood.{heardGood, havesGood}
 use Rattle.session_check.proofs.GoodLaws.{heard-count}
 use Rattle.session_check.proofs.GoodSessions.{HavesParts, list-parts, haves-parts}
+use Rattle.rules.proofs.Cases.{true-false}
 use Rattle.rules.specs.Hash.{hashesAt}
 use Rattle.rules.specs.Sizes.{sizes}
 use Rattle.rules.proofs.Hash.{length-hashes-at}
 use Rattle.send.specs.Internal.Chosen.{Chosen, Choosable, chosenBy}
 use Rattle.send.specs.ToSend.{toSendLess}
 use Rattle.send.proofs.SendCalls.{syncs-inside}
-use Rattle.session.specs.Plan.{Body, listOf, documentOf, documentPart, listOrDocument, bodyFor, bodyHeard}
+use Rattle.session.specs.Plan.{Body, listOf, documentOf, documentPart, bodyFor, bodyHeard}
 use Rattle.session_state.specs.Value.{keptHaves, heardCount, heardHashes, heardHaves}
 use Rattle.session_state.specs.declared.session.Heard.{Heard}
 use Rattle.session_state.specs.declared.session.Heard.the-variants.{Nothing, Count}
@@ -68,11 +69,21 @@ module _ (table : List ℕ) (n : ℕ) (need : List ℕ) (count : ℕ) (marks nee
 
 -- ---- which of the two
 
+goes-whole : (v2 headless long : Bool) → (v2 && headless) ≡ true → (v2 && (headless || long)) ≡ true
+goes-whole true true long e = refl
+goes-whole true false long e = absurd (true-false false e refl)
+goes-whole false headless long e = absurd (true-false false e refl)
+
+goes-long : (v2 headless long : Bool) → (v2 && headless) ≡ false → (v2 && (headless || long)) ≡ (v2 && long)
+goes-long true true long e = absurd (true-false true refl e)
+goes-long true false long e = refl
+goes-long false headless long e = refl
+
 module _ (t : List Row) (v2 headless : Bool) (haves : List Have) (need sent : List ℕ) (marks needs : List Bool) (r : BodyCount) where
   pub body-headless : (v2 && headless) ≡ true → BodyChosen (documentOf t) t marks need needs r
       → BodyChosen (bodyFor t v2 headless haves need sent) t marks need needs r
   unfolding bodyFor
-  body-headless e m = rw e m
+  body-headless e m = rw (goes-whole v2 headless (ltb (length t / documentPart) (length (toSendLess t haves need sent))) e) m
 
 module _ (t : List Row) (v2 headless : Bool) (haves : List Have) (need sent : List ℕ) (marks needs : List Bool) (count n : ℕ) (e : (v2 && headless) ≡ false)
     (long : length t ≡ n)
@@ -80,13 +91,13 @@ module _ (t : List Row) (v2 headless : Bool) (haves : List Have) (need sent : Li
   pub body-long : (v2 && ltb (n / documentPart) count) ≡ true → (marks′ needs′ : List Bool) (r : BodyCount)
       → BodyChosen (documentOf t) t marks′ need needs′ r
       → BodyChosen (bodyFor t v2 headless haves need sent) t marks′ need needs′ r
-  unfolding bodyFor listOrDocument
-  body-long f marks′ needs′ r m = rw (e, long, ← so .many, f) m
+  unfolding bodyFor
+  body-long f marks′ needs′ r m = rw (goes-long v2 headless (ltb (length t / documentPart) (length (toSendLess t haves need sent))) e, long, ← so .many, f) m
 
   pub body-list : (v2 && ltb (n / documentPart) count) ≡ false
       → BodyChosen (bodyFor t v2 headless haves need sent) t marks need needs (record { document = false; hashes = count })
-  unfolding bodyFor listOrDocument
-  body-list f = rw (e, long, ← so .many, f) (record { document = refl; hashes = so })
+  unfolding bodyFor
+  body-list f = rw (goes-long v2 headless (ltb (length t / documentPart) (length (toSendLess t haves need sent))) e, long, ← so .many, f) (record { document = refl; hashes = so })
 
 -- ---- what was heard
 

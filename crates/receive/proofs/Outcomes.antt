@@ -16,7 +16,7 @@ use Rattle.rules.specs.Sizes.{sizes}
 use Rattle.rules.specs.declared.refusal.Refusal.{Refusal}
 use Rattle.rules.specs.declared.refusal.Refusal.the-variants.{PastSize, NoRoom, LoadFailed}
 use Rattle.rules.proofs.Cases.{split}
-use Rattle.session.specs.Receive.{Said, Received, flagged, loads, sharedAfter, received, receiveJoined, receive}
+use Rattle.session.specs.Receive.{Said, Received, flagged, loads, sharedAfter, received, receive}
 use Rattle.session_state.specs.Session.{State}
 use Rattle.session_state.specs.Value.{Lent, stateOf, countsOf}
 use Rattle.session_state.specs.declared.session.Session.{Session}
@@ -82,8 +82,8 @@ module _ (s : Session) (l : Lent) (good : sessionGood s l ≡ true) (table : Lis
   joined : Of (cond (ltb (sizes .hashes) (d .shared))
       (Refused (PastSize 0))
       (cond (ltb 0 (shortWith d r)) (Refused (NoRoom (shortWith d r))) (Took (receivedCounts taken d))))
-      (receivedRoomed r v (receiveJoined before t v m))
-  unfolding receivedRoomed receiveJoined receiptPuts receivedAnswer refusalAnswer
+      (receivedRoomed r v (cond (ltb (sizes .hashes) (length (sharedAfter before t v m))) (Received.refused (PastSize 0) v) (Received.took (received before t v m))))
+  unfolding receivedRoomed receiptPuts receivedAnswer refusalAnswer
   joined =
       split (ltb (sizes .hashes) (d .shared))
       (λ e.

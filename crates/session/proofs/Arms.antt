@@ -14,7 +14,7 @@ use Rattle.bloom_probe.proofs.InsideLaws.{probes-inside as rules-inside, built-
 use Rattle.rules.proofs.Cases.{split}
 use Rattle.rules.specs.Sizes.{sizes}
 use Rattle.session.proofs.PlanLaws.{planned-held}
-use Rattle.session.specs.Plan.{heard, needOf, unknownSync, silence, sentAfter, planOf, resetOf, planSent, planSilence, planReset, plan}
+use Rattle.session.specs.Plan.{heard, needOf, unknownSync, silence, sentAfter, planOf, resetOf, plan}
 use Rattle.session_state.specs.Session.{State}
 use Rattle.table.specs.Table.{Row, GoodTable, held}
 use Rattle.waiting.specs.Waiting.{Waiting}
@@ -35,21 +35,18 @@ probes-inside =
     }
 
 module _ (bits probes : ℕ) (t : List Row) (w : List Waiting) (s : State) (good : GoodTable t) where
-  sent-rows : every (held t) (askedOf (planSent bits probes t w s)) ≡ true
-  unfolding planSent planOf every
-  sent-rows = split (ltb (sizes .sentHashes) (length (sentAfter t s))) (λ e. rw e refl) (λ e. rw e (planned-held t good s))
-
-  silent-rows : every (held t) (askedOf (planSilence bits probes t w s)) ≡ true
-  unfolding planSilence every
-  silent-rows = split (silence t s) (λ e. rw e refl) (λ e. rw e sent-rows)
-
-  reset-rows : every (held t) (askedOf (planReset bits probes t w s)) ≡ true
-  unfolding planReset resetOf every
-  reset-rows = split (unknownSync t (s .theirHave)) (λ e. rw e refl) (λ e. rw e silent-rows)
-
   plan-rows : every (held t) (askedOf (plan bits probes t w s)) ≡ true
-  unfolding plan every
-  plan-rows = split (ltb (sizes .hashes) (length (needOf t w (s .readOnly) (heard (s .theirHeads))))) (λ e. rw e refl) (λ e. rw e reset-rows)
+  unfolding plan planOf resetOf every
+  plan-rows =
+      split (ltb (sizes .hashes) (length (needOf t w (s .readOnly) (heard (s .theirHeads)))))
+      (λ a. rw a refl)
+      (λ a.
+      split (unknownSync t (s .theirHave))
+      (λ b. rw (a, b) refl)
+      (λ b.
+      split (silence t s)
+      (λ c. rw (a, b, c) refl)
+      (λ c. split (ltb (sizes .sentHashes) (length (sentAfter t s))) (λ d. rw (a, b, c, d) refl) (λ d. rw (a, b, c, d) (planned-held t good s)))))
 
 pub planned-rows : PlannedRows
 planned-rows = plan-rows

@@ -5,6 +5,7 @@ pub mod KeptSessions
 pub mod LaidLaws
 pub mod PlanLaws
 pub mod PlanOnce
+pub mod PlanStages
 pub mod Promises
 pub mod ReceiveLaws
 pub mod Stands

@@ -40,7 +40,6 @@ use Rattle.session.specs.Plan.{
   listOf,
   documentOf,
   documentPart,
-  listOrDocument,
   bodyFor,
   bodyHeard,
   bodyOf,
@@ -51,9 +50,6 @@ use Rattle.session.specs.Plan.{
   planOf,
   planned,
   resetOf,
-  planSent,
-  planSilence,
-  planReset,
   plan,
   after,
 }
@@ -70,7 +66,7 @@ module _ (t : List Row) (s : State) (P : Body → Type 0) where
 
   for-heard : Bodies → (haves : List Have) (need : List ℕ) → s .theirHave ≡ some haves → s .theirNeed ≡ some need → (v2 headless : Bool)
       → (v2 ≡ true → s .supportsV2 ≡ true) → P (bodyFor t v2 headless haves need (s .sentHashes))
-  unfolding bodyFor listOrDocument
+  unfolding bodyFor
   for-heard b haves need p q true true f = b .document (f refl)
   for-heard b haves need p q true false f =
       split (ltb (length t / documentPart) (length (toSendLess t haves need (s .sentHashes))))
@@ -91,7 +87,7 @@ module _ (t : List Row) (s : State) (P : Body → Type 0) where
 
 for-list : (t : List Row) (v2 headless : Bool) (haves : List Have) (need sent : List ℕ) → bodyFor t v2 headless haves need sent .document ≡ false
     → bodyFor t v2 headless haves need sent .hashes ≡ toSendLess t haves need sent
-unfolding bodyFor listOrDocument
+unfolding bodyFor
 for-list t true true haves need sent = λ d. absurd (true-false true refl d)
 for-list t true false haves need sent =
     split (ltb (length t / documentPart) (length (toSendLess t haves need sent)))
@@ -291,21 +287,21 @@ module _ (bits probes : ℕ) (t : List Row) (w : List Waiting) (s : State) where
 
   module _ (few : length need ≤ sizes .hashes) where
     pub plan-resets : unknownSync t (s .theirHave) ≡ true → plan bits probes t w s ≡ Planned.reset (resetOf t)
-    unfolding plan planReset
+    unfolding plan
     plan-resets e = rw (le-ltb _ _ few, e)
 
     module _ (known : unknownSync t (s .theirHave) ≡ false) where
       pub plan-silent : silence t s ≡ true → plan bits probes t w s ≡ Planned.silent
-      unfolding plan planReset planSilence
+      unfolding plan
       plan-silent e = rw (le-ltb _ _ few, known, e)
 
       module _ (speaks : silence t s ≡ false) where
         pub plan-sent-past : sizes .sentHashes < length (sentAfter t s) → plan bits probes t w s ≡ Planned.refused (PastSize 0)
-        unfolding plan planReset planSilence planSent
+        unfolding plan
         plan-sent-past h = rw (le-ltb _ _ few, known, speaks, lt-ltb _ _ h)
 
         pub plan-is : length (sentAfter t s) ≤ sizes .sentHashes → plan bits probes t w s ≡ Planned.says (planOf bits probes t w s) (planned t s)
-        unfolding plan planReset planSilence planSent
+        unfolding plan
         plan-is h = rw (le-ltb _ _ few, known, speaks, le-ltb _ _ h)
 
   -- What stands where a message is said.
@@ -343,7 +339,7 @@ module _ (bits probes : ℕ) (t : List Row) (w : List Waiting) (s : State) where
 -- own filters never enter the session: it is the same whatever bits and probes they have
 pub own-filters : (bits probes bits′ probes′ : ℕ) (t : List Row) (w : List Waiting) (s : State)
     → after (plan bits probes t w s) s ≡ after (plan bits′ probes′ t w s) s
-unfolding plan planReset planSilence planSent
+unfolding plan
 own-filters bits probes bits′ probes′ t w s =
     split (ltb (sizes .hashes) (length (needOf t w (s .readOnly) (heard (s .theirHeads)))))
     (λ a. rw a)

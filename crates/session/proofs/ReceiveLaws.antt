@@ -39,7 +39,6 @@ use Rattle.session.specs.Receive.{
   sharedAfter,
   sentLeft,
   received,
-  receiveJoined,
   receive,
   receiveRead,
   receiveBytes,
@@ -223,11 +222,11 @@ module _ (loaded : Bool) (before : ℕ) (t : List Row) (s : State) (m : Said) wh
 
   module _ (fine : (loads s m && not loaded) ≡ false) where
     pub receive-past : sizes .hashes < length (sharedAfter before t s m) → receive loaded before t s m ≡ Received.refused (PastSize 0) s
-    unfolding receive receiveJoined
+    unfolding receive
     receive-past h = rw (fine, lt-ltb _ _ h)
 
     pub receive-is : length (sharedAfter before t s m) ≤ sizes .hashes → receive loaded before t s m ≡ Received.took (received before t s m)
-    unfolding receive receiveJoined
+    unfolding receive
     receive-is h = rw (fine, le-ltb _ _ h)
 
   -- What stands where a message is taken.

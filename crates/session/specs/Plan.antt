@@ -87,13 +87,13 @@ documentOf t = record { document = true; hashes = rows t }
 abbrev pub documentPart : ℕ
 documentPart = 3
 
--- The list, or the document where the list is long and the peer knows V2.
-unfoldable pub listOrDocument : List Row → Bool → List ℕ → Body
-listOrDocument t v2 l = cond (v2 && ltb (length t / documentPart) (length l)) (documentOf t) (listOf l)
-
--- The document too where the peer is heard to have no heads at all (`send_doc`) and knows V2; else the hashes to send, less those that were sent.
+-- The hashes to send, less those that were sent; or the document, to a peer that knows V2 and is heard to have no heads at all (`send_doc`), or where the list
+-- is longer than its part of the rows.
 unfoldable pub bodyFor : List Row → Bool → Bool → List Have → List ℕ → List ℕ → Body
-bodyFor t v2 headless haves need sent = cond (v2 && headless) (documentOf t) (listOrDocument t v2 (toSendLess t haves need sent))
+bodyFor t v2 headless haves need sent =
+    cond (v2 && (headless || ltb (length t / documentPart) (length (toSendLess t haves need sent))))
+    (documentOf t)
+    (listOf (toSendLess t haves need sent))
 
 -- Nothing goes before both a have and a need were heard.
 unfoldable pub bodyHeard : List Row → Bool → Bool → Option (List Have) → Option (List ℕ) → List ℕ → Body
@@ -181,26 +181,17 @@ resetOf t =
     }
 
 -- The stages, in 01's order of refusals: 4 for the need list, even before a reset or silence; a reset; silence; 4 for the sent hashes; the message.
-unfoldable pub planSent : ℕ → ℕ → List Row → List Waiting → State → Planned
-planSent bits probes t w s =
-    cond (ltb (sizes .sentHashes) (length (sentAfter t s)))
-    (refused (PastSize 0))
-    (says (planOf bits probes t w s) (planned t s))
-
--- Nothing is said where silence is due.
-unfoldable pub planSilence : ℕ → ℕ → List Row → List Waiting → State → Planned
-planSilence bits probes t w s = cond (silence t s) silent (planSent bits probes t w s)
-
--- A reset comes before silence.
-unfoldable pub planReset : ℕ → ℕ → List Row → List Waiting → State → Planned
-planReset bits probes t w s = cond (unknownSync t (s .theirHave)) (reset (resetOf t)) (planSilence bits probes t w s)
-
--- 4 for the need list comes first.
 unfoldable pub plan : ℕ → ℕ → List Row → List Waiting → State → Planned
 plan bits probes t w s =
     cond (ltb (sizes .hashes) (length (needOf t w (s .readOnly) (heard (s .theirHeads)))))
     (refused (PastSize 0))
-    (planReset bits probes t w s)
+    (cond (unknownSync t (s .theirHave))
+    (reset (resetOf t))
+    (cond (silence t s)
+    silent
+    (cond (ltb (sizes .sentHashes) (length (sentAfter t s)))
+    (refused (PastSize 0))
+    (says (planOf bits probes t w s) (planned t s)))))
 
 -- The session after planning: a message's, and after anything else as it was.
 abbrev pub after : Planned → State → State

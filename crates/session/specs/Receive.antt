@@ -142,16 +142,15 @@ received before t s m =
       needsReset = s .needsReset;
     }
 
--- The stages, in 01's order of refusals: 11; the message's own from its first byte; 8, which alone leaves something; 4 for the joined heads, counted
--- once each.
-unfoldable pub receiveJoined : ℕ → List Row → State → Said → Received
-receiveJoined before t s m =
-    cond (ltb (sizes .hashes) (length (sharedAfter before t s m))) (refused (PastSize 0) s) (took (received before t s m))
-
--- 8 where changes were to be loaded and that failed: the flags are taken even so, and nothing is in flight.
+-- A message that was read, in 01's order of refusals: 8 where changes were to be loaded and that failed, which alone leaves something, since the flags are
+-- taken even so and nothing is in flight; 4 for the joined heads, counted once each; taken.
 unfoldable pub receive : Bool → ℕ → List Row → State → Said → Received
 receive loaded before t s m =
-    cond (loads s m && not loaded) (refused LoadFailed (flagged (m .flags) s)) (receiveJoined before t s m)
+    cond (loads s m && not loaded)
+    (refused LoadFailed (flagged (m .flags) s))
+    (cond (ltb (sizes .hashes) (length (sharedAfter before t s m)))
+    (refused (PastSize 0) s)
+    (took (received before t s m)))
 
 -- A message that was read, or its refusal, which leaves the session.
 unfoldable pub receiveRead : Bool → ℕ → List Row → State → List ℕ → Reading → Received

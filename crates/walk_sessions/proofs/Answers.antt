@@ -35,7 +35,6 @@ use Rattle.session.specs.Plan.{
   havesFor,
   unknownSync,
   documentPart,
-  listOrDocument,
   bodyFor,
   bodyOf,
   empty,
@@ -89,7 +88,7 @@ list-found t false haves need sent e = refl
 list-short : (t : List Row) (lost : Bool) (haves : List Have) (need sent : List ℕ) → lost ≡ false
     → length (toSendLess t haves need sent) ≤ length t / documentPart
     → bodyFor t true lost haves need sent .document ≡ false
-unfolding bodyFor listOrDocument
+unfolding bodyFor
 list-short t lost haves need sent e f = rw (e, le-ltb _ _ f)
 
 found-head : (l : List ℕ) → empty l ≡ false → same l [] ≡ false

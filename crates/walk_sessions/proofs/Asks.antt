@@ -36,7 +36,6 @@ use Rattle.session.specs.Plan.{
   unknownSync,
   listOf,
   documentPart,
-  listOrDocument,
   bodyFor,
   bodyHeard,
   bodyOf,
@@ -73,8 +72,8 @@ body-heard t s haves need p e f = rw (p, e, f)
 -- with nothing to send to a peer that has heads the body is empty
 body-empty : (t : List Row) (v2 lost : Bool) (haves : List Have) (need sent : List ℕ) → lost ≡ false → toSendLess t haves need sent ≡ []
     → bodyFor t v2 lost haves need sent ≡ listOf []
-unfolding bodyFor listOrDocument
-body-empty t v2 lost haves need sent e f = rw (e, f, and-false v2, le-ltb (length t / documentPart) 0 (omega arith), and-false v2)
+unfolding bodyFor
+body-empty t v2 lost haves need sent e f = rw (e, f, le-ltb (length t / documentPart) 0 (omega arith), and-false v2)
 
 sync-known : (t : List Row) (v : Have) → ((h : ℕ) → member h (v .lastSync) ≡ true → held t h ≡ true) → unknownSync t (some (v ∷ [])) ≡ false
 unfolding unknownSync
