@@ -188,7 +188,10 @@ impl fmt::Display for Rows {
 impl fmt::Display for Row {
     fn fmt(&self, f: &mut fmt::Formatter<'_>) -> fmt::Result {
         match *self {
-            Row::Cut { bytes, whole } => write!(f, "is cut: it has {bytes} of {whole} bytes"),
+            Row::Cut { bytes, whole } => {
+                let (bytes, whole) = (shown(bytes), shown(whole));
+                write!(f, "is cut: it has {bytes} of {whole} bytes")
+            }
             Row::Count { count, most } => {
                 let (count, most) = (grouped(count), grouped(most));
                 write!(f, "counts {count} dependencies; at most {most}")

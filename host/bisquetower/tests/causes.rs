@@ -319,7 +319,7 @@ fn bad_rows() {
     let cut = &rows()[..start + 33];
     says(
         refused(Table::new(cut), 6, 18),
-        &format!("is cut: it has 33 of {} bytes", Table::ROW),
+        &format!("is cut: it has 33 of {} bytes", shown(Table::ROW)),
         start..start + 33,
     );
 }
@@ -406,7 +406,11 @@ fn bad_waiting_rows() {
         0..32,
     );
     let cut = refused(Waiting::new(&rows[..start + 9], &table), 9, 1);
-    says(cut, &format!("is cut: it has 9 of {end} bytes"), 0..9);
+    says(
+        cut,
+        &format!("is cut: it has 9 of {} bytes", shown(end)),
+        0..9,
+    );
 }
 
 /// A message with two of everything.
@@ -535,7 +539,7 @@ fn a_session_says_what_broke() {
     let cut = rows()[..Table::ROW + 36].to_vec();
     let cut_row = format!(
         "refusal 6, value 1: row 1 of the change table is cut: it has 36 of {} bytes",
-        Table::ROW
+        shown(Table::ROW)
     );
     let twice = Waiting::lay([(hash(1), vec![]), (hash(1), vec![])]);
     let generated = |host: &Tables| Session::new().generate(host).unwrap_err().to_string();
