@@ -6,8 +6,8 @@ use compare::inputs::Random;
 use compare::model::table::{Hash, HASH, HASHES, ROWS, WAITING_ROW, WAITING_ROWS};
 use compare::tables::Rooms;
 
-/// What is missing through chains, cycles and trees of waiting rows, up to 1,024
-/// of them, in the table's order, against it and mixed.
+/// What is missing through chains, cycles and trees of waiting rows, up to as many as there
+/// may be, in the table's order, against it and mixed.
 #[test]
 fn missing_through_many_waiting_rows() {
     let mut random = Random(19);
@@ -56,7 +56,8 @@ fn both_tables_at_their_largest() {
     let table = table_bytes(&random.rows_of(held, Shape::Any));
     let rows = random.waiting_rows(own, &all);
     let waiting = waiting_bytes(&rows);
-    assert_eq!(answer(check_tables(&table, &waiting), 0), [0, 1_024]);
+    let all_rows = [0, WAITING_ROWS as u64];
+    assert_eq!(answer(check_tables(&table, &waiting), 0), all_rows);
     for list in [own.concat(), held.concat(), own[0].to_vec()] {
         agree(&[(missing(&table, &waiting, &list), Rooms::Enough)]);
     }
@@ -64,12 +65,13 @@ fn both_tables_at_their_largest() {
     for taken in [held[ROWS - 1], own[WAITING_ROWS - 2], own[0]] {
         last.hash = taken;
         let bad = with_record(&waiting, WAITING_ROWS - 1, &last.bytes());
-        assert_eq!(answer(check_tables(&table, &bad), 0), [9, 1_023]);
+        let last_row = [9, WAITING_ROWS as u64 - 1];
+        assert_eq!(answer(check_tables(&table, &bad), 0), last_row);
     }
 }
 
-/// Waiting rows that ask so many different unknown hashes, one of them each or
-/// fifteen, and each again and again.
+/// Waiting rows that ask so many different unknown hashes, so many of them each, and each
+/// again and again.
 fn asking(own: &[Hash], unknown: &[Hash], each: usize, repeats: usize) -> Bytes {
     let mut rows: Vec<WaitingRow> = Vec::new();
     let mut asked = unknown.iter().cycle().take(unknown.len() * repeats);
@@ -81,8 +83,8 @@ fn asking(own: &[Hash], unknown: &[Hash], each: usize, repeats: usize) -> Bytes 
     waiting_bytes(&rows)
 }
 
-/// Exactly 1,024 and 1,025 missing hashes: passed, under waiting rows, and both;
-/// a hash that is asked for twice counts once.
+/// Exactly as many missing hashes as there may be and one more: passed, under waiting
+/// rows, and both; a hash that is asked for twice counts once.
 #[test]
 fn missing_around_its_limit() {
     let mut random = Random(20);
