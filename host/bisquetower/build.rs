@@ -1,6 +1,6 @@
 //! Links the proved library, which `make lib` builds at the repository's root
-//! (cargo has no part in that), and writes the calls of the module `raw` and the C
-//! header from the library's own source.
+//! (cargo has no part in that), and writes the calls of the module `raw`, the constants of
+//! the module `limits` and the C header from the library's own source.
 //!
 //! The library is for x86-64. There it is linked into the crate. On another
 //! processor it is linked into the program src/raw/caller.c, which the emulator
@@ -66,8 +66,8 @@ fn build() -> Result<(), String> {
 /// The most arguments that caller.c passes.
 const ARGUMENTS: usize = 32;
 
-/// Writes calls.rs, which the module `raw` includes, calls.h, which caller.c does, and
-/// the header for programs in C.
+/// Writes calls.rs, which the module `raw` includes, calls.h, which caller.c does,
+/// limits.rs, which the module `limits` includes, and the header for programs in C.
 fn write_calls(crates: &Path, way: Way) -> Result<(), String> {
     println!("cargo::rerun-if-changed={}", crates.display());
     let functions = exported::read_crates(crates)?;
@@ -82,6 +82,7 @@ fn write_calls(crates: &Path, way: Way) -> Result<(), String> {
     write("calls.rs", calls::rust_text(&functions, way))?;
     write("calls.h", calls::c_text(&functions))?;
     let limits = limits::read_limits(crates)?;
+    write("limits.rs", limits::rust_text(&limits))?;
     let version = variable("CARGO_PKG_VERSION");
     let header = header::c_header(&version, &limits, &functions);
     write("bisquetower.h", header)

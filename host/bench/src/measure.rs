@@ -14,6 +14,10 @@ const BATCH: Duration = Duration::from_millis(4);
 /// table then has the difference of the two as well.
 pub const REST: &str = ": rest";
 
+/// Rows of the tables that are measured. They are chosen so that figures can be held
+/// against earlier ones, and don't follow the limits.
+pub const SIZES: [(&str, usize); 3] = [("64 rows", 64), ("256 rows", 256), ("1,024 rows", 1_024)];
+
 /// What is measured.
 pub struct Line<'a> {
     pub name: &'a str,

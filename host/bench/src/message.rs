@@ -2,7 +2,8 @@
 //! them, and one of nearly 4 MiB.
 
 use crate::measure::{line, line_of, Line};
-use bisquetower::message::View;
+use bisquetower::limits::{CHUNKS, HAVES, HAVES_WORDS, LIST_SIZE, MESSAGE_SIZE};
+use bisquetower::message::{View, CHUNK_WORDS};
 use bisquetower::raw;
 use compare::inputs::message::Draft;
 use compare::inputs::table::Likeness;
@@ -12,6 +13,9 @@ use compare::model::filter::built;
 use compare::model::number_bytes;
 use crate_under_test::facade::Message;
 use std::hint::black_box;
+
+/// Entries of the filter that a message has as sessions send them.
+const ENTRIES: usize = 1_024;
 
 pub fn measure_all() {
     let messages = messages();
@@ -36,8 +40,8 @@ fn messages() -> [(&'static str, Vec<u8>); 3] {
         flags: Some(vec![0x02, 0x84]),
         ..Draft::new()
     };
-    let entries = random.hashes(1_024, Likeness::Spread).concat();
-    let numbers = [1_024, 10, 7].map(number_bytes).concat();
+    let entries = random.hashes(ENTRIES, Likeness::Spread).concat();
+    let numbers = [ENTRIES as u64, 10, 7].map(number_bytes).concat();
     let field = built(10, 7, &entries).expect("a good filter");
     let typical = Draft {
         heads: random.hashes(32, Likeness::Ascending),
@@ -48,8 +52,11 @@ fn messages() -> [(&'static str, Vec<u8>); 3] {
         chunks: (0..64).map(|_| random.bytes(120)).collect(),
         ..small.clone()
     };
+    // Four bytes less for each chunk than its part of the largest message, for its length
+    // and for what stands before all of them.
+    let chunk = MESSAGE_SIZE / CHUNKS - 4;
     let large = Draft {
-        chunks: (0..4_096).map(|_| random.bytes(1_020)).collect(),
+        chunks: (0..CHUNKS).map(|_| random.bytes(chunk)).collect(),
         ..small.clone()
     };
     [
@@ -61,12 +68,12 @@ fn messages() -> [(&'static str, Vec<u8>); 3] {
 
 /// Room for as many haves and chunks as a message may have.
 fn room() -> (Vec<u64>, Vec<u64>) {
-    (vec![0; 7 * 16], vec![0; 2 * 4_096])
+    (vec![0; HAVES_WORDS], vec![0; CHUNK_WORDS * CHUNKS])
 }
 
 /// A run's number is how many heads, haves and chunks there are.
 fn decode(size: &str, s: &[u8]) {
-    let ((mut haves, mut chunks), mut ignored) = (room(), [0; 16]);
+    let ((mut haves, mut chunks), mut ignored) = (room(), [0; HAVES]);
     let library = || {
         let words = raw::read_message(black_box(s), &mut haves, &mut chunks, &mut ignored);
         black_box((&haves, &chunks, &ignored));
@@ -88,7 +95,7 @@ fn decode(size: &str, s: &[u8]) {
 
 /// A run's number is the message's length.
 fn decode_beside_a_sum(size: &str, s: &[u8]) {
-    let ((mut haves, mut chunks), mut ignored) = (room(), [0; 16]);
+    let ((mut haves, mut chunks), mut ignored) = (room(), [0; HAVES]);
     let library = || {
         let words = raw::read_message(black_box(s), &mut haves, &mut chunks, &mut ignored);
         black_box((&haves, &chunks, &ignored));
@@ -110,8 +117,8 @@ fn decode_beside_a_sum(size: &str, s: &[u8]) {
 
 /// A run's number is how many heads there are.
 fn peek_beside_decode(size: &str, s: &[u8]) {
-    let ((mut haves, mut chunks), mut ignored) = (room(), [0; 16]);
-    let mut heads = vec![0; 32 * 1_024];
+    let ((mut haves, mut chunks), mut ignored) = (room(), [0; HAVES]);
+    let mut heads = vec![0; LIST_SIZE];
     let peeked = || {
         let words = raw::peek_heads(black_box(s), &mut heads);
         black_box(&heads);

@@ -2,7 +2,8 @@
 //! reached through a first message, and the library tests its table and index in each
 //! call; both are measured apart, as the rest.
 
-use crate::measure::{line, Line};
+use crate::measure::{line, Line, SIZES};
+use bisquetower::limits::TO_SEND_SIZE;
 use bisquetower::raw;
 use compare::inputs::index::index_of;
 use compare::inputs::selection::lend;
@@ -14,8 +15,6 @@ use compare::published;
 use compare::tables::document;
 use crate_under_test::facade::{hashes_to_send, Automerge, ChangeHash, Have};
 use std::hint::black_box;
-
-const SIZES: [(&str, usize); 3] = [("64 rows", 64), ("256 rows", 256), ("1,024 rows", 1_024)];
 
 const NAMES: [(usize, &str, &str); 2] = [
     (1, "send, 1 have", "send, 1 have: rest"),
@@ -79,7 +78,7 @@ impl Choice {
 
     /// Both sides choose the same, and neither everything nor nothing.
     fn compare(&self) {
-        let mut out = vec![0; HASH * 2_048];
+        let mut out = vec![0; TO_SEND_SIZE];
         let written = self.library(&mut out) as usize;
         let chosen: Vec<u8> = self.chosen.iter().flat_map(|hash| hash.0).collect();
         assert_eq!(out[..written], chosen);
@@ -97,7 +96,7 @@ impl Choice {
 
     /// A run's number is how many bytes the hashes have.
     fn whole(&self, name: &str, size: &str) {
-        let mut out = vec![0; HASH * 2_048];
+        let mut out = vec![0; TO_SEND_SIZE];
         let library = || {
             let written = self.library(&mut out);
             black_box(&out);

@@ -3,11 +3,14 @@
 //! message brings, which here is the host's to do; both are measured apart, as the rest.
 //! The host's index is ready: what it takes to build and extend one stands with the tables.
 
-use crate::measure::{line_of, Line};
+use crate::measure::{line_of, Line, SIZES};
+use bisquetower::limits::{HAVES_SIZE, HAVES_WORDS, HAVE_SIZE, LIST_SIZE, TO_SEND_SIZE};
 use bisquetower::raw;
 use compare::inputs::index::index_of;
 use compare::inputs::table::{table_bytes, Likeness, Shape};
 use compare::inputs::Random;
+use compare::model::have::HAVE_WORDS;
+use compare::model::plan::ANSWER_WORDS;
 use compare::model::session::Value;
 use compare::model::state::WORDS;
 use compare::model::table::{HASH, ROW};
@@ -19,8 +22,6 @@ use compare::units::{load, published, table_of, waiting_of};
 use compare::walk::{STATION, VALIDATOR};
 use crate_under_test::facade::{Automerge, Message, State, SyncDoc};
 use std::hint::black_box;
-
-const SIZES: [(&str, usize); 3] = [("64 rows", 64), ("256 rows", 256), ("1,024 rows", 1_024)];
 
 /// One head or two: two rows on one and one on the two, again and again.
 const NARROW: Shape = Shape::Diamonds;
@@ -106,21 +107,19 @@ struct Desk {
     message: Vec<u8>,
 }
 
-const LIST: usize = HASH * 1_024;
-
 impl Desk {
     fn fresh() -> Desk {
         Desk {
             words: [0; WORDS],
-            hashes: [(); 5].map(|()| vec![0; LIST]),
-            haves: vec![0; 7 * 16],
-            bytes: vec![0; 655_360],
-            said: [LIST, LIST, 40_960, 2 * LIST].map(|size| vec![0; size]),
+            hashes: [(); 5].map(|()| vec![0; LIST_SIZE]),
+            haves: vec![0; HAVES_WORDS],
+            bytes: vec![0; HAVES_SIZE],
+            said: [LIST_SIZE, LIST_SIZE, HAVE_SIZE, TO_SEND_SIZE].map(|size| vec![0; size]),
             message: vec![0; 1 << 20],
         }
     }
 
-    fn plan(&mut self, lent: &Indexed, waiting: &[u8]) -> [u64; 16] {
+    fn plan(&mut self, lent: &Indexed, waiting: &[u8]) -> [u64; ANSWER_WORDS] {
         let [shared, last_sent, their_heads, their_need, sent] = &mut self.hashes;
         let [heads, need, have, list] = &mut self.said;
         raw::plan(
@@ -143,9 +142,9 @@ impl Desk {
     }
 
     /// Writes what was planned, with these chunks; the message's length.
-    fn write(&mut self, plan: &[u64; 16], chunks: &[u8], lengths: &[u64]) -> usize {
+    fn write(&mut self, plan: &[u64; ANSWER_WORDS], chunks: &[u8], lengths: &[u64]) -> usize {
         let [heads, need, have, _] = &self.said;
-        let words = 7 * plan[7] as usize;
+        let words = HAVE_WORDS * plan[7] as usize;
         let answer = raw::write_message(
             plan[2],
             &heads[..HASH * plan[5] as usize],

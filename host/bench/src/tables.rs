@@ -2,7 +2,7 @@
 //! which each is four times the one before. Beside the library stands the
 //! stand-in document, for information: the crate's graph can't be had.
 
-use crate::measure::{line, Line};
+use crate::measure::{line, Line, SIZES};
 use bisquetower::raw;
 use compare::inputs::index::{index_bytes, index_of};
 use compare::inputs::table::{table_bytes, waiting_bytes, Likeness, Row, Shape, WaitingRow};
@@ -11,8 +11,6 @@ use compare::model::table::{Hash, HASH};
 use compare::tables::{but_the_last, document};
 use crate_under_test::facade::{Automerge, ChangeHash};
 use std::hint::black_box;
-
-const SIZES: [(&str, usize); 3] = [("64 rows", 64), ("256 rows", 256), ("1,024 rows", 1_024)];
 
 const STAND_IN: &str =
     "library: tests the tables and the index too; crate: the stand-in document, made before; the crate's graph can't be had";

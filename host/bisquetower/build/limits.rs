@@ -1,5 +1,6 @@
-//! The limits, read from where they stand: the constants of the proved crate `rules`. So
-//! no number of them stands in host/, and none can differ from the library's.
+//! The limits, read from where they stand: the constants of the proved crate `rules`. The C
+//! header and the module `limits` of the Rust crate are written from them, so no number of
+//! them stands in host/, and none can differ from the library's.
 
 use std::fs;
 use std::path::Path;
@@ -22,6 +23,15 @@ pub fn read_limits(crates: &Path) -> Result<Vec<Limit>, String> {
     let told = |why: String| format!("{}: {why}", path.display());
     let source = fs::read_to_string(&path).map_err(|error| told(error.to_string()))?;
     read_source(&source).map_err(told)
+}
+
+/// The limits as constants in Rust, under their own names.
+pub fn rust_text(limits: &[Limit]) -> String {
+    let constants = limits.iter().map(|limit| {
+        let (name, number) = (&limit.name, limit.number);
+        format!("/// {}\n{START}{name}{KIND}{number};\n", limit.comment)
+    });
+    constants.collect()
 }
 
 /// The limits of a file's text.

@@ -8,14 +8,19 @@ use std::ops::Range;
 /// much, which field of a row is wrong. [`Refusal::cause`](crate::Refusal::cause) has it.
 ///
 /// ```
+/// use bisquetower::limits::{DEPENDENCIES, HASH_SIZE};
 /// use bisquetower::{ChangeHash, Table};
 ///
 /// let [a, b] = [b'a', b'b'].map(|name| ChangeHash([name; 32]));
 /// let mut rows = Table::lay([(a, vec![]), (b, vec![a])]);
-/// rows[64 + 32] = 16;
+/// let (count, many) = (Table::ROW + HASH_SIZE, DEPENDENCIES + 1);
+/// rows[count] = many as u8;
 /// let cause = Table::new(rows).unwrap_err().cause().unwrap();
-/// assert_eq!(cause.to_string(), "row 1 of the change table counts 16 dependencies; at most 15");
-/// assert_eq!(cause.place(), Some(96..98));
+/// assert_eq!(
+///     cause.to_string(),
+///     format!("row 1 of the change table counts {many} dependencies; at most {DEPENDENCIES}")
+/// );
+/// assert_eq!(cause.place(), Some(count..count + 2));
 /// ```
 #[derive(Clone, Copy, Debug, PartialEq, Eq)]
 pub struct Cause {
@@ -183,7 +188,10 @@ impl fmt::Display for Rows {
 impl fmt::Display for Row {
     fn fmt(&self, f: &mut fmt::Formatter<'_>) -> fmt::Result {
         match *self {
-            Row::Cut { bytes, whole } => write!(f, "is cut: it has {bytes} of {whole} bytes"),
+            Row::Cut { bytes, whole } => {
+                let (bytes, whole) = (shown(bytes), shown(whole));
+                write!(f, "is cut: it has {bytes} of {whole} bytes")
+            }
             Row::Count { count, most } => {
                 let (count, most) = (grouped(count), grouped(most));
                 write!(f, "counts {count} dependencies; at most {most}")

@@ -4,8 +4,7 @@ use std::borrow::Borrow;
 use std::fmt;
 use std::str::FromStr;
 
-/// Bytes of a hash.
-pub(crate) const HASH: usize = 32;
+pub(crate) use crate::limits::HASH_SIZE as HASH;
 
 /// The hash of a change, by which it is named everywhere.
 ///
@@ -89,7 +88,8 @@ impl FromStr for ChangeHash {
 
 impl fmt::Display for NotAHash {
     fn fmt(&self, f: &mut fmt::Formatter<'_>) -> fmt::Result {
-        write!(f, "a hash is 32 bytes, or 64 hexadecimal digits")
+        let digits = 2 * HASH;
+        write!(f, "a hash is {HASH} bytes, or {digits} hexadecimal digits")
     }
 }
 

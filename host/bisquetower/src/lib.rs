@@ -14,7 +14,7 @@
 //!     |
 //!   refusal     an answer as a result: numbers, or a refusal that can be read
 //!     |
-//!   raw         the exported functions, on slices and numbers
+//!   raw         the exported functions, on slices and numbers; limits: their sizes
 //!     |
 //!   libbisquetower.a    proved; docs/ABI.md is its page
 //! ```
@@ -47,7 +47,7 @@ mod hash;
 mod have;
 mod host;
 mod index;
-mod limits;
+pub mod limits;
 mod memory;
 pub mod message;
 pub mod raw;

@@ -1,6 +1,7 @@
 //! A host in memory.
 
 use crate::hash::{ChangeHash, HASH};
+use crate::limits::DEPENDENCIES;
 use crate::table::Rows;
 use crate::{Host, Waiting};
 use std::borrow::Cow;
@@ -10,15 +11,12 @@ use std::fmt;
 const RECORD: u8 = 1;
 const DOCUMENT: u8 = 0;
 
-/// Dependencies that a row has room for.
-const DEPENDENCIES: usize = 15;
-
 /// A change: its name, what it was made on, and bytes that nobody here looks at.
 #[derive(Clone, Debug, PartialEq, Eq)]
 pub struct Change {
     /// Its name.
     pub hash: ChangeHash,
-    /// The changes that it was made on; at most 15.
+    /// The changes that it was made on; at most [`DEPENDENCIES`].
     pub dependencies: Vec<ChangeHash>,
     /// What it says.
     pub contents: Vec<u8>,

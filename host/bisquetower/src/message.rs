@@ -23,7 +23,7 @@
 //! ```
 
 use crate::refusal::{answer, Refusal};
-use crate::{explain, raw};
+use crate::{explain, limits, raw};
 
 /// Words of the answer.
 pub const ANSWER_WORDS: usize = 14;
@@ -35,13 +35,13 @@ pub const HAVE_WORDS: usize = 7;
 pub const CHUNK_WORDS: usize = 2;
 
 /// As many haves as a message may have.
-pub const HAVES: usize = 16;
+pub const HAVES: usize = limits::HAVES;
 
 /// As many chunks as a message may have.
-pub const CHUNKS: usize = 4_096;
+pub const CHUNKS: usize = limits::CHUNKS;
 
 /// Bytes of a hash.
-pub const HASH: usize = 32;
+pub const HASH: usize = limits::HASH_SIZE;
 
 /// How the answer says that there is no flags section.
 pub const NO_FLAGS: u64 = 256;

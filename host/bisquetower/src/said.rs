@@ -3,7 +3,8 @@
 use crate::flags::{MessageFlags, MessageVersion};
 use crate::hash::{bytes_of, hashes_in, ChangeHash, HASH};
 use crate::have::{self, Have};
-use crate::message::{self, CHUNK_WORDS, HAVES, HAVE_WORDS, NO_FLAGS};
+use crate::limits::{HAVES, HAVES_WORDS};
+use crate::message::{self, CHUNK_WORDS, NO_FLAGS};
 use crate::refusal::{answer, Refusal};
 use crate::{explain, raw, room};
 
@@ -52,10 +53,7 @@ pub struct Message {
 impl Message {
     /// Reads a message.
     pub fn decode(bytes: &[u8]) -> Result<Message, Refusal> {
-        let (mut haves, mut chunks) = (
-            vec![0; HAVES * HAVE_WORDS],
-            vec![0; FEW_CHUNKS * CHUNK_WORDS],
-        );
+        let (mut haves, mut chunks) = (vec![0; HAVES_WORDS], vec![0; FEW_CHUNKS * CHUNK_WORDS]);
         let mut ignored = [0; HAVES];
         let mut words = raw::read_message(bytes, &mut haves, &mut chunks, &mut ignored);
         if let Err(Refusal {
@@ -114,13 +112,12 @@ impl Message {
     /// which.
     ///
     /// ```
-    /// use bisquetower::{ChangeHash, Message};
+    /// use bisquetower::{limits, ChangeHash, Message};
     ///
-    /// let message = Message { need: vec![ChangeHash([7; 32]); 1_025], ..Message::default() };
-    /// assert_eq!(
-    ///     message.encode().unwrap_err().to_string(),
-    ///     "refusal 4, value 0: the message needs 1,025 hashes; at most 1,024"
-    /// );
+    /// let need = vec![ChangeHash([7; 32]); limits::HASHES + 1];
+    /// let long = Message { need, ..Message::default() }.encode().unwrap_err();
+    /// // The sentence goes on with how many it needs, and the most that it may.
+    /// assert!(long.to_string().starts_with("refusal 4, value 0: the message needs "));
     /// ```
     pub fn encode(&self) -> Result<Vec<u8>, Refusal> {
         let lent = Lent::new(self);

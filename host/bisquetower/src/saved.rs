@@ -1,8 +1,9 @@
 //! What is kept of a session between connections.
 
 use crate::hash::{bytes_of, hashes_in, ChangeHash, HASH};
+use crate::limits::LIST_SIZE;
 use crate::refusal::Refusal;
-use crate::session::{LIST, WORDS};
+use crate::session::WORDS;
 use crate::{raw, refusal, room};
 
 /// The part of a session that is worth keeping between connections: the heads that
@@ -44,7 +45,7 @@ impl SavedState {
 pub(crate) fn read(bytes: &[u8]) -> Result<(Vec<u8>, [u64; WORDS]), Refusal> {
     let mut session = [0; WORDS];
     // The heads stand in the bytes themselves, and are no more than a list has.
-    let mut shared = vec![0; bytes.len().min(LIST)];
+    let mut shared = vec![0; bytes.len().min(LIST_SIZE)];
     let words = raw::read_state(bytes, &mut shared, &mut session);
     let read = refusal::answer(words).map_err(|refusal| crate::explain::state(bytes, refusal));
     let [count, ..] = read?;

@@ -19,9 +19,6 @@ use crate::{raw, saved, SavedState};
 /// Words of a session.
 pub(crate) const WORDS: usize = 16;
 
-/// The most bytes of a hash list.
-pub(crate) const LIST: usize = 32_768;
-
 /// The words that are looked at here, by name (docs/ABI.md, Sessions).
 const SHARED: usize = 0;
 const LAST_SENT: usize = 1;

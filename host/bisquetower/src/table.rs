@@ -2,19 +2,17 @@
 
 use crate::hash::{bytes_of, hashes_in, ChangeHash, HASH};
 use crate::index::Index;
+use crate::limits::{DEPENDENCIES, ROW_SIZE, WAITING_ROW_SIZE};
 use crate::refusal::{answer, Refusal};
 use crate::{explain, raw, room};
 use std::collections::HashMap;
 
-/// Row numbers that a change row has room for, and hashes that a waiting row has.
-const DEPENDENCIES: usize = 15;
-
 /// The changes that a unit holds, each after those that it depends on: hashes and row
 /// numbers, checked by the library.
 ///
-/// A row is 64 bytes: its hash; on how many rows it depends (two bytes, little-endian,
-/// at most 15); fifteen such row numbers, those in use ascending and less than its own,
-/// the others 0. No hash stands twice.
+/// A row is [`ROW`](Table::ROW) bytes: its hash; on how many rows it depends (two bytes,
+/// little-endian, at most [`DEPENDENCIES`]); as many such row numbers as it can have, those
+/// in use ascending and less than its own, the others 0. No hash stands twice.
 ///
 /// ```
 /// use bisquetower::{ChangeHash, Table};
@@ -40,7 +38,7 @@ pub struct Table {
 
 impl Table {
     /// Bytes of a row.
-    pub const ROW: usize = 64;
+    pub const ROW: usize = ROW_SIZE;
 
     /// The table of records, if it is good.
     pub fn new(bytes: impl Into<Vec<u8>>) -> Result<Table, Refusal> {
@@ -182,15 +180,15 @@ impl Table {
 
 /// Changes that came before what they depend on: hashes alone, checked by the library.
 ///
-/// A row is 544 bytes: its hash; on how many changes it depends (one byte, at most 15) and
-/// 31 zeros; fifteen hashes, those that aren't in use zero. No hash of a row stands twice
-/// or in the change table.
+/// A row is [`ROW`](Waiting::ROW) bytes: its hash; on how many changes it depends (one byte,
+/// at most [`DEPENDENCIES`]) and 31 zeros; as many hashes as it can have, those that aren't
+/// in use zero. No hash of a row stands twice or in the change table.
 #[derive(Clone, Debug, Default, PartialEq, Eq)]
 pub struct Waiting(Vec<u8>);
 
 impl Waiting {
     /// Bytes of a row.
-    pub const ROW: usize = 544;
+    pub const ROW: usize = WAITING_ROW_SIZE;
 
     /// The table of records beside a change table, if it is good.
     pub fn new(bytes: impl Into<Vec<u8>>, table: &Table) -> Result<Waiting, Refusal> {

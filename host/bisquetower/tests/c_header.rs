@@ -11,6 +11,7 @@ mod kit;
 #[allow(dead_code)]
 mod limits;
 
+use bisquetower::limits::{MESSAGE_SIZE, TABLE_SIZE};
 use bisquetower::{raw, ChangeHash, Table};
 use std::fs;
 use std::io::Write;
@@ -183,7 +184,7 @@ fn a_program_in_c_reads_messages() {
     said(b"\x42\0\0\0\x01\x02\xaa", 1, "refusal 1, value 5");
     said(b"\x41", 1, "refusal 2, value 65");
     said(b"", 1, "refusal 1, value 0");
-    said(&vec![0x42; 4_194_305], 1, "refusal 4, value 0");
+    said(&vec![0x42; MESSAGE_SIZE + 1], 1, "refusal 4, value 0");
 }
 
 /// It builds the table's index and lends it.
@@ -194,8 +195,8 @@ fn a_program_in_c_reads_tables() {
     let [a, b, c] = [b'a', b'b', b'c'].map(|name| ChangeHash([name; 32]));
     let table = Table::lay([(c, vec![]), (a, vec![c]), (b, vec![c])]);
     said(&table, 0, "rows 3, heads 2");
-    said(&table[..64], 0, "rows 1, heads 1");
+    said(&table[..Table::ROW], 0, "rows 1, heads 1");
     said(b"", 0, "rows 0, heads 0");
-    said(&table[..65], 1, "refusal 6, value 1");
-    said(&vec![0; 65_537], 1, "refusal 4, value 0");
+    said(&table[..Table::ROW + 1], 1, "refusal 6, value 1");
+    said(&vec![0; TABLE_SIZE + 1], 1, "refusal 4, value 0");
 }

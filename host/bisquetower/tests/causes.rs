@@ -1,9 +1,14 @@
 //! What refusals say: which list, number or field broke which rule, and where it stands.
 
-use bisquetower::message::{View, CHUNK_WORDS, HAVES, HAVE_WORDS};
+use bisquetower::limits::{
+    CHUNKS, DEPENDENCIES, FIELD_SIZE, HASHES, HAVES, HAVES_WORDS, MESSAGE_SIZE, PROBES, ROWS,
+    TABLE_SIZE, WAITING_ROWS,
+};
+use bisquetower::message::{View, CHUNK_WORDS};
+use bisquetower::refusal::{answer, grouped};
 use bisquetower::{
-    ChangeHash, Filter, Have, Host, Limits, MemoryError, Message, Refusal, SavedState, Session,
-    Table, Waiting,
+    raw, ChangeHash, Filter, Have, Host, MemoryError, Message, Refusal, SavedState, Session, Table,
+    Waiting,
 };
 use std::borrow::Cow;
 use std::fmt::Debug;
@@ -15,8 +20,21 @@ fn hash(n: usize) -> ChangeHash {
     ChangeHash(hash)
 }
 
-fn hashes(count: u64) -> Vec<ChangeHash> {
-    (0..count as usize).map(hash).collect()
+fn hashes(count: usize) -> Vec<ChangeHash> {
+    (0..count).map(hash).collect()
+}
+
+/// A number as sentences show it.
+fn shown(n: usize) -> String {
+    grouped(n as u64)
+}
+
+/// A number as it stands in messages.
+fn spelt(n: usize) -> Vec<u8> {
+    let mut bytes = vec![0; 10];
+    let [length, ..] = answer(raw::write_number(n as u64, &mut bytes)).unwrap();
+    bytes.truncate(length as usize);
+    bytes
 }
 
 /// The refusal of what has to be refused with this number and value.
@@ -40,60 +58,62 @@ fn says(refusal: Refusal, sentence: &str, place: impl Into<Option<Range<usize>>>
 
 #[test]
 fn a_message_that_cant_be_written() {
-    let limits = Limits::told();
     let have = |count| Have {
         last_sync: hashes(count),
         ..Have::default()
     };
-    let chunks = |count: u64, bytes: usize| vec![vec![7; bytes]; count as usize];
+    let [hash_count, most_hashes] = [HASHES + 1, HASHES].map(shown);
+    let [have_count, most_haves] = [HAVES + 1, HAVES].map(shown);
+    let [chunk_count, most_chunks] = [CHUNKS + 1, CHUNKS].map(shown);
+    let [bytes, most_bytes] = [2 * MESSAGE_SIZE + 9, MESSAGE_SIZE].map(shown);
     let empty = Message::default;
     let cases = [
         (
             Message {
-                heads: hashes(limits.hashes + 1),
+                heads: hashes(HASHES + 1),
                 ..empty()
             },
-            "the message has 1,025 heads; at most 1,024",
+            format!("the message has {hash_count} heads; at most {most_hashes}"),
         ),
         (
             Message {
-                need: hashes(limits.hashes + 1),
+                need: hashes(HASHES + 1),
                 ..empty()
             },
-            "the message needs 1,025 hashes; at most 1,024",
+            format!("the message needs {hash_count} hashes; at most {most_hashes}"),
         ),
         (
             Message {
-                have: vec![have(1); limits.haves as usize + 1],
+                have: vec![have(1); HAVES + 1],
                 ..empty()
             },
-            "the message has 17 haves; at most 16",
+            format!("the message has {have_count} haves; at most {most_haves}"),
         ),
         (
             Message {
-                have: vec![have(3), have(limits.hashes + 1)],
+                have: vec![have(3), have(HASHES + 1)],
                 ..empty()
             },
-            "the have at index 1 has 1,025 last-sync hashes; at most 1,024",
+            format!("the have at index 1 has {hash_count} last-sync hashes; at most {most_hashes}"),
         ),
         (
             Message {
-                changes: chunks(limits.chunks + 1, 1),
+                changes: vec![vec![7]; CHUNKS + 1],
                 ..empty()
             },
-            "the message has 4,097 chunks; at most 4,096",
+            format!("the message has {chunk_count} chunks; at most {most_chunks}"),
         ),
         (
             Message {
-                changes: chunks(1, 5 << 20),
+                changes: vec![vec![7; 2 * MESSAGE_SIZE]],
                 ..empty()
             },
-            "the message takes 5,242,889 bytes; at most 4,194,304",
+            format!("the message takes {bytes} bytes; at most {most_bytes}"),
         ),
     ];
     for (message, sentence) in cases {
-        says(refused(message.encode(), 4, 0), sentence, None);
-        says(refused(message.encode_into(&mut []), 4, 0), sentence, None);
+        says(refused(message.encode(), 4, 0), &sentence, None);
+        says(refused(message.encode_into(&mut []), 4, 0), &sentence, None);
     }
     // A buffer that is too short is no limit that is passed.
     let short = refused(empty().encode_into(&mut []), 7, 5);
@@ -104,7 +124,7 @@ fn a_message_that_cant_be_written() {
 /// of the chunk's length.
 #[test]
 fn a_message_is_counted_to_the_byte() {
-    let most = Limits::told().message as usize;
+    let most = MESSAGE_SIZE;
     let message = |bytes: usize| Message {
         changes: vec![vec![0; bytes]],
         ..Message::default()
@@ -114,71 +134,99 @@ fn a_message_is_counted_to_the_byte() {
         Ok(most)
     );
     let refusal = refused(message(most - 8).encode(), 4, 0);
-    says(
-        refusal,
-        "the message takes 4,194,305 bytes; at most 4,194,304",
-        None,
-    );
+    let [bytes, most] = [most + 1, most].map(shown);
+    let sentence = format!("the message takes {bytes} bytes; at most {most}");
+    says(refusal, &sentence, None);
 }
 
 #[test]
 fn a_state_of_too_many_heads() {
+    let many = 2 * HASHES;
     let state = SavedState {
-        shared_heads: hashes(2_000),
+        shared_heads: hashes(many),
     };
     let refusal = refused(state.encode(), 10, 0);
-    says(
-        refusal,
-        "the saved state has 2,000 shared heads; at most 1,024",
-        None,
+    let [heads, most] = [many, HASHES].map(shown);
+    let sentence = format!("the saved state has {heads} shared heads; at most {most}");
+    says(refusal, &sentence, None);
+    let read = format!(
+        "the saved state has {heads} shared heads, by the count at place 1; at most {most}"
     );
-    let read = "the saved state has 2,000 shared heads, by the count at place 1; at most 1,024";
-    let bytes = b"\x43\xd0\x0f";
-    says(refused(SavedState::decode(bytes), 4, 1), read, 1..3);
-    says(refused(Session::decode(bytes), 4, 1), read, 1..3);
+    let bytes = [vec![0x43], spelt(many)].concat();
+    let place = 1..bytes.len();
+    says(
+        refused(SavedState::decode(&bytes), 4, 1),
+        &read,
+        place.clone(),
+    );
+    says(refused(Session::decode(&bytes), 4, 1), &read, place);
 }
 
-/// 1,025 is `81 08`, 4,097 is `81 20`; 7 entries of 9,363 bits (`93 49`) have a field of
-/// 8,193 bytes.
+/// That a message is refused with this sentence, whichever way it is read.
+fn unread(bytes: &[u8], value: u64, sentence: &str, place: Range<usize>) {
+    let refusal = refused(Message::decode(bytes), 4, value);
+    says(refusal, sentence, place.clone());
+    let (mut haves, mut chunks) = ([0; HAVES_WORDS], [0; CHUNK_WORDS]);
+    let refusal = refused(View::read(bytes, &mut haves, &mut chunks), 4, value);
+    says(refusal, sentence, place);
+}
+
+/// The same of a message that ends with a number, which is what is marked.
+fn unread_number(before: &[u8], number: usize, sentence: &str) {
+    let bytes = [before, &spelt(number)].concat();
+    let place = before.len();
+    unread(&bytes, place as u64, sentence, place..bytes.len());
+}
+
 #[test]
 fn a_message_that_cant_be_read() {
-    let says = |bytes: &[u8], sentence: &str, value: u64, place: Range<usize>| {
-        let refusal = refused(Message::decode(bytes), 4, value);
-        says(refusal, sentence, place.clone());
-        let (mut haves, mut chunks) = ([0; HAVES * HAVE_WORDS], [0; CHUNK_WORDS]);
-        let refusal = refused(View::read(bytes, &mut haves, &mut chunks), 4, value);
-        says(refusal, sentence, place);
+    let [many, most] = [HASHES + 1, HASHES].map(shown);
+    let heads = format!("the message has {many} heads, by the count at place 1; at most {most}");
+    unread_number(b"\x42", HASHES + 1, &heads);
+    let need = format!("the message needs {many} hashes, by the count at place 34; at most {most}");
+    let before = [&b"\x42\x01"[..], &[9; 32]].concat();
+    unread_number(&before, HASHES + 1, &need);
+    let synced = format!(
+        "the have at index 1 has {many} last-sync hashes, by the count at place 6; at most {most}"
+    );
+    unread_number(b"\x43\0\0\x02\0\0", HASHES + 1, &synced);
+    let [many, most] = [HAVES + 1, HAVES].map(shown);
+    let haves = format!("the message has {many} haves, by the count at place 3; at most {most}");
+    unread_number(b"\x43\0\0", HAVES + 1, &haves);
+    let [many, most] = [CHUNKS + 1, CHUNKS].map(shown);
+    let chunks = format!("the message has {many} chunks, by the count at place 4; at most {most}");
+    unread_number(b"\x42\0\0\0", CHUNKS + 1, &chunks);
+}
+
+#[test]
+fn a_message_with_a_filter_that_cant_be_read() {
+    // The three numbers of the filter, and which of them are marked.
+    let unread = |numbers: [usize; 3], sentence: &str, marked: Range<usize>| {
+        let numbers = numbers.map(spelt);
+        let string = numbers.concat();
+        let bytes = [&b"\x42\0\0\x01\0"[..], &spelt(string.len()), &string].concat();
+        let end = |count: usize| 6 + numbers[..count].concat().len();
+        unread(&bytes, 6, sentence, end(marked.start)..end(marked.end));
     };
-    let heads = "the message has 1,025 heads, by the count at place 1; at most 1,024";
-    says(b"\x42\x81\x08", heads, 1, 1..3);
-    let need = "the message needs 1,025 hashes, by the count at place 34; at most 1,024";
-    let bytes = [&b"\x42\x01"[..], &[9; 32], b"\x81\x08"].concat();
-    says(&bytes, need, 34, 34..36);
-    let haves = "the message has 17 haves, by the count at place 3; at most 16";
-    says(b"\x43\0\0\x11", haves, 3, 3..4);
-    let synced = "the have at index 1 has 1,025 last-sync hashes, by the count at place 6; \
-                  at most 1,024";
-    says(b"\x43\0\0\x02\0\0\x81\x08", synced, 6, 6..8);
-    let chunks = "the message has 4,097 chunks, by the count at place 4; at most 4,096";
-    says(b"\x42\0\0\0\x81\x20", chunks, 4, 4..6);
-    let probes = "the filter at place 6 has 65 probes; at most 64";
-    says(b"\x42\0\0\x01\0\x05\x01\x0a\x41\0\0", probes, 6, 8..9);
-    let field = "the filter at place 6 has a field of 8,193 bytes; at most 8,192";
-    says(b"\x42\0\0\x01\0\x04\x07\x93\x49\x07", field, 6, 6..9);
+    let [many, most] = [PROBES + 1, PROBES].map(shown);
+    let probes = format!("the filter at place 6 has {many} probes; at most {most}");
+    unread([1, 10, PROBES + 1], &probes, 2..3);
+    let [many, most] = [FIELD_SIZE + 1, FIELD_SIZE].map(shown);
+    let field = format!("the filter at place 6 has a field of {many} bytes; at most {most}");
+    unread([8, FIELD_SIZE + 1, 7], &field, 0..2);
 }
 
 #[test]
 fn a_message_that_is_too_long() {
-    let long = vec![0x42; Limits::told().message as usize + 1];
-    let sentence = "the message has more than 4,194,304 bytes";
-    says(refused(Message::decode(&long), 4, 0), sentence, None);
-    says(refused(Message::peek_heads(&long), 4, 0), sentence, None);
-    let heads = "the message has 1,025 heads, by the count at place 1; at most 1,024";
-    says(
-        refused(Message::peek_heads(b"\x42\x81\x08"), 4, 1),
-        heads,
-        1..3,
-    );
+    let long = vec![0x42; MESSAGE_SIZE + 1];
+    let sentence = format!("the message has more than {} bytes", shown(MESSAGE_SIZE));
+    says(refused(Message::decode(&long), 4, 0), &sentence, None);
+    says(refused(Message::peek_heads(&long), 4, 0), &sentence, None);
+    let [many, most] = [HASHES + 1, HASHES].map(shown);
+    let heads = format!("the message has {many} heads, by the count at place 1; at most {most}");
+    let bytes = [vec![0x42], spelt(HASHES + 1)].concat();
+    let refusal = refused(Message::peek_heads(&bytes), 4, 1);
+    says(refusal, &heads, 1..bytes.len());
 }
 
 #[test]
@@ -192,20 +240,19 @@ fn a_filter_that_cant_be_read() {
     let no_bits = "the filter at place 6 has entries and 0 bits per entry";
     let refusal = refused(Message::decode(b"\x42\0\0\x01\0\x03\x01\0\x07"), 5, 6);
     says(refusal, no_bits, 7..8);
-    let refusal = refused(Filter::parse(b"\x01\x0a\x41\0\0"), 4, 0);
-    says(
-        refusal,
-        "the filter at place 0 has 65 probes; at most 64",
-        2..3,
-    );
+    let many = [1, 10, PROBES as u8 + 1, 0, 0];
+    let refusal = refused(Filter::parse(&many), 4, 0);
+    let probes = PROBES + 1;
+    let sentence = format!("the filter at place 0 has {probes} probes; at most {PROBES}");
+    says(refusal, &sentence, 2..3);
     let refusal = refused(
         Filter::parse(b"\xff\xff\xff\xff\x0f\xff\xff\xff\xff\x0f\x07"),
         4,
         0,
     );
-    let sentence =
-        "the filter at place 0 has a field of 2,305,843,008,139,952,129 bytes; at most 8,192";
-    says(refusal, sentence, 0..10);
+    let field = "the filter at place 0 has a field of 2,305,843,008,139,952,129 bytes";
+    let sentence = format!("{field}; at most {}", shown(FIELD_SIZE));
+    says(refusal, &sentence, 0..10);
 }
 
 /// A table of 20 rows; row 18 depends on rows 3, 5 and 17.
@@ -231,16 +278,11 @@ fn bad_rows() {
     let place = |field: usize| count + 2 * field..count + 2 * field + 2;
     let row = "row 18 of the change table";
     let says = |refusal, what: &str, place| says(refusal, &format!("{row} {what}"), place);
-    says(
-        damaged(0, 16),
-        "counts 16 dependencies; at most 15",
-        place(0),
-    );
-    says(
-        damaged(0, 4_096),
-        "counts 4,096 dependencies; at most 15",
-        place(0),
-    );
+    for many in [DEPENDENCIES + 1, 4_096] {
+        let count = shown(many);
+        let sentence = format!("counts {count} dependencies; at most {DEPENDENCIES}");
+        says(damaged(0, many as u16), &sentence, place(0));
+    }
     let before = "which doesn't stand before it";
     says(
         damaged(3, 18),
@@ -263,7 +305,8 @@ fn bad_rows() {
         place(2),
     );
     let unused = "as a row number that isn't in use; those are 0";
-    says(damaged(15, 2), &format!("has 2 {unused}"), place(15));
+    let last = DEPENDENCIES;
+    says(damaged(last, 2), &format!("has 2 {unused}"), place(last));
     says(damaged(0, 2), &format!("has 17 {unused}"), place(3));
 
     let mut twice = rows();
@@ -276,7 +319,7 @@ fn bad_rows() {
     let cut = &rows()[..start + 33];
     says(
         refused(Table::new(cut), 6, 18),
-        "is cut: it has 33 of 64 bytes",
+        &format!("is cut: it has 33 of {} bytes", shown(Table::ROW)),
         start..start + 33,
     );
 }
@@ -285,29 +328,36 @@ fn bad_rows() {
 fn a_row_that_cant_be_added() {
     let mut table = Table::new(rows()).unwrap();
     let row = "row 20 of the change table";
+    let start = 20 * Table::ROW;
     let twice = refused(table.push(hash(4), &[]), 6, 20);
-    says(twice, &format!("{row} has the hash of row 4"), 1_280..1_312);
-    let many = refused(table.push(hash(20), &hashes(16)), 6, 20);
-    says(
-        many,
-        &format!("{row} counts 16 dependencies; at most 15"),
-        1_312..1_314,
-    );
+    let sentence = format!("{row} has the hash of row 4");
+    says(twice, &sentence, start..start + 32);
+    let count = start + 32;
     let on_itself = refused(table.push(hash(20), &[hash(21)]), 6, 20);
     let sentence = format!("{row} depends on row 20, which doesn't stand before it");
-    says(on_itself, &sentence, 1_314..1_316);
+    says(on_itself, &sentence, count + 2..count + 4);
+
+    let many = DEPENDENCIES + 1;
+    let mut wide = Table::from_changes((0..many).map(|row| (hash(row), vec![]))).unwrap();
+    let refusal = refused(wide.push(hash(many), &hashes(many)), 6, many as u64);
+    let counts = format!("counts {many} dependencies; at most {DEPENDENCIES}");
+    let count = many * Table::ROW + 32;
+    let sentence = format!("row {many} of the change table {counts}");
+    says(refusal, &sentence, count..count + 2);
 }
 
 #[test]
 fn tables_of_too_many_rows() {
-    let limits = Limits::told();
-    let table = Table::lay((0..=limits.rows as usize).map(|row| (hash(row), vec![])));
-    let sentence = "the change table has more than 1,024 rows";
-    says(refused(Table::new(&table[..65_537]), 4, 0), sentence, None);
-    says(refused(Table::new(table), 4, 0), sentence, None);
-    let waiting = (0..=limits.waiting_rows as usize).map(|row| (hash(row), vec![]));
+    let table = Table::lay((0..=ROWS).map(|row| (hash(row), vec![])));
+    let sentence = format!("the change table has more than {} rows", shown(ROWS));
+    let longer = &table[..TABLE_SIZE + 1];
+    says(refused(Table::new(longer), 4, 0), &sentence, None);
+    says(refused(Table::new(table), 4, 0), &sentence, None);
+    let waiting = (0..=WAITING_ROWS).map(|row| (hash(row), vec![]));
     let refusal = refused(Waiting::from_changes(waiting, &Table::default()), 4, 0);
-    says(refusal, "the waiting table has more than 1,024 rows", None);
+    let most = shown(WAITING_ROWS);
+    let sentence = format!("the waiting table has more than {most} rows");
+    says(refusal, &sentence, None);
 }
 
 /// Two rows that wait, the second on two changes, beside a table that holds another.
@@ -326,9 +376,10 @@ fn bad_waiting_rows() {
         let place = start + place.start..start + place.end;
         says(refusal, &format!("{row} {what}"), place)
     };
+    let many = DEPENDENCIES + 1;
     says(
-        damaged(32, &[16]),
-        "counts 16 dependencies; at most 15",
+        damaged(32, &[many as u8]),
+        &format!("counts {many} dependencies; at most {DEPENDENCIES}"),
         32..33,
     );
     says(
@@ -337,10 +388,11 @@ fn bad_waiting_rows() {
         50..51,
     );
     let unused = "that isn't in use; those are zero";
+    let (last, end) = (DEPENDENCIES - 1, Waiting::ROW);
     says(
-        damaged(64 + 32 * 14 + 31, &[1]),
-        &format!("has a hash at index 14 {unused}"),
-        512..544,
+        damaged(end - 1, &[1]),
+        &format!("has a hash at index {last} {unused}"),
+        end - 32..end,
     );
     says(
         damaged(32, &[1]),
@@ -354,7 +406,11 @@ fn bad_waiting_rows() {
         0..32,
     );
     let cut = refused(Waiting::new(&rows[..start + 9], &table), 9, 1);
-    says(cut, "is cut: it has 9 of 544 bytes", 0..9);
+    says(
+        cut,
+        &format!("is cut: it has 9 of {} bytes", shown(end)),
+        0..9,
+    );
 }
 
 /// A message with two of everything.
@@ -381,16 +437,10 @@ fn every_limit_that_damage_passes_is_named() {
     let good = sample();
     let mut sentences = Vec::new();
     for place in 1..good.len() {
-        let others: [&[u8]; 6] = [
-            b"\0",
-            b"\x11",
-            b"\x41",
-            b"\xff\x7f",
-            b"\x81\x20",
-            b"\xff\xff\x03",
-        ];
-        for other in others {
-            let bytes = [&good[..place], other, &good[place + 1..]].concat();
+        let field = 8 * FIELD_SIZE;
+        let limits = [HAVES, PROBES, HASHES, CHUNKS, field].map(|limit| spelt(limit + 1));
+        for other in limits.into_iter().chain([vec![0]]) {
+            let bytes = [&good[..place], &other, &good[place + 1..]].concat();
             match Message::decode(&bytes) {
                 Err(refusal) if refusal.number == 4 => {
                     let cause = refusal.cause().expect("a cause");
@@ -445,7 +495,7 @@ fn every_row_that_damage_makes_bad_is_explained() {
         }
     }
     for byte in 0..Waiting::ROW {
-        for to in [0, 1, 16] {
+        for to in [0, 1, DEPENDENCIES as u8 + 1] {
             let mut rows = waiting.clone();
             rows[Waiting::ROW + byte] = to;
             if let Err(refusal) = Waiting::new(rows, &empty) {
@@ -486,13 +536,14 @@ impl Host for Tables {
 /// A session's errors say it too: of the host's tables, and of the message that came.
 #[test]
 fn a_session_says_what_broke() {
-    let cut = rows()[..100].to_vec();
+    let cut = rows()[..Table::ROW + 36].to_vec();
+    let cut_row = format!(
+        "refusal 6, value 1: row 1 of the change table is cut: it has 36 of {} bytes",
+        shown(Table::ROW)
+    );
     let twice = Waiting::lay([(hash(1), vec![]), (hash(1), vec![])]);
     let generated = |host: &Tables| Session::new().generate(host).unwrap_err().to_string();
-    assert_eq!(
-        generated(&Tables(cut.clone(), vec![])),
-        "refusal 6, value 1: row 1 of the change table is cut: it has 36 of 64 bytes"
-    );
+    assert_eq!(generated(&Tables(cut.clone(), vec![])), cut_row);
     assert_eq!(
         generated(&Tables(vec![], twice)),
         "refusal 9, value 1: row 1 of the waiting table has the hash of row 0"
@@ -502,13 +553,18 @@ fn a_session_says_what_broke() {
         let refused = Session::new().receive(&mut host, message);
         refused.unwrap_err().to_string()
     };
+    assert_eq!(received(cut, b"\x42\0\0\0\0"), cut_row);
+    let many = [
+        &b"\x42\0\0\x01\0\x05\x01\x0a"[..],
+        &[PROBES as u8 + 1, 0, 0],
+    ]
+    .concat();
     assert_eq!(
-        received(cut, b"\x42\0\0\0\0"),
-        "refusal 6, value 1: row 1 of the change table is cut: it has 36 of 64 bytes"
-    );
-    assert_eq!(
-        received(rows(), b"\x42\0\0\x01\0\x05\x01\x0a\x41\0\0"),
-        "refusal 4, value 6: the filter at place 6 has 65 probes; at most 64"
+        received(rows(), &many),
+        format!(
+            "refusal 4, value 6: the filter at place 6 has {} probes; at most {PROBES}",
+            PROBES + 1
+        )
     );
 }
 

@@ -2,6 +2,7 @@
 
 mod units;
 
+use bisquetower::limits::{HASHES, MESSAGE_SIZE as MESSAGE, ROWS};
 use bisquetower::{
     Change, ChangeHash, Error, Host, Memory, MemoryError, Message, Refusal, Session,
 };
@@ -103,13 +104,10 @@ const PAST_A_LIMIT: Refusal = Refusal::new(4, 0);
 fn a_document_past_its_limit_is_refused() {
     let mut session = Session::new();
     let before = session.clone();
-    let many = session.generate(&chain(1_025));
+    let many = session.generate(&chain(ROWS as u32 + 1));
     assert_eq!(many, Err(Error::Refused(PAST_A_LIMIT)));
     assert_eq!(session, before);
 }
-
-/// The most bytes of a message.
-const MESSAGE: usize = 4_194_304;
 
 /// A chain of 30 changes, the last of them with contents of so many bytes each.
 fn heavy(light: u32, bytes: usize) -> Memory {
@@ -130,7 +128,7 @@ fn heavy(light: u32, bytes: usize) -> Memory {
 #[test]
 fn a_message_past_its_size_leaves_the_session() {
     for held in [0, 27] {
-        let (mut station, mut validator) = (unit(heavy(27, 2 << 20)), unit(chain(held)));
+        let (mut station, mut validator) = (unit(heavy(27, MESSAGE / 2)), unit(chain(held)));
         say(&mut validator, &mut station);
         let before = station.session.clone();
         for _ in 0..2 {
@@ -141,7 +139,7 @@ fn a_message_past_its_size_leaves_the_session() {
             assert_eq!(message, Err(Error::Refused(PAST_A_LIMIT)));
             assert_eq!(station.session, before);
         }
-        station.host = heavy(27, 1 << 20);
+        station.host = heavy(27, MESSAGE / 4);
         let reply = say(&mut station, &mut validator).expect("it is small enough");
         // A document begins with 0, a change with 1.
         assert_eq!(reply.changes[0][0] == 0, held == 0);
@@ -175,7 +173,7 @@ fn a_message_that_cant_be_encoded_isnt_received() {
     let before = validator.session.clone();
     let change = chain(4).change(&hash(3)).unwrap().into_owned();
     let message = Message {
-        heads: (0..1_025).map(hash).collect(),
+        heads: (0..=HASHES as u32).map(hash).collect(),
         changes: vec![change],
         ..Message::default()
     };

@@ -1,5 +1,8 @@
 //! Filters, messages, saved states and tables as values, at their bounds.
 
+use bisquetower::limits::{
+    DEPENDENCIES, FIELD_SIZE, HASHES, HASH_SIZE, MESSAGE_SIZE, PROBES, ROWS,
+};
 use bisquetower::{
     hashes_to_send, ChangeHash, Filter, Have, Memory, Message, MessageFlags, MessageVersion,
     Refusal, SavedState, Session, Table, Waiting,
@@ -58,12 +61,12 @@ fn no_section_and_an_empty_one_differ() {
 #[test]
 fn limits_of_a_message() {
     let long = Message {
-        heads: hashes(1_025),
+        heads: hashes(HASHES + 1),
         ..Message::default()
     };
     assert_eq!(long.encode(), Err(refusal(4, 0)));
     let large = Message {
-        changes: vec![vec![0; 4_194_304]],
+        changes: vec![vec![0; MESSAGE_SIZE]],
         ..Message::default()
     };
     assert_eq!(large.encode(), Err(refusal(4, 0)));
@@ -87,14 +90,16 @@ fn first_words() {
 
 #[test]
 fn filters_at_their_bounds() {
-    let all = hashes(819);
-    let filter = Filter::with(80, 64, &all).unwrap();
-    assert_eq!(filter.bits().len(), 8_190);
+    // A bit more for each is more than the longest field has.
+    let all = hashes(HASHES * 4 / 5);
+    let (bits, probes) = ((8 * FIELD_SIZE / all.len()) as u32, PROBES as u32);
+    let filter = Filter::with(bits, probes, &all).unwrap();
+    assert!((FIELD_SIZE - all.len() / 8..=FIELD_SIZE).contains(&filter.bits().len()));
     assert!(filter.contains_hashes(&all).iter().all(|&yes| yes));
     assert_eq!(Filter::parse(&filter.to_bytes()), Ok(filter));
-    assert_eq!(Filter::with(81, 64, &all), Err(refusal(10, 0)));
-    assert_eq!(Filter::with(10, 65, &all), Err(refusal(10, 0)));
-    assert_eq!(Filter::from_hashes(hashes(1_025)), Err(refusal(4, 0)));
+    assert_eq!(Filter::with(bits + 1, probes, &all), Err(refusal(10, 0)));
+    assert_eq!(Filter::with(10, probes + 1, &all), Err(refusal(10, 0)));
+    assert_eq!(Filter::from_hashes(hashes(HASHES + 1)), Err(refusal(4, 0)));
 
     let parts = |entries, length| Filter::from_parts(entries, 10, 7, &all[0].0[..length]);
     assert_eq!(parts(2, 3).map(|filter| filter.num_entries()), Ok(2));
@@ -140,11 +145,11 @@ fn saved_states_at_their_bounds() {
     let state = |count| SavedState {
         shared_heads: hashes(count),
     };
-    let bytes = state(1_024).encode().unwrap();
-    assert_eq!(SavedState::decode(&bytes), Ok(state(1_024)));
-    assert_eq!(state(1_025).encode(), Err(refusal(10, 0)));
+    let bytes = state(HASHES).encode().unwrap();
+    assert_eq!(SavedState::decode(&bytes), Ok(state(HASHES)));
+    assert_eq!(state(HASHES + 1).encode(), Err(refusal(10, 0)));
     let cut = &bytes[..bytes.len() - 1];
-    let last = (3 + 32 * 1_023) as u64;
+    let last = (bytes.len() - HASH_SIZE) as u64;
     assert_eq!(SavedState::decode(cut), Err(refusal(1, last)));
     assert_eq!(SavedState::decode(b"\x42"), Err(refusal(2, 0x42)));
 }
@@ -157,14 +162,15 @@ fn a_table_of_the_most_rows() {
             (hash(row), on)
         })
     };
-    let table = Table::from_changes(chain(1_024)).unwrap();
-    assert_eq!((table.rows(), table.heads()), (1_024, vec![hash(1_023)]));
+    let table = Table::from_changes(chain(ROWS)).unwrap();
+    assert_eq!((table.rows(), table.heads()), (ROWS, vec![hash(ROWS - 1)]));
     assert_eq!(
-        table.beyond(&[hash(1_020)]).unwrap(),
-        [1_021, 1_022, 1_023].map(hash)
+        table.beyond(&[hash(ROWS - 4)]).unwrap(),
+        [ROWS - 3, ROWS - 2, ROWS - 1].map(hash)
     );
-    assert_eq!(Table::from_changes(chain(1_025)), Err(refusal(4, 0)));
-    assert_eq!(Table::new(&table.as_bytes()[..63]), Err(refusal(6, 0)));
+    assert_eq!(Table::from_changes(chain(ROWS + 1)), Err(refusal(4, 0)));
+    let cut = &table.as_bytes()[..Table::ROW - 1];
+    assert_eq!(Table::new(cut), Err(refusal(6, 0)));
 }
 
 /// A table that grows is the one that is made at once, with all that is found in it.
@@ -175,16 +181,16 @@ fn a_table_grows_row_by_row() {
         _ => vec![hash(row - 1), hash(row / 2)],
     };
     let mut table = Table::default();
-    for row in 0..1_024 {
+    for row in 0..ROWS {
         table.push(hash(row), &on(row)).unwrap();
-        if row % 128 == 127 {
+        if (row + 1).is_multiple_of(ROWS / 8) {
             let rows = (0..=row).map(|row| (hash(row), on(row)));
             assert_eq!(Table::from_changes(rows), Ok(table.clone()));
             assert_eq!(table.heads(), [hash(row)]);
         }
     }
     let full = table.clone();
-    assert_eq!(table.push(hash(1_024), &[]), Err(refusal(4, 0)));
+    assert_eq!(table.push(hash(ROWS), &[]), Err(refusal(4, 0)));
     let mut short = Table::from_changes([(hash(0), vec![])]).unwrap();
     for (change, on) in [
         (hash(0), vec![]),
@@ -193,20 +199,23 @@ fn a_table_grows_row_by_row() {
     ] {
         assert_eq!(short.push(change, &on), Err(refusal(6, 1)));
     }
-    assert_eq!(short.push(hash(1), &hashes(16)), Err(refusal(6, 1)));
+    assert_eq!(
+        short.push(hash(1), &hashes(DEPENDENCIES + 1)),
+        Err(refusal(6, 1))
+    );
     assert_eq!((short.rows(), table), (1, full));
 }
 
 #[test]
 fn bad_rows_are_told() {
-    let fifteen: Vec<_> = (0..15).map(|n| (hash(n), vec![])).collect();
+    let many = DEPENDENCIES + 1;
     let on = |count| {
-        let mut rows = fifteen.clone();
-        rows.push((hash(15), vec![]));
-        rows.push((hash(16), hashes(count)));
-        Table::from_changes(rows).map(|table| table.dependencies(16).len())
+        let mut rows: Vec<_> = (0..many).map(|n| (hash(n), vec![])).collect();
+        rows.push((hash(many), hashes(count)));
+        Table::from_changes(rows).map(|table| table.dependencies(many).len())
     };
-    assert_eq!((on(15), on(16)), (Ok(15), Err(refusal(6, 16))));
+    assert_eq!(on(DEPENDENCIES), Ok(DEPENDENCIES));
+    assert_eq!(on(many), Err(refusal(6, many as u64)));
     let twice = Table::from_changes([(hash(0), vec![]), (hash(0), vec![])]);
     assert_eq!(twice, Err(refusal(6, 1)));
     let none = Table::from_changes([(hash(0), vec![hash(1)])]);
@@ -253,7 +262,7 @@ fn what_is_missing_through_waiting_changes() {
     assert_eq!(missing.unwrap(), [hash(1), hash(9)]);
     let held = Waiting::from_changes([(hash(0), vec![])], &table);
     assert_eq!(held, Err(refusal(9, 0)));
-    let many = Waiting::from_changes([(hash(1), hashes(16))], &table);
+    let many = Waiting::from_changes([(hash(1), hashes(DEPENDENCIES + 1))], &table);
     assert_eq!(many, Err(refusal(9, 0)));
 }
 

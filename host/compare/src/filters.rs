@@ -4,6 +4,7 @@ use crate::inputs;
 use crate::model::filter::{self, Filter, DEFAULT_BITS, DEFAULT_PROBES};
 use crate::model::have::{contained, HAVE_WORDS};
 use crate::published;
+use bisquetower::limits::{FIELD_SIZE, PROBES};
 use bisquetower::raw::{self, Batch, Read, Reader};
 use crate_under_test::facade::{self, BloomFilter};
 
@@ -15,8 +16,8 @@ pub enum Difference {
     CutNumber,
     /// Entries and 0 bits per entry: 5 here. The crate reads a filter of no field.
     NoBits,
-    /// More than 64 probes, or a field of more than 8,192 bytes: 4 here. The
-    /// crate reads on, to the field's end.
+    /// More probes than a filter may have, or a longer field: 4 here. The crate reads
+    /// on, to the field's end.
     PastSize,
 }
 
@@ -74,7 +75,9 @@ pub fn difference(part: Part) -> Option<(Difference, u64)> {
     match numbers {
         [0, ..] => None,
         [_, 0, _] => Some((Difference::NoBits, 0)),
-        _ if probes > 64 || size > 8_192 => Some((Difference::PastSize, cut)),
+        _ if probes > PROBES as u128 || size > FIELD_SIZE as u128 => {
+            Some((Difference::PastSize, cut))
+        }
         _ => None,
     }
 }

@@ -9,14 +9,15 @@ pub mod session;
 pub mod table;
 
 use crate::model::{number_bytes, prefixed_bytes};
+use bisquetower::limits::{HASHES, HASH_SIZE};
 use std::fmt::Write as _;
 
 /// 0, both sides of every seven bits, of 32 bits, of the list limit and of 63
 /// bits, and the largest.
 pub fn boundary_values() -> Vec<u64> {
     let mut values = vec![0, 1, u64::MAX - 1, u64::MAX];
-    for power in (1..=9).map(|k| 7 * k).chain([5, 10, 31, 32]) {
-        let at = 1u64 << power;
+    let powers = (1..=9).map(|k| 7 * k).chain([5, 31, 32]);
+    for at in powers.map(|power| 1 << power).chain([HASHES as u64]) {
         values.extend([at - 1, at, at + 1]);
     }
     values.sort();
@@ -181,14 +182,19 @@ impl Random {
         bytes
     }
 
+    /// How many hashes a list has, on either side of its limit.
+    pub fn many_hashes(&mut self) -> usize {
+        HASHES - 4 + self.below(8)
+    }
+
     fn hash_list(&mut self) -> Vec<u8> {
         let near_the_limit = self.one_in(100);
         let count = if near_the_limit {
-            1_020 + self.below(8)
+            self.many_hashes()
         } else {
             self.below(5)
         };
-        let hashes = self.bytes(32 * count);
+        let hashes = self.bytes(HASH_SIZE * count);
         [number_bytes(count as u64), hashes].concat()
     }
 

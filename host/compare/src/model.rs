@@ -15,9 +15,9 @@ pub mod walk;
 
 use bisquetower::raw::{Read, Reader};
 
-/// "Hash 32 bytes", "Each hash list 1,024".
-const HASH: usize = 32;
-const HASHES: u64 = 1_024;
+// "Sizes": the limits are numbers of the rules and no answer of the library, so the model
+// has them from where they stand.
+use bisquetower::limits::{HASHES, HASH_SIZE as HASH, LIST_SIZE};
 
 /// "exceeds 64 bits", "a filter number exceeds 4,294,967,295".
 const MOST: u64 = u64::MAX;
@@ -108,7 +108,7 @@ fn prefixed(read: &Read) -> Result<(usize, usize), Refused> {
 /// first hash that isn't whole.
 fn hashes(read: &Read) -> Result<(usize, usize), Refused> {
     let (count, start) = number(read, MOST)?;
-    if count > HASHES {
+    if count > HASHES as u64 {
         return Err((4, read.at as u64));
     }
     let mut at = start;
@@ -140,7 +140,7 @@ pub fn prefixed_bytes(string: &[u8]) -> Vec<u8> {
 /// A hash list that is lent as bytes: more bytes than its limit is 4, else a
 /// partial hash at its end is 1 at that hash's start.
 pub fn hash_list_bytes(lent: &[u8]) -> Result<Vec<u8>, Refused> {
-    if lent.len() > HASH * HASHES as usize {
+    if lent.len() > LIST_SIZE {
         return Err((4, 0));
     }
     let hashes: Vec<&[u8]> = lent.chunks(HASH).collect();

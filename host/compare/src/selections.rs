@@ -7,7 +7,7 @@ use crate::inputs::index::{index_of, Beside};
 use crate::inputs::selection::{lend, Case};
 use crate::inputs::{shown, Random};
 use crate::model::selection::hashes_to_send;
-use crate::model::table::{Hash, HASH};
+use crate::model::table::{Hash, HASH, ROW};
 use crate::model::{self, Refused};
 use crate::same_answer;
 use crate::sessions::published::haves as published_haves;
@@ -47,8 +47,11 @@ impl Tally {
     }
 
     fn count(&mut self, case: &Case, chosen: &[Hash]) {
-        let rows = case.table.len() / crate::model::table::ROW;
-        let place = |hash: &Hash| case.table.chunks(64).position(|row| row[..32] == *hash);
+        let rows = case.table.len() / ROW;
+        let place = |hash: &Hash| {
+            let mut rows = case.table.chunks(ROW);
+            rows.position(|row| row[..HASH] == *hash)
+        };
         self.cases += 1;
         self.chosen += chosen.len() as u64;
         if !case.haves.is_empty() {

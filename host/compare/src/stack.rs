@@ -8,12 +8,17 @@ use crate::inputs::message::{filter_string, Draft};
 use crate::inputs::table::{table_bytes, waiting_bytes, Likeness, Shape, WaitingRow};
 use crate::inputs::Random;
 use crate::messages::parts::Chunks;
-use crate::model::message::CHUNKS;
-use crate::model::table::{Hash, DEPENDENCIES, HASH, HASHES, ROWS, WAITING_ROWS};
+use crate::model::number_bytes;
+use crate::model::state::{Session, V2, WORDS};
+use crate::model::table::{Hash, HASH};
 use crate::sessions::lent::Lent;
 use crate::sessions::library::{plan, receive, Planning, Receiving};
 use crate::tables::but_the_last;
-use bisquetower::message::{View, CHUNK_WORDS, HAVES, HAVE_WORDS};
+use bisquetower::limits::{
+    CHUNKS, DEPENDENCIES, FIELD_SIZE, HASHES, HAVES, HAVES_SIZE, HAVES_WORDS, HAVE_SIZE, LIST_SIZE,
+    MESSAGE_SIZE, PROBES, ROWS, SENT_HASHES, SENT_SIZE, TO_SEND_SIZE, WAITING_ROWS,
+};
+use bisquetower::message::{View, CHUNK_WORDS, HAVE_WORDS};
 use bisquetower::raw;
 use std::collections::BTreeMap;
 
@@ -30,6 +35,18 @@ fn deep<A: Into<Vec<u64>>>(
     (name, Box::new(move || call().into()))
 }
 
+/// The limits as words, and the entries of the largest filter of one bit each.
+const MOST_HASHES: u64 = HASHES as u64;
+const MOST_PROBES: u64 = PROBES as u64;
+const FIELD: u64 = FIELD_SIZE as u64;
+const ENTRIES: u64 = 8 * FIELD;
+
+/// A have of so many last-sync hashes, which stand at a place, and of the largest filter,
+/// whose field stands first.
+fn largest(place: u64, count: u64) -> [u64; HAVE_WORDS] {
+    [place, count, ENTRIES, 1, MOST_PROBES, 0, FIELD]
+}
+
 /// Calls of every exported function, each at its largest and at some refusals.
 pub fn calls() -> Vec<Deep> {
     let mut random = Random(27);
@@ -44,8 +61,8 @@ pub fn calls() -> Vec<Deep> {
 
 fn wire(random: &mut Random) -> Vec<Deep> {
     let longest = [&[0xff; 9][..], &[1]].concat();
-    let list = [&[0x80, 0x08][..], &random.bytes(HASH * HASHES)].concat();
-    let hashes = list[2..].to_vec();
+    let hashes = random.bytes(LIST_SIZE);
+    let list = [number_bytes(MOST_HASHES), hashes.clone()].concat();
     let (string, long) = (list.clone(), list.clone());
     let cut = list[..list.len() - 1].to_vec();
     let filter = longest.clone();
@@ -84,15 +101,16 @@ fn wire(random: &mut Random) -> Vec<Deep> {
 }
 
 fn filters(random: &mut Random) -> Vec<Deep> {
-    let hashes = random.bytes(HASH * HASHES);
-    let string = filter_string(1_024, 64, 64);
-    let field = random.bytes(8_192);
-    let bad = filter_string(1, 0, 64);
+    let hashes = random.bytes(LIST_SIZE);
+    let bits = ENTRIES / MOST_HASHES;
+    let string = filter_string(MOST_HASHES, bits, MOST_PROBES);
+    let field = random.bytes(FIELD_SIZE);
+    let bad = filter_string(1, 0, MOST_PROBES);
     // Each filter says yes up to its last probe, and no there.
-    let haves = [0, 0, 65_536, 1, 64, 0, 8_192].repeat(HAVES);
+    let haves = largest(0, 0).repeat(HAVES);
     let hash = random.bytes(HASH);
-    let (full, mut nearly) = (vec![0xff; 8_192], vec![0xff; 8_192]);
-    nearly[8_191] = 0;
+    let (full, mut nearly) = (vec![0xff; FIELD_SIZE], vec![0xff; FIELD_SIZE]);
+    nearly[FIELD_SIZE - 1] = 0;
     let (more, other) = (haves.clone(), hash.clone());
     vec![
         deep("bt_read_filter", move || {
@@ -102,10 +120,11 @@ fn filters(random: &mut Random) -> Vec<Deep> {
             raw::read_filter(&bad, 0, bad.len())
         }),
         deep("bt_write_filter", move || {
-            raw::write_filter(65_536, 1, 64, &field, &mut vec![0; 9_000])
+            let out = &mut vec![0; FIELD_SIZE + 16];
+            raw::write_filter(ENTRIES, 1, MOST_PROBES, &field, out)
         }),
         deep("bt_build_filter", move || {
-            raw::build_filter(64, 64, &hashes, &mut vec![0; 8_192])
+            raw::build_filter(bits, MOST_PROBES, &hashes, &mut vec![0; FIELD_SIZE])
         }),
         deep("bt_filters_contain", move || {
             raw::filters_contain(&full, &haves, &hash)
@@ -138,7 +157,7 @@ fn chains(random: &mut Random) -> Vec<(Vec<u8>, Vec<u8>)> {
         (chain(0, 0), first.clone()),
         (chain(others, 0), first.clone()),
         (chain(0, others), first),
-        (chain(0, others), own[..HASHES].concat()),
+        (chain(0, others), own[..HASHES.min(WAITING_ROWS)].concat()),
     ]
 }
 
@@ -176,12 +195,12 @@ fn tables(random: &mut Random) -> Vec<Deep> {
             }),
         ]);
         let (table, index) = lent();
-        let field = random.bytes(8_192);
+        let field = random.bytes(FIELD_SIZE);
         let s = [field, hashes.concat()].concat();
-        let haves = [8_192, 1, 65_536, 1, 64, 0, 8_192].repeat(HAVES);
+        let haves = largest(FIELD, 1).repeat(HAVES);
         let need = hashes.concat();
         deep_calls.push(deep("bt_hashes_to_send", move || {
-            let out = &mut vec![0; 2 * HASH * ROWS];
+            let out = &mut vec![0; TO_SEND_SIZE];
             raw::hashes_to_send(&table, &index, &s, &haves, &need, out)
         }));
     }
@@ -191,26 +210,38 @@ fn tables(random: &mut Random) -> Vec<Deep> {
             let (waiting, list) = (waiting.clone(), list.clone());
             let index = index_of(&table);
             deep_calls.push(deep("bt_missing", move || {
-                let out = &mut vec![0; HASH * HASHES];
+                let out = &mut vec![0; LIST_SIZE];
                 raw::missing(&table, &index, &waiting, &list, out)
             }));
         }
     }
-    let unknown = random.bytes(HASH * HASHES);
+    let unknown = random.bytes(LIST_SIZE);
     deep_calls.push(deep("bt_missing", move || {
-        raw::missing(&[], &[], &[], &unknown, &mut vec![0; HASH * HASHES])
+        raw::missing(&[], &[], &[], &unknown, &mut vec![0; LIST_SIZE])
     }));
     deep_calls
 }
 
+/// The words of a session in which every list is as long as it may be, with these flags.
+fn full_session(flags: [bool; 7]) -> [u64; WORDS] {
+    let full = Session {
+        shared: MOST_HASHES,
+        last_sent: MOST_HASHES,
+        their_heads: Some(MOST_HASHES),
+        their_need: Some(MOST_HASHES),
+        their_have: Some(HAVES as u64),
+        sent: SENT_HASHES as u64,
+        flags,
+    };
+    full.words()
+}
+
 fn states(random: &mut Random) -> Vec<Deep> {
     let hashes = random.hashes(HASHES, Likeness::Ascending).concat();
-    let state = [&[0x43, 0x80, 0x08][..], &hashes].concat();
+    let state = [&[0x43][..], &number_bytes(MOST_HASHES), &hashes].concat();
     let shared = hashes.clone();
-    let session = [
-        1_024, 1_024, 1, 1_024, 1, 1_024, 1, 16, 1_024, 1, 1, 1, 1, 1, 1, 1,
-    ];
-    let haves = [0, 1_024, 65_536, 1, 64, 0, 8_192].repeat(HAVES);
+    let session = full_session([true; 7]);
+    let haves = largest(0, MOST_HASHES).repeat(HAVES);
     let set = |on| {
         move || {
             let mut session = session;
@@ -220,12 +251,12 @@ fn states(random: &mut Random) -> Vec<Deep> {
     };
     vec![
         deep("bt_fresh", || {
-            let mut session = [0; 16];
+            let mut session = [0; WORDS];
             raw::fresh(&mut session);
             session
         }),
         deep("bt_fresh_read_only", || {
-            let mut session = [0; 16];
+            let mut session = [0; WORDS];
             raw::fresh_read_only(&mut session);
             session
         }),
@@ -236,23 +267,27 @@ fn states(random: &mut Random) -> Vec<Deep> {
             raw::check_session(&session, h, h, h, h, &haves, h, h)
         }),
         deep("bt_write_state", move || {
-            raw::write_state(&shared, HASHES, &mut vec![0; HASH * HASHES + 3])
+            raw::write_state(&shared, HASHES, &mut vec![0; LIST_SIZE + 3])
         }),
         deep("bt_read_state", move || {
-            raw::read_state(&state, &mut vec![0; HASH * HASHES], &mut [0; 16])
+            raw::read_state(&state, &mut vec![0; LIST_SIZE], &mut [0; WORDS])
         }),
     ]
 }
 
-/// A message in which every list is as long as it may be, with these hashes.
+/// A message in which every list is as long as it may be, with these hashes; so many of
+/// its haves are of all of them as half of the largest message has room for.
 fn message(hashes: Vec<Hash>) -> Vec<u8> {
-    let have = (hashes.clone(), filter_string(65_536, 1, 64));
+    let large = (hashes.clone(), filter_string(ENTRIES, 1, MOST_PROBES));
+    let mut haves = vec![large; HAVES.min(MESSAGE_SIZE / 2 / HAVE_SIZE)];
+    haves.resize(HAVES, Default::default());
+    let chunk = vec![7; MESSAGE_SIZE / 4 / CHUNKS];
     let draft = Draft {
         first: 0x43,
         heads: hashes.clone(),
         need: hashes,
-        haves: vec![have; HAVES],
-        chunks: vec![vec![7; 300]; CHUNKS as usize],
+        haves,
+        chunks: vec![chunk; CHUNKS],
         flags: Some(vec![0x02, 0x84]),
         ..Draft::new()
     };
@@ -261,12 +296,7 @@ fn message(hashes: Vec<Hash>) -> Vec<u8> {
 
 fn messages(random: &mut Random) -> Vec<Deep> {
     let s = message(random.hashes(HASHES, Likeness::Spread));
-    let lists = || {
-        (
-            vec![0; HAVE_WORDS * HAVES],
-            vec![0; CHUNK_WORDS * CHUNKS as usize],
-        )
-    };
+    let lists = || (vec![0; HAVES_WORDS], vec![0; CHUNK_WORDS * CHUNKS]);
     let [read, peeked] = [s.clone(), s.clone()];
     let (mut haves, mut chunks) = lists();
     let view = View::read(&read, &mut haves, &mut chunks).expect("a good message");
@@ -284,7 +314,7 @@ fn messages(random: &mut Random) -> Vec<Deep> {
             raw::read_message(&read, &mut haves, &mut chunks, &mut [0; HAVES])
         }),
         deep("bt_peek_heads", move || {
-            raw::peek_heads(&peeked, &mut vec![0; HASH * HASHES])
+            raw::peek_heads(&peeked, &mut vec![0; LIST_SIZE])
         }),
         deep("bt_write_message", write),
     ]
@@ -294,21 +324,23 @@ fn messages(random: &mut Random) -> Vec<Deep> {
 /// be, with and without version 2.
 fn sessions(random: &mut Random) -> Vec<Deep> {
     let mut deep_calls = Vec::new();
-    for (shape, v2) in [(Shape::Wide, 0), (Shape::Deep, 1), (Shape::Full, 0)] {
+    for (shape, v2) in [
+        (Shape::Wide, false),
+        (Shape::Deep, true),
+        (Shape::Full, false),
+    ] {
         let rows = random.rows(ROWS, shape, Likeness::Descending);
         let mut hashes: Vec<Hash> = rows.iter().map(|row| row.hash).collect();
         let held = hashes.concat();
         hashes.reverse();
-        let bytes = [random.bytes(8_192), held.clone()].concat();
+        let bytes = [random.bytes(FIELD_SIZE), held.clone()].concat();
         let session = Lent {
-            words: [
-                1_024, 1_024, 1, 1_024, 1, 1_024, 1, 16, 1_024, 0, 0, v2, 0, 0, 0, 0,
-            ],
+            words: full_session(std::array::from_fn(|flag| flag == V2 && v2)),
             shared: held.clone(),
             last_sent: held.clone(),
             their_heads: held.clone(),
             their_need: held,
-            haves: [8_192, 1, 65_536, 1, 64, 0, 8_192].repeat(HAVES),
+            haves: largest(FIELD, 1).repeat(HAVES),
             bytes,
             sent: hashes.concat(),
         };
@@ -321,13 +353,12 @@ fn sessions(random: &mut Random) -> Vec<Deep> {
                 table: table_bytes(&rows),
                 index: index_of(&table_bytes(&rows)),
                 waiting,
-                rooms: [2 * HASH * ROWS; 6],
+                rooms: [TO_SEND_SIZE; 6],
             };
             deep_calls.push(deep("bt_plan", move || plan(&planning).answer));
         }
         // The last head is unknown, so that all the others are joined.
         hashes[0] = random.hash();
-        let (list, bytes) = (HASH * HASHES, HAVES * (HASH * HASHES + 8_192));
         let receiving = Receiving {
             session,
             table: table_bytes(&rows),
@@ -335,7 +366,15 @@ fn sessions(random: &mut Random) -> Vec<Deep> {
             before: ROWS / 2,
             message: message(hashes),
             loaded: 1,
-            rooms: [list, list, list, list, HAVE_WORDS * HAVES, bytes, list],
+            rooms: [
+                LIST_SIZE,
+                LIST_SIZE,
+                LIST_SIZE,
+                LIST_SIZE,
+                HAVES_WORDS,
+                HAVES_SIZE,
+                SENT_SIZE,
+            ],
         };
         deep_calls.push(deep("bt_receive", move || receive(&receiving).answer));
     }

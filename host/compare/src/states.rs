@@ -24,7 +24,7 @@ pub struct Reading<'a> {
 pub struct Tally {
     /// By the answer's first word.
     pub answers: [u64; 8],
-    /// A count above 1,024: 4 here. The crate has no such limit.
+    /// A count above the limit of a hash list: 4 here. The crate has no such limit.
     pub past_limit: u64,
 }
 

@@ -2,6 +2,7 @@
 //! model's and the crate's.
 
 use crate::{inputs, model, published};
+use bisquetower::limits::HASHES;
 use bisquetower::raw::{self, Read, Reader};
 
 pub const READERS: [Reader; 4] = [
@@ -17,7 +18,7 @@ pub enum Difference {
     /// A filter number that is cut, but whose first five bytes leave no good
     /// ending: 3 here. The crate reads 64 bits first and finds too little input.
     CutFilterNumber,
-    /// A count above 1,024: 4 here. The crate has no such limit.
+    /// A count above the limit of a hash list: 4 here. The crate has no such limit.
     CountPastLimit,
 }
 
@@ -38,7 +39,7 @@ pub fn difference(read: &Read) -> Option<Difference> {
                 reader: Reader::Number,
                 ..*read
             });
-            let past = count.words[0] == 0 && count.words[1] > 1_024;
+            let past = count.words[0] == 0 && count.words[1] > HASHES as u64;
             past.then_some(Difference::CountPastLimit)
         }
         Reader::Number | Reader::Prefixed => None,

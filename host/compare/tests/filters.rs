@@ -14,6 +14,7 @@ mod read;
 #[path = "filters/write.rs"]
 mod write;
 
+use bisquetower::limits::{HASHES, PROBES};
 use bisquetower::raw;
 use compare::inputs::filter::{edges, hash_of};
 use compare::inputs::Random;
@@ -33,7 +34,7 @@ fn every(wanted: usize) -> impl Iterator<Item = usize> {
 }
 
 /// How many hashes the lists of the tests have.
-const COUNTS: [usize; 10] = [0, 1, 2, 15, 16, 17, 255, 256, 1_023, 1_024];
+const COUNTS: [usize; 10] = [0, 1, 2, 15, 16, 17, 255, 256, HASHES - 1, HASHES];
 
 /// Hashes of several kinds for a field of so many entries: random ones, one hash
 /// again and again, and ones that probe at the field's edges.
@@ -65,7 +66,7 @@ fn random_filter(random: &mut Random) -> ([u64; 3], Vec<u8>) {
         return ([0, bits, probes], Vec::new());
     }
     let (entries, bits) = random.entries_and_bits();
-    let most = random.of(&[8, 65]);
+    let most = random.of(&[8, PROBES + 1]);
     let probes = random.below(most) as u64;
     let field = random.field(field_size(entries, bits) as usize);
     ([entries, bits, probes], field)

@@ -18,6 +18,7 @@ mod refused_writes;
 #[path = "messages/write.rs"]
 mod write;
 
+use bisquetower::limits::HAVES_WORDS;
 use bisquetower::raw;
 use compare::messages::{compare, Tally};
 use compare::model::have::HAVES;
@@ -42,7 +43,7 @@ fn agree_all(messages: impl Iterator<Item = Vec<u8>>) -> Tally {
 }
 
 /// Room for as many haves and chunks as a message may have.
-const ROOM: [usize; 2] = [7 * 16, CHUNK_WORDS * CHUNKS as usize];
+const ROOM: [usize; 2] = [HAVES_WORDS, CHUNK_WORDS * CHUNKS];
 
 /// What the library alone says, with room enough, and its two lists.
 fn ask(s: &[u8]) -> ([u64; ANSWER_WORDS], Vec<u64>, Vec<u64>) {

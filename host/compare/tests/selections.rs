@@ -14,6 +14,7 @@ mod random;
 #[path = "selections/refusals.rs"]
 mod refusals;
 
+use bisquetower::limits::TO_SEND_SIZE;
 use bisquetower::raw;
 use compare::inputs::index::index_of;
 use compare::inputs::selection::{lend, Case};
@@ -26,7 +27,7 @@ use compare::tables::Rooms;
 use std::ops::Range;
 
 /// As many hashes as there may be to send.
-const ROOM: usize = 2_048 * HASH;
+const ROOM: usize = TO_SEND_SIZE;
 
 /// Compares what is chosen in random cases; returns the library's lists as well.
 fn random_cases(

@@ -18,7 +18,7 @@ mod talks;
 use compare::inputs::message::Draft;
 use compare::inputs::table::{table_bytes, Row};
 use compare::model::session::Value;
-use compare::model::table::Hash;
+use compare::model::table::{Hash, ROW};
 use compare::sessions::lent::Lent;
 use compare::sessions::library::{Planning, Receiving};
 
@@ -49,7 +49,7 @@ fn planning(session: &Value, table: &[u8]) -> Planning {
 
 /// A call that receives, with room to spare; nothing was loaded.
 fn receiving(session: &Value, table: &[u8], message: &Draft) -> Receiving {
-    let rows = table.len() / 64;
+    let rows = table.len() / ROW;
     Receiving::new(
         Lent::laid(session),
         table.to_vec(),

@@ -1,7 +1,7 @@
 //! Files that are read, up to what the library looks at, and files that are written.
 
 use crate::failure::Failure;
-use bisquetower::{Limits, Table, Waiting};
+use bisquetower::limits::{MESSAGE_SIZE, TABLE_SIZE, WAITING_SIZE};
 use std::ffi::OsStr;
 use std::fs::{self, File, OpenOptions};
 use std::io::{ErrorKind, Read, Write};
@@ -13,10 +13,7 @@ pub const STANDARD: &str = "-";
 /// One byte more than the longest message or table: a file that goes on is refused or
 /// ignored just as these bytes are.
 pub fn most() -> u64 {
-    let limits = Limits::told();
-    let table = limits.rows * Table::ROW as u64;
-    let waiting = limits.waiting_rows * Waiting::ROW as u64;
-    limits.message.max(table).max(waiting) + 1
+    MESSAGE_SIZE.max(TABLE_SIZE).max(WAITING_SIZE) as u64 + 1
 }
 
 /// The first bytes of a file, or of standard input for `-`.

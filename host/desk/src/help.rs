@@ -1,6 +1,10 @@
 //! Help, a screen at the most for each command.
 
 use crate::failure::Failure;
+use crate::sample::{LACKING, ROWS};
+use bisquetower::limits::DEPENDENCIES;
+use bisquetower::refusal::grouped;
+use bisquetower::Table;
 use std::ffi::OsString;
 
 const ALL: &str = "\
@@ -46,11 +50,19 @@ on most rows (widest), the first with the longest way down (deepest), and the
 first bad row. Of a bad table the rows before that one are shown.
 
   --full      hashes whole and all of them
-
-A row is 64 bytes: a hash; how many rows it depends on (two bytes,
-little-endian, at most 15); fifteen such row numbers, ascending and less than
-its own, the others 0.
 ";
+
+fn table() -> String {
+    let row = grouped(Table::ROW as u64);
+    format!(
+        "\
+{TABLE}
+A row is {row} bytes: a hash; how many rows it depends on (two bytes,
+little-endian, at most {DEPENDENCIES}); {DEPENDENCIES} such row numbers, ascending and less than
+its own, the others 0.
+"
+    )
+}
 
 const CATCH_UP: &str = "\
 bisquetower catch-up STATION VALIDATOR [--json] [--svg FILE [--force]]
@@ -72,15 +84,20 @@ Exit status: 1 if the tables contradict each other, or an end doesn't hold the
 rows of both in the end.
 ";
 
-const SAMPLE: &str = "\
+fn sample() -> String {
+    let rows = grouped(ROWS as u64);
+    format!(
+        "\
 bisquetower sample DIR [--force]
 
-Writes files to try the other commands on: a station's table of 1,024 rows and
-that of a validator 120 rows short, each message of their catch-up, what waited,
+Writes files to try the other commands on: a station's table of {rows} rows and
+that of a validator {LACKING} rows short, each message of their catch-up, what waited,
 both saved states, a filter, and damaged ones.
 
   --force     write over files that are there
-";
+"
+    )
+}
 
 const COMPARE: &str = "\
 bisquetower compare [KIND ..] [--seconds N | --rounds N] [--seed N]
@@ -100,13 +117,13 @@ stand apart, and differences, the smallest of which is shown.
 pub fn run(words: &[OsString]) -> Result<String, Failure> {
     let command = words.first().map(|word| word.to_string_lossy());
     let text = match command.as_deref() {
-        None | Some("help" | "--help" | "-h") => ALL,
-        Some("inspect") => INSPECT,
-        Some("table") => TABLE,
-        Some("catch-up") => CATCH_UP,
-        Some("sample") => SAMPLE,
-        Some("compare") => COMPARE,
+        None | Some("help" | "--help" | "-h") => ALL.to_string(),
+        Some("inspect") => INSPECT.to_string(),
+        Some("table") => table(),
+        Some("catch-up") => CATCH_UP.to_string(),
+        Some("sample") => sample(),
+        Some("compare") => COMPARE.to_string(),
         Some(other) => return Err(Failure::usage(format!("there is no command {other}"), "")),
     };
-    Ok(text.to_string())
+    Ok(text)
 }

@@ -2,6 +2,8 @@
 
 mod tables;
 
+pub use tables::{LACKING, ROWS};
+
 use crate::args::Options;
 use crate::catch_up::{Said, Talk};
 use crate::failure::Failure;

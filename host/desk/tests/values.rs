@@ -1,6 +1,7 @@
 //! Messages, saved states and filters of the crate `bisquetower` beside automerge's own:
 //! what is read of random and damaged bytes, field by field, and what is written again.
 
+use bisquetower::limits::HASHES;
 use bisquetower::{Filter, Message, MessageVersion, Refusal, SavedState};
 use compare::inputs::{Random, Seed};
 use crate_under_test::facade;
@@ -99,7 +100,7 @@ fn filters() {
 fn built_filters() {
     let seed = Seed::fixed();
     let mut random = seed.random(2);
-    for count in [0, 1, 2, 7, 100, 819, 1_024] {
+    for count in [0, 1, 2, 7, 100, 819, HASHES] {
         let hashes: Vec<[u8; 32]> = (0..count).map(|_| random.hash()).collect();
         let ours: Vec<_> = hashes
             .iter()

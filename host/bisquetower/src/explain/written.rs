@@ -84,6 +84,7 @@ fn counted(n: usize) -> u64 {
 #[cfg(test)]
 mod tests {
     use super::*;
+    use crate::limits::HASHES;
     use crate::{ChangeHash, Filter, Have, MessageFlags};
 
     #[test]
@@ -94,7 +95,7 @@ mod tests {
             let bloom = Filter::from_hashes(&last_sync).unwrap();
             Have { last_sync, bloom }
         };
-        for count in [0, 1, 127, 128, 129, 1_024] {
+        for count in [0, 1, 127, 128, 129, HASHES] {
             for flags in [None, Some(MessageFlags::new())] {
                 let message = Message {
                     heads: hashes(count),

@@ -1,15 +1,12 @@
 //! What is said next.
 
-use super::{Lists, Session, LIST};
+use super::Session;
 use crate::hash::{hashes_in, ChangeHash, HASH};
 use crate::have::haves_in;
+use crate::limits::{HAVE_SIZE, LIST_SIZE, SENT_SIZE, TO_SEND_SIZE};
 use crate::refusal::{answer, Refusal};
 use crate::{raw, Error, Host, Message, MessageFlags, MessageVersion};
 use std::borrow::Cow;
-
-/// The most bytes of a have, and of the hashes to send.
-const HAVE: usize = 40_960;
-const TO_SEND: usize = 65_536;
 
 /// How the answer says that there is nothing to say.
 const NOTHING: u64 = 0;
@@ -32,9 +29,9 @@ impl Session {
     /// The session takes a message as said when this call returns its bytes, and at no
     /// other time: if the host can't lend a change ([`Error::Lend`]) or the library refuses
     /// ([`Error::Refused`]) the session is as it was, and the next call tries again. A
-    /// message of more than 4,194,304 bytes is refusal 4, as are tables and lists past
-    /// their limits. It stays refused as long as the same changes are to be sent and take
-    /// as many bytes.
+    /// message of more than [`MESSAGE_SIZE`](crate::limits::MESSAGE_SIZE) bytes is refusal
+    /// 4, as are tables and lists past their limits. It stays refused as long as the same
+    /// changes are to be sent and take as many bytes.
     ///
     /// Where the library is linked this takes up to 512 KiB of the thread's stack.
     pub fn next_message<H: Host>(&mut self, host: &H) -> Result<Option<Vec<u8>>, Error<H::Error>> {
@@ -77,30 +74,21 @@ impl Session {
     /// so such a host keeps a clone of the session until the message is encoded, and goes
     /// back to it where that fails.
     pub fn plan(&mut self, table: &[u8], waiting: &[u8]) -> Result<Option<Plan>, Refusal> {
-        let mut heads = vec![0; LIST];
-        let (mut need, mut have, mut list) = (vec![0; LIST], vec![0; HAVE], vec![0; TO_SEND]);
-        let Lists {
-            shared,
-            last_sent,
-            their_heads,
-            their_need,
-            haves,
-            bytes,
-            sent,
-        } = &mut self.lists;
-        last_sent.resize(LIST, 0);
-        sent.resize(LIST, 0);
-        let session = &mut self.words;
+        let (mut heads, mut need) = (vec![0; LIST_SIZE], vec![0; LIST_SIZE]);
+        let (mut have, mut list) = (vec![0; HAVE_SIZE], vec![0; TO_SEND_SIZE]);
+        let (session, lists) = (&mut self.words, &mut self.lists);
+        lists.last_sent.resize(LIST_SIZE, 0);
+        lists.sent.resize(SENT_SIZE, 0);
         let words = self.index.beside(table, |index| {
             raw::plan(
                 session,
-                shared,
-                last_sent,
-                their_heads,
-                their_need,
-                haves,
-                bytes,
-                sent,
+                &lists.shared,
+                &mut lists.last_sent,
+                &lists.their_heads,
+                &lists.their_need,
+                &lists.haves,
+                &lists.bytes,
+                &mut lists.sent,
                 table,
                 index,
                 waiting,

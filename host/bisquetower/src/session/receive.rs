@@ -1,12 +1,8 @@
 //! What a message does.
 
-use super::{Lists, Session, LIST};
+use super::Session;
+use crate::limits::{HAVES_SIZE, HAVES_WORDS, LIST_SIZE};
 use crate::{raw, refusal, Error, Host, Message, Table};
-
-/// The most words of kept haves, and the most bytes under them: 16 haves of 1,024 hashes
-/// and 8,192 bytes of field.
-pub(super) const HAVES: usize = 112;
-pub(super) const HAVE_BYTES: usize = 655_360;
 
 /// The refusal of a failed load: the only one that changes a session.
 const NOT_LOADED: u64 = 8;
@@ -53,35 +49,31 @@ impl Session {
         message: &[u8],
         loaded: bool,
     ) -> Result<(), refusal::Refusal> {
-        let Lists {
-            shared,
-            last_sent,
-            their_heads,
-            their_need,
-            haves,
-            bytes,
-            sent,
-        } = &mut self.lists;
-        for list in [&mut *shared, last_sent, their_heads, their_need] {
-            list.resize(LIST, 0);
+        let (session, lists) = (&mut self.words, &mut self.lists);
+        for list in [
+            &mut lists.shared,
+            &mut lists.last_sent,
+            &mut lists.their_heads,
+            &mut lists.their_need,
+        ] {
+            list.resize(LIST_SIZE, 0);
         }
-        haves.resize(HAVES, 0);
+        lists.haves.resize(HAVES_WORDS, 0);
         // What is kept of haves stands in the message, but for the numbers between, so a
         // short message wants no more room than it has bytes, and a long one no more than
         // the limits allow.
-        let room = bytes.len().max(message.len().min(HAVE_BYTES));
-        bytes.resize(room, 0);
-        let session = &mut self.words;
+        let room = lists.bytes.len().max(message.len().min(HAVES_SIZE));
+        lists.bytes.resize(room, 0);
         let words = self.index.beside(table, |index| {
             raw::receive(
                 session,
-                shared,
-                last_sent,
-                their_heads,
-                their_need,
-                haves,
-                bytes,
-                sent,
+                &mut lists.shared,
+                &mut lists.last_sent,
+                &mut lists.their_heads,
+                &mut lists.their_need,
+                &mut lists.haves,
+                &mut lists.bytes,
+                &mut lists.sent,
                 table,
                 index,
                 before,

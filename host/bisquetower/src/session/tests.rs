@@ -1,21 +1,34 @@
 //! What a session keeps in memory, after messages of any size and whatever came of them.
 
-use super::receive::HAVE_BYTES;
-use super::{Session, LIST};
+use super::Session;
+use crate::limits::{
+    FIELD_SIZE, HASHES, HASH_SIZE, HAVES, HAVES_SIZE, HAVES_WORDS, HAVE_SIZE, LIST_SIZE,
+    MESSAGE_SIZE,
+};
 use crate::{Change, ChangeHash, Error, Filter, Have, Host, Memory, MemoryError, Message};
 
-fn hashes(count: u32) -> Vec<ChangeHash> {
-    let hash = |n: u32| n.to_le_bytes().repeat(8);
+/// Bytes of a change that a message can carry beside many haves.
+const LONG: usize = MESSAGE_SIZE / 3;
+
+fn hashes(count: usize) -> Vec<ChangeHash> {
+    let hash = |n: usize| n.to_le_bytes().repeat(4);
     let each = (0..count).map(|n| ChangeHash::try_from(&hash(n)[..]));
     each.collect::<Result<_, _>>().unwrap()
 }
 
 /// The most that a have says.
 fn largest() -> Have {
-    let last_sync = hashes(1_024);
-    let bloom = Filter::with(64, 7, &last_sync).unwrap();
-    assert_eq!(bloom.bits().len(), 8_192);
+    let last_sync = hashes(HASHES);
+    let bits = (8 * FIELD_SIZE / HASHES) as u32;
+    let bloom = Filter::with(bits, 7, &last_sync).unwrap();
+    assert_eq!(bloom.bits().len(), FIELD_SIZE);
     Have { last_sync, bloom }
+}
+
+/// As many of them as a message may have, or as half of the largest message has room for.
+fn most() -> Vec<Have> {
+    let room = MESSAGE_SIZE / 2 / HAVE_SIZE;
+    vec![largest(); HAVES.min(room)]
 }
 
 /// A message that carries so many bytes beside these haves.
@@ -55,24 +68,25 @@ fn assert_small(session: &Session) {
         &lists.sent,
     ];
     for list in hashes {
-        assert!(list.capacity() <= LIST, "{}", list.capacity());
+        assert!(list.capacity() <= LIST_SIZE, "{}", list.capacity());
     }
     let known: usize = session.their_have().iter().flatten().map(size).sum();
     let bytes = &lists.bytes;
     assert_eq!(bytes.len(), known);
-    assert!(bytes.capacity() <= HAVE_BYTES, "{}", bytes.capacity());
-    assert!(lists.haves.capacity() <= super::receive::HAVES);
+    assert!(bytes.capacity() <= HAVES_SIZE, "{}", bytes.capacity());
+    assert!(lists.haves.capacity() <= HAVES_WORDS);
 }
 
 /// Bytes that a session keeps of a have.
 fn size(have: &Have) -> usize {
-    32 * have.last_sync.len() + have.bloom.bits().len()
+    HASH_SIZE * have.last_sync.len() + have.bloom.bits().len()
 }
 
 #[test]
 fn large_messages_leave_no_more_than_they_say() {
-    let (large, none) = (vec![largest(); 16], vec![]);
-    let cases = [(&large, 3_000_000), (&large, 0), (&none, 4_000_000)];
+    let (large, none) = (most(), vec![]);
+    let long = MESSAGE_SIZE - 1_000;
+    let cases = [(&large, LONG), (&large, 0), (&none, long)];
     for (have, length) in cases {
         let mut session = Session::new();
         let loaded = session.receive(&mut Memory::new(), &message(have, change(length)));
@@ -89,10 +103,11 @@ fn messages_that_arent_taken_leave_nothing() {
     let small = message(&[largest()], vec![]);
     known.receive(&mut Memory::new(), &small).unwrap();
     for before in [Session::new(), known] {
-        let large = vec![largest(); 16];
-        let no_change = message(&large, vec![9; 3_000_000]);
-        let cut = &message(&large, change(3_000_000))[..3_600_000];
-        let too_long = vec![0x42; 9_000_000];
+        let large = most();
+        let no_change = message(&large, vec![9; LONG]);
+        let whole = message(&large, change(LONG));
+        let cut = &whole[..whole.len() - LONG / 2];
+        let too_long = vec![0x42; 2 * MESSAGE_SIZE];
 
         let mut session = before.clone();
         let failed = session.receive(&mut Memory::new(), &no_change);

@@ -3,7 +3,7 @@
 #include "print.h"
 #include <bisquetower.h>
 
-enum { ROW = 64, ENTRY = 2, MOST = ROW * BT_ROWS };
+enum { ROW = BT_HASH_SIZE + 2 * (1 + BT_DEPENDENCIES), ENTRY = 2, MOST = ROW * BT_ROWS };
 
 static uint8_t table[MOST + 1], table_index[ENTRY * BT_ROWS], heads[BT_HASH_SIZE * BT_ROWS];
 static uint64_t answer[4];

@@ -4,10 +4,11 @@ use super::{number_forms, Random};
 use crate::model::filter::{field_size, Filter};
 use crate::model::have::HAVE_WORDS;
 use crate::model::number_bytes;
+use bisquetower::limits::{FIELD_SIZE, PROBES};
 
 /// The longest field of most random filters, and of a few.
 const SHORT: u128 = 48;
-const LONG: u128 = 8_192;
+const LONG: u128 = FIELD_SIZE as u128;
 
 impl Random {
     /// One of these.
@@ -40,17 +41,21 @@ impl Random {
         field
     }
 
+    /// A good number of probes.
+    pub fn probes(&mut self) -> u64 {
+        self.below(PROBES + 1) as u64
+    }
+
     /// The three numbers: good ones, or one of them at or past a limit.
     fn filter_numbers(&mut self) -> [u64; 3] {
         let (entries, bits) = self.entries_and_bits();
-        let probes = self.below(65) as u64;
-        let mut numbers = [entries, bits, probes];
+        let mut numbers = [entries, bits, self.probes()];
         match self.below(12) {
             0 => numbers[0] = 0,
             1 => numbers[1] = 0,
-            2 => numbers[2] = 60 + self.below(10) as u64,
+            2 => numbers[2] = (PROBES - 4 + self.below(10)) as u64,
             3 => numbers[self.below(3)] = self.number() >> 28,
-            4 => numbers[1] = 65_530 + self.below(12) as u64,
+            4 => numbers[1] = (8 * FIELD_SIZE - 6 + self.below(12)) as u64,
             _ => {}
         }
         numbers

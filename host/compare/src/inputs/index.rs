@@ -56,7 +56,7 @@ pub fn index_faults(own: &[u8]) -> Vec<Fault<Vec<u8>>> {
         let mut more = rows.clone();
         more.insert(place, rows[place]);
         add(format!("entry {place} once more"), &more);
-        for number in [count, count + 1, count + 256, 32_768, 65_535] {
+        for number in [count, count + 1, count + 256, 1 << 15, 65_535] {
             let mut past = rows.clone();
             past[place] = number;
             add(format!("entry {place} is {number}"), &past);
@@ -104,7 +104,13 @@ fn lengths(own: &[u8]) -> Vec<Fault<Vec<u8>>> {
     let next = (own.len() / 2) as u16;
     let next = [own, &next.to_le_bytes()].concat();
     faults.push(("the next row's number more".to_string(), next));
-    for length in [2 * ROWS - 1, 2 * ROWS, 2 * ROWS + 1, 2 * ROWS + 2, 65_537] {
+    for length in [
+        2 * ROWS - 1,
+        2 * ROWS,
+        2 * ROWS + 1,
+        2 * ROWS + 2,
+        (1 << 16) + 1,
+    ] {
         let mut long = own.to_vec();
         long.resize(length, 0);
         faults.push((format!("{length} bytes"), long));

@@ -8,6 +8,7 @@ use crate::model::have::OwnHave;
 use crate::model::message::Parts;
 use crate::model::table::{Hash, HASH};
 use crate::model::{number_bytes, prefixed_bytes};
+use bisquetower::limits::PROBES;
 
 /// A message before it is spelt as bytes.
 #[derive(Clone, Debug, Default, PartialEq, Eq)]
@@ -102,8 +103,8 @@ pub const TELLING: [u8; 7] = [0x00, 0x01, 0x02, 0x42, 0x43, 0x80, 0x84];
 pub const UP_TO_FILTER: [u8; 5] = [0x42, 0x00, 0x00, 0x01, 0x00];
 
 /// Bytes that tell something from there on: strings of up to five bytes, filters
-/// with entries, without bits, and of 65 probes, and a number that goes on.
-pub const TELLING_OF_FILTERS: [u8; 7] = [0x00, 0x01, 0x03, 0x04, 0x05, 0x41, 0x80];
+/// with entries, without bits, and of a probe too many, and a number that goes on.
+pub const TELLING_OF_FILTERS: [u8; 7] = [0x00, 0x01, 0x03, 0x04, 0x05, PROBES as u8 + 1, 0x80];
 
 /// Good messages, each with something the others haven't.
 pub fn good_messages() -> Vec<Vec<u8>> {
@@ -132,7 +133,7 @@ pub fn good_messages() -> Vec<Vec<u8>> {
         haves: vec![
             (vec![hash(0x42)], vec![0, 0, 0x80, 1, 5, 5]),
             (Vec::new(), [of_one, vec![9, 9]].concat()),
-            (Vec::new(), filter_string(9, 128, 64)),
+            (Vec::new(), filter_string(9, 128, PROBES as u64)),
         ],
         chunks: vec![vec![0x80], vec![0x80; 2], vec![0x00; 3]],
         ..Draft::new()
@@ -249,7 +250,7 @@ impl Random {
             1 => [0, self.number() >> 32, self.number() >> 32],
             _ => {
                 let (entries, bits) = self.entries_and_bits();
-                [entries, bits, self.below(65) as u64]
+                [entries, bits, self.probes()]
             }
         };
         let size = field_size(numbers[0], numbers[1]) as usize;

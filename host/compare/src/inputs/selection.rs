@@ -6,7 +6,7 @@ use super::Random;
 use crate::inputs::table::{table_bytes, waiting_bytes, Row, LIKENESSES, SHAPES};
 use crate::model::filter::field_size;
 use crate::model::have::{OwnHave, HAVE_WORDS};
-use crate::model::table::{Hash, HASH};
+use crate::model::table::{Hash, HASH, HASHES};
 use std::ops::Range;
 
 /// What hashes to send are chosen from, and waiting rows, whose hashes may be
@@ -156,7 +156,7 @@ impl Random {
                     true => (10, 7),
                     false => (1 + self.below(6) as u64, self.below(4) as u64),
                 };
-                hashes.truncate(1_024);
+                hashes.truncate(HASHES);
                 return OwnHave::over(last_sync, bits, probes, &hashes);
             }
         };

@@ -2,7 +2,7 @@
 //! which a record is bad.
 
 use crate::inputs::Random;
-use crate::model::table::{Hash, DEPENDENCIES, HASH, ROW, WAITING_ROW};
+use crate::model::table::{Hash, DEPENDENCIES, HASH, ROW, ROWS, WAITING_ROW};
 use std::collections::{BTreeSet, HashSet};
 
 /// A change and the rows it depends on.
@@ -20,7 +20,7 @@ pub struct WaitingRow {
 }
 
 impl Row {
-    /// The record. Numbers past the fifteenth are only counted.
+    /// The record. Numbers that it has no room for are only counted.
     pub fn bytes(&self) -> [u8; ROW] {
         let mut record = [0; ROW];
         record[..HASH].copy_from_slice(&self.hash);
@@ -34,7 +34,7 @@ impl Row {
 }
 
 impl WaitingRow {
-    /// The record. Hashes past the fifteenth are only counted.
+    /// The record. Hashes that it has no room for are only counted.
     pub fn bytes(&self) -> [u8; WAITING_ROW] {
         let mut record = [0; WAITING_ROW];
         record[..HASH].copy_from_slice(&self.hash);
@@ -48,7 +48,7 @@ impl WaitingRow {
     }
 }
 
-/// Sets a change row's count (0) or one of its row numbers (1 to 15).
+/// Sets a change row's count (0) or one of its row numbers (from 1).
 pub fn set_number(record: &mut [u8], which: usize, number: usize) {
     let place = HASH + 2 * which;
     record[place..place + 2].copy_from_slice(&(number as u16).to_le_bytes());
@@ -73,11 +73,11 @@ pub enum Shape {
     Deep,
     /// Two rows on one, one on the two, again and again.
     Diamonds,
-    /// The fifteen rows before.
+    /// The rows before, as many as a row may depend on.
     Full,
     /// Up to three of the eight rows before.
     Recent,
-    /// Up to fifteen rows anywhere before.
+    /// Up to as many rows anywhere before.
     Any,
 }
 
@@ -180,7 +180,7 @@ impl Random {
         self.rows_of(&hashes, shape)
     }
 
-    /// Waiting rows with these hashes, each on up to fifteen of the others.
+    /// Waiting rows with these hashes, each on up to as many of the others as it may be.
     pub fn waiting_rows(&mut self, hashes: &[Hash], others: &[Hash]) -> Vec<WaitingRow> {
         let rows = hashes.iter();
         rows.map(|&hash| {
@@ -209,7 +209,8 @@ pub fn row_faults(rows: &[Row], row: usize) -> Vec<Fault<[u8; ROW]>> {
         record
     };
     let mut faults = Vec::new();
-    for count in [16, 17, 255, 256, 256 + used, 4_096 + used, 65_535] {
+    let many = [DEPENDENCIES + 1, DEPENDENCIES + 2, 255, 65_535];
+    for count in many.into_iter().chain([256, 256 + used, (1 << 12) + used]) {
         faults.push((format!("count {count}"), with_number(0, count)));
     }
     // A zero that comes into use is row 0: no row of a first row, nor of one that
@@ -246,7 +247,7 @@ fn bad_numbers(row: usize) -> Vec<Vec<usize>> {
         vec![row],
         vec![row + 1],
         vec![row + 256],
-        vec![1_024],
+        vec![ROWS],
         vec![65_535],
     ];
     if row >= 1 {
@@ -293,7 +294,8 @@ pub fn waiting_faults(
         record
     };
     let mut faults = Vec::new();
-    for count in [16, 17, 128, 255] {
+    let most = DEPENDENCIES as u8;
+    for count in [most + 1, most + 2, 128, 255] {
         faults.push((format!("count {count}"), with_byte(HASH, count)));
     }
     if good

@@ -2,12 +2,13 @@
 //! and 10): a field is kept as its bits, one by one, and every product is taken
 //! in 128 bits.
 
-use super::{number, number_bytes, part, Refused, HASH, HASHES, MOST_OF_A_FILTER};
+use super::{number, number_bytes, part, Refused, HASH, LIST_SIZE, MOST_OF_A_FILTER};
+use bisquetower::limits;
 use bisquetower::raw::{Read, Reader};
 
-/// "Filter bit field 8,192 bytes; probes 64".
-const FIELD: u128 = 8_192;
-const PROBES: u64 = 64;
+/// As wide as the products that they are held against.
+const FIELD: u128 = limits::FIELD_SIZE as u128;
+const PROBES: u64 = limits::PROBES as u64;
 
 /// "no bytes means entries 0, bits 10, probes 7".
 pub const DEFAULT_BITS: u64 = 10;
@@ -122,7 +123,7 @@ pub fn built(bits: u64, probes: u64, lent: &[u8]) -> Result<Vec<u8>, Refused> {
     if !keeps_rules(entries, bits, probes, size) {
         return Err((10, 0));
     }
-    if lent.len() > HASH * HASHES as usize {
+    if lent.len() > LIST_SIZE {
         return Err((4, 0));
     }
     if !lent.len().is_multiple_of(HASH) {

@@ -3,10 +3,9 @@
 
 use super::filter::{built, contains, keeps_rules, Filter};
 use super::table::{hashes_of, Hash};
-use super::{number_bytes, words, Refused, HASH, HASHES};
+use super::{number_bytes, words, Refused, HASH, LIST_SIZE};
 
-/// "haves 16".
-pub const HAVES: usize = 16;
+pub use bisquetower::limits::HAVES;
 
 /// Words of a have's record: place and count of its last-sync hashes, entries,
 /// bits, probes, place and length of the field.
@@ -75,9 +74,9 @@ impl OwnHave {
 }
 
 /// The haves of a list of records; 10 if it isn't whole records, or if of the
-/// first sixteen one has last-sync hashes or a field outside the bytes or breaks
-/// the filter rules. Those after the sixteenth aren't looked at: they are too
-/// many in any case, and stand here as haves of nothing.
+/// first `HAVES` one has last-sync hashes or a field outside the bytes or breaks
+/// the filter rules. Those after them aren't looked at: they are too many in any
+/// case, and stand here as haves of nothing.
 pub fn haves<'a>(s: &'a [u8], records: &[u64]) -> Result<Vec<Have<'a>>, Refused> {
     if !records.len().is_multiple_of(HAVE_WORDS) {
         return Err((10, 0));
@@ -122,10 +121,10 @@ fn at_place(s: &[u8], place: u64, length: u128) -> Option<&[u8]> {
     inside.then(|| &s[place as usize..end as usize])
 }
 
-/// 4 for more than sixteen haves, and for one with more last-sync hashes than a
+/// 4 for more than `HAVES` haves, and for one with more last-sync hashes than a
 /// list may have.
 pub fn limited(haves: &[Have]) -> Result<(), Refused> {
-    let long = |have: &Have| have.last_sync.len() > HASH * HASHES as usize;
+    let long = |have: &Have| have.last_sync.len() > LIST_SIZE;
     match haves.len() > HAVES || haves.iter().any(long) {
         true => Err((4, 0)),
         false => Ok(()),

@@ -8,9 +8,7 @@ use super::{hash_list_bytes, hashes, number, number_bytes, prefixed, prefixed_by
 use super::{Refused, HASH, MOST};
 use bisquetower::raw::{Read, Reader};
 
-/// "Message at most 4,194,304 bytes", "chunks 4,096".
-pub const MESSAGE: usize = 4_194_304;
-pub const CHUNKS: u64 = 4_096;
+pub use bisquetower::limits::{CHUNKS, MESSAGE_SIZE as MESSAGE};
 
 /// Words of an answer, and of a chunk's record: place and length.
 pub const ANSWER_WORDS: usize = 14;
@@ -156,7 +154,7 @@ pub fn parse(s: &[u8]) -> Result<Message, Refused> {
         next = after;
     }
 
-    let (count, chunks_at) = counted(s, next, CHUNKS)?;
+    let (count, chunks_at) = counted(s, next, CHUNKS as u64)?;
     let mut chunks = Vec::new();
     let mut next = chunks_at;
     for _ in 0..count {
@@ -242,7 +240,7 @@ pub fn bytes(parts: &Parts) -> Result<Vec<u8>, Refused> {
     let heads = hash_list_bytes(parts.heads)?;
     let need = hash_list_bytes(parts.need)?;
     limited(&haves)?;
-    if parts.lengths.len() as u64 > CHUNKS {
+    if parts.lengths.len() > CHUNKS {
         return Err((4, 0));
     }
     let chunks = pieces(parts.chunks, parts.lengths)?;

@@ -8,8 +8,9 @@ use super::session::{laid, put, short, Value};
 use super::state::{
     Lists, HAVE_RESPONDED, IN_FLIGHT, NEEDS_RESET, PEER_READ_ONLY, READ_ONLY, RESET, V2, WORDS,
 };
-use super::table::{self, Hash, Table, Waiting, HASHES};
+use super::table::{self, Hash, Table, Waiting};
 use super::Refused;
+use bisquetower::limits::SENT_HASHES;
 
 /// "reset 1, read-only 2, supports reset 4".
 pub const FLAG_RESET: u64 = 1;
@@ -68,7 +69,7 @@ pub fn planned(table: &Table, waiting: &Waiting, s: &Value) -> Result<Planned, R
 
     let mut after = s.clone();
     after.sent.extend(&hashes);
-    if after.sent.len() > HASHES {
+    if after.sent.len() > SENT_HASHES {
         return Err((4, 0));
     }
     after.last_sent.clone_from(&heads);

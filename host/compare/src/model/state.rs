@@ -4,6 +4,7 @@
 
 use super::have::{haves, limited, HAVES, HAVE_WORDS};
 use super::{hashes, number_bytes, Refused, HASH, HASHES};
+use bisquetower::limits::SENT_HASHES;
 use bisquetower::raw::{Read, Reader};
 
 pub const WORDS: usize = 16;
@@ -118,7 +119,7 @@ pub fn read(s: &[u8], shared: &mut [u8], session: &mut [u64; WORDS]) -> [u64; 4]
 
 /// A saved state of the first hashes of a buffer.
 pub fn bytes(shared: &[u8], count: usize) -> Result<Vec<u8>, Refused> {
-    if !list_good(count as u64, shared) {
+    if !list_good(count as u64, HASHES, shared) {
         return Err((10, 0));
     }
     let heads = &shared[..HASH * count];
@@ -142,19 +143,19 @@ pub struct Lists<'a> {
 /// strictly ascending", or where a kept filter is bad.
 pub fn checked(words: &[u64; WORDS], lists: &Lists) -> [u64; 4] {
     let s = Session::of(words);
-    let heard = |count: Option<u64>, list| count.is_none_or(|count| list_good(count, list));
-    let good = list_good(s.shared, lists.shared)
-        && list_good(s.last_sent, lists.last_sent)
+    let heard = |count: Option<u64>, list| count.is_none_or(|count| list_good(count, HASHES, list));
+    let good = list_good(s.shared, HASHES, lists.shared)
+        && list_good(s.last_sent, HASHES, lists.last_sent)
         && heard(s.their_heads, lists.their_heads)
         && heard(s.their_need, lists.their_need)
         && s.their_have.is_none_or(|count| haves_good(count, lists))
-        && list_good(s.sent, lists.sent)
+        && list_good(s.sent, SENT_HASHES, lists.sent)
         && ascending(&lists.sent[..HASH * s.sent as usize]);
     super::words(if good { Ok([0, 0, 0]) } else { Err((10, 0)) })
 }
 
-fn list_good(count: u64, list: &[u8]) -> bool {
-    count <= HASHES && HASH as u128 * u128::from(count) <= list.len() as u128
+fn list_good(count: u64, most: usize, list: &[u8]) -> bool {
+    count <= most as u64 && HASH as u128 * u128::from(count) <= list.len() as u128
 }
 
 fn ascending(hashes: &[u8]) -> bool {

@@ -4,19 +4,13 @@
 //! The index is tested and then left alone; nothing is looked up in it.
 
 use crate::model::Refused;
+use bisquetower::limits::{LIST_SIZE, TABLE_SIZE, WAITING_SIZE};
 use std::collections::{BTreeMap, BTreeSet, HashMap, HashSet};
 
-/// "Hash 32 bytes", "Change row, 64 bytes", "Waiting row, 544 bytes".
-pub const HASH: usize = 32;
-pub const ROW: usize = 64;
-pub const WAITING_ROW: usize = 544;
-
-/// "Rows 1,024; waiting rows 1,024; dependencies of a change 15. Each hash list
-/// 1,024".
-pub const ROWS: usize = 1_024;
-pub const WAITING_ROWS: usize = 1_024;
-pub const DEPENDENCIES: usize = 15;
-pub const HASHES: usize = 1_024;
+pub use bisquetower::limits::{DEPENDENCIES, HASHES, ROWS, WAITING_ROWS};
+pub use bisquetower::limits::{
+    HASH_SIZE as HASH, ROW_SIZE as ROW, WAITING_ROW_SIZE as WAITING_ROW,
+};
 
 pub type Hash = [u8; HASH];
 
@@ -38,7 +32,7 @@ pub type Waiting = HashMap<Hash, Vec<Hash>>;
 /// "A table of more bytes than its limit gives 4 just before its rows are
 /// tested"; 6 names the first bad row.
 pub fn table(lent: &[u8]) -> Result<Table, Refused> {
-    if lent.len() > ROW * ROWS {
+    if lent.len() > TABLE_SIZE {
         return Err((4, 0));
     }
     let mut table = Table::default();
@@ -52,9 +46,9 @@ pub fn table(lent: &[u8]) -> Result<Table, Refused> {
     Ok(table)
 }
 
-/// "hash; count (u16, little-endian, at most 15); fifteen u16 row numbers, those
-/// in use strictly ascending and below the own row, the others 0". None if the
-/// record isn't so, or isn't whole.
+/// A hash; a count, two bytes, little-endian, at most `DEPENDENCIES`; as many row
+/// numbers of two bytes, "those in use strictly ascending and below the own row, the
+/// others 0". None if the record isn't so, or isn't whole.
 fn change_row(record: &[u8], own: usize) -> Option<Row> {
     if record.len() < ROW {
         return None;
@@ -107,7 +101,7 @@ fn fits(table: &Table, index: &[u8]) -> bool {
 /// The rows of a waiting table beside this change table; 9 names the first bad
 /// row, 4 a table that is too long.
 pub fn waiting(table: &Table, lent: &[u8]) -> Result<Waiting, Refused> {
-    if lent.len() > WAITING_ROW * WAITING_ROWS {
+    if lent.len() > WAITING_SIZE {
         return Err((4, 0));
     }
     let mut waiting = Waiting::new();
@@ -121,8 +115,8 @@ pub fn waiting(table: &Table, lent: &[u8]) -> Result<Waiting, Refused> {
     Ok(waiting)
 }
 
-/// "hash; count byte (at most 15) and 31 zeros; fifteen hashes, unused ones
-/// zero".
+/// A hash; a "count byte" of at most `DEPENDENCIES` "and 31 zeros"; as many hashes,
+/// "unused ones zero".
 fn waiting_row(record: &[u8]) -> Option<(Hash, Vec<Hash>)> {
     if record.len() < WAITING_ROW {
         return None;
@@ -141,7 +135,7 @@ fn waiting_row(record: &[u8]) -> Option<(Hash, Vec<Hash>)> {
 /// A hash list that is lent as bytes: more bytes than its limit is 4, else a
 /// partial hash at its end is 1 at that hash's start.
 pub(crate) fn hash_list(lent: &[u8]) -> Result<Vec<Hash>, Refused> {
-    if lent.len() > HASH * HASHES {
+    if lent.len() > LIST_SIZE {
         return Err((4, 0));
     }
     let cut = lent.len() % HASH;

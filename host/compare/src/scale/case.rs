@@ -1,6 +1,7 @@
 //! An input of any kind: lent bytes and numbers.
 
 use crate::inputs::Random;
+use bisquetower::limits::TO_SEND_SIZE;
 use std::fmt::Write as _;
 use std::panic::{catch_unwind, AssertUnwindSafe};
 
@@ -92,7 +93,7 @@ pub fn apart(first_word: u64) -> bool {
     matches!(first_word, 4..=7 | 9..=12)
 }
 
-/// How long a buffer may be that is lent by number.
+/// How long a buffer may be that is lent by number: as the longest list that is written.
 pub fn room(number: u64) -> usize {
-    number.min(1 << 16) as usize
+    number.min(TO_SEND_SIZE as u64) as usize
 }

@@ -5,6 +5,10 @@ use crate::filters::{compare_question, compare_reads, have_of, Build, Haves, Par
 use crate::inputs::Random;
 use crate::model::filter::{self, field_size, Filter};
 use crate::writes::{compare_write, Write};
+use bisquetower::limits::{FIELD_SIZE, HASH_SIZE, HAVES};
+
+/// A field that is too long, but not by much.
+const LONG: u128 = FIELD_SIZE as u128 + 808;
 
 pub fn filter(random: &mut Random) -> Case {
     let (bytes, at, end) = random.input(Random::filter);
@@ -21,7 +25,7 @@ pub fn read(case: &Case) -> Compared {
 /// A filter's numbers and field, some of which break a rule.
 fn numbers_and_field(random: &mut Random) -> ([u64; 3], Vec<u8>) {
     let (entries, bits) = random.entries_and_bits();
-    let mut numbers = [entries, bits, random.below(65) as u64];
+    let mut numbers = [entries, bits, random.probes()];
     let mut size = field_size(entries, bits) as usize;
     match random.below(12) {
         0 => size += 1,
@@ -55,17 +59,17 @@ pub fn write(case: &Case) -> Compared {
 /// Hashes, mostly whole, and mostly the crate's own 10 bits and 7 probes.
 pub fn to_build(random: &mut Random) -> Case {
     let count = match random.one_in(300) {
-        true => 1_020 + random.below(8),
+        true => random.many_hashes(),
         false => random.below(20),
     };
-    let cut = random.below(6).saturating_sub(4) * random.below(32);
-    let hashes = random.bytes(32 * count + cut);
+    let cut = random.below(6).saturating_sub(4) * random.below(HASH_SIZE);
+    let hashes = random.bytes(HASH_SIZE * count + cut);
     let [bits, probes] = match random.below(4) {
         0 => [random.below(70), random.below(70)].map(|n| n as u64),
         1 => [random.number(), random.number()],
         _ => [10, 7],
     };
-    let wanted = field_size(count as u64, bits).min(9_000) as usize;
+    let wanted = field_size(count as u64, bits).min(LONG) as usize;
     let room = random.below(3 * wanted + 2) as u64;
     Case::new([hashes], [bits, probes, room])
 }
@@ -107,14 +111,14 @@ pub fn ask(case: &Case) -> Compared {
 
 /// A seed, and most haves.
 pub fn several(random: &mut Random) -> Case {
-    Case::new([], [random.word(), 1 + random.below(16) as u64])
+    Case::new([], [random.word(), 1 + random.below(HAVES) as u64])
 }
 
 /// Asks several haves over one buffer, as they are and with a word of them changed.
 pub fn ask_several(case: &Case) -> Compared {
     let [seed, count] = case.told();
     let mut random = Random(seed);
-    let parts: Vec<_> = (0..count.min(16))
+    let parts: Vec<_> = (0..count.min(HAVES as u64))
         .map(|_| numbers_and_field(&mut random))
         .collect();
     let filters = parts

@@ -3,6 +3,7 @@
 
 use super::case::Kind;
 use super::{filters, messages, selections, sessions, states, tables, wire};
+use bisquetower::limits::{HASH_SIZE, ROW_SIZE, WAITING_ROW_SIZE};
 
 const AT_END: &[&str] = &["at", "end"];
 const BYTES: &[(&str, usize)] = &[("bytes", 1)];
@@ -52,7 +53,7 @@ pub const KINDS: &[Kind] = &[
     },
     Kind {
         name: "filters built",
-        bytes: &[("hashes", 32)],
+        bytes: &[("hashes", HASH_SIZE)],
         numbers: &["bits", "probes", "room"],
         a_round: 2_600,
         make: filters::to_build,
@@ -109,11 +110,11 @@ pub const KINDS: &[Kind] = &[
     Kind {
         name: "tables",
         bytes: &[
-            ("table", 64),
+            ("table", ROW_SIZE),
             ("index", 2),
             ("index but for the last row", 2),
-            ("waiting table", 512),
-            ("hashes", 32),
+            ("waiting table", WAITING_ROW_SIZE),
+            ("hashes", HASH_SIZE),
         ],
         numbers: &["before", "room"],
         a_round: 400,

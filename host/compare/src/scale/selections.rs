@@ -6,11 +6,12 @@ use crate::inputs::selection::{lend, Case as Choice};
 use crate::inputs::Random;
 use crate::selections::{compare, compare_cases, Selection};
 use crate::tables::Rooms;
+use bisquetower::limits::{HAVES, ROWS};
 
 /// A seed, and most rows and haves; now and then as many as there may be.
 pub fn selection(random: &mut Random) -> Case {
     let [rows, haves] = match random.one_in(400) {
-        true => [1_024, 16],
+        true => [ROWS, HAVES],
         false => [random.below(24), random.below(4)],
     };
     Case::new([], [random.word(), rows as u64, haves as u64])
@@ -19,7 +20,8 @@ pub fn selection(random: &mut Random) -> Case {
 fn drawn(case: &Case) -> (Choice, Random) {
     let [seed, rows, haves] = case.told();
     let mut random = Random(seed);
-    let [rows, haves] = [rows.min(1_024), haves.min(16)].map(|most| 0..most as usize + 1);
+    let [rows, haves] =
+        [(rows, ROWS), (haves, HAVES)].map(|(told, most)| 0..told.min(most as u64) as usize + 1);
     (random.case(rows, haves), random)
 }
 

@@ -5,6 +5,7 @@ use super::script;
 use crate::guarded::FILLS;
 use crate::inputs::Random;
 use crate::model::state::{checked, Session, WORDS};
+use crate::model::table::{ROW, ROWS};
 use crate::same_answer;
 use crate::sessions::lent::Lent;
 use crate::sessions::library::{compare_plans, compare_receipts, Planning, Receiving};
@@ -18,7 +19,7 @@ use std::ops::Range;
 /// A seed, and most rows; now and then as many as there may be.
 pub fn unit(random: &mut Random) -> Case {
     let rows = match random.one_in(500) {
-        true => 1_024,
+        true => ROWS,
         false => random.below(12),
     };
     Case::new([], [random.word(), rows as u64])
@@ -32,7 +33,7 @@ pub fn two_units(random: &mut Random) -> Case {
 /// The numbers of a case's seed, and how many rows there may be.
 fn drawn(case: &Case) -> (Random, Range<usize>) {
     let [seed, rows] = case.told();
-    (Random(seed), 0..rows.min(1_024) as usize + 1)
+    (Random(seed), 0..rows.min(ROWS as u64) as usize + 1)
 }
 
 /// Makes a session bad, most of the time.
@@ -126,7 +127,7 @@ pub fn receive(case: &Case) -> Compared {
     let (mut table, mut before, loaded) = match &outcome {
         Some(one) => (one.table.clone(), one.before, one.loaded),
         None => {
-            let rows = hearing.table.len() / 64;
+            let rows = hearing.table.len() / ROW;
             (hearing.table.clone(), rows, hearing.loaded)
         }
     };

@@ -5,11 +5,12 @@ use crate::inputs::Random;
 use crate::model::number_bytes;
 use crate::states::{compare_reads, Reading};
 use crate::writes::{compare_write, Write};
+use bisquetower::limits::HASH_SIZE;
 
 /// Shared heads, now and then around their limit.
 fn count(random: &mut Random) -> usize {
     match random.one_in(300) {
-        true => 1_020 + random.below(8),
+        true => random.many_hashes(),
         false => random.below(6),
     }
 }
@@ -18,14 +19,14 @@ fn count(random: &mut Random) -> usize {
 pub fn state(random: &mut Random) -> Case {
     let count = count(random);
     let after = random.below(4);
-    let heads = random.bytes(32 * count + after);
+    let heads = random.bytes(HASH_SIZE * count + after);
     let mut s = [&[0x43][..], &number_bytes(count as u64), &heads].concat();
     for _ in 0..random.below(3) {
         random.damage(&mut s);
     }
     let room = match random.one_in(4) {
         true => random.below(100),
-        false => 32 * count,
+        false => HASH_SIZE * count,
     };
     Case::new([s], [room as u64])
 }
@@ -41,15 +42,15 @@ pub fn read(case: &Case) -> Compared {
 pub fn written(random: &mut Random) -> Case {
     let count = count(random);
     let more = random.below(40);
-    let lent = random.bytes(32 * count + more);
+    let lent = random.bytes(HASH_SIZE * count + more);
     let said = match random.below(8) {
         0 => random.word(),
         1 => count as u64 + 1,
         _ => count as u64,
     };
     let room = match random.one_in(3) {
-        true => random.below(64 * count + 8),
-        false => 32 * count + 3,
+        true => random.below(2 * HASH_SIZE * count + 8),
+        false => HASH_SIZE * count + 3,
     };
     Case::new([lent], [said, room as u64])
 }

@@ -4,6 +4,7 @@ use super::case::{apart, room, Case, Compared};
 use crate::inputs::Random;
 use crate::wire::{compare, READERS};
 use crate::writes::{compare_write, Write};
+use bisquetower::limits::HASH_SIZE;
 use bisquetower::raw::Read;
 
 pub fn item(random: &mut Random) -> Case {
@@ -26,11 +27,15 @@ pub fn read<const READER: usize>(case: &Case) -> Compared {
 /// Bytes to be written in some way, now and then hashes around their limit.
 pub fn written(random: &mut Random) -> Case {
     let length = match random.one_in(200) {
-        true => 32 * (1_020 + random.below(8)),
+        true => HASH_SIZE * random.many_hashes(),
         false => random.below(200),
     };
     let whole = random.one_in(2);
-    let bytes = random.bytes(if whole { length / 32 * 32 } else { length });
+    let bytes = random.bytes(if whole {
+        length / HASH_SIZE * HASH_SIZE
+    } else {
+        length
+    });
     let room = random.below(2 * length + 12) as u64;
     let way = random.below(3) as u64;
     Case::new([bytes], [way, random.number(), room])

@@ -1,6 +1,7 @@
 //! Asking: whether a filter, or one of several, contains a hash.
 
 use crate::{field_of, lists, random_filter, with_field, COUNTS};
+use bisquetower::limits::{FIELD_SIZE, HAVES, PROBES};
 use bisquetower::raw;
 use compare::filters::Haves;
 use compare::inputs::filter::{edges, hash_of};
@@ -21,7 +22,7 @@ fn whole_hashes(bytes: &[u8]) -> Vec<[u8; 32]> {
         .collect()
 }
 
-/// Every hash of lists of 0 to 1,024, asked of the filter that the library built of
+/// Every hash of lists of none to as many as there may be, asked of the filter that the library built of
 /// them, against crate and model: all of them are contained.
 #[test]
 fn added_hashes_are_contained() {
@@ -61,12 +62,12 @@ fn false_yeses_are_the_crates() {
 }
 
 /// Hashes with each of their three words at 0, 1, m - 1, m, m + 1 and 2^32 - 1, every
-/// number of probes, fields of 1 byte to 8,192, against crate and model.
+/// number of probes, fields of 1 byte to as many as there may be, against crate and model.
 #[test]
 fn words_at_the_edges_of_a_field() {
     let mut random = Random(6);
     let mut yes = 0;
-    for size in [1, 2, 3, 7, 8, 9, 31, 160, 1_280, 8_191, 8_192] {
+    for size in [1, 2, 3, 7, 8, 9, 31, 160, 1_280, FIELD_SIZE - 1, FIELD_SIZE] {
         let m = 8 * size as u32;
         let mut hashes = Vec::new();
         for x in edges(m) {
@@ -75,7 +76,7 @@ fn words_at_the_edges_of_a_field() {
             }
         }
         let step = if size < 100 { 1 } else { 9 };
-        for probes in (0..=64).step_by(step) {
+        for probes in (0..=PROBES as u64).step_by(step) {
             let field = random.field(size);
             let haves = Haves::one(Filter {
                 entries: u64::from(m),
@@ -89,7 +90,7 @@ fn words_at_the_edges_of_a_field() {
     assert!(yes > 10_000, "{yes}");
 }
 
-/// Two million questions to one to sixteen random filters in one list over one
+/// Two million questions to one to `HAVES` random filters in one list over one
 /// buffer, ones without entries among them, against the crate's filters one after
 /// the other and against the model.
 #[test]
@@ -101,7 +102,7 @@ fn random_questions() {
         let count = if random.one_in(3) {
             1
         } else {
-            1 + random.below(16)
+            1 + random.below(HAVES)
         };
         let parts: Vec<_> = (0..count).map(|_| random_filter(&mut random)).collect();
         let filters: Vec<Filter> = parts.iter().map(with_field).collect();

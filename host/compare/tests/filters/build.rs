@@ -1,6 +1,7 @@
 //! Building: the field of a filter over a list of hashes; refusals 10, 4, 1 and 7.
 
 use crate::{compare_writes, every, lists, COUNTS};
+use bisquetower::limits::{FIELD_SIZE, HASHES, LIST_SIZE, PROBES};
 use compare::filters::Build;
 use compare::inputs::{Random, Seed};
 use compare::model::filter::field_size;
@@ -34,13 +35,13 @@ fn built_filters() {
     }
 }
 
-/// Every number of bits from 1 to 64 and of probes from 0 to 64 over short lists,
-/// and some over long ones, against the model's field.
+/// Every number of bits from 1 to 64 and every good number of probes over short lists, and
+/// some over long ones, against the model's field.
 #[test]
 fn built_with_other_numbers() {
     let mut random = Random(3);
     for bits in 1..=64 {
-        for probes in 0..=64 {
+        for probes in 0..=PROBES as u64 {
             let count = random.of(&[1, 2, 3, 15, 16, 17]);
             let wanted = field_size(count as u64, bits) as usize;
             let kind = random.below(3);
@@ -57,10 +58,12 @@ fn built_with_other_numbers() {
             }
         }
     }
-    // As many bits as a field may have, for one hash and for two.
-    for (count, bits) in [(1, 65_536), (2, 32_768), (1_024, 64)] {
+    // As many bits as a field may have, for one hash, for two and for all.
+    let (field, probes) = (8 * FIELD_SIZE as u64, PROBES as u64);
+    for count in [1, 2, HASHES] {
         let hashes = random.bytes(32 * count);
-        assert_eq!(compare_writes(built(bits, 64, &hashes), [8_192]), 1);
+        let build = built(field / count as u64, probes, &hashes);
+        assert_eq!(compare_writes(build, [FIELD_SIZE]), 1);
     }
 }
 
@@ -70,34 +73,39 @@ fn built_with_other_numbers() {
 #[test]
 fn refused_lists() {
     let most = u64::from(u32::MAX);
-    let bytes = vec![0x5a; 32 * 1_100];
+    let bytes = vec![0x5a; LIST_SIZE + 32 * 2];
+    let (field, probes) = (FIELD_SIZE as u64, PROBES as u64);
+    // The bits of each of all hashes that a list may have, in the longest field.
+    let each = 8 * field / HASHES as u64;
+    let last = LIST_SIZE as u64 - 32;
+    let ten = 10 * HASHES as u64 / 8;
     // Bits, probes, bytes of the list, and the answer in room enough.
     let cases = [
         (10, 7, 0, [0, 0, 0, 0]),
         (10, 7, 1, [1, 0, 0, 0]),
         (10, 7, 31, [1, 0, 0, 0]),
         (10, 7, 33, [1, 32, 0, 0]),
-        (10, 7, 32 * 1_024 - 1, [1, 32 * 1_023, 0, 0]),
-        (10, 7, 32 * 1_024, [0, 1_280, 0, 0]),
-        (10, 7, 32 * 1_024 + 1, [4, 0, 0, 0]),
-        (10, 7, 32 * 1_025, [4, 0, 0, 0]),
-        (10, 7, 32 * 1_025 + 5, [4, 0, 0, 0]),
-        (10, 65, 0, [0, 0, 0, 0]),
-        (10, 65, 31, [1, 0, 0, 0]),
-        (10, 64, 32, [0, 2, 0, 0]),
-        (10, 65, 32, [10, 0, 0, 0]),
-        (10, 65, 33, [10, 0, 0, 0]),
-        (10, 65, 32 * 1_025, [10, 0, 0, 0]),
+        (10, 7, LIST_SIZE - 1, [1, last, 0, 0]),
+        (10, 7, LIST_SIZE, [0, ten, 0, 0]),
+        (10, 7, LIST_SIZE + 1, [4, 0, 0, 0]),
+        (10, 7, LIST_SIZE + 32, [4, 0, 0, 0]),
+        (10, 7, LIST_SIZE + 37, [4, 0, 0, 0]),
+        (10, probes + 1, 0, [0, 0, 0, 0]),
+        (10, probes + 1, 31, [1, 0, 0, 0]),
+        (10, probes, 32, [0, 2, 0, 0]),
+        (10, probes + 1, 32, [10, 0, 0, 0]),
+        (10, probes + 1, 33, [10, 0, 0, 0]),
+        (10, probes + 1, LIST_SIZE + 32, [10, 0, 0, 0]),
         (0, 7, 0, [0, 0, 0, 0]),
         (0, 7, 31, [1, 0, 0, 0]),
         (0, 7, 32, [10, 0, 0, 0]),
-        (0, 7, 32 * 1_025 + 1, [10, 0, 0, 0]),
-        (64, 7, 32 * 1_024, [0, 8_192, 0, 0]),
-        (65, 7, 32 * 1_024, [10, 0, 0, 0]),
-        (64, 7, 32 * 1_025, [10, 0, 0, 0]),
-        (63, 7, 32 * 1_025, [4, 0, 0, 0]),
-        (65_536, 7, 32, [0, 8_192, 0, 0]),
-        (65_537, 7, 32, [10, 0, 0, 0]),
+        (0, 7, LIST_SIZE + 33, [10, 0, 0, 0]),
+        (each, 7, LIST_SIZE, [0, field, 0, 0]),
+        (each + 1, 7, LIST_SIZE, [10, 0, 0, 0]),
+        (each, 7, LIST_SIZE + 32, [10, 0, 0, 0]),
+        (each - 1, 7, LIST_SIZE + 32, [4, 0, 0, 0]),
+        (8 * field, 7, 32, [0, field, 0, 0]),
+        (8 * field + 1, 7, 32, [10, 0, 0, 0]),
         (most, most, 0, [0, 0, 0, 0]),
         (most + 1, 7, 0, [10, 0, 0, 0]),
         (10, most + 1, 0, [10, 0, 0, 0]),
@@ -108,7 +116,7 @@ fn refused_lists() {
     ];
     for (bits, probes, length, expected) in cases {
         let build = built(bits, probes, &bytes[..length]);
-        let answers = compare_rooms(build, [9_000, 8_192, 0]).unwrap();
+        let answers = compare_rooms(build, [FIELD_SIZE + 808, FIELD_SIZE, 0]).unwrap();
         let short = match expected {
             [0, wanted, ..] if wanted > 0 => [7, wanted, 0, 0],
             _ => expected,

@@ -1,6 +1,7 @@
 //! Lists of haves and hashes that are refused with 10, 4 or 1.
 
 use crate::{random_filter, with_field};
+use bisquetower::limits::{HASHES, HAVES, HAVES_WORDS, LIST_SIZE, PROBES};
 use compare::filters::compare_question;
 use compare::inputs::Seed;
 use compare::model::filter::Filter;
@@ -35,7 +36,7 @@ fn refused_haves() {
         (0, 101, false),
         (1, 3, true),
         (1, 4, false),
-        (1, 1_025, false),
+        (1, HASHES as u64 + 1, false),
         (2, 19, false),
         (2, 21, false),
         (2, 0, false),
@@ -43,8 +44,8 @@ fn refused_haves() {
         (3, 9, false),
         (3, 11, false),
         (4, 0, true),
-        (4, 64, true),
-        (4, 65, false),
+        (4, PROBES as u64, true),
+        (4, PROBES as u64 + 1, false),
         (5, 0, true),
         (5, 75, true),
         (5, 76, false),
@@ -61,12 +62,12 @@ fn refused_haves() {
         let told = format!("word {word} is {value}");
         let expected = if good { [0, 1, 0, 0] } else { BAD };
         assert_eq!(question(&s, &have, &HASH), expected, "{told}");
-        let sixteen = [GOOD.repeat(15), have.to_vec()].concat();
-        assert_eq!(question(&s, &sixteen, &HASH), expected, "{told}");
-        // The seventeenth isn't looked at, and is one too many.
-        let last = [GOOD.repeat(16), have.to_vec()].concat();
-        assert_eq!(question(&s, &last, &HASH), [4, 0, 0, 0], "{told}");
-        let first = [have.to_vec(), GOOD.repeat(16)].concat();
+        let last = [GOOD.repeat(HAVES - 1), have.to_vec()].concat();
+        assert_eq!(question(&s, &last, &HASH), expected, "{told}");
+        // One more isn't looked at, and is one too many.
+        let over = [GOOD.repeat(HAVES), have.to_vec()].concat();
+        assert_eq!(question(&s, &over, &HASH), [4, 0, 0, 0], "{told}");
+        let first = [have.to_vec(), GOOD.repeat(HAVES)].concat();
         let expected = if good { [4, 0, 0, 0] } else { BAD };
         assert_eq!(question(&s, &first, &HASH), expected, "{told}");
     }
@@ -114,33 +115,30 @@ fn refused_last_sync_places() {
     }
 }
 
-/// 1,024 and 1,025 last-sync hashes, all of them there, in one have and in one of
-/// several, against the model: 4 after 10, before the hash's length.
+/// As many last-sync hashes as there may be and one more, all of them there, in one have
+/// and in one of several, against the model: 4 after 10, before the hash's length.
 #[test]
 fn too_many_last_sync_hashes() {
     const LONG: [u64; 4] = [4, 0, 0, 0];
-    let s = vec![0xff; 32 * 1_025];
+    let most = HASHES as u64;
+    let s = vec![0xff; LIST_SIZE + 32];
     let have = |count| [0, count, 20, 10, 7, 70, 25];
     let mut bad = GOOD;
-    bad[4] = 65;
-    for (count, expected) in [(1_024, [0, 1, 0, 0]), (1_025, LONG), (1_026, BAD)] {
+    bad[4] = PROBES as u64 + 1;
+    for (count, expected) in [(most, [0, 1, 0, 0]), (most + 1, LONG), (most + 2, BAD)] {
         let one = have(count);
         assert_eq!(question(&s, &one, &HASH), expected, "{count}");
-        for before in [1, 7, 15] {
+        for before in [1, 7, HAVES - 1] {
             let several = [GOOD.repeat(before), one.to_vec()].concat();
             assert_eq!(question(&s, &several, &HASH), expected, "{count}");
         }
-        let seventeen = [one.to_vec(), GOOD.repeat(16)].concat();
-        let first = if count > 1_025 { BAD } else { LONG };
-        assert_eq!(question(&s, &seventeen, &HASH), first, "{count}");
+        let many = [one.to_vec(), GOOD.repeat(HAVES)].concat();
+        let first = if count > most + 1 { BAD } else { LONG };
+        assert_eq!(question(&s, &many, &HASH), first, "{count}");
         // A bad have after it comes first, a hash of another length last.
         let both = [one, bad].concat();
         assert_eq!(question(&s, &both, &HASH), BAD, "{count}");
-        let short = if count > 1_024 {
-            expected
-        } else {
-            [1, 0, 0, 0]
-        };
+        let short = if count > most { expected } else { [1, 0, 0, 0] };
         assert_eq!(question(&s, &one, &HASH[..31]), short, "{count}");
     }
 }
@@ -151,12 +149,13 @@ fn too_many_last_sync_hashes() {
 fn refused_lists_and_hashes() {
     let s = [0xff; 100];
     let long = [0x5a; 64];
-    for words in 0..=18 * HAVE_WORDS {
-        let haves = &GOOD.repeat(18)[..words];
+    let many = GOOD.repeat(HAVES + 2);
+    for words in 0..=many.len() {
+        let haves = &many[..words];
         for length in [0, 1, 12, 31, 32, 33, 64] {
             let expected = match length {
                 _ if words % HAVE_WORDS != 0 => BAD,
-                _ if words > 16 * HAVE_WORDS => [4, 0, 0, 0],
+                _ if words > HAVES_WORDS => [4, 0, 0, 0],
                 33.. => [4, 0, 0, 0],
                 32 => [0, u64::from(words > 0), 0, 0],
                 _ => [1, 0, 0, 0],
@@ -167,7 +166,7 @@ fn refused_lists_and_hashes() {
     }
     // A bad have comes before the hash's length.
     let mut bad = GOOD;
-    bad[4] = 65;
+    bad[4] = PROBES as u64 + 1;
     for length in [0, 31, 32, 33] {
         assert_eq!(question(&s, &bad, &long[..length]), BAD);
     }

@@ -1,6 +1,7 @@
 //! Reading: n, b, p, the field's place and length, the next place; refusals 1, 3,
 //! 4 and 5 with their places.
 
+use bisquetower::limits::{FIELD_SIZE, PROBES};
 use bisquetower::raw;
 use compare::filters::{compare_reads, difference, Difference, Part, Tally};
 use compare::inputs::filter::number_forms_in_filters;
@@ -96,7 +97,8 @@ fn places_and_ends_anywhere() {
         inputs.extend(strings(&TELLING, length));
     }
     inputs.push(vec![9, 1, 10, 7, 0x0b, 0x0f, 1, 2]);
-    inputs.push(vec![1, 10, 64, 1, 10, 65, 1, 0, 7]);
+    let most = PROBES as u8;
+    inputs.push(vec![1, 10, most, 1, 10, most + 1, 1, 0, 7]);
     inputs.push(vec![0x80; 12]);
     inputs.push([vec![1, 1], vec![0x80; 9], vec![1]].concat());
     for some in inputs.chunks(100) {
@@ -138,15 +140,20 @@ fn filter_bytes(entries: u64, bits: u64, probes: u64, field: usize) -> Vec<u8> {
     [numbers, vec![0x5a; field]].concat()
 }
 
-/// Fields of 8,191, 8,192 and 8,193 bytes and of products past 32 and 64 bits,
+/// Fields of about as many bytes as there may be and of products past 32 and 64 bits,
 /// whole, with bytes after them, and cut around their ends, against crate and
 /// model.
 #[test]
 fn fields_around_their_limit() {
     let most = u64::from(u32::MAX);
-    let mut pairs = vec![(1_024, 64), (64, 1_024), (6_553, 10), (6_554, 10)];
-    for product in [65_527, 65_528, 65_529, 65_535, 65_536, 65_537, 65_545] {
-        pairs.extend([(product, 1), (1, product)]);
+    let long = 8 * FIELD_SIZE as u64;
+    let (whole, tens) = (long / 64, long / 10);
+    let mut pairs = vec![(whole, 64), (64, whole), (tens, 10), (tens + 1, 10)];
+    for less in [9, 8, 7, 1, 0] {
+        pairs.extend([(long - less, 1), (1, long - less)]);
+    }
+    for more in [1, 9] {
+        pairs.extend([(long + more, 1), (1, long + more)]);
     }
     // Products that are 0 or small in 32 bits, and the largest of all.
     pairs.extend([(1 << 16, 1 << 16), (1 << 31, 2), (3, 1_431_655_766)]);
@@ -154,8 +161,8 @@ fn fields_around_their_limit() {
     let mut tally = Tally::default();
     for (entries, bits) in pairs {
         let size = field_size(entries, bits);
-        let lent = size.min(8_200) as usize;
-        for probes in [0, 7, 64, 65] {
+        let lent = size.min(FIELD_SIZE as u128 + 8) as usize;
+        for probes in [0, 7, PROBES as u64, PROBES as u64 + 1] {
             let bytes = filter_bytes(entries, bits, probes, lent + 3);
             let start = bytes.len() - lent - 3;
             let near = |cut: &usize| *cut <= start + 2 || cut + 9 > bytes.len();
@@ -168,11 +175,12 @@ fn fields_around_their_limit() {
     assert!(tally.answers[0] > 50 && tally.answers[4] > 50, "{tally:?}");
 }
 
-/// Every number of probes from 0 to 66 and some larger, with bits and without, with
+/// Every number of probes up to two too many and some larger, with bits and without, with
 /// entries and without, against crate and model.
 #[test]
 fn probes_around_their_limit() {
-    let probes = (0..=66).chain([127, 128, 1 << 16, (1 << 32) - 1, 1 << 32]);
+    let most = PROBES as u64;
+    let probes = (0..=most + 2).chain([127, 128, 1 << 16, (1 << 32) - 1, 1 << 32]);
     let mut tally = Tally::default();
     for p in probes {
         for (entries, bits) in [(1, 10), (1, 0), (0, 10), (0, 0), (3, 5)] {
@@ -181,8 +189,9 @@ fn probes_around_their_limit() {
             tally.add(&compare_all(&parts.collect::<Vec<Part>>()));
         }
     }
-    // 0 bits: every number of probes that is one; over 64: (1, 10) and (3, 5).
-    assert_eq!((tally.answers[5], tally.answers[4]), (71 * 4, 6 * 8));
+    // 0 bits: every number of probes that is one; over the most: (1, 10) and (3, 5).
+    let good = most + 7;
+    assert_eq!((tally.answers[5], tally.answers[4]), (good * 4, 6 * 8));
 }
 
 /// Filters without entries, bits and probes at every boundary and bytes after
@@ -262,9 +271,10 @@ fn settled_readings() {
     assert_eq!(read(&[1, 0x80, 0x80, 0x80, 0x80, 0x80]), refused(3, 1));
     assert_eq!(read(&[1, 0x80, 0x80, 0x80, 0x80]), refused(1, 1));
     // A cut field has the place of its own first byte; 4 and 5 that of n.
+    let many = PROBES as u8 + 1;
     assert_eq!(raw::read_filter(&[9, 1, 10, 7, 3], 1, 5), refused(1, 4));
-    assert_eq!(raw::read_filter(&[9, 1, 10, 65], 1, 4), refused(4, 1));
-    assert_eq!(raw::read_filter(&[9, 1, 0, 65], 1, 4), refused(5, 1));
+    assert_eq!(raw::read_filter(&[9, 1, 10, many], 1, 4), refused(4, 1));
+    assert_eq!(raw::read_filter(&[9, 1, 0, many], 1, 4), refused(5, 1));
     // Without entries b and p may be anything; what follows is ignored.
     assert_eq!(read(&[0, 0, 0x80, 1, 5, 5]), [0, 0, 0, 128, 4, 0, 4, 2]);
     assert_eq!(read(&[0, 0, 0x80]), refused(1, 2));
@@ -278,7 +288,8 @@ fn settled_readings() {
 /// The intended differences at their smallest, crate beside library.
 #[test]
 fn differences_are_the_three_that_are_intended() {
-    let long = filter_bytes(65_537, 1, 7, 8_193);
+    let long = filter_bytes(8 * FIELD_SIZE as u64 + 1, 1, 7, FIELD_SIZE + 1);
+    let many = PROBES as u8 + 1;
     let cases: [(&[u8], Difference, u64, u64); 7] = [
         (&[0x80; 5], Difference::CutNumber, 3, 1),
         (
@@ -288,10 +299,10 @@ fn differences_are_the_three_that_are_intended() {
             1,
         ),
         (&[1, 0, 7], Difference::NoBits, 5, 0),
-        (&[1, 10, 65, 0, 0], Difference::PastSize, 4, 0),
-        (&[1, 10, 65, 0], Difference::PastSize, 4, 1),
+        (&[1, 10, many, 0, 0], Difference::PastSize, 4, 0),
+        (&[1, 10, many, 0], Difference::PastSize, 4, 1),
         (&long, Difference::PastSize, 4, 0),
-        (&long[..8_000], Difference::PastSize, 4, 1),
+        (&long[..FIELD_SIZE - 192], Difference::PastSize, 4, 1),
     ];
     for (s, kind, here, there) in cases {
         assert_eq!(difference(Part::alone(s)), Some((kind, there)));

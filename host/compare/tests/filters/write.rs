@@ -1,6 +1,7 @@
 //! Writing: the bytes of a filter that is passed as numbers; refusals 10 and 7.
 
 use crate::{compare_writes, every};
+use bisquetower::limits::{FIELD_SIZE, PROBES};
 use bisquetower::raw;
 use compare::inputs::{boundary_values, Random, Seed};
 use compare::model::filter::{self, field_size, Filter};
@@ -11,19 +12,20 @@ use compare::writes::{compare_rooms, compare_write, Write};
 #[test]
 fn written_filters() {
     let mut random = Random(1);
+    let long = 8 * FIELD_SIZE as u64;
     let numbers = [
         (1, 1, 0),
         (1, 10, 7),
-        (2, 10, 64),
+        (2, 10, PROBES as u64),
         (127, 1, 1),
         (128, 3, 7),
         (1, 127, 7),
         (1, 128, 7),
         (200, 10, 7),
         (1_024, 10, 7),
-        (1_024, 64, 64),
-        (65_536, 1, 7),
-        (1, 65_536, 7),
+        (long / 64, 64, PROBES as u64),
+        (long, 1, 7),
+        (1, long, 7),
         (16_384, 4, 0),
     ];
     for (entries, bits, probes) in numbers {
@@ -67,15 +69,16 @@ fn filters_without_entries_are_no_bytes() {
 #[test]
 fn refused_filters() {
     let most = u64::from(u32::MAX);
-    let field = vec![0x5a; 8_200];
+    let field = vec![0x5a; FIELD_SIZE + 8];
+    let (long, probes) = (8 * FIELD_SIZE as u64, PROBES as u64);
     // Entries, bits, probes and bytes of the field, and whether they are a filter.
     let cases = [
         (1, 10, 7, 2, true),
         (1, 10, 7, 1, false),
         (1, 10, 7, 3, false),
         (1, 10, 7, 0, false),
-        (1, 10, 64, 2, true),
-        (1, 10, 65, 2, false),
+        (1, 10, probes, 2, true),
+        (1, 10, probes + 1, 2, false),
         (1, 10, most, 2, false),
         (1, 10, u64::MAX, 2, false),
         (1, 0, 7, 0, false),
@@ -88,15 +91,15 @@ fn refused_filters() {
         (0, most + 1, 7, 0, false),
         (0, 10, most + 1, 0, false),
         (0, u64::MAX, u64::MAX, 0, false),
-        (65_536, 1, 7, 8_192, true),
-        (65_537, 1, 7, 8_192, false),
-        (65_537, 1, 7, 8_193, false),
-        (65_528, 1, 7, 8_191, true),
-        (65_529, 1, 7, 8_191, false),
-        (65_529, 1, 7, 8_192, true),
-        (1, 65_537, 7, 8_193, false),
-        (most, 1, 7, 8_192, false),
-        (most + 1, 1, 7, 8_192, false),
+        (long, 1, 7, FIELD_SIZE, true),
+        (long + 1, 1, 7, FIELD_SIZE, false),
+        (long + 1, 1, 7, FIELD_SIZE + 1, false),
+        (long - 8, 1, 7, FIELD_SIZE - 1, true),
+        (long - 7, 1, 7, FIELD_SIZE - 1, false),
+        (long - 7, 1, 7, FIELD_SIZE, true),
+        (1, long + 1, 7, FIELD_SIZE + 1, false),
+        (most, 1, 7, FIELD_SIZE, false),
+        (most + 1, 1, 7, FIELD_SIZE, false),
         (most + 1, 0, 0, 0, false),
         // Whose product is 0 or small in 32 or in 64 bits.
         (1 << 16, 1 << 16, 7, 0, false),
@@ -143,7 +146,7 @@ fn random_writes() {
         let filter = Filter {
             entries,
             bits,
-            probes: random.below(if spoilt { 80 } else { 65 }) as u64,
+            probes: random.below(if spoilt { PROBES + 16 } else { PROBES + 1 }) as u64,
             field: &field,
         };
         let room = random.below(2 * length + 12);

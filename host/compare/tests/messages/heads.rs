@@ -3,16 +3,18 @@
 //! full read, or answers at a limit.
 
 use crate::{agree, ask};
+use bisquetower::limits::{HASHES, LIST_SIZE};
 use bisquetower::raw;
 use compare::inputs::message::{good_messages, message_of_size, Draft};
 use compare::inputs::table::Likeness;
 use compare::inputs::{Random, Seed};
 use compare::messages::heads::compare_rooms;
 use compare::model::message::MESSAGE;
+use compare::model::number_bytes;
 
 /// What the library alone says, with room enough.
 fn peek(s: &[u8]) -> [u64; 4] {
-    raw::peek_heads(s, &mut vec![0; 32 * 1_024])
+    raw::peek_heads(s, &mut vec![0; LIST_SIZE])
 }
 
 /// Settled by document 02 alone; neither model nor crate is asked.
@@ -21,7 +23,10 @@ fn settled_answers() {
     assert_eq!(peek(&[]), [1, 0, 0, 0]);
     assert_eq!(peek(&[0x41]), [2, 0x41, 0, 0]);
     assert_eq!(peek(&[0x42]), [1, 1, 0, 0]);
-    assert_eq!(peek(&[0x42, 0x81, 0x08]), [4, 1, 0, 0]);
+    assert_eq!(
+        peek(&[vec![0x42], number_bytes(HASHES as u64 + 1)].concat()),
+        [4, 1, 0, 0]
+    );
     assert_eq!(peek(&[0x43, 0x80, 0x00]), [3, 1, 0, 0]);
     assert_eq!(peek(&[&[0x42, 2][..], &[9; 40]].concat()), [1, 34, 0, 0]);
     // What follows the heads isn't looked at: these are answered, and refused when read.
@@ -48,12 +53,12 @@ fn total_size() {
     assert_eq!(peek(&vec![0x41; MESSAGE]), [2, 0x41, 0, 0]);
 }
 
-/// Buffers of every size around what some heads want, and 1,024 heads, against the
-/// model.
+/// Buffers of every size around what some heads want, and as many heads as there may be,
+/// against the model.
 #[test]
 fn every_size() {
     let mut random = Random(21);
-    for heads in [0, 1, 2, 1_024] {
+    for heads in [0, 1, 2, HASHES] {
         let draft = Draft {
             heads: random.hashes(heads, Likeness::Spread),
             ..Draft::new()

@@ -2,10 +2,11 @@
 //! numbers that aren't in their shortest form.
 
 use crate::{agree, ask, first};
+use bisquetower::limits::{FIELD_SIZE, HASHES, HAVES, PROBES};
 use compare::inputs::message::{filter_string, message_of_size, Draft};
 use compare::inputs::table::Likeness;
 use compare::inputs::Random;
-use compare::model::message::MESSAGE;
+use compare::model::message::{CHUNKS, MESSAGE};
 use compare::model::number_bytes;
 
 /// A random message in which every part is there and good.
@@ -25,8 +26,8 @@ fn draft(random: &mut Random) -> Draft {
     }
 }
 
-/// Each hash list of 1,024 hashes and of 1,025, with hashes for all of them and
-/// for none, against crate and model.
+/// Each hash list of as many hashes as there may be and of one more, with hashes for all
+/// of them and for none, against crate and model.
 #[test]
 fn hash_lists() {
     let mut random = Random(11);
@@ -46,12 +47,12 @@ fn hash_lists() {
                 }
                 draft.bytes()
             };
-            let full = with(1_024, &mut random);
+            let full = with(HASHES, &mut random);
             assert_eq!(agree(&[&full]).rewritten, 1);
             let (words, haves, _) = ask(&full);
             let counts = [words[3], words[5], haves[1]];
-            assert_eq!((words[0], counts[which]), (0, 1_024), "{round}");
-            let over = with(1_025, &mut random);
+            assert_eq!((words[0], counts[which]), (0, HASHES as u64), "{round}");
+            let over = with(HASHES + 1, &mut random);
             for cut in [over.len(), place + 2, place + 2 + 40] {
                 assert_eq!(first(&over[..cut]), [4, place as u64], "{which}, {round}");
             }
@@ -59,16 +60,16 @@ fn hash_lists() {
     }
 }
 
-/// 16 haves and 17, whole and cut, against crate and model.
+/// As many haves as there may be and one more, whole and cut, against crate and model.
 #[test]
 fn haves() {
     let mut random = Random(12);
     for _ in 0..4 {
         let mut draft = draft(&mut random);
-        draft.haves = vec![draft.haves[0].clone(); 16];
+        draft.haves = vec![draft.haves[0].clone(); HAVES];
         let full = draft.bytes();
         assert_eq!(agree(&[&full]).rewritten, 1);
-        assert_eq!(ask(&full).0[7], 16);
+        assert_eq!(ask(&full).0[7], HAVES as u64);
         let place = 3 + 32 * (draft.heads.len() + draft.need.len());
         draft.haves.push(draft.haves[0].clone());
         let over = draft.bytes();
@@ -78,8 +79,8 @@ fn haves() {
     }
 }
 
-/// 4,096 chunks and 4,097, of no bytes and of some, whole and cut, against crate
-/// and model.
+/// As many chunks as there may be and one more, of no bytes and of some, whole and cut,
+/// against crate and model.
 #[test]
 fn chunks() {
     let mut random = Random(13);
@@ -91,10 +92,10 @@ fn chunks() {
             let length = random.below(most);
             random.bytes(length)
         };
-        draft.chunks = (0..4_096).map(|_| chunk(&mut random)).collect();
+        draft.chunks = (0..CHUNKS).map(|_| chunk(&mut random)).collect();
         let full = draft.bytes();
         assert_eq!(agree(&[&full]).rewritten, 1);
-        assert_eq!(ask(&full).0[9], 4_096);
+        assert_eq!(ask(&full).0[9], CHUNKS as u64);
         draft.chunks.push(Vec::new());
         let over = draft.bytes();
         for cut in [over.len(), place + 2, place + 10] {
@@ -103,16 +104,22 @@ fn chunks() {
     }
 }
 
-/// Fields of 8,192 bytes and more, 64 probes and 65, in the first have and in the
-/// last, against crate and model.
+/// Fields as long as they may be and longer, as many probes and one more, in the first
+/// have and in the last, against crate and model.
 #[test]
 fn fields_and_probes() {
     let mut random = Random(14);
-    let good = [(65_536, 1, 64), (1_024, 64, 0), (1, 65_529, 7)];
-    let over = [(65_537, 1, 7), (6_554, 10, 7), (65_600, 8, 7), (3, 5, 65)];
-    for last in [0, 15] {
+    let (field, probes) = (8 * FIELD_SIZE as u64, PROBES as u64);
+    let good = [(field, 1, probes), (field / 64, 64, 0), (1, field - 7, 7)];
+    let over = [
+        (field + 1, 1, 7),
+        (field / 10 + 1, 10, 7),
+        (field + 64, 8, 7),
+        (3, 5, probes + 1),
+    ];
+    for last in [0, HAVES - 1] {
         let mut draft = draft(&mut random);
-        draft.haves = vec![draft.haves[0].clone(); 16];
+        draft.haves = vec![draft.haves[0].clone(); HAVES];
         for (entries, bits, probes) in good {
             draft.haves[last].1 = filter_string(entries, bits, probes);
             let s = draft.bytes();
@@ -131,22 +138,23 @@ fn fields_and_probes() {
                 assert_eq!(first(&s)[0], 4, "{entries}, {bits}, {probes}");
             }
         }
-        draft.haves[last].1 = filter_string(3, 0, 65);
+        draft.haves[last].1 = filter_string(3, 0, probes + 1);
         assert_eq!(first(&draft.bytes())[0], 5);
     }
 }
 
-/// 4,194,304 bytes and one more, against crate and model; one more is told before
+/// As many bytes as there may be and one more, against crate and model; one more is told before
 /// anything else. With an empty flags section the message doesn't fit when it is
 /// written with flags of three bytes, which is 4 as well.
 #[test]
 fn total_size() {
     let full = message_of_size(MESSAGE);
-    assert_eq!(full.len(), 4_194_304);
+    let most = MESSAGE as u64;
+    assert_eq!(full.len(), MESSAGE);
     assert_eq!(agree(&[&full]).rewritten, 1);
     let (words, _, chunks) = ask(&full);
-    assert_eq!((words[0], words[9], words[11]), (0, 1, 4_194_304));
-    assert_eq!(chunks[0] + chunks[1], 4_194_304);
+    assert_eq!((words[0], words[9], words[11]), (0, 1, most));
+    assert_eq!(chunks[0] + chunks[1], most);
 
     let mut flagged = message_of_size(MESSAGE - 1);
     flagged.push(0);

@@ -1,6 +1,7 @@
 //! The two lists that a reader fills: every size, and what stands around the
 //! records.
 
+use bisquetower::limits::{CHUNKS, HAVES, HAVES_WORDS};
 use compare::inputs::message::{good_messages, Draft};
 use compare::inputs::Seed;
 use compare::messages::compare_lists;
@@ -46,9 +47,9 @@ fn one_word_short() {
         (1, 0),
         (0, 1),
         (1, 1),
-        (16, 1),
-        (1, 4_096),
-        (16, 4_096),
+        (HAVES, 1),
+        (1, CHUNKS),
+        (HAVES, CHUNKS),
     ] {
         let draft = Draft {
             haves: vec![(Vec::new(), Vec::new()); haves],
@@ -76,7 +77,7 @@ fn bad_messages_into_no_room() {
     for good in good_messages() {
         for cut in 0..good.len() {
             let s = &good[..cut];
-            let [enough, none] = answers(s, &[[112, 300], [0, 0]])[..] else {
+            let [enough, none] = answers(s, &[[HAVES_WORDS, 300], [0, 0]])[..] else {
                 panic!("two answers");
             };
             if enough[0] != 0 {

@@ -1,5 +1,6 @@
 //! Writing: refusals 10, 4, 1 and 7 in their order, with no byte changed.
 
+use bisquetower::limits::{CHUNKS, HASHES, HASH_SIZE, HAVES, LIST_SIZE, MESSAGE_SIZE, PROBES};
 use compare::inputs::message::OwnParts;
 use compare::inputs::Seed;
 use compare::writes::{compare_rooms, compare_write, Write};
@@ -47,8 +48,8 @@ const FAULTS: [Fault; 15] = [
         p.haves.push(0);
         [10, 0]
     }),
-    ("a filter of 65 probes", |p| {
-        p.haves[4] = 65;
+    ("a filter of a probe too many", |p| {
+        p.haves[4] = PROBES as u64 + 1;
         [10, 0]
     }),
     ("a field outside", |p| {
@@ -60,36 +61,36 @@ const FAULTS: [Fault; 15] = [
         p.haves[1] = 2;
         [10, 0]
     }),
-    ("1,025 heads", |p| {
-        p.heads = vec![1; 32 * 1_025];
+    ("a head too many", |p| {
+        p.heads = vec![1; LIST_SIZE + HASH_SIZE];
         [4, 0]
     }),
     ("a partial head", |p| {
         p.heads = vec![1; 32 * 3 + 31];
         [1, 96]
     }),
-    ("1,025 needs", |p| {
-        p.need = vec![2; 32 * 1_024 + 1];
+    ("a need too many", |p| {
+        p.need = vec![2; LIST_SIZE + 1];
         [4, 0]
     }),
     ("a partial need", |p| {
         p.need = vec![2; 32 * 5 + 1];
         [1, 160]
     }),
-    ("17 haves", |p| {
+    ("a have too many", |p| {
         let first: Vec<u64> = p.haves[..7].to_vec();
         let partial = p.haves.split_off(p.haves.len() / 7 * 7);
-        p.haves = [first.repeat(17), partial].concat();
+        p.haves = [first.repeat(HAVES + 1), partial].concat();
         [4, 0]
     }),
-    ("1,025 last-sync hashes", |p| {
-        p.s.resize(32 * 1_025 + 200, 0x5a);
+    ("a last-sync hash too many", |p| {
+        p.s.resize(LIST_SIZE + HASH_SIZE + 200, 0x5a);
         p.haves[0] = 100;
-        p.haves[1] = 1_025;
+        p.haves[1] = HASHES as u64 + 1;
         [4, 0]
     }),
-    ("4,097 chunks", |p| {
-        p.lengths = vec![0; 4_097];
+    ("a chunk too many", |p| {
+        p.lengths = vec![0; CHUNKS + 1];
         [4, 0]
     }),
     ("too few bytes of chunks", |p| {
@@ -101,8 +102,8 @@ const FAULTS: [Fault; 15] = [
         [1, 7]
     }),
     ("a long message", |p| {
-        p.chunks = vec![3; 4_194_304];
-        p.lengths = vec![0, 4_194_304];
+        p.chunks = vec![3; MESSAGE_SIZE];
+        p.lengths = vec![0, MESSAGE_SIZE as u64];
         [4, 0]
     }),
     ("a message longer than its room", |p| {
@@ -133,8 +134,8 @@ fn refusals_in_their_order() {
     }
 }
 
-/// Haves with one number at or past an edge, alone, as the sixteenth and as the
-/// seventeenth, against crate and model.
+/// Haves with one number at or past an edge, alone, as the last that there may be and as
+/// one more, against crate and model.
 #[test]
 fn haves_at_their_edges() {
     let most = u64::from(u32::MAX);
@@ -161,8 +162,8 @@ fn haves_at_their_edges() {
         (2, 21, false),
         (3, 0, false),
         (3, 9, false),
-        (4, 64, true),
-        (4, 65, false),
+        (4, PROBES as u64, true),
+        (4, PROBES as u64 + 1, false),
         (5, 75, true),
         (5, 76, false),
         (6, 24, false),
@@ -181,10 +182,10 @@ fn haves_at_their_edges() {
         };
         let told = format!("word {word} is {value}");
         let expected = if is_good { 0 } else { 10 };
-        assert_eq!([with(0, 0), with(15, 0)], [expected; 2], "{told}");
-        // The seventeenth isn't looked at, and is one too many.
-        assert_eq!(with(16, 0), 4, "{told}");
-        assert_eq!(with(0, 16), if is_good { 4 } else { 10 }, "{told}");
+        assert_eq!([with(0, 0), with(HAVES - 1, 0)], [expected; 2], "{told}");
+        // One more isn't looked at, and is one too many.
+        assert_eq!(with(HAVES, 0), 4, "{told}");
+        assert_eq!(with(0, HAVES), if is_good { 4 } else { 10 }, "{told}");
     }
     // A have without hashes may name the end of the bytes, and no place after it.
     for (place, expected) in [(100, 0), (101, 10), (u64::MAX, 10)] {
@@ -226,13 +227,13 @@ fn chunks_and_their_bytes() {
         ..OwnParts::default()
     };
     assert_eq!(
-        compare_write(Write::Message(many(4_096).parts()), 5_000).unwrap()[0],
+        compare_write(Write::Message(many(CHUNKS).parts()), CHUNKS + 1_000).unwrap()[0],
         0
     );
-    assert_eq!(answer(&many(4_097)), [4, 0]);
+    assert_eq!(answer(&many(CHUNKS + 1)), [4, 0]);
 }
 
-/// 4,194,304 bytes and one more, against crate and model.
+/// As many bytes as there may be and one more, against crate and model.
 #[test]
 fn total_size() {
     let with = |length: usize| {
@@ -243,14 +244,12 @@ fn total_size() {
             ..OwnParts::default()
         };
         let write = Write::Message(parts.parts());
-        compare_rooms(write, [4_194_303, 4_194_304]).unwrap_or_else(|why| panic!("{why}"))
+        compare_rooms(write, [MESSAGE_SIZE - 1, MESSAGE_SIZE]).unwrap_or_else(|why| panic!("{why}"))
     };
     // Five bytes without the chunk, and four for its length.
-    assert_eq!(
-        with(4_194_295),
-        [[7, 4_194_304, 0, 0], [0, 4_194_304, 0, 0]]
-    );
-    assert_eq!(with(4_194_296), [[4, 0, 0, 0]; 2]);
+    let most = MESSAGE_SIZE as u64;
+    assert_eq!(with(MESSAGE_SIZE - 9), [[7, most, 0, 0], [0, most, 0, 0]]);
+    assert_eq!(with(MESSAGE_SIZE - 8), [[4, 0, 0, 0]; 2]);
 }
 
 /// Random messages with some parts changed, against the model.

@@ -1,12 +1,14 @@
 //! The model's message against the crate's: the same values or the same kind of
 //! refusal, and the same bytes written of what was read.
 
+use bisquetower::limits::{HASHES, HAVES, HAVES_WORDS, PROBES};
 use compare::inputs::message::{
     damaged_once, good_messages, prefixes, TELLING, TELLING_OF_FILTERS, UP_TO_FILTER,
 };
 use compare::inputs::{every_byte, strings, Seed};
 use compare::messages::{compare_model, Tally};
 use compare::model::message::read;
+use compare::model::number_bytes;
 
 fn agree<S: AsRef<[u8]>>(messages: &[S]) -> Tally {
     compare_model(messages).unwrap_or_else(|disagreement| panic!("{disagreement}"))
@@ -107,9 +109,9 @@ fn random_messages() {
 /// are settled; the crate isn't asked.
 #[test]
 fn settled_readings() {
-    let mut lists = ([7; 7 * 16], [7; 8]);
+    let mut lists = ([7; HAVES_WORDS], [7; 8]);
     let mut of = |s: &[u8]| {
-        let words = read(s, &mut lists.0, &mut lists.1, &mut [0; 16]);
+        let words = read(s, &mut lists.0, &mut lists.1, &mut [0; HAVES]);
         [words[0], words[1]]
     };
     assert_eq!(of(&[]), [1, 0]);
@@ -121,15 +123,19 @@ fn settled_readings() {
     assert_eq!(of(&[0x42, 0, 0, 0, 0, 5]), [1, 5]);
     assert_eq!(of(&[0x42, 0, 0, 0, 0, 0x80, 0]), [3, 5]);
     // A count is limited before its elements are looked at, and cut before that.
-    assert_eq!(of(&[0x42, 0x81, 0x08]), [4, 1]);
+    assert_eq!(
+        of(&[vec![0x42], number_bytes(HASHES as u64 + 1)].concat()),
+        [4, 1]
+    );
     assert_eq!(of(&[0x42, 0x80, 0x80, 0x80, 0x80, 0x80, 0x80]), [1, 1]);
+    let many = PROBES as u8 + 1;
     // A filter's string has to be there before its inside is read; a number is cut
     // at its own start, a field at its first byte; 5 and 4 name the filter.
     assert_eq!(of(&[0x42, 0, 0, 1, 0, 5, 1, 0]), [1, 5]);
     assert_eq!(of(&[0x42, 0, 0, 1, 0, 1, 1, 0]), [1, 7]);
     assert_eq!(of(&[0x42, 0, 0, 1, 0, 4, 1, 0x0a, 7, 0xff, 0]), [1, 9]);
-    assert_eq!(of(&[0x42, 0, 0, 1, 0, 3, 1, 0, 0x41]), [5, 6]);
-    assert_eq!(of(&[0x42, 0, 0, 1, 0, 3, 1, 0x0a, 0x41]), [4, 6]);
+    assert_eq!(of(&[0x42, 0, 0, 1, 0, 3, 1, 0, many]), [5, 6]);
+    assert_eq!(of(&[0x42, 0, 0, 1, 0, 3, 1, 0x0a, many]), [4, 6]);
     assert_eq!(
         of(&[0x42, 0, 0, 1, 0, 5, 0x80, 0x80, 0x80, 0x80, 0x80]),
         [3, 6]
@@ -137,7 +143,7 @@ fn settled_readings() {
     // Flags are joined, not added.
     let flags = |section: &[u8]| {
         let s = [&[0x42, 0, 0, 0, 0][..], section].concat();
-        read(&s, &mut [], &mut [], &mut [0; 16])[10..12].to_vec()
+        read(&s, &mut [], &mut [], &mut [0; HAVES])[10..12].to_vec()
     };
     assert_eq!(flags(&[]), [256, 5]);
     assert_eq!(flags(&[0]), [0, 6]);

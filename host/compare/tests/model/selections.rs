@@ -1,5 +1,6 @@
 //! The model's hashes to send against the crate's.
 
+use bisquetower::limits::{HAVES, ROWS};
 use compare::inputs::Seed;
 use compare::selections::{compare_model, Tally};
 use std::ops::Range;
@@ -26,7 +27,7 @@ fn random_small_graphs() {
 
 #[test]
 fn random_large_graphs() {
-    let tally = random_cases(Seed::fixed(), 60, 200..1_025, 1..17);
+    let tally = random_cases(Seed::fixed(), 60, 200..ROWS + 1, 1..HAVES + 1);
     assert!(tally.chosen > 1_000 && tally.left > 1_000, "{tally:?}");
 }
 

@@ -1,6 +1,7 @@
 //! What is chosen from random graphs and from graphs at their limits.
 
 use crate::random_cases;
+use bisquetower::limits::{HASHES, HASHES_TO_SEND, HAVES, ROWS};
 use compare::inputs::selection::Case;
 use compare::inputs::table::{table_bytes, Likeness, Shape, SHAPES};
 use compare::inputs::{Random, Seed};
@@ -30,20 +31,20 @@ fn graphs_of_a_fresh_seed() {
     let seed = Seed::fresh();
     let mut random = seed.random(0);
     random_cases(&mut random, 500, 0..25, 0..4);
-    random_cases(&mut random, 2, 100..1_025, 1..17);
+    random_cases(&mut random, 2, 100..ROWS + 1, 1..HAVES + 1);
 }
 
-/// The same with up to 1,024 rows and sixteen haves.
+/// The same with up to as many rows and haves as there may be.
 #[test]
 fn large_graphs() {
     let seed = Seed::fixed();
     let mut random = seed.random(2);
     let mut tally = Tally::default();
-    for haves in [1..2, 1..3, 1..5, 1..17] {
+    for haves in [1..2, 1..3, 1..5, 1..HAVES + 1] {
         for _ in 0..4 {
-            tally.add(&random_cases(&mut random, 12, 100..1_025, haves.clone()).0);
+            tally.add(&random_cases(&mut random, 12, 100..ROWS + 1, haves.clone()).0);
         }
-        tally.add(&random_cases(&mut random, 6, 1_024..1_025, haves).0);
+        tally.add(&random_cases(&mut random, 6, ROWS..ROWS + 1, haves).0);
     }
     assert_eq!(tally.cases, 4 * (4 * 12 + 6));
     assert!(tally.chosen > 10_000 && tally.left > 10_000, "{tally:?}");
@@ -73,14 +74,14 @@ fn false_yeses() {
     assert!(yeses > 400 && chosen > 400, "{yeses}, {chosen}");
 }
 
-/// Every shape of table at its limit with a need of 1,024 hashes, each of them
-/// held and none of it in S: 2,048 hashes are never passed, and the most that can
-/// be sent is as many needs as a list has, and the rows.
+/// Every shape of table at its limit with a need of as many hashes as a list has, each of
+/// them held and none of it in S: the limit of hashes to send is never passed, and the most
+/// that can be sent is as many needs as a list has, and the rows.
 #[test]
 fn as_much_as_there_may_be() {
     let mut random = Random(21);
     for shape in SHAPES {
-        let hashes = random.hashes(1_024, Likeness::Spread);
+        let hashes = random.hashes(ROWS, Likeness::Spread);
         let table = table_bytes(&random.rows_of(&hashes, shape));
         let all = OwnHave {
             last_sync: vec![hashes[0]],
@@ -88,7 +89,7 @@ fn as_much_as_there_may_be() {
             field: Vec::new(),
         };
         // The first row is below the last sync, and needed again and again.
-        let need = vec![hashes[0]; 1_024];
+        let need = vec![hashes[0]; HASHES];
         let case = Case {
             table,
             waiting: Vec::new(),
@@ -96,7 +97,9 @@ fn as_much_as_there_may_be() {
             need,
         };
         let (tally, lists) = compare_cases(&[case], &mut random).unwrap();
-        assert_eq!(tally.chosen, 1_024 + 1_023, "{shape:?}");
-        assert_eq!(lists[0].len(), HASH * (1_024 + 1_023));
+        let most = HASHES + ROWS - 1;
+        assert!(most < HASHES_TO_SEND);
+        assert_eq!(tally.chosen, most as u64, "{shape:?}");
+        assert_eq!(lists[0].len(), HASH * most);
     }
 }

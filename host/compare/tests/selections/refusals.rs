@@ -1,6 +1,7 @@
 //! Refusals in their order, sizes at their limits, buffers of every size.
 
 use crate::{answer, diamond};
+use bisquetower::limits::{HASHES, HAVES, LIST_SIZE, PROBES, ROWS, TABLE_SIZE};
 use compare::inputs::index::{index_of, Beside};
 use compare::inputs::selection::lend;
 use compare::inputs::table::{set_number, table_bytes, Likeness, Shape};
@@ -68,7 +69,7 @@ const FAULTS: [Fault; 14] = [
         [10, 0]
     }),
     ("a long table", |l| {
-        l.table = vec![0; ROW * 1_024 + 1];
+        l.table = vec![0; TABLE_SIZE + 1];
         [4, 0]
     }),
     ("a bad row", |l| {
@@ -77,7 +78,7 @@ const FAULTS: [Fault; 14] = [
         [6, 2]
     }),
     ("a partial row", |l| {
-        l.table.truncate(ROW * 3 + 63);
+        l.table.truncate(ROW * 4 - 1);
         [6, 3]
     }),
     ("the index of another table", |l| {
@@ -92,27 +93,27 @@ const FAULTS: [Fault; 14] = [
         l.index = Some(index);
         [12, 0]
     }),
-    ("an index of 1,025 entries", |l| {
-        l.index = Some(vec![0; 2 * 1_025]);
+    ("an index of an entry too many", |l| {
+        l.index = Some(vec![0; 2 * (ROWS + 1)]);
         [12, 0]
     }),
-    ("1,025 needs", |l| {
-        l.need = vec![2; 32 * 1_025];
+    ("a need too many", |l| {
+        l.need = vec![2; LIST_SIZE + HASH];
         [4, 0]
     }),
     ("a partial need", |l| {
         l.need = vec![2; 32 * 5 + 1];
         [1, 160]
     }),
-    ("17 haves", |l| {
+    ("a have too many", |l| {
         let partial = l.haves.split_off(l.haves.len() / 7 * 7);
-        l.haves = [l.haves[..7].repeat(17), partial].concat();
+        l.haves = [l.haves[..7].repeat(HAVES + 1), partial].concat();
         [4, 0]
     }),
-    ("1,025 last-sync hashes", |l| {
-        l.s.resize(32 * 1_025 + 200, 0);
+    ("a last-sync hash too many", |l| {
+        l.s.resize(LIST_SIZE + HASH + 200, 0);
         l.haves[0] = 100;
-        l.haves[1] = 1_025;
+        l.haves[1] = HASHES as u64 + 1;
         [4, 0]
     }),
 ];
@@ -137,19 +138,24 @@ fn refusals_in_their_order() {
     }
 }
 
-/// Tables of 0, 63, 64 and 65 bytes and at their limit; needs of 1,024 and 1,025
-/// hashes; 16 haves and 17; 1,024 last-sync hashes and 1,025, against the model.
+/// Tables of no byte, of about a row and at their limit; needs, haves and last-sync
+/// hashes, as many as there may be and one more, against the model.
 #[test]
 fn sizes_at_their_limits() {
     let mut random = Random(23);
     let mut full = good();
-    full.table = table_bytes(&random.rows(1_024, Shape::Recent, Likeness::Spread));
-    full.need = full.table[..HASH].repeat(1_024);
-    full.haves = full.haves.repeat(16);
-    full.s.resize(32 * 1_024 + 100, 0x11);
-    full.haves[..2].copy_from_slice(&[100, 1_024]);
+    full.table = table_bytes(&random.rows(ROWS, Shape::Recent, Likeness::Spread));
+    full.need = full.table[..HASH].repeat(HASHES);
+    full.haves = full.haves.repeat(HAVES);
+    full.s.resize(LIST_SIZE + 100, 0x11);
+    full.haves[..2].copy_from_slice(&[100, HASHES as u64]);
     assert_eq!(answer(full.selection())[0], 0);
-    for (length, expected) in [(0, [0, 0]), (63, [6, 0]), (64, [0, 32]), (65, [6, 1])] {
+    for (length, expected) in [
+        (0, [0, 0]),
+        (ROW - 1, [6, 0]),
+        (ROW, [0, 32]),
+        (ROW + 1, [6, 1]),
+    ] {
         let mut lent = good();
         lent.table.truncate(length);
         lent.need.clear();
@@ -161,7 +167,7 @@ fn sizes_at_their_limits() {
         |l: &mut Lent| l.haves.extend_from_within(..7),
         |l: &mut Lent| {
             l.s.extend([1; HASH]);
-            l.haves[1] = 1_025;
+            l.haves[1] = HASHES as u64 + 1;
         },
     ] {
         let mut lent = full.clone();
@@ -170,8 +176,8 @@ fn sizes_at_their_limits() {
     }
 }
 
-/// Haves with one number at or past an edge, as the first, as the sixteenth and as
-/// the seventeenth, against the model.
+/// Haves with one number at or past an edge, as the first, as the last that there may be
+/// and as one more, against the model.
 #[test]
 fn haves_at_their_edges() {
     let most = u64::from(u32::MAX);
@@ -193,8 +199,8 @@ fn haves_at_their_edges() {
         (1, 4, false),
         (2, 21, false),
         (3, 0, false),
-        (4, 64, true),
-        (4, 65, false),
+        (4, PROBES as u64, true),
+        (4, PROBES as u64 + 1, false),
         (5, 75, true),
         (5, 76, false),
         (6, 24, false),
@@ -214,10 +220,10 @@ fn haves_at_their_edges() {
         };
         let told = format!("word {word} is {value}");
         let expected = if is_good { 0 } else { 10 };
-        assert_eq!([with(0, 0), with(15, 0)], [expected; 2], "{told}");
-        // The seventeenth isn't looked at, and is one too many.
-        assert_eq!(with(16, 0), 4, "{told}");
-        assert_eq!(with(0, 16), if is_good { 4 } else { 10 }, "{told}");
+        assert_eq!([with(0, 0), with(HAVES - 1, 0)], [expected; 2], "{told}");
+        // One more isn't looked at, and is one too many.
+        assert_eq!(with(HAVES, 0), 4, "{told}");
+        assert_eq!(with(0, HAVES), if is_good { 4 } else { 10 }, "{told}");
     }
 }
 

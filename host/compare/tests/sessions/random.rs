@@ -1,6 +1,7 @@
 //! Random steps over random sessions, tables and messages, some of them damaged, in
 //! buffers that are long enough or just not.
 
+use bisquetower::limits::{ROWS, ROW_SIZE as ROW};
 use compare::guarded::FILLS;
 use compare::inputs::session::{Hearing, Saying};
 use compare::inputs::{Random, Seed};
@@ -89,7 +90,7 @@ fn receive_steps(random: &mut Random, batches: usize, of: usize, rows: Range<usi
                 Some(one) => (one.table.clone(), one.before, one.loaded),
                 None => (
                     hearing.table.clone(),
-                    hearing.table.len() / 64,
+                    hearing.table.len() / ROW,
                     hearing.loaded,
                 ),
             };
@@ -149,9 +150,9 @@ fn random_receipts() {
 #[test]
 fn random_large_steps() {
     let seed = Seed::fixed();
-    let seen = plan_steps(&mut seed.random(2), 4, 20, 300..1_025);
+    let seen = plan_steps(&mut seed.random(2), 4, 20, 300..ROWS + 1);
     often(&seen, 20, &[0]);
-    let seen = receive_steps(&mut seed.random(3), 4, 20, 300..1_025);
+    let seen = receive_steps(&mut seed.random(3), 4, 20, 300..ROWS + 1);
     often(&seen, 20, &[0]);
 }
 

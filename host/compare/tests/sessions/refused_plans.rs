@@ -1,21 +1,25 @@
 //! Refusals of planning, each alone and two at a time: the earlier one is given.
 
 use crate::{hash, hashes, planning, table};
+use bisquetower::limits::{LIST_SIZE, SENT_HASHES, SENT_SIZE};
 use compare::inputs::table::{waiting_bytes, WaitingRow};
 use compare::model::session::Value;
 use compare::model::state::{HAVE_RESPONDED, IN_FLIGHT, READ_ONLY};
-use compare::model::table::{HASHES, ROW, ROWS, WAITING_ROW, WAITING_ROWS};
+use compare::model::table::{DEPENDENCIES, HASHES, ROW, ROWS, WAITING_ROW, WAITING_ROWS};
 use compare::sessions::lent::Lent;
 use compare::sessions::library::{plan_answer, Planning};
 
 /// What goes wrong, and the refusal that it is.
 type Fault = (&'static str, fn(&mut Planning), (u64, u64));
 
+/// One dependency too many.
+const MANY: u8 = DEPENDENCIES as u8 + 1;
+
 /// In the order of the refusals.
 const FAULTS: [Fault; 12] = [
     (
         "a count past its limit",
-        |p| p.session.words[0] = 1_025,
+        |p| p.session.words[0] = HASHES as u64 + 1,
         (10, 0),
     ),
     (
@@ -23,7 +27,7 @@ const FAULTS: [Fault; 12] = [
         |p| p.table.resize(ROW * ROWS + 1, 0),
         (4, 0),
     ),
-    ("a bad row", |p| p.table[ROW + 32] = 16, (6, 1)),
+    ("a bad row", |p| p.table[ROW + 32] = MANY, (6, 1)),
     (
         "the index of another table",
         |p| p.index.swap(0, 2),
@@ -35,7 +39,7 @@ const FAULTS: [Fault; 12] = [
         (12, 0),
     ),
     (
-        "an index of 1,025 entries",
+        "an index of an entry too many",
         |p| p.index.resize(2 * (ROWS + 1), 0),
         (12, 0),
     ),
@@ -44,29 +48,35 @@ const FAULTS: [Fault; 12] = [
         |p| p.waiting.resize(WAITING_ROW * WAITING_ROWS + 1, 0),
         (4, 0),
     ),
-    ("a bad waiting row", |p| p.waiting[32] = 16, (9, 0)),
+    ("a bad waiting row", |p| p.waiting[32] = MANY, (9, 0)),
     ("a long need", long_need, (4, 0)),
     ("too much sent", too_much_sent, (4, 0)),
     ("no room for the heads", |p| p.rooms[0] = 63, (7, 64)),
     ("no room for the hashes", |p| p.rooms[3] = 31, (7, 32)),
 ];
 
-/// 1,023 unknown heads, and one that waits on two others.
+/// So many numbers from this one on.
+fn some(from: u16, count: usize) -> std::ops::Range<u16> {
+    from..from + count as u16
+}
+
+/// One unknown head less than a list has, and one that waits on two others.
 fn long_need(p: &mut Planning) {
-    set_heads(p, [vec![500], (2_000..3_023).collect()].concat());
+    let heads = [500].into_iter().chain(some(2_000, HASHES - 1));
+    set_heads(p, heads.collect());
 }
 
 fn set_heads(p: &mut Planning, numbers: Vec<u16>) {
     p.session.words[3] = numbers.len() as u64;
     p.session.their_heads = hashes(numbers).concat();
-    p.rooms[1] = 32 * 1_024;
+    p.rooms[1] = LIST_SIZE;
 }
 
 /// As many as may be, none of them a row.
 fn too_much_sent(p: &mut Planning) {
-    p.session.words[8] = HASHES as u64;
-    p.session.sent = hashes(4_000..5_024).concat();
-    p.rooms[5] = 32 * 1_025;
+    p.session.words[8] = SENT_HASHES as u64;
+    p.session.sent = hashes(some(4_000, SENT_HASHES)).concat();
+    p.rooms[5] = SENT_SIZE + 32;
 }
 
 /// A unit of three rows that has one of them to send.
@@ -120,7 +130,7 @@ fn a_long_need_before_a_reset_and_silence() {
     }
     refused(&one, "silence", (4, 0));
     let mut fewer = one.clone();
-    fewer.session.words[3] = 1_023;
+    fewer.session.words[3] = HASHES as u64 - 1;
     assert_eq!(plan_answer(&fewer)[..2], [0, 0]);
     // The first have names an unknown hash.
     for p in [&mut one, &mut fewer] {
@@ -138,18 +148,19 @@ fn a_long_need_before_a_reset_and_silence() {
 #[test]
 fn limits_that_are_kept() {
     let mut one = sound();
-    set_heads(&mut one, [vec![500], (2_000..3_022).collect()].concat());
+    let heads = [500].into_iter().chain(some(2_000, HASHES - 2));
+    set_heads(&mut one, heads.collect());
     let answer = plan_answer(&one);
-    assert_eq!((answer[0], answer[6], answer[7]), (0, 1_024, 0));
+    assert_eq!((answer[0], answer[6], answer[7]), (0, HASHES as u64, 0));
     let mut one = sound();
     too_much_sent(&mut one);
     one.session.words[8] -= 1;
     assert_eq!(plan_answer(&one)[0], 0);
     // One of them is the row itself.
     let mut one = sound();
-    one.session.words[8] = HASHES as u64;
-    one.session.sent = hashes((1..2).chain(4_000..5_023)).concat();
-    one.rooms[5] = 32 * 1_024;
+    one.session.words[8] = SENT_HASHES as u64;
+    one.session.sent = hashes((1..2).chain(some(4_000, SENT_HASHES - 1))).concat();
+    one.rooms[5] = SENT_SIZE;
     assert_eq!(plan_answer(&one)[0], 0);
 }
 
@@ -176,10 +187,11 @@ fn too_much_sent_and_silence() {
 #[test]
 fn tables_at_their_limits() {
     assert_eq!(plan_answer(&planning(&Value::default(), &[]))[5], 0);
-    let rows: Vec<(u16, &[usize])> = (0..1_024).map(|n| (n, &[][..])).collect();
+    let rows: Vec<(u16, &[usize])> = some(0, ROWS).map(|n| (n, &[][..])).collect();
     let answer = plan_answer(&planning(&Value::default(), &table(&rows)));
+    let (rows, field) = (ROWS as u64, (10 * ROWS).div_ceil(8) as u64);
     assert_eq!(
         (answer[0], answer[5], answer[10], answer[14]),
-        (0, 1_024, 1_024, 1_280)
+        (0, rows, rows, field)
     );
 }

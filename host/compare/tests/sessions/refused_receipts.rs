@@ -1,11 +1,13 @@
 //! Refusals of receiving, each alone and two at a time: the earlier one is given.
 
 use crate::{hashes, receiving, table};
+use bisquetower::limits::{MESSAGE_SIZE, SENT_HASHES};
 use compare::guarded::FILLS;
 use compare::inputs::message::Draft;
+use compare::model::number_bytes;
 use compare::model::session::Value;
 use compare::model::state::READ_ONLY;
-use compare::model::table::{HASHES, ROW, ROWS};
+use compare::model::table::{DEPENDENCIES, HASHES, ROW, ROWS};
 use compare::sessions::library::{compare_receipts, receive_answer, Receiving};
 
 /// What goes wrong, and the refusal that it is.
@@ -16,7 +18,7 @@ type Fault = (&'static str, fn(&mut Receiving), (u64, u64));
 const FAULTS: [Fault; 11] = [
     (
         "a count past its limit",
-        |r| r.session.words[8] = 1_025,
+        |r| r.session.words[8] = SENT_HASHES as u64 + 1,
         (10, 0),
     ),
     (
@@ -24,7 +26,11 @@ const FAULTS: [Fault; 11] = [
         |r| r.table.resize(ROW * ROWS + 1, 0),
         (4, 0),
     ),
-    ("a bad row", |r| r.table[ROW + 32] = 16, (6, 1)),
+    (
+        "a bad row",
+        |r| r.table[ROW + 32] = DEPENDENCIES as u8 + 1,
+        (6, 1),
+    ),
     (
         "the index of another table",
         |r| r.index.swap(0, 2),
@@ -36,7 +42,7 @@ const FAULTS: [Fault; 11] = [
         (12, 0),
     ),
     (
-        "an index of 1,025 entries",
+        "an index of an entry too many",
         |r| r.index.resize(2 * (ROWS + 1), 0),
         (12, 0),
     ),
@@ -78,8 +84,8 @@ fn refusals_in_their_order() {
     }
 }
 
-/// 1,024 shared heads joined with one more that is known; with what is among them they
-/// stay 1,024. It comes before the room, and only where some head is unknown.
+/// As many shared heads as there may be, joined with one more that is known; with what is
+/// among them they stay as many. It comes before the room, and only where some head is unknown.
 #[test]
 fn too_many_joined_heads() {
     let rows = table(&[(1, &[])]);
@@ -117,7 +123,7 @@ fn repeats_are_not_counted() {
     let rows: Vec<(u16, &[usize])> = (1..=most).map(|n| (n, &[][..])).collect();
     let rows = table(&rows);
     // A list is full: all heads but the last are held, or all of them.
-    let unknown: Vec<u16> = (2..=most).chain([5_000]).collect();
+    let unknown: Vec<u16> = (2..=most).chain([most + 1]).collect();
     let held: Vec<u16> = (1..=most).rev().collect();
     let hear = |old: Vec<u16>, heads: &[u16]| {
         let session = Value {
@@ -138,7 +144,7 @@ fn repeats_are_not_counted() {
     assert_eq!(hear(vec![1; HASHES], &unknown), ([0; 4], all));
     let as_heard = hashes(held.iter().copied());
     assert_eq!(hear((1..=most).collect(), &held), ([0; 4], as_heard));
-    let one_more = [vec![1; HASHES - 1], vec![6_000]].concat();
+    let one_more = [vec![1; HASHES - 1], vec![most + 2]].concat();
     let left = hashes(one_more.iter().copied());
     assert_eq!(hear(one_more, &unknown), ([4, 0, 0, 0], left));
 }
@@ -155,10 +161,10 @@ fn messages_that_are_not_read() {
     }
     one.message = [&whole[..1], &[0x80, 0x00]].concat();
     refused(&one, "overlong", (3, 1));
-    one.message = [&whole[..1], &[0x81, 0x08]].concat();
-    refused(&one, "1,025 heads", (4, 1));
+    one.message = [&whole[..1], &number_bytes(HASHES as u64 + 1)].concat();
+    refused(&one, "a head too many", (4, 1));
     one.message = vec![0x42, 0, 0, 1, 0, 3, 1, 0, 7];
     refused(&one, "no bits", (5, 6));
-    one.message = vec![0x41; 4_194_305];
+    one.message = vec![0x41; MESSAGE_SIZE + 1];
     refused(&one, "too long", (4, 0));
 }

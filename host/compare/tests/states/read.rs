@@ -1,6 +1,7 @@
 //! Saved states read: every short string, damaged states, counts, rooms.
 
 use crate::{compare_strings, hashes, one, state, TYPE};
+use bisquetower::limits::{HASHES, LIST_SIZE};
 use compare::inputs::{every_byte, number_forms, strings};
 use compare::model::number_bytes;
 use compare::states::Tally;
@@ -65,13 +66,18 @@ fn prefixes_and_damaged_bytes() {
 /// Counts in every form, around the limit too, with hashes for as many as may be.
 #[test]
 fn counts() {
-    let many = hashes(1_030);
+    let many = hashes(HASHES + 6);
     let state = |number: Vec<u8>| [&[TYPE][..], &number, &many].concat();
     let forms: Vec<Vec<u8>> = number_forms().into_iter().map(state).collect();
-    let tally = compare_strings(&forms, 32 * 1_024);
+    let tally = compare_strings(&forms, LIST_SIZE);
     assert!([0, 3, 4].iter().all(|&k| tally.answers[k] > 3), "{tally:?}");
-    for (count, expected) in [(1_023, 0), (1_024, 0), (1_025, 4), (1_030, 4)] {
-        let tally = compare_strings(&[state(number_bytes(count))], 32 * 1_024);
+    for (count, expected) in [
+        (HASHES - 1, 0),
+        (HASHES, 0),
+        (HASHES + 1, 4),
+        (HASHES + 6, 4),
+    ] {
+        let tally = compare_strings(&[state(number_bytes(count as u64))], LIST_SIZE);
         assert_eq!(tally.answers[expected], 1, "{count}");
     }
 }
@@ -79,7 +85,7 @@ fn counts() {
 /// Room for as many shared heads as there are, a byte less and more, and none.
 #[test]
 fn rooms_to_read() {
-    for count in [0, 1, 2, 127, 128, 1_024] {
+    for count in [0, 1, 2, 127, 128, HASHES] {
         let s = state(count, &[]);
         let wanted = 32 * count;
         let rooms = [
@@ -98,7 +104,7 @@ fn rooms_to_read() {
     }
     // Too little room comes last.
     assert_eq!(one(&state(3, &[])[..97], 0).answers[1], 1);
-    assert_eq!(one(&state(1_025, &[]), 0).answers[4], 1);
+    assert_eq!(one(&state(HASHES + 1, &[]), 0).answers[4], 1);
 }
 
 /// A saved state has no total size: five million bytes are read, and ignored.

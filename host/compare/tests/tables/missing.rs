@@ -3,11 +3,11 @@
 use crate::{agree, answer, check_tables, missing, with_record, Bytes, MISSING, ROOM};
 use compare::inputs::table::{table_bytes, waiting_bytes, Likeness, Shape, WaitingRow};
 use compare::inputs::Random;
-use compare::model::table::{Hash, HASH, HASHES, ROWS, WAITING_ROW, WAITING_ROWS};
+use compare::model::table::{Hash, DEPENDENCIES, HASH, HASHES, ROWS, WAITING_ROW, WAITING_ROWS};
 use compare::tables::Rooms;
 
-/// What is missing through chains, cycles and trees of waiting rows, up to 1,024
-/// of them, in the table's order, against it and mixed.
+/// What is missing through chains, cycles and trees of waiting rows, up to as many as there
+/// may be, in the table's order, against it and mixed.
 #[test]
 fn missing_through_many_waiting_rows() {
     let mut random = Random(19);
@@ -56,7 +56,8 @@ fn both_tables_at_their_largest() {
     let table = table_bytes(&random.rows_of(held, Shape::Any));
     let rows = random.waiting_rows(own, &all);
     let waiting = waiting_bytes(&rows);
-    assert_eq!(answer(check_tables(&table, &waiting), 0), [0, 1_024]);
+    let all_rows = [0, WAITING_ROWS as u64];
+    assert_eq!(answer(check_tables(&table, &waiting), 0), all_rows);
     for list in [own.concat(), held.concat(), own[0].to_vec()] {
         agree(&[(missing(&table, &waiting, &list), Rooms::Enough)]);
     }
@@ -64,12 +65,13 @@ fn both_tables_at_their_largest() {
     for taken in [held[ROWS - 1], own[WAITING_ROWS - 2], own[0]] {
         last.hash = taken;
         let bad = with_record(&waiting, WAITING_ROWS - 1, &last.bytes());
-        assert_eq!(answer(check_tables(&table, &bad), 0), [9, 1_023]);
+        let last_row = [9, WAITING_ROWS as u64 - 1];
+        assert_eq!(answer(check_tables(&table, &bad), 0), last_row);
     }
 }
 
-/// Waiting rows that ask so many different unknown hashes, one of them each or
-/// fifteen, and each again and again.
+/// Waiting rows that ask so many different unknown hashes, so many of them each, and each
+/// again and again.
 fn asking(own: &[Hash], unknown: &[Hash], each: usize, repeats: usize) -> Bytes {
     let mut rows: Vec<WaitingRow> = Vec::new();
     let mut asked = unknown.iter().cycle().take(unknown.len() * repeats);
@@ -81,12 +83,12 @@ fn asking(own: &[Hash], unknown: &[Hash], each: usize, repeats: usize) -> Bytes 
     waiting_bytes(&rows)
 }
 
-/// Exactly 1,024 and 1,025 missing hashes: passed, under waiting rows, and both;
-/// a hash that is asked for twice counts once.
+/// Exactly as many missing hashes as there may be and one more: passed, under waiting
+/// rows, and both; a hash that is asked for twice counts once.
 #[test]
 fn missing_around_its_limit() {
     let mut random = Random(20);
-    let all = random.hashes(3_000, Likeness::Spread);
+    let all = random.hashes(WAITING_ROWS + HASHES + 1, Likeness::Spread);
     let (own, unknown) = all.split_at(WAITING_ROWS);
     let answer_of = |waiting: &[u8], hashes: &[u8]| {
         let rooms = Rooms::Around;
@@ -97,25 +99,27 @@ fn missing_around_its_limit() {
     let refused = [false, true, false];
     let passed = unknown[..HASHES].concat();
     assert_eq!(answer_of(&[], &passed), good);
-    // 69 rows of fifteen: 1,024 of them, then 1,025.
-    let asked = own[..69].concat();
-    let waiting = asking(&own[..69], &unknown[..1_024], 15, 1);
+    // As few rows as can ask for one more.
+    let few = &own[..(HASHES + 1).div_ceil(DEPENDENCIES)];
+    let asked = few.concat();
+    let waiting = asking(few, &unknown[..HASHES], DEPENDENCIES, 1);
     assert_eq!(answer_of(&waiting, &asked), good);
-    let waiting = asking(&own[..69], &unknown[..1_025], 15, 1);
+    let waiting = asking(few, &unknown[..HASHES + 1], DEPENDENCIES, 1);
     assert_eq!(answer_of(&waiting, &asked), refused);
-    // 1,024 waiting rows with one each; the last one with one more.
+    // All waiting rows with as many each; the last one with one more.
     let all_own = own.concat();
-    let waiting = asking(own, &unknown[..1_024], 1, 1);
+    let each = HASHES / WAITING_ROWS;
+    let waiting = asking(own, &unknown[..HASHES], each, 1);
     let call = missing(&[], &waiting, &all_own);
     agree(&[(call, Rooms::Enough)]);
     let last = WAITING_ROW * (WAITING_ROWS - 1);
     let mut more = waiting.clone();
-    more[last + HASH] = 2;
-    more[last + 3 * HASH..][..HASH].copy_from_slice(&unknown[1_024]);
+    more[last + HASH] = each as u8 + 1;
+    more[last + (2 + each) * HASH..][..HASH].copy_from_slice(&unknown[HASHES]);
     let call = missing(&[], &more, &all_own);
     assert_eq!(answer(call, ROOM), [4, 0]);
-    // 1,023 passed ones, and one waiting that asks one more, two more, or again.
-    let both = [&unknown[..1_023], &own[..1]].concat().concat();
+    // One less passed, and one waiting that asks one more, two more, or again.
+    let both = [&unknown[..HASHES - 1], &own[..1]].concat().concat();
     let waiting = |asked: &[Hash]| {
         let row = WaitingRow {
             hash: own[0],
@@ -123,11 +127,13 @@ fn missing_around_its_limit() {
         };
         waiting_bytes(&[row])
     };
-    assert_eq!(answer_of(&waiting(&unknown[1_023..1_024]), &both), good);
-    assert_eq!(answer_of(&waiting(&unknown[1_023..1_025]), &both), refused);
-    assert_eq!(answer_of(&waiting(&unknown[1_009..1_024]), &both), good);
-    // 15,360 entries of 1,024 hashes.
-    let waiting = asking(own, &unknown[..1_024], 15, 15);
+    let last = |count: usize, end: usize| waiting(&unknown[end - count..end]);
+    assert_eq!(answer_of(&last(1, HASHES), &both), good);
+    assert_eq!(answer_of(&last(2, HASHES + 1), &both), refused);
+    assert_eq!(answer_of(&last(DEPENDENCIES, HASHES), &both), good);
+    // As many entries as waiting rows have, of as many hashes as there are rows.
+    let some = &unknown[..WAITING_ROWS];
+    let waiting = asking(own, some, DEPENDENCIES, DEPENDENCIES);
     let call = missing(&[], &waiting, &all_own);
     agree(&[(call, Rooms::Enough)]);
 }

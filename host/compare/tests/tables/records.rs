@@ -48,16 +48,15 @@ fn every_bit_of_small_tables() {
 #[test]
 fn every_number_of_a_row() {
     let mut random = Random(10);
-    let values = [
-        0, 1, 2, 3, 4, 14, 15, 16, 17, 18, 19, 255, 256, 257, 1_023, 1_024, 65_535,
-    ];
+    let values = [0, 1, 2, 3, 4, 14, 15, 16, 17, 18, 19, 255, 256, 257, 65_535];
+    let limits = [DEPENDENCIES, DEPENDENCIES + 1, ROWS - 1, ROWS];
     let mut tally = Tally::default();
     for shape in SHAPES {
         let good = table_bytes(&random.rows(19, shape, Likeness::Spread));
         let mut tables = Vec::new();
         for row in [0, 1, 2, 15, 16, 17, 18] {
             for which in 0..=DEPENDENCIES {
-                for value in values {
+                for value in values.into_iter().chain(limits) {
                     let mut table = good.clone();
                     set_number(&mut table[ROW * row..], which, value);
                     tables.push(table);
@@ -103,7 +102,7 @@ fn one_fault_names_its_row() {
     }
 }
 
-/// The same in tables of 1,024 rows, whose first bad row is the last one or an
+/// The same in tables of as many rows as there may be, whose first bad row is the last one or an
 /// early one, through every call.
 #[test]
 fn one_fault_in_the_largest_table() {
@@ -128,7 +127,13 @@ fn one_fault_in_the_largest_table() {
         }
     }
     // A hash that stands twice, at every kind of distance.
-    for (earlier, later) in [(0, 1_023), (0, 1), (1_022, 1_023), (511, 512), (300, 900)] {
+    for (earlier, later) in [
+        (0, ROWS - 1),
+        (0, 1),
+        (ROWS - 2, ROWS - 1),
+        (511, 512),
+        (300, 900),
+    ] {
         let mut twice = rows[later].clone();
         twice.hash = rows[earlier].hash;
         let table = with_record(&good, later, &twice.bytes());
@@ -162,12 +167,12 @@ fn of_several_faults_the_first_row_wins() {
     }
 }
 
-/// Every byte length up to a few rows and around 1,024 of them, of tables whose
+/// Every byte length up to a few rows and around as many as there may be, of tables whose
 /// rows are good and whose rows aren't.
 #[test]
 fn byte_lengths_around_rows() {
     let mut random = Random(14);
-    let most = ROW * ROWS;
+    let (most, rows) = (ROW * ROWS, ROWS as u64);
     let mut good = table_bytes(&random.rows(ROWS, Shape::Recent, Likeness::Spread));
     good.extend(vec![0; 2 * ROW]);
     let calls: Vec<_> = (0..=4 * ROW + 1)
@@ -176,11 +181,11 @@ fn byte_lengths_around_rows() {
     let tally = agree(&calls);
     assert_eq!(tally.of(CHECK_TABLE, 0), 5);
     let lengths: [(usize, First); 9] = [
-        (most - ROW - 1, [6, 1_022]),
-        (most - ROW, [0, 1_023]),
-        (most - ROW + 1, [6, 1_023]),
-        (most - 1, [6, 1_023]),
-        (most, [0, 1_024]),
+        (most - ROW - 1, [6, rows - 2]),
+        (most - ROW, [0, rows - 1]),
+        (most - ROW + 1, [6, rows - 1]),
+        (most - 1, [6, rows - 1]),
+        (most, [0, rows]),
         (most + 1, [4, 0]),
         (most + ROW - 1, [4, 0]),
         (most + ROW, [4, 0]),
@@ -194,7 +199,7 @@ fn byte_lengths_around_rows() {
     assert_eq!(answer(check(&bad), 0), [4, 0]);
     assert_eq!(answer(heads(&bad, usize::MAX), 0), [4, 0]);
 
-    let most = WAITING_ROW * WAITING_ROWS;
+    let (most, rows) = (WAITING_ROW * WAITING_ROWS, WAITING_ROWS as u64);
     let own = random.hashes(WAITING_ROWS, Likeness::Spread);
     let mut waiting = waiting_bytes(&random.waiting_rows(&own, &own));
     waiting.extend(vec![0; WAITING_ROW]);
@@ -204,9 +209,9 @@ fn byte_lengths_around_rows() {
         .collect();
     assert_eq!(agree(&calls).of(CHECK_TABLES, 0), 3);
     let lengths: [(usize, First); 6] = [
-        (most - WAITING_ROW, [0, 1_023]),
-        (most - 1, [9, 1_023]),
-        (most, [0, 1_024]),
+        (most - WAITING_ROW, [0, rows - 1]),
+        (most - 1, [9, rows - 1]),
+        (most, [0, rows]),
         (most + 1, [4, 0]),
         (most + WAITING_ROW - 1, [4, 0]),
         (most + WAITING_ROW, [4, 0]),
@@ -237,7 +242,7 @@ fn waiting_faults_name_their_row() {
                 assert_eq!([first, at], expected, "{told}");
                 bytes.push(0);
                 let last = WAITING_ROW * (count - 1);
-                bytes[last..][HASH] = 16;
+                bytes[last..][HASH] = DEPENDENCIES as u8 + 1;
                 let ([first, at, ..], _) = ask(missing(&table, &bytes, &all[0]), ROOM);
                 assert_eq!([first, at], expected, "{told}, and later ones");
             }

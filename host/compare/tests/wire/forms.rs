@@ -1,6 +1,7 @@
 //! Numbers in good and bad forms, strings and lists cut and around their limits.
 
 use crate::{at, compare_all, whole};
+use bisquetower::limits::HASHES;
 use bisquetower::raw::{self, Read, Reader};
 use compare::inputs::{boundary_values, number_forms, overlong, Random};
 use compare::model::{number_bytes, prefixed_bytes};
@@ -88,14 +89,14 @@ fn lengths_beyond_all_memory() {
     }
 }
 
-/// Hash lists of 0, 1, 1,023, 1,024 and 1,025 hashes, with good and overlong
+/// Hash lists of a few hashes and of about as many as there may be, with good and overlong
 /// counts, whole, with bytes after them, and cut in the count, at a hash's start
 /// and inside one, against crate and model.
 #[test]
 fn hash_lists_around_their_limit() {
     let mut random = Random(1);
     let mut tally = Tally::default();
-    for count in [0, 1, 2, 1_023, 1_024, 1_025] {
+    for count in [0, 1, 2, HASHES - 1, HASHES, HASHES + 1] {
         let hashes = random.bytes(32 * count);
         for number in [number_bytes(count as u64), overlong(count as u64, 1)] {
             let start = number.len();

@@ -1,6 +1,7 @@
 //! Limits, settled readings and intended differences, as literals.
 
 use crate::whole;
+use bisquetower::limits::{HASHES, LIST_SIZE};
 use bisquetower::raw::{self, Reader};
 use compare::model::number_bytes;
 use compare::published;
@@ -39,13 +40,16 @@ fn settled_readings() {
     assert_eq!(read(Reader::Hashes, &hashes(&[2], 40)), [1, 33, 0, 0]);
     assert_eq!(raw::read_prefixed(&[9, 2, 0xaa], 1, 3), [1, 1, 0, 0]);
     // A count's own faults come before its limit, the limit before the hashes.
-    assert_eq!(read(Reader::Hashes, &[0x81, 0x08]), [4, 0, 0, 0]);
+    let [most, over] = [HASHES as u64, HASHES as u64 + 1];
+    assert_eq!(read(Reader::Hashes, &number_bytes(over)), [4, 0, 0, 0]);
     assert_eq!(read(Reader::Hashes, &[0x80; 6]), [1, 0, 0, 0]);
     assert_eq!(read(Reader::Hashes, &number_bytes(1 << 40)), [4, 0, 0, 0]);
     assert_eq!(read(Reader::Hashes, &[0x80, 0x00]), [3, 0, 0, 0]);
+    let count = number_bytes(most);
+    let [start, end] = [count.len(), count.len() + LIST_SIZE].map(|place| place as u64);
     assert_eq!(
-        read(Reader::Hashes, &hashes(&[0x80, 8], 32_768)),
-        [0, 2, 1_024, 32_770]
+        read(Reader::Hashes, &hashes(&count, LIST_SIZE)),
+        [0, start, most, end]
     );
     // The largest length is compared with what is left, never added to a place.
     assert_eq!(
@@ -57,7 +61,8 @@ fn settled_readings() {
 /// The two intended differences at their smallest, crate beside library.
 #[test]
 fn differences_are_the_two_that_are_intended() {
-    let list = [number_bytes(1_025), vec![7; 1_025 * 32]].concat();
+    let count = number_bytes(HASHES as u64 + 1);
+    let list = [count.clone(), vec![7; LIST_SIZE + 32]].concat();
     let cases: [(Reader, &[u8], Difference, u64, u64); 3] = [
         (
             Reader::FilterNumber,
@@ -66,13 +71,7 @@ fn differences_are_the_two_that_are_intended() {
             3,
             1,
         ),
-        (
-            Reader::Hashes,
-            &[0x81, 0x08],
-            Difference::CountPastLimit,
-            4,
-            1,
-        ),
+        (Reader::Hashes, &count, Difference::CountPastLimit, 4, 1),
         (Reader::Hashes, &list, Difference::CountPastLimit, 4, 0),
     ];
     for (reader, s, difference, here, there) in cases {

@@ -1,6 +1,7 @@
 //! Writing: in buffers of every size, lists that are refused, and what is read of them
 //! again.
 
+use bisquetower::limits::{HASHES, LIST_SIZE};
 use bisquetower::raw;
 use compare::inputs::{boundary_values, Random, Seed};
 use compare::model::{number_bytes, prefixed_bytes};
@@ -64,7 +65,7 @@ fn written_hash_lists() {
         assert_eq!(written, 5, "{count}");
     }
     compare_writes(Write::Hashes(&[7; 96]), rooms(97));
-    for count in [127, 128, 1_024] {
+    for count in [127, 128, HASHES] {
         let hashes = random.bytes(32 * count);
         let wanted = number_bytes(count as u64).len() + 32 * count;
         let written = compare_writes(Write::Hashes(&hashes), rooms(wanted));
@@ -76,7 +77,7 @@ fn written_hash_lists() {
 /// long, against the model: 4 before 1 before 7, and no byte changed.
 #[test]
 fn refused_hash_lists() {
-    let whole = 32 * 1_024;
+    let whole = LIST_SIZE;
     let cases = [
         (0, [0, 1, 0, 0]),
         (1, [1, 0, 0, 0]),
@@ -110,7 +111,7 @@ fn refused_hash_lists() {
 fn what_is_written_is_read_back() {
     let seed = Seed::fixed();
     let mut random = seed.random(0);
-    let mut out = vec![0; 33_000];
+    let mut out = vec![0; LIST_SIZE + 300];
     for round in 0..2_000 {
         let told = || format!("round {round}");
         let n = random.number();
@@ -143,7 +144,7 @@ fn what_is_written_is_read_back() {
         assert_eq!(out[start as usize..size as usize], string, "{}", told());
 
         let count = if round % 100 == 0 {
-            random.below(1_025)
+            random.below(HASHES + 1)
         } else {
             random.below(9)
         };

@@ -1,7 +1,8 @@
 //! What a file may hold, and how that is told when it isn't named.
 
 use super::shown;
-use bisquetower::message::{CHUNKS, CHUNK_WORDS, HAVES, HAVE_WORDS};
+use bisquetower::limits::{CHUNKS, HAVES_WORDS};
+use bisquetower::message::CHUNK_WORDS;
 use bisquetower::raw;
 use bisquetower::refusal::answer;
 use bisquetower::{message, Filter, Message, Refusal, SavedState, Table, Waiting};
@@ -75,7 +76,7 @@ impl Kind {
     fn read(self, bytes: &[u8]) -> Result<usize, Refusal> {
         match self {
             Kind::Message => {
-                let mut haves = vec![0; HAVES * HAVE_WORDS];
+                let mut haves = vec![0; HAVES_WORDS];
                 let mut chunks = vec![0; CHUNKS * CHUNK_WORDS];
                 let read = message::View::read(bytes, &mut haves, &mut chunks)?;
                 Ok(read.next())
@@ -166,7 +167,7 @@ impl fmt::Display for Kind {
 
 /// How many bytes are ignored behind the field of each have's filter.
 fn ignored_in(bytes: &[u8]) -> Result<Vec<u64>, Refusal> {
-    let mut haves = vec![0; HAVES * HAVE_WORDS];
+    let mut haves = vec![0; HAVES_WORDS];
     let mut chunks = vec![0; CHUNKS * CHUNK_WORDS];
     let read = message::View::read(bytes, &mut haves, &mut chunks)?;
     let ignored = read.haves().map(|have| have.ignored).collect();

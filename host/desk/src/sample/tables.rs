@@ -1,4 +1,4 @@
-//! A station's table of 1,024 rows and that of a validator 120 rows short.
+//! A station's table of `ROWS` rows and that of a validator who is `LACKING` rows short.
 //!
 //! The rows that the validator holds are eight lines that meet now and then. It lacks 30
 //! branches of 4 rows. The three lower rows of the first branch have hashes that the
@@ -12,6 +12,9 @@ const HELD: usize = 904;
 const BRANCHES: usize = 30;
 const LENGTH: usize = 4;
 const LINES: usize = 8;
+
+pub const LACKING: usize = BRANCHES * LENGTH;
+pub const ROWS: usize = HELD + LACKING;
 
 /// Every so many rows a row meets others of the lines.
 const MEETING: usize = 32;

@@ -1,6 +1,7 @@
 //! The command itself: help, wrong words, and what it writes over.
 
 use crate::{folder, run, run_into, text};
+use bisquetower::Table;
 use std::fs;
 use std::process::Stdio;
 
@@ -52,7 +53,7 @@ fn nothing_is_written_over() {
     assert!(again.contains("is there already"), "{again}");
     assert_eq!(fs::read(&table).unwrap(), b"mine");
     run(&["sample", text(&folder), "--force"]).ended(0);
-    assert_eq!(fs::read(&table).unwrap().len(), 65_536);
+    assert_eq!(fs::read(&table).unwrap().len(), 1_024 * Table::ROW);
 }
 
 /// One file that is there is enough, and the others aren't written either.

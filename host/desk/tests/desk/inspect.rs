@@ -1,6 +1,10 @@
 //! Files that are inspected: good, damaged, missing, empty and huge.
 
 use crate::{folder, run, run_with, samples, text, Run};
+use bisquetower::limits::{HASHES, PROBES};
+use bisquetower::refusal::grouped;
+use bisquetower::{Table, Waiting};
+use compare::model::number_bytes;
 use std::fs::{self, File};
 
 fn inspect(bytes: &[u8]) -> Run {
@@ -153,25 +157,33 @@ fn marked(refused: &str) -> (Vec<usize>, &str) {
 /// What broke is said, and its bytes are marked: not the filter's first, nor the row's.
 #[test]
 fn the_marks_are_under_the_field() {
-    let probes = inspect(b"\x42\0\0\x01\0\x05\x01\x0a\x41\0\0").ended(1).err;
-    let sentence = "refusal 4, value 6: the filter at place 6 has 65 probes; at most 64\n";
-    assert!(probes.contains(sentence), "{probes}");
+    let many = PROBES + 1;
+    let message = [&b"\x42\0\0\x01\0\x05\x01\x0a"[..], &[many as u8, 0, 0]].concat();
+    let probes = inspect(&message).ended(1).err;
+    let sentence = format!("value 6: the filter at place 6 has {many} probes; at most {PROBES}\n");
+    assert!(probes.contains(&sentence), "{probes}");
     assert_eq!(marked(&probes), (vec![8], " 8"), "{probes}");
 
-    let heads = inspect(b"\x42\x81\x08").ended(1).err;
-    assert!(heads.contains("1,025 heads"), "{heads}");
+    let many = HASHES as u64 + 1;
+    let message = [vec![0x42], number_bytes(many)].concat();
+    assert_eq!(message.len(), 3);
+    let heads = inspect(&message).ended(1).err;
+    let sentence = format!("{} heads", grouped(many));
+    assert!(heads.contains(&sentence), "{heads}");
     assert_eq!(marked(&heads), (vec![1, 2], "s 1 to 2"), "{heads}");
 
     let mut rows = fs::read(samples().join("station.table")).unwrap();
     // The second dependency of row 64, which has three.
-    let field = 64 * 64 + 32 + 4;
+    let field = 64 * Table::ROW + 32 + 4;
     rows[field..field + 2].copy_from_slice(&[0, 4]);
     let row = run_with(&["inspect", "--as", "table", "-"], &rows)
         .ended(1)
         .err;
     let sentence = "row 64 of the change table depends on row 1,024, which doesn't stand before it";
     assert!(row.contains(sentence), "{row}");
-    assert_eq!(marked(&row), (vec![4, 5], "s 4,132 to 4,133"), "{row}");
+    let [first, last] = [field, field + 1].map(|place| grouped(place as u64));
+    let places = format!("s {first} to {last}");
+    assert_eq!(marked(&row), (vec![4, 5], &places[..]), "{row}");
     let table = run_with(&["table", "-"], &rows).ended(1);
     assert!(table.err.contains(sentence), "{table:?}");
     assert_eq!(marked(&table.err), marked(&row), "{table:?}");
@@ -180,13 +192,17 @@ fn the_marks_are_under_the_field() {
 /// A long field is marked in its first lines.
 #[test]
 fn the_marks_of_a_long_field() {
-    let cut = run_with(&["inspect", "--as", "waiting", "-"], &[0; 543])
+    let zeros = [0; Waiting::ROW - 1];
+    let cut = run_with(&["inspect", "--as", "waiting", "-"], &zeros)
         .ended(1)
         .err;
-    assert!(cut.contains("is cut: it has 543 of 544 bytes"), "{cut}");
+    let [last, bytes, whole] = [2, 1, 0].map(|less| grouped((Waiting::ROW - less) as u64));
+    let sentence = format!("is cut: it has {bytes} of {whole} bytes");
+    assert!(cut.contains(&sentence), "{cut}");
     let marks = cut.lines().filter(|line| line.contains("^^"));
     assert_eq!(marks.count(), 4, "{cut}");
-    assert!(cut.contains("^^ places 0 to 542"), "{cut}");
+    let places = format!("^^ places 0 to {last}");
+    assert!(cut.contains(&places), "{cut}");
 }
 
 /// Bits for no entry are the sender's fault.
@@ -259,15 +275,17 @@ fn a_kind_is_told_by_the_bytes() {
         .ended(0)
         .out
         .contains("a filter, 5 bytes"));
-    let mut row = [0; 64];
+    let mut row = [0; Table::ROW];
     row[0] = 9;
     assert!(inspect(&row).ended(0).out.contains("a change table"));
     // A message of six bytes, with others that are ignored; all are a table's row.
     row[0] = 0x42;
     let shown = inspect(&row).ended(0).out;
     assert!(shown.contains("a change table"), "{shown}");
-    // A filter of one entry with 480 bits is a table's row too.
-    row[..4].copy_from_slice(&[0x01, 0xe0, 0x03, 0x07]);
+    // A filter of one entry, whose bits are all that stands behind its numbers, is a
+    // table's row too.
+    let bits = number_bytes(8 * (Table::ROW as u64 - 4));
+    row[..4].copy_from_slice(&[vec![0x01], bits, vec![0x07]].concat());
     let both = inspect(&row).ended(0).out;
     assert!(both.contains("a change table"), "{both}");
     assert!(
@@ -312,14 +330,16 @@ fn a_doubtful_guess() {
 #[test]
 fn bad_waiting_tables() {
     let table = fs::read(samples().join("validator.waiting")).unwrap();
-    let row = &table[..544];
+    let row = &table[..Waiting::ROW];
     let show = |bytes: &[u8]| run_with(&["inspect", "--as", "waiting", "-"], bytes);
     assert!(show(row).ended(0).out.contains("waiting  1"));
     let twice = show(&[row, row].concat()).ended(1).err;
     assert!(twice.contains("refusal 9, value 1"), "{twice}");
     assert!(twice.contains("has the hash of row 0"), "{twice}");
-    assert!(twice.contains("^^ places 544 to 575"), "{twice}");
-    assert!(show(&table[..543])
+    let [first, last] = [Waiting::ROW, Waiting::ROW + 31].map(|place| grouped(place as u64));
+    let places = format!("^^ places {first} to {last}");
+    assert!(twice.contains(&places), "{twice}");
+    assert!(show(&table[..Waiting::ROW - 1])
         .ended(1)
         .err
         .contains("refusal 9, value 0"));

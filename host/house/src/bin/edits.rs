@@ -31,7 +31,10 @@ const READ: &[(&str, &str)] = &[
         "table_index/fits_equal_hashes",
         "`loop-again` of `fit::entries_fit`",
     ),
-    ("hash_lists/all_in_itself", "`loop-again` of `compare::all_in`"),
+    (
+        "hash_lists/all_in_itself",
+        "`loop-again` of `compare::all_in`",
+    ),
     (
         "message/flag_read_only",
         "`returns` of `MessageFlags::read_only`",
@@ -85,10 +88,7 @@ const READ: &[(&str, &str)] = &[
         "`returns-2` of `passed::passed_hashes`",
     ),
     ("rules/value_of_ten", "`returns-10` of `Refusal::value`"),
-    (
-        "send/need_twice",
-        "`returns-3` of `chosen::held_unmarked`",
-    ),
+    ("send/need_twice", "`returns-3` of `chosen::held_unmarked`"),
     (
         "table/table_count",
         "`numbers-good-requires` of `check::row_good`",
