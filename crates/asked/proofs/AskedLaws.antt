@@ -9,6 +9,7 @@ use borrow.Author.Tests.{ltb-false, lt-ltb, le-ltb, not-true}
 use lib.ListN.{length, replicate, length-replicate}
 use Rattle.bloom.specs.Filter.{fieldSize}
 use Rattle.plan_decide.specs.Internal.Draft.{PlanParts, SmallDraft}
+use Rattle.plan_decide.proofs.PutLaws.{listsOf, changed}
 use Rattle.plan_decide.specs.declared.decide.Draft.{Draft}
 use Rattle.plan_make.specs.Internal.PlanMake.{carriedBody, BlankMarks, PlanCounted, ReadyRooms, DraftMade, Finished}
 use Rattle.plan_make.specs.declared.make.PlanCounts.{PlanCounts}
@@ -158,9 +159,9 @@ module _ {table index : List ℕ} {n : ℕ} (s : Session) (l : Lent) (rows : Ind
       small-made _ _ _ s l _ _ _ made (need .within) there good setting
 
   -- What was made, decided and put is what the call promises.
-  pub asked-called : {bits probes asked : ℕ} {ready : PlanParts} {d : Draft} {before after : Buffers} {a : PlanAnswer}
+  pub asked-called : {bits probes asked : ℕ} {ready : PlanParts} {d : Draft} {before after : Buffers} {lastSent sent : List ℕ} {a : PlanAnswer}
       → DraftMade bits probes (rowsAt table 0 n) (stateOf s l) asked ready d
       → ready .shared ≡ l .shared
-      → Finished s d bits probes ready before after a
-      → AskedCalled bits probes s (rowsAt table 0 n) l (ready .need) asked before after a
-  asked-called m e f = record { called = λ w found. plan-called _ _ _ w s l _ _ _ m (rw (m .need) found) e _ _ _ f }
+      → Finished s d bits probes ready (listsOf before l) (listsOf after (changed l lastSent sent)) a
+      → AskedCalled bits probes s (rowsAt table 0 n) l (changed l lastSent sent) (ready .need) asked before after a
+  asked-called m e f = record { called = λ w found. plan-called _ _ _ w s l _ _ _ m (rw (m .need) found) e good _ _ _ _ _ f }

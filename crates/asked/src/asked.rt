@@ -103,9 +103,11 @@ fn plan_in(
     ensures { λ r. ⌜ AskedCalled bits probes session (rowsAt (now (table .entry)) 0 n)
         (lentOf (now (shared .entry)) (now («last_sent» .entry)) (now («their_heads» .entry)) (now («their_need» .entry)) (now (haves .entry))
         (now (bytes .entry)) (now (sent .entry)))
+        (lentOf (now (shared .entry)) (now («last_sent» .exit)) (now («their_heads» .entry)) (now («their_need» .entry)) (now (haves .entry))
+        (now (bytes .entry)) (now (sent .exit)))
         (now («ready_need» .entry)) asked
-        (buffersOf (now (heads .entry)) (now (need .entry)) (now (have .entry)) (now (list .entry)) (now («last_sent» .entry)) (now (sent .entry)))
-        (buffersOf (now (heads .exit)) (now (need .exit)) (now (have .exit)) (now (list .exit)) (now («last_sent» .exit)) (now (sent .exit))) r ⌝ }
+        (buffersOf (now (heads .entry)) (now (need .entry)) (now (have .entry)) (now (list .entry)))
+        (buffersOf (now (heads .exit)) (now (need .exit)) (now (have .exit)) (now (list .exit))) r ⌝ }
 {
     let draft = make_plan(
         bits,
@@ -181,9 +183,11 @@ fn plan_asked(
     ensures { λ r. ⌜ AskedCalled bits probes session (rowsAt (now (table .entry)) 0 n)
         (lentOf (now (shared .entry)) (now («last_sent» .entry)) (now («their_heads» .entry)) (now («their_need» .entry)) (now (haves .entry))
         (now (bytes .entry)) (now (sent .entry)))
+        (lentOf (now (shared .entry)) (now («last_sent» .exit)) (now («their_heads» .entry)) (now («their_need» .entry)) (now (haves .entry))
+        (now (bytes .entry)) (now (sent .exit)))
         (now («ready_need» .entry)) asked
-        (buffersOf (now (heads .entry)) (now (need .entry)) (now (have .entry)) (now (list .entry)) (now («last_sent» .entry)) (now (sent .entry)))
-        (buffersOf (now (heads .exit)) (now (need .exit)) (now (have .exit)) (now (list .exit)) (now («last_sent» .exit)) (now (sent .exit))) r ⌝ }
+        (buffersOf (now (heads .entry)) (now (need .entry)) (now (have .entry)) (now (list .entry)))
+        (buffersOf (now (heads .exit)) (now (need .exit)) (now (have .exit)) (now (list .exit))) r ⌝ }
 {
     let mut head_marks = [false; ROWS];
     let mut marks = [false; ROWS];
@@ -299,12 +303,16 @@ pub fn plan_checked(
     requires { ⌜ PlanChecked (now table) (now index) n (now waiting) m session
         (lentOf (now shared) (now «last_sent») (now «their_heads») (now «their_need») (now haves) (now bytes) (now sent))
         × Setting bits probes ⌝ }
-    ensures { λ r. ⌜ PlanCalled session (planFor bits probes (rowsAt (now (table .entry)) 0 n) (waitingOf (now (waiting .entry)))
+    ensures { λ r. ⌜ PlanCalled (planFor bits probes (rowsAt (now (table .entry)) 0 n) (waitingOf (now (waiting .entry)))
         (stateOf session
         (lentOf (now (shared .entry)) (now («last_sent» .entry)) (now («their_heads» .entry)) (now («their_need» .entry)) (now (haves .entry))
         (now (bytes .entry)) (now (sent .entry)))))
-        (buffersOf (now (heads .entry)) (now (need .entry)) (now (have .entry)) (now (list .entry)) (now («last_sent» .entry)) (now (sent .entry)))
-        (buffersOf (now (heads .exit)) (now (need .exit)) (now (have .exit)) (now (list .exit)) (now («last_sent» .exit)) (now (sent .exit))) r ⌝ }
+        (lentOf (now (shared .entry)) (now («last_sent» .entry)) (now («their_heads» .entry)) (now («their_need» .entry)) (now (haves .entry))
+        (now (bytes .entry)) (now (sent .entry)))
+        (lentOf (now (shared .entry)) (now («last_sent» .exit)) (now («their_heads» .entry)) (now («their_need» .entry)) (now (haves .entry))
+        (now (bytes .entry)) (now (sent .exit)))
+        (buffersOf (now (heads .entry)) (now (need .entry)) (now (have .entry)) (now (list .entry)))
+        (buffersOf (now (heads .exit)) (now (need .exit)) (now (have .exit)) (now (list .exit))) r ⌝ }
 {
     let heard = session.their_heads;
     let mut few_need = [0u8; FEW_SIZE];

@@ -1,7 +1,7 @@
 -- P1 to P5, by computation. Assumes nothing.
 use Prim.Native.Nat.{ℕ}
 use mathlib.Core.Bool.{true}
-use mathlib.Core.List.{List, [], _∷_}
+use mathlib.Core.List.{[], _∷_}
 use mathlib.Core.Path.{_≡_, refl}
 use Rattle.bloom.specs.Filter.{filterBytes, fieldSize, defaultBits, defaultProbes}
 use Rattle.bloom.specs.Have.{havesFrom, havesOf}
@@ -38,9 +38,9 @@ use Rattle.session.specs.Plan.{
 }
 use Rattle.session_state.specs.Session.{fresh, freshReadOnly, setReadOnly}
 use Rattle.table.specs.Table.{rowsFrom, rowsWhere}
-use Rattle.walk_sessions.specs.Talk.{listChunks, chunksFor, messageFor}
 use Rattle.wire.specs.Item.{run, leftAt, afterNumber, afterPart, afterListed, countAt, prefixedAt, hashListAt, prefixedBytes, hashListBytes}
 use Rattle.examples.specs.Examples.{Reads, Writes, emptyMessage}
+use Rattle.session.specs.Written.{listChunks, chunksFor, messageFor}
 
 -- where the parts of a message of nothing but flags stand, up to `next`
 abbrev emptyPlaces : Section → ℕ → Places

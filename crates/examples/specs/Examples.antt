@@ -32,7 +32,7 @@ use Rattle.send.specs.ToSend.{toSend}
 use Rattle.session.specs.Plan.{Plan, Planned, plan}
 use Rattle.session_state.specs.Session.{State, fresh, freshReadOnly, setReadOnly}
 use Rattle.table.specs.Table.{Row}
-use Rattle.walk_sessions.specs.Talk.{Host, messageFor}
+use Rattle.session.specs.Written.{Host, messageFor}
 
 -- P1 to P3, reading: bytes are read as a message.
 pub record Reads (s : List ℕ) (m : Message) : Type 0 where

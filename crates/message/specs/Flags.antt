@@ -14,8 +14,8 @@ abbrev pub syncReset : ℕ
 syncReset = 1
 
 -- The sender takes no changes.
-abbrev pub readOnly : ℕ
-readOnly = 2
+abbrev pub readOnlyFlag : ℕ
+readOnlyFlag = 2
 
 -- The sender understands a reset.
 abbrev pub supportsSyncReset : ℕ

@@ -39,20 +39,20 @@ pub record SoundMessage (m : Message) : Type 0 where
 
 -- The first condition of reading back: n is at least 1, or the filter is the default. Another filter with n = 0 is written as no bytes too, and
 -- these say the default.
-pub data SaidFilter (f : Filter) : Type 0 where
-  entries : 0 < f .entries → SaidFilter f
-  default : f ≡ filterOf4 0 defaultBits defaultProbes [] → SaidFilter f
+pub data FilterReadsBack (f : Filter) : Type 0 where
+  entries : 0 < f .entries → FilterReadsBack f
+  default : f ≡ filterOf4 0 defaultBits defaultProbes [] → FilterReadsBack f
 
 -- A have whose filter is read back as it was written.
-abbrev pub SaidHave : Have → Type 0
-SaidHave h = SaidFilter (h .filter)
+abbrev pub HaveReadsBack : Have → Type 0
+HaveReadsBack h = FilterReadsBack (h .filter)
 
 -- The second: flags below 80, if there are any. A byte of flags has seven bits for them.
-abbrev pub SaidFlags : Section → Type 0
-SaidFlags Absent = Unit {0}
-SaidFlags (Present f) = f .0 < 0x80
+abbrev pub FlagsReadBack : Section → Type 0
+FlagsReadBack Absent = Unit {0}
+FlagsReadBack (Present f) = f .0 < 0x80
 
 -- Both, of a whole message.
-pub record SaidMessage (m : Message) : Type 0 where
-  pub filters : Each SaidHave (m .haves)
-  pub flags : SaidFlags (m .flags)
+pub record ReadsBack (m : Message) : Type 0 where
+  pub filters : Each HaveReadsBack (m .haves)
+  pub flags : FlagsReadBack (m .flags)

@@ -4,7 +4,7 @@ ghost use Prim.Native.Nat.{_+_, _≤_};
 ghost use lib.Bits.{bitOr};
 ghost use lib.ListN.{length};
 ghost use lib.Seq.{slice};
-ghost use Rattle.message.specs.Flags.{syncReset, readOnly, supportsSyncReset, flagsOf, hasFlag, flagsIn};
+ghost use Rattle.message.specs.Flags.{syncReset, readOnlyFlag, supportsSyncReset, flagsOf, hasFlag, flagsIn};
 
 pub struct MessageFlags(pub u8);
 
@@ -43,7 +43,7 @@ impl MessageFlags {
     }
 
     pub fn read_only(self) -> bool
-        ensures { λ r. ⌜ r ≡ hasFlag self readOnly ⌝ }
+        ensures { λ r. ⌜ r ≡ hasFlag self readOnlyFlag ⌝ }
     {
         self.contains(MessageFlags::READ_ONLY)
     }

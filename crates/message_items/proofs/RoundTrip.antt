@@ -16,7 +16,7 @@ use Rattle.bloom.specs.FilterRead.{filterAt}
 use Rattle.bloom.proofs.Filters.{no-bytes, filter-written, default-written}
 use Rattle.bloom.proofs.IgnoredLaws.{ignored-none, ignored-written}
 use Rattle.message.specs.Message.{joined, counted, total, haveBytes}
-use Rattle.message.specs.Sound.{Each, SoundHave, SaidFilter, entries, default, SaidHave}
+use Rattle.message.specs.Sound.{Each, SoundHave, FilterReadsBack, entries, default, HaveReadsBack}
 use Rattle.rules.specs.Hash.{hashesAt}
 use Rattle.rules.specs.Sizes.{sizes}
 use Rattle.rules.proofs.Hash.{slice-parts}
@@ -192,7 +192,7 @@ record FilterWritten (s : List ℕ) (from end : ℕ) (f : Filter) : Type 0 where
   is : filterAt s from end ≡ Read numbers next
   says : filterWith s numbers ≡ f
 
-filter-back : (s : List ℕ) (from end : ℕ) (f : Filter) → filterRules (f .entries) (f .bits) (f .probes) (length (f .field)) ≡ true → SaidFilter f
+filter-back : (s : List ℕ) (from end : ℕ) (f : Filter) → filterRules (f .entries) (f .bits) (f .probes) (length (f .field)) ≡ true → FilterReadsBack f
     → slice from end s ≡ filterBytes f
     → FilterWritten s from end f
 unfolding filterWith
@@ -241,9 +241,9 @@ have-joined s h at sync i from end syncs are part e f =
 
 -- a have that is written, and that its bytes say
 abbrev GoodHave : Have → Type 0
-GoodHave h = SoundHave h × SaidHave h
+GoodHave h = SoundHave h × HaveReadsBack h
 
-good-haves : (hs : List Have) → Each SoundHave hs → Each SaidHave hs → Each GoodHave hs
+good-haves : (hs : List Have) → Each SoundHave hs → Each HaveReadsBack hs → Each GoodHave hs
 unfolding Each
 good-haves [] sound said = tt
 good-haves (h ∷ hs) sound said = ((sound .0, said .0), good-haves hs (sound .1) (said .1))
@@ -270,7 +270,7 @@ have-written s small h good at rest same =
 
 -- ---- nothing is ignored
 
-filter-nothing : (s : List ℕ) (from end : ℕ) (f : Filter) → filterRules (f .entries) (f .bits) (f .probes) (length (f .field)) ≡ true → SaidFilter f
+filter-nothing : (s : List ℕ) (from end : ℕ) (f : Filter) → filterRules (f .entries) (f .bits) (f .probes) (length (f .field)) ≡ true → FilterReadsBack f
     → from ≤ end
     → end ≤ length s
     → slice from end s ≡ filterBytes f
@@ -348,7 +348,7 @@ pub record HavesBack (s : List ℕ) (at : ℕ) (hs : List Have) : Type 0 where
   pub says : havesOf s words ≡ hs
   pub nothing : total (ignoredFrom s (haves .count) (haves .start)) ≡ 0
 
-pub haves-written : (s : List ℕ) → length s ≤ sizes .message → (hs : List Have) → Each SoundHave hs → Each SaidHave hs → length hs ≤ sizes .haves
+pub haves-written : (s : List ℕ) → length s ≤ sizes .message → (hs : List Have) → Each SoundHave hs → Each HaveReadsBack hs → length hs ≤ sizes .haves
     → (at : ℕ) (rest : List ℕ)
     → slice at (length s) s ≡ counted haveBytes hs ++ rest
     → HavesBack s at hs

@@ -11,7 +11,7 @@ use lib.Seq.{slice, length-slice, take-length}
 use Rattle.bloom.specs.Have.{Have, havesOf}
 use Rattle.message.specs.Flags.{flagsOf, addFlags, flagsIn, sectionBytes}
 use Rattle.message.specs.Message.{Message, typeOf, counted, total, haveBytes, messageBytes}
-use Rattle.message.specs.Sound.{SoundMessage, SaidFlags, SaidMessage}
+use Rattle.message.specs.Sound.{SoundMessage, FlagsReadBack, ReadsBack}
 use Rattle.message.specs.declared.flags.Section.{Section}
 use Rattle.message.specs.declared.flags.Section.the-variants.{Absent, Present}
 use Rattle.message.specs.declared.version.MessageVersion.{MessageVersion}
@@ -51,7 +51,7 @@ record SectionWritten (s : List ℕ) (at : ℕ) (flags : Section) : Type 0 where
   is : sectionAt s at ≡ Sectioned flags next
   behind : behindOf s flags next ≡ 0
 
-section-written : (s : List ℕ) (at : ℕ) (flags : Section) → SaidFlags flags → slice at (length s) s ≡ sectionBytes flags → SectionWritten s at flags
+section-written : (s : List ℕ) (at : ℕ) (flags : Section) → FlagsReadBack flags → slice at (length s) s ≡ sectionBytes flags → SectionWritten s at flags
 unfolding sectionBytes flagsIn addFlags prefixedBytes behindOf
 section-written s at Absent good same =
     let l : length s - at ≡ 0 = sym (length-slice at (length s) s (omega arith)) ∙ ap length same in
@@ -93,7 +93,7 @@ same-message : (v : MessageVersion) (f : Section) (a₁ a₂ b₁ b₂ : List �
     → message-of v a₁ b₁ c₁ d₁ f ≡ message-of v a₂ b₂ c₂ d₂ f
 same-message v f a₁ a₂ b₁ b₂ c₁ c₂ d₁ d₂ p q r t = rw (p, q, r, t)
 
-pub message-there-and-back : (s : List ℕ) (m : Message) → s ≡ messageBytes m → SoundMessage m → SaidMessage m → ReadBack s m
+pub message-there-and-back : (s : List ℕ) (m : Message) → s ≡ messageBytes m → SoundMessage m → ReadsBack m → ReadBack s m
 unfolding messageBytes messageIn ignoredOf
 message-there-and-back s m e sound said =
     let b5 : List ℕ = sectionBytes (m .flags) in

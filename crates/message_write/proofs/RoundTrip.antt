@@ -4,7 +4,7 @@ use Prim.Native.Nat.{ℕ}
 use mathlib.Core.List.{List}
 use mathlib.Core.Path.{_≡_}
 use Rattle.message_read.proofs.RoundTrip.{ReadBack, message-there-and-back}
-use Rattle.message.specs.Sound.{SaidMessage}
+use Rattle.message.specs.Sound.{ReadsBack}
 use Rattle.rules.specs.Hash.{Bytes}
 use Rattle.rules.specs.Output.{Output}
 use Rattle.message.specs.Write.{Parts, messageOf, messageOutput}
@@ -14,7 +14,7 @@ use Rattle.message_size.proofs.WriteLaws.{message-written}
 pub written-and-read : (p : Parts) (l : List ℕ)
     → Bytes (p .heads) → Bytes (p .need) → Bytes (p .bytes)
     → messageOutput p ≡ Output.bytes l
-    → SaidMessage (messageOf p)
+    → ReadsBack (messageOf p)
     → ReadBack l (messageOf p)
 written-and-read p l bh bn bb e said =
     message-there-and-back l (messageOf p) (message-written p l e .is) (written-sound p l bh bn bb e) said

@@ -36,12 +36,13 @@ exported-bind =
       bt-write-state = λ κs a x y u v p q. (refl, skip (skip (joined (once (p .content) (q .content)) (joined (once (p .answer) (q .answer)) refl))));
       bt-read-state = λ κs a x y u v p q. (refl, skip (joined (once (p .shared) (q .shared)) (joined (once (p .session) (q .session)) (joined (once (p .answer) (q .answer)) refl))));
       bt-plan = λ κs a x y u v p q.
-          let same = once (p .buffers) (q .buffers) in (
+          let same = once (p .buffers) (q .buffers) in
+          let kept = once (p .lists) (q .lists) in (
             refl,
             joined (once (p .session) (q .session)) (skip
-                (joined (ap (λ (b : Buffers). b .lastSent) same)
+                (joined (ap (λ (l : Lent). l .lastSent) kept)
                 (skip (skip (skip (skip
-                (joined (ap (λ (b : Buffers). b .sent) same)
+                (joined (ap (λ (l : Lent). l .sent) kept)
                 (skip (skip (skip
                 (joined (ap (λ (b : Buffers). b .heads) same)
                 (joined (ap (λ (b : Buffers). b .need) same)

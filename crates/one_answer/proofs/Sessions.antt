@@ -21,12 +21,13 @@ sessions-bind =
       saved-parse = λ κs a x y u v p q. (once p q, refl);
       saved-decode = λ κs a x y u v p q. (once (p .answer) (q .answer), skip (joined (once (p .content) (q .content)) refl));
       generate-sync-message = λ κs a x y u v p q.
-          let same = once (p .buffers) (q .buffers) in (
+          let same = once (p .buffers) (q .buffers) in
+          let kept = once (p .lists) (q .lists) in (
             once (p .answer) (q .answer),
             skip (skip (skip (skip (skip
-                (joined (ap (λ (b : Buffers). b .lastSent) same)
+                (joined (ap (λ (l : Lent). l .lastSent) kept)
                 (skip (skip (skip (skip
-                (joined (ap (λ (b : Buffers). b .sent) same)
+                (joined (ap (λ (l : Lent). l .sent) kept)
                 (joined (ap (λ (b : Buffers). b .heads) same)
                 (joined (ap (λ (b : Buffers). b .need) same)
                 (joined (ap (λ (b : Buffers). b .have) same)

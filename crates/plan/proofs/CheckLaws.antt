@@ -10,13 +10,11 @@ use Rattle.bloom.proofs.Rules.{rules-default}
 use Rattle.table_index.specs.Index.{Indexed, indexChecked}
 use Rattle.table_index.proofs.CheckLaws.{checked-table, checked-indexed}
 use Rattle.session_check.specs.SessionGood.{sessionGood}
-use Rattle.session.specs.PlanCall.{Buffers, afterTables, planWith, plannedAnswer, plannedRoomed, putInto, PlanCalled}
+use Rattle.session.specs.PlanCall.{Buffers, afterTables, planWith, plannedAnswer, plannedRoomed, putInto, plannedLists, PlanCalled}
 use Rattle.session.specs.declared.plan_answer.PlanAnswer.the-variants as answer
 use Rattle.plan_parts.specs.Internal.PlanParts.{Setting}
-use Rattle.rules.specs.Hash.{hashesBytes}
 use Rattle.rules.specs.declared.refusal.Refusal.{Refusal}
 use Rattle.rules.specs.declared.refusal.Refusal.the-variants.{BadNumbers}
-use Rattle.session.specs.Laid.{laidBytes}
 use Rattle.session.specs.Plan.{Planned, plan}
 use Rattle.session_state.specs.Value.{Lent, stateOf}
 use Rattle.session_state.specs.declared.session.Session.{Session}
@@ -142,9 +140,9 @@ module _ (bits probes : ℕ) (s : Session) (l : Lent) (table index waiting : Lis
 
   -- A refusal passes on, and leaves the buffers.
   pub refused-called : (b : Buffers) (r : Refusal) {found : PlanChecks} → found ≡ checkedPlan s l table index waiting → found ≡ Refused r
-      → PlanCalled s (planWith bits probes s l table index waiting) b b (answer.Refused r)
-  unfolding checkedPlan planWith plannedAnswer plannedRoomed putInto hashesBytes laidBytes
-  refused-called b r is e = rw (refused-plans (sessionGood s l) r (sym is ∙ e)) (record { answer = refl; buffers = refl })
+      → PlanCalled (planWith bits probes s l table index waiting) l l b b (answer.Refused r)
+  unfolding checkedPlan planWith plannedAnswer plannedRoomed putInto plannedLists
+  refused-called b r is e = rw (refused-plans (sessionGood s l) r (sym is ∙ e)) (record { answer = refl; buffers = refl; lists = refl })
 
 -- The filter rules hold with the default's bits and probes over any rows.
 pub default-setting : Setting defaultBits defaultProbes

@@ -32,12 +32,16 @@ pub fn plan(
     list: &mut [u8],
 ) -> PlanAnswer
     requires { ⌜ Setting bits probes ⌝ }
-    ensures { λ r. ⌜ PlanCalled session (planWith bits probes session
+    ensures { λ r. ⌜ PlanCalled (planWith bits probes session
         (lentOf (now (shared .entry)) (now («last_sent» .entry)) (now («their_heads» .entry)) (now («their_need» .entry)) (now (haves .entry))
         (now (bytes .entry)) (now (sent .entry)))
         (now (table .entry)) (now (index .entry)) (now (waiting .entry)))
-        (buffersOf (now (heads .entry)) (now (need .entry)) (now (have .entry)) (now (list .entry)) (now («last_sent» .entry)) (now (sent .entry)))
-        (buffersOf (now (heads .exit)) (now (need .exit)) (now (have .exit)) (now (list .exit)) (now («last_sent» .exit)) (now (sent .exit))) r ⌝ }
+        (lentOf (now (shared .entry)) (now («last_sent» .entry)) (now («their_heads» .entry)) (now («their_need» .entry)) (now (haves .entry))
+        (now (bytes .entry)) (now (sent .entry)))
+        (lentOf (now (shared .entry)) (now («last_sent» .exit)) (now («their_heads» .entry)) (now («their_need» .entry)) (now (haves .entry))
+        (now (bytes .entry)) (now (sent .exit)))
+        (buffersOf (now (heads .entry)) (now (need .entry)) (now (have .entry)) (now (list .entry)))
+        (buffersOf (now (heads .exit)) (now (need .exit)) (now (have .exit)) (now (list .exit))) r ⌝ }
 {
     match check_plan(
         session,
@@ -95,12 +99,16 @@ pub fn generate_sync_message(
     have: &mut [u8],
     list: &mut [u8],
 ) -> PlanAnswer
-    ensures { λ r. ⌜ PlanCalled session (planWith defaultBits defaultProbes session
+    ensures { λ r. ⌜ PlanCalled (planWith defaultBits defaultProbes session
         (lentOf (now (shared .entry)) (now («last_sent» .entry)) (now («their_heads» .entry)) (now («their_need» .entry)) (now (haves .entry))
         (now (bytes .entry)) (now (sent .entry)))
         (now (table .entry)) (now (index .entry)) (now (waiting .entry)))
-        (buffersOf (now (heads .entry)) (now (need .entry)) (now (have .entry)) (now (list .entry)) (now («last_sent» .entry)) (now (sent .entry)))
-        (buffersOf (now (heads .exit)) (now (need .exit)) (now (have .exit)) (now (list .exit)) (now («last_sent» .exit)) (now (sent .exit))) r ⌝ }
+        (lentOf (now (shared .entry)) (now («last_sent» .entry)) (now («their_heads» .entry)) (now («their_need» .entry)) (now (haves .entry))
+        (now (bytes .entry)) (now (sent .entry)))
+        (lentOf (now (shared .entry)) (now («last_sent» .exit)) (now («their_heads» .entry)) (now («their_need» .entry)) (now (haves .entry))
+        (now (bytes .entry)) (now (sent .exit)))
+        (buffersOf (now (heads .entry)) (now (need .entry)) (now (have .entry)) (now (list .entry)))
+        (buffersOf (now (heads .exit)) (now (need .exit)) (now (have .exit)) (now (list .exit))) r ⌝ }
 {
     plan(
         BITS_PER_ENTRY,

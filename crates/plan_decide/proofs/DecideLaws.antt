@@ -9,16 +9,17 @@ use lib.Dec.{ltb}
 use Rattle.bloom.specs.Filter.{fieldSize, defaultBits, defaultProbes}
 use Rattle.bloom.specs.Have.{numbersOf}
 use Rattle.bloom.specs.declared.have.FilterNumbers.{FilterNumbers}
-use Rattle.message.specs.Flags.{flagsOf, supportsSyncReset, readOnly, syncReset}
+use Rattle.message.specs.Flags.{flagsOf, supportsSyncReset, readOnlyFlag, syncReset}
 use Rattle.message.specs.declared.flags.MessageFlags.{MessageFlags}
 use Rattle.message.specs.declared.version.MessageVersion.{MessageVersion}
 use Rattle.message.specs.declared.version.MessageVersion.the-variants.{V1}
-use Rattle.session.specs.PlanCall.{messageRoom, sessionRoom, plannedCounts}
+use Rattle.session.specs.PlanCall.{messageRoom, sessionRoom}
 use Rattle.session.specs.declared.plan_answer.PlanAnswer.{PlanAnswer}
 use Rattle.session.specs.declared.plan_answer.PlanAnswer.the-variants.{Refused, Silent, Reset, Says}
-use Rattle.session.specs.declared.plan_answer.Room.{Room}
-use Rattle.session.specs.declared.plan_answer.Room.the-variants.{Enough, Short}
 use Rattle.session.specs.declared.plan_answer.Rooms.{Rooms}
+use Rattle.session.specs.declared.room.Room.{Room}
+use Rattle.session.specs.declared.room.Room.the-variants.{Enough, Short}
+use Rattle.session.specs.Rooms.{ifRoom}
 use Rattle.session.specs.declared.plan_answer.Stated.{Stated}
 use Rattle.rules.specs.Sizes.{sizes}
 use Rattle.rules.specs.declared.refusal.Refusal.{Refusal}
@@ -26,7 +27,7 @@ use Rattle.rules.specs.declared.refusal.Refusal.the-variants.{PastSize, NoRoom}
 use Rattle.rules.proofs.Cases.{split}
 use Rattle.session.specs.Plan.{versionFor, flagsFor}
 use Rattle.session_state.specs.declared.session.Session.{Session}
-use Rattle.plan_decide.specs.Internal.Draft.{SmallStated, SmallDraft, headsCount, countIf, filterIf, drafted, resetStated, ifRoom, saysWith, decided, noPuts}
+use Rattle.plan_decide.specs.Internal.Draft.{SmallStated, SmallDraft, headsCount, countIf, filterIf, drafted, resetStated, plannedCounts, saysWith, decided, noPuts}
 use Rattle.plan_decide.specs.Internal.Draft.{putsFor, putsOf}
 use Rattle.plan_decide.specs.declared.decide.Draft.{Draft}
 use Rattle.plan_decide.specs.declared.put.Puts.{Puts}
@@ -114,7 +115,7 @@ understands n b e q = rw e at q
 
 -- flags one after the other are their sum
 pub flags-said : (reads forgets : Bool) (b f g : MessageFlags) → b ≡ flagsOf supportsSyncReset
-    → f ≡ cond reads (flagsOf (bitOr (b .0) readOnly)) b
+    → f ≡ cond reads (flagsOf (bitOr (b .0) readOnlyFlag)) b
     → g ≡ cond forgets (flagsOf (bitOr (f .0) syncReset)) f
     → g ≡ flagsFor reads forgets
 unfolding flagsFor
@@ -183,11 +184,11 @@ small-drafted s d bits probes m =
 -- ---- the answer
 
 module _ (heads : ℕ) (r : Rooms) (p : Stated) (x : Room) (e : p ≡ resetStated heads) (q : x ≡ messageRoom p r) where
-  pub reset-short : (wanted : ℕ) → x ≡ Short wanted → Refused (NoRoom wanted) ≡ ifRoom (messageRoom (resetStated heads) r) (Reset (resetStated heads))
+  pub reset-short : (wanted : ℕ) → x ≡ Short wanted → Refused (NoRoom wanted) ≡ ifRoom Refused (messageRoom (resetStated heads) r) (Reset (resetStated heads))
   unfolding ifRoom
   reset-short wanted h = let k : messageRoom (resetStated heads) r ≡ Short wanted = rw (← e) (sym q ∙ h) in rw k
 
-  pub reset-enough : x ≡ Enough → Reset p ≡ ifRoom (messageRoom (resetStated heads) r) (Reset (resetStated heads))
+  pub reset-enough : x ≡ Enough → Reset p ≡ ifRoom Refused (messageRoom (resetStated heads) r) (Reset (resetStated heads))
   unfolding ifRoom
   reset-enough h = let k : messageRoom (resetStated heads) r ≡ Enough = rw (← e) (sym q ∙ h) in rw k (ap Reset e)
 
@@ -233,7 +234,7 @@ module _ (s : Session) (d : Draft) (bits probes : ℕ) (r : Rooms) where
   needs-many h = rw (lt-ltb _ _ h)
 
   module _ (few : d .need ≤ sizes .hashes) where
-    pub is-unknown : {x : PlanAnswer} → d .unknown ≡ true → x ≡ ifRoom (messageRoom (resetStated (d .heads)) r) (Reset (resetStated (d .heads)))
+    pub is-unknown : {x : PlanAnswer} → d .unknown ≡ true → x ≡ ifRoom Refused (messageRoom (resetStated (d .heads)) r) (Reset (resetStated (d .heads)))
         → x ≡ decided s d bits probes r
     unfolding decided
     is-unknown u e = at-reset (ltb (sizes .hashes) (d .need)) (d .unknown) (d .silent) (ltb (sizes .sentHashes) (d .sent)) _ _ (le-ltb _ _ few) u e

@@ -1,16 +1,19 @@
 -- Where what stands ready starts with the bytes of what is said, what is put is what the call promises. Nothing is put after a refusal and in silence,
 -- which is no case of its own. Assumes nothing.
 use Prim.Native.Nat.{ℕ, _+_, _*_, _≤_}
-use mathlib.Core.List.{List, _++_}
+use mathlib.Core.List.{List, [], _++_}
 use mathlib.Core.Path.{_≡_, refl, sym, ap, _∙_}
 use native.Mathlib.Nat.{zero-add}
 use lib.ListN.{length, take}
 use lib.Seq.{sets}
-use Rattle.session.specs.PlanCall.{Buffers, syncsOf, filterNumbers, plannedAnswer, afterRoom, plannedRoomed}
-use Rattle.session.specs.PlanCall.{said, lastSentPut, sentPut, putInto}
-use Rattle.session.specs.declared.plan_answer.Room.{Room}
-use Rattle.session.specs.declared.plan_answer.Room.the-variants.{Enough, Short}
+use Rattle.session.specs.PlanCall.{syncsOf, filterNumbers, plannedAnswer, plannedRoomed}
+use Rattle.session.specs.PlanCall.{Buffers, putInto, plannedLists}
+use Rattle.session.specs.Rooms.{ifRoom}
+use Rattle.session.specs.declared.room.Room.{Room}
+use Rattle.session.specs.declared.room.Room.the-variants.{Enough, Short}
 use Rattle.session.specs.declared.plan_answer.Rooms.{Rooms}
+use Rattle.message.specs.Flags.{flagsOf}
+use Rattle.message.specs.declared.version.MessageVersion.the-variants.{V1}
 use Rattle.rules.specs.Hash.{Bytes, hashesAt, hashesBytes}
 use Rattle.rules.specs.Output.{Gathered}
 use Rattle.rules.specs.Sizes.{sizes}
@@ -18,25 +21,52 @@ use Rattle.rules.specs.declared.refusal.Refusal.{Refusal}
 use Rattle.rules.proofs.Hash.{length-hashes-at, length-hashes-bytes}
 use Rattle.rules.proofs.Outputs.{sets-append, gathered-bytes}
 use Rattle.session.specs.Laid.{laidBytes}
-use Rattle.session.specs.Plan.{Planned}
-use Rattle.session_state.specs.declared.session.Session.{Session}
-use Rattle.plan_decide.specs.Internal.Draft.{PlanParts, putsOf}
+use Rattle.session.specs.Plan.{Plan, Planned, listOf}
+use Rattle.session_state.specs.Value.{Lent}
+use Rattle.plan_decide.specs.Internal.Draft.{PlanParts, PutLists, putLists, putsOf}
 use Rattle.plan_decide.specs.Internal.Draft.{startPut, havePut, allPut}
+
+-- ---- what is said, and what the session's lists become
+
+-- Nothing said.
+abbrev pub noPlan : Plan
+noPlan = record { version = V1; heads = []; need = []; haves = []; body = listOf []; flags = flagsOf 0 }
+
+-- What is said: nothing after a refusal and in silence.
+abbrev pub planSaid : Planned → Plan
+planSaid (Planned.refused r) = noPlan
+planSaid Planned.silent = noPlan
+planSaid (Planned.reset p) = p
+planSaid (Planned.says p after) = p
+
+-- The heads sent last, where they change.
+abbrev pub lastSentPut : Planned → List ℕ
+lastSentPut (Planned.refused r) = []
+lastSentPut Planned.silent = []
+lastSentPut (Planned.reset p) = []
+lastSentPut (Planned.says p after) = after .lastSentHeads
+
+-- The hashes sent, where they change.
+abbrev pub sentPut : Planned → List ℕ
+sentPut (Planned.refused r) = []
+sentPut Planned.silent = []
+sentPut (Planned.reset p) = []
+sentPut (Planned.says p after) = after .sentHashes
 
 -- ---- bytes at the start of what stands ready
 
 -- What stands ready starts with what is said and with what the session's lists become.
 pub record Starts (q : Planned) (ready : PlanParts) : Type 0 where
-  pub heads : hashesAt (ready .heads) 0 (length (said q .heads)) ≡ said q .heads
-  pub need : hashesAt (ready .need) 0 (length (said q .need)) ≡ said q .need
-  pub have : hashesBytes (hashesAt (ready .shared) 0 (syncsOf (said q .haves))) ++ take (filterNumbers (said q .haves) .size) (ready .field)
-      ≡ laidBytes (said q .haves)
-  pub list : hashesAt (ready .list) 0 (length (said q .body .hashes)) ≡ said q .body .hashes
+  pub heads : hashesAt (ready .heads) 0 (length (planSaid q .heads)) ≡ planSaid q .heads
+  pub need : hashesAt (ready .need) 0 (length (planSaid q .need)) ≡ planSaid q .need
+  pub have : hashesBytes (hashesAt (ready .shared) 0 (syncsOf (planSaid q .haves))) ++ take (filterNumbers (planSaid q .haves) .size) (ready .field)
+      ≡ laidBytes (planSaid q .haves)
+  pub list : hashesAt (ready .list) 0 (length (planSaid q .body .hashes)) ≡ planSaid q .body .hashes
   pub lastSent : hashesAt (ready .heads) 0 (length (lastSentPut q)) ≡ lastSentPut q
   pub sent : hashesAt (ready .sent) 0 (length (sentPut q)) ≡ sentPut q
 
 pub buffers-same : {a a′ b b′ c c′ d d′ e e′ f f′ : List ℕ} → a ≡ a′ → b ≡ b′ → c ≡ c′ → d ≡ d′ → e ≡ e′ → f ≡ f′
-    → _≡_ {A = Buffers} (record { heads = a; need = b; have = c; list = d; lastSent = e; sent = f })
+    → _≡_ {A = PutLists} (record { heads = a; need = b; have = c; list = d; lastSent = e; sent = f })
     (record { heads = a′; need = b′; have = c′; list = d′; lastSent = e′; sent = f′ })
 buffers-same a b c d e f = rw (a, b, c, d, e, f)
 
@@ -64,9 +94,13 @@ have-put buffer shared field bytes k n e =
     in
     rw (long, e) at all
 
-module _ (s : Session) (ready : PlanParts) (b : Buffers) where
-  pub put-as-said : (q : Planned) → Starts q ready → allPut (putsOf (plannedAnswer s q)) ready b ≡ putInto q b
-  unfolding putsOf plannedAnswer putInto hashesAt hashesBytes laidBytes
+-- The message's buffers and the session's lists, as they are put.
+abbrev pub listsOf : Buffers → Lent → PutLists
+listsOf b l = putLists (b .heads) (b .need) (b .have) (b .list) (l .lastSent) (l .sent)
+
+module _ (ready : PlanParts) (b : Buffers) (l : Lent) where
+  pub put-as-said : (q : Planned) → Starts q ready → allPut (putsOf (plannedAnswer q)) ready (listsOf b l) ≡ listsOf (putInto q b) (plannedLists q l)
+  unfolding putsOf plannedAnswer putInto plannedLists hashesAt hashesBytes laidBytes
   put-as-said (Planned.refused r) f = refl
   put-as-said Planned.silent f = refl
   put-as-said (Planned.reset p) f =
@@ -86,6 +120,27 @@ module _ (s : Session) (ready : PlanParts) (b : Buffers) where
       (start-put _ _ _ (f .lastSent))
       (start-put _ _ _ (f .sent))
 
+-- A session's lists with other heads sent last and other hashes sent.
+abbrev pub changed : Lent → List ℕ → List ℕ → Lent
+changed l lastSent sent =
+    record {
+      shared = l .shared;
+      lastSent = lastSent;
+      theirHeads = l .theirHeads;
+      theirNeed = l .theirNeed;
+      haves = l .haves;
+      bytes = l .bytes;
+      sent = sent;
+    }
+
+-- planning changes no other list
+pub lists-change : (q : Planned) (l : Lent) → changed l (plannedLists q l .lastSent) (plannedLists q l .sent) ≡ plannedLists q l
+unfolding plannedLists
+lists-change (Planned.refused r) l = refl
+lists-change Planned.silent l = refl
+lists-change (Planned.reset p) l = refl
+lists-change (Planned.says p after) l = refl
+
 -- nothing is at every start
 pub refused-starts : (r : Refusal) (ready : PlanParts) → Starts (Planned.refused r) ready
 unfolding hashesAt hashesBytes laidBytes
@@ -95,8 +150,8 @@ pub silent-starts : (ready : PlanParts) → Starts Planned.silent ready
 unfolding hashesAt hashesBytes laidBytes
 silent-starts ready = record { heads = refl; need = refl; have = refl; list = refl; lastSent = refl; sent = refl }
 
-after-room : (x : Room) (q : Planned) (ready : PlanParts) → Starts q ready → Starts (afterRoom x q) ready
-unfolding afterRoom
+after-room : (x : Room) (q : Planned) (ready : PlanParts) → Starts q ready → Starts (ifRoom Planned.refused x q) ready
+unfolding ifRoom
 after-room Enough q ready f = f
 after-room (Short wanted) q ready f = refused-starts _ ready
 

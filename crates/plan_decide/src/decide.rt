@@ -11,9 +11,9 @@ use rules::sizes::HASH_SIZE;
 use rules::sizes::HASHES;
 use rules::sizes::SENT_HASHES;
 use session::plan_answer::PlanAnswer;
-use session::plan_answer::Room;
 use session::plan_answer::Rooms;
 use session::plan_answer::Stated;
+use session::room::Room;
 use session_state::session::Session;
 ghost use mathlib.Core.Bool.{cond, _&&_};
 ghost use mathlib.Core.Path.{_≡_};
@@ -21,11 +21,12 @@ ghost use Prim.Native.Nat.{_+_, _*_, _≤_};
 ghost use lib.Bits.{bitOr};
 ghost use Rattle.message.specs.Flags.{flagsOf};
 ghost use Rattle.leb128.specs.Number.{mostFilter};
-ghost use Rattle.session.specs.PlanCall.{messageRoom, sessionRoom, plannedCounts};
-ghost use Rattle.session.specs.declared.plan_answer.PlanAnswer.the-variants.{Reset};
+ghost use Rattle.session.specs.PlanCall.{messageRoom, sessionRoom};
+ghost use Rattle.session.specs.Rooms.{ifRoom};
+ghost use Rattle.session.specs.declared.plan_answer.PlanAnswer.the-variants.{Reset, Refused};
 ghost use Rattle.rules.specs.Sizes.{sizes};
 ghost use Rattle.session.specs.Plan.{flagsFor, versionFor};
-ghost use Rattle.plan_decide.specs.Internal.Draft.{SmallStated, SmallDraft, headsCount, countIf, filterIf, drafted, resetStated, ifRoom, saysWith, decided};
+ghost use Rattle.plan_decide.specs.Internal.Draft.{SmallStated, SmallDraft, headsCount, countIf, filterIf, drafted, resetStated, plannedCounts, saysWith, decided};
 
 // The numbers of a plan: how many heads there are and hashes are asked for, whether the peer's first have is unknown, whether a have is given and the
 // entries of its filter, the body, whether there is nothing to say, and how many hashes are sent then.
@@ -228,7 +229,7 @@ fn planned_session(session: Session, last_sent: usize, sent: usize) -> Session
 // The reset, if there is room for it.
 fn reset(heads: usize, r: Rooms) -> PlanAnswer
     requires { ⌜ heads ≤ sizes .rows ⌝ }
-    ensures { λ x. ⌜ x ≡ ifRoom (messageRoom (resetStated heads) r) (Reset (resetStated heads)) ⌝ }
+    ensures { λ x. ⌜ x ≡ ifRoom Refused (messageRoom (resetStated heads) r) (Reset (resetStated heads)) ⌝ }
 {
     let p = reset_stated(heads);
     match message_room(p, r) {

@@ -4,8 +4,7 @@ use rules::sizes::HASH_SIZE;
 use session::plan_answer::PlanAnswer;
 use session::plan_answer::Stated;
 ghost use mathlib.Core.Path.{_≡_};
-ghost use Rattle.session.specs.PlanCall.{buffersOf};
-ghost use Rattle.plan_decide.specs.Internal.Draft.{planParts, putsFor, putsOf, HashesFit, HaveFits, Fits, startPut, havePut, allPut};
+ghost use Rattle.plan_decide.specs.Internal.Draft.{planParts, putLists, putsFor, putsOf, HashesFit, HaveFits, Fits, startPut, havePut, allPut};
 
 // How many hashes go into each list, and how many bytes the field has.
 pub struct Puts {
@@ -90,11 +89,11 @@ pub fn put(
     sent: &mut [u8],
 )
     requires { ⌜ Fits p (planParts (now «ready_heads») (now «ready_need») (now shared) (now field) (now «ready_list») (now «ready_sent»))
-        (buffersOf (now heads) (now need) (now have) (now list) (now «last_sent») (now sent)) ⌝ }
-    ensures { λ _. ⌜ buffersOf (now (heads .exit)) (now (need .exit)) (now (have .exit)) (now (list .exit)) (now («last_sent» .exit)) (now (sent .exit))
+        (putLists (now heads) (now need) (now have) (now list) (now «last_sent») (now sent)) ⌝ }
+    ensures { λ _. ⌜ putLists (now (heads .exit)) (now (need .exit)) (now (have .exit)) (now (list .exit)) (now («last_sent» .exit)) (now (sent .exit))
         ≡ allPut p (planParts (now («ready_heads» .entry)) (now («ready_need» .entry)) (now (shared .entry)) (now (field .entry))
         (now («ready_list» .entry)) (now («ready_sent» .entry)))
-        (buffersOf (now (heads .entry)) (now (need .entry)) (now (have .entry)) (now (list .entry)) (now («last_sent» .entry)) (now (sent .entry))) ⌝ }
+        (putLists (now (heads .entry)) (now (need .entry)) (now (have .entry)) (now (list .entry)) (now («last_sent» .entry)) (now (sent .entry))) ⌝ }
 {
     put_hashes(ready_heads, p.heads, heads);
     put_hashes(ready_need, p.need, need);

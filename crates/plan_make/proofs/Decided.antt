@@ -10,20 +10,21 @@ use lib.ListN.{length, length-replicate}
 use Rattle.bloom.specs.Filter.{fieldSize}
 use Rattle.bloom.specs.Have.{numbersOf}
 use Rattle.bloom.specs.declared.have.FilterNumbers.{FilterNumbers}
-use Rattle.plan_decide.specs.Internal.Draft.{PlanParts, headsCount, countIf, filterIf, drafted, resetStated, ifRoom, saysWith, decided}
+use Rattle.plan_decide.specs.Internal.Draft.{PlanParts, headsCount, countIf, filterIf, drafted, resetStated, plannedCounts, saysWith, decided}
 use Rattle.plan_decide.specs.declared.decide.Draft.{Draft}
 use Rattle.table_graph.specs.Graph.{heads}
 use Rattle.message.specs.declared.flags.MessageFlags.{MessageFlags}
 use Rattle.message.specs.declared.version.MessageVersion.{MessageVersion}
 use Rattle.waiting_missing.specs.Ask.{FoundUpTo}
 use Rattle.hash_order.specs.Order.{member, every}
-use Rattle.session.specs.PlanCall.{syncsOf, filterNumbers, statedOf, plannedAnswer, messageRoom, sessionRoom, afterRoom, plannedRoomed}
+use Rattle.session.specs.PlanCall.{syncsOf, filterNumbers, statedOf, plannedAnswer, messageRoom, sessionRoom, plannedRoomed}
 use Rattle.session.specs.declared.plan_answer.PlanAnswer.the-variants.{Refused, Reset}
 use Rattle.session.specs.declared.plan_answer.PlanAnswer.{PlanAnswer}
-use Rattle.session.specs.declared.plan_answer.Room.the-variants.{Enough, Short}
-use Rattle.session.specs.declared.plan_answer.Room.{Room}
 use Rattle.session.specs.declared.plan_answer.Rooms.{Rooms}
 use Rattle.session.specs.declared.plan_answer.Stated.{Stated}
+use Rattle.session.specs.declared.room.Room.{Room}
+use Rattle.session.specs.declared.room.Room.the-variants.{Enough, Short}
+use Rattle.session.specs.Rooms.{ifRoom}
 use Rattle.plan_parts.specs.Internal.PlanParts.{FieldMade}
 use Rattle.bloom_probe.proofs.FieldLaws.{length-add-hashes}
 use Rattle.bloom_probe.specs.Build.{filterOf}
@@ -34,7 +35,10 @@ use Rattle.rules.specs.Sizes.{sizes}
 use Rattle.rules.specs.declared.refusal.Refusal.the-variants.{PastSize}
 use Rattle.session.specs.Plan.{Planned, heard, needOf, haveOf, havesFor, sentAfter, headsFor, planOf, planned, resetOf, plan}
 use Rattle.session.proofs.PlanStages.{fromSent}
-use Rattle.session_state.specs.Value.{Lent, stateOf}
+use Rattle.session_check.proofs.GoodSessions.{session-parts}
+use Rattle.session_check.specs.SessionGood.{sessionGood}
+use Rattle.session_state.proofs.ValueLaws.{hashes-counted, haves-counted}
+use Rattle.session_state.specs.Value.{Lent, stateOf, countsOf}
 use Rattle.session_state.specs.declared.session.Session.{Session}
 use Rattle.table.specs.Table.{Row}
 use Rattle.waiting.specs.Waiting.{Waiting}
@@ -43,10 +47,10 @@ use Rattle.plan_make.specs.Internal.PlanMake.{DraftMade}
 -- ---- counts of parts
 
 -- room is asked before the answer is counted, or after
-room-answers : (s : Session) (x : Room) (q : Planned) → ifRoom x (plannedAnswer s q) ≡ plannedAnswer s (afterRoom x q)
-unfolding ifRoom plannedAnswer afterRoom
-room-answers s Enough q = refl
-room-answers s (Short wanted) q = refl
+room-answers : (x : Room) (q : Planned) → ifRoom Refused x (plannedAnswer q) ≡ plannedAnswer (ifRoom Planned.refused x q)
+unfolding ifRoom plannedAnswer
+room-answers Enough q = refl
+room-answers (Short wanted) q = refl
 
 -- a test decides the same on both sides
 both-ways : (f : Planned → PlanAnswer) (b : Bool) {x y : PlanAnswer} {p q : Planned} → x ≡ f p → y ≡ f q → cond b x y ≡ f (cond b p q)
@@ -143,11 +147,21 @@ module _ (bits probes : ℕ) (t : List Row) (w : List Waiting) (s : Session) (l 
         (counted-same (sym (m .body .document)) (heads-count _ _ _ ∙ ap (headsCount (s .«needs_reset») (s .«supports_reset»)) (sym (m .heads .many)))
         (sym (found-all f few .many)) refl refl refl (sym (m .body .hashes .many))))
 
+  -- the counts of the session after the message
+  counts-planned : sessionGood s l ≡ true → d .sent ≤ sizes .sentHashes → countsOf (planned t (stateOf s l)) ≡ plannedCounts s (d .heads) (d .sent)
+  unfolding planned sentAfter
+  counts-planned good some =
+      let shared-count = length-hashes-at (l .shared) 0 (s .«shared_heads») in
+      let heads-heard = hashes-counted (l .theirHeads) (s .«their_heads») in
+      let need-heard = hashes-counted (l .theirNeed) (s .«their_need») in
+      let haves-heard = haves-counted (l .bytes) (l .haves) (s .«their_have») (λ n e. session-parts s l good .theirHave n e .there) in
+      rw (shared-count, heads-heard, need-heard, haves-heard, m .heads .many, m .sent .all some .many)
+
   -- ---- the stages
 
-  module _ (r : Rooms) where
+  module _ (good : sessionGood s l ≡ true) (r : Rooms) where
     abbrev answer : Planned → PlanAnswer
-    answer q = plannedAnswer s (plannedRoomed r q)
+    answer q = plannedAnswer (plannedRoomed r q)
 
     says-decided : d .need ≤ sizes .hashes → d .sent ≤ sizes .sentHashes
         → saysWith s d bits probes r ≡ answer (Planned.says (planOf bits probes t w (stateOf s l)) (planned t (stateOf s l)))
@@ -156,8 +170,8 @@ module _ (bits probes : ℕ) (t : List Row) (w : List Waiting) (s : Session) (l 
         let p = planOf bits probes t w (stateOf s l) in
         let q : Planned = Planned.says p (planned t (stateOf s l)) in
         let x : Room = sessionRoom (length (heads t)) (length (sentAfter t (stateOf s l))) r in
-        rw (sym (stated-drafted few), m .heads .many, m .sent .all some .many)
-        (ap (λ (a : PlanAnswer). ifRoom (messageRoom (statedOf p) r) a) (room-answers s x q) ∙ room-answers s (messageRoom (statedOf p) r) (afterRoom x q))
+        rw (sym (stated-drafted few), sym (counts-planned good some), m .heads .many, m .sent .all some .many)
+        (ap (λ (a : PlanAnswer). ifRoom Refused (messageRoom (statedOf p) r) a) (room-answers x q) ∙ room-answers (messageRoom (statedOf p) r) (ifRoom Planned.refused x q))
 
     sent-decided : d .need ≤ sizes .hashes
         → cond (ltb (sizes .sentHashes) (d .sent)) (Refused (PastSize 0)) (saysWith s d bits probes r) ≡ answer (fromSent bits probes t w (stateOf s l))
@@ -170,9 +184,9 @@ module _ (bits probes : ℕ) (t : List Row) (w : List Waiting) (s : Session) (l 
         let room : length (sentAfter t (stateOf s l)) ≤ sizes .sentHashes = omega (arith, m .sent .all some .many) in
         rw (e, le-ltb _ _ room) (says-decided few some))
 
-    reset-decided : ifRoom (messageRoom (resetStated (d .heads)) r) (Reset (resetStated (d .heads))) ≡ answer (Planned.reset (resetOf t))
+    reset-decided : ifRoom Refused (messageRoom (resetStated (d .heads)) r) (Reset (resetStated (d .heads))) ≡ answer (Planned.reset (resetOf t))
     unfolding plannedRoomed resetOf plannedAnswer
-    reset-decided = rw (m .heads .many) (room-answers s (messageRoom (resetStated (length (heads t))) r) (Planned.reset (resetOf t)))
+    reset-decided = rw (m .heads .many) (room-answers (messageRoom (resetStated (length (heads t))) r) (Planned.reset (resetOf t)))
 
     pub plan-decided : decided s d bits probes r ≡ answer (plan bits probes t w (stateOf s l))
     unfolding decided plan plannedRoomed plannedAnswer
@@ -183,4 +197,4 @@ module _ (bits probes : ℕ) (t : List Row) (w : List Waiting) (s : Session) (l 
         let few : d .need ≤ sizes .hashes = ltb-false _ _ e in
         let some : length needs ≤ sizes .hashes = omega (arith, found-all {most = sizes .hashes} f few .many) in
         rw (e, le-ltb _ _ some, sym (m .unknown), sym (m .silent))
-        (both-ways (λ q. plannedAnswer s (plannedRoomed r q)) (d .unknown) reset-decided (both-ways (λ q. plannedAnswer s (plannedRoomed r q)) (d .silent) refl (sent-decided few))))
+        (both-ways (λ q. plannedAnswer (plannedRoomed r q)) (d .unknown) reset-decided (both-ways (λ q. plannedAnswer (plannedRoomed r q)) (d .silent) refl (sent-decided few))))

@@ -6,21 +6,20 @@ use native.Mathlib.Omega.{arith}
 use borrow.Author.Tests.{ltb-false}
 use lib.Dec.{ltb}
 use Rattle.bloom.specs.Filter.{fieldSize}
-use Rattle.plan_decide.specs.Internal.Draft.{PlanParts, SmallDraft, headsCount, countIf, filterIf, drafted, resetStated, ifRoom, saysWith, decided, noPuts, putsOf, Fits}
-use Rattle.plan_decide.specs.Internal.Draft.{allPut}
+use Rattle.plan_decide.specs.Internal.Draft.{PlanParts, SmallDraft, headsCount, countIf, filterIf, drafted, resetStated, plannedCounts, saysWith, decided, noPuts, putsOf, Fits}
+use Rattle.plan_decide.specs.Internal.Draft.{PutLists, putRooms, allPut}
 use Rattle.plan_decide.specs.declared.decide.Draft.{Draft}
 use Rattle.plan_decide.specs.declared.put.Puts.{Puts}
-use Rattle.session.specs.PlanCall.{Buffers, plannedCounts, messageRoom, sessionRoom}
-use Rattle.session.specs.PlanCall.{said, plannedRooms}
+use Rattle.session.specs.PlanCall.{messageRoom, sessionRoom}
 use Rattle.session.specs.declared.plan_answer.PlanAnswer.{PlanAnswer}
-use Rattle.session.specs.declared.plan_answer.PlanAnswer.the-variants.{Reset, Says}
-use Rattle.session.specs.declared.plan_answer.Room.{Room}
-use Rattle.session.specs.declared.plan_answer.Room.the-variants.{Enough, Short}
+use Rattle.session.specs.declared.plan_answer.PlanAnswer.the-variants.{Refused, Reset, Says}
 use Rattle.session.specs.declared.plan_answer.Rooms.{Rooms}
 use Rattle.session.specs.declared.plan_answer.Stated.{Stated}
 use Rattle.rules.specs.Sizes.{sizes}
 use Rattle.rules.proofs.Cases.{split}
-use Rattle.session.specs.Rooms.{orShort}
+use Rattle.session.specs.Rooms.{orShort, ifRoom}
+use Rattle.session.specs.declared.room.Room.{Room}
+use Rattle.session.specs.declared.room.Room.the-variants.{Enough, Short}
 use Rattle.session_state.specs.declared.session.Session.{Session}
 use Rattle.plan_make.specs.Internal.PlanMake.{Long, Finished}
 
@@ -38,7 +37,7 @@ unfolding filterIf
 field-there true syncs entries bits probes long h = h
 field-there false syncs entries bits probes long h = omega arith
 
-not-short : (room wanted : ℕ) (rest : Room) → orShort Short room wanted rest ≡ Enough → (wanted ≤ room) × (rest ≡ Enough)
+not-short : (room wanted : ℕ) (rest : Room) → orShort room wanted rest ≡ Enough → (wanted ≤ room) × (rest ≡ Enough)
 not-short room wanted rest e =
     split (ltb room wanted)
     (λ t. let f : Short wanted ≡ Enough = rw t at e in absurd (let z : _≡_ {A = ℕ} 0 1 = cc in omega arith))
@@ -67,7 +66,7 @@ session-fits lastSent sent r e =
     let b = not-short _ _ _ (a .1) in
     (a .0, b .0)
 
-module _ (s : Session) (d : Draft) (bits probes : ℕ) (ready : PlanParts) (b : Buffers) where
+module _ (s : Session) (d : Draft) (bits probes : ℕ) (ready : PlanParts) (b : PutLists) where
   none-fit : Fits noPuts ready b
   none-fit =
       record {
@@ -79,7 +78,7 @@ module _ (s : Session) (d : Draft) (bits probes : ℕ) (ready : PlanParts) (b : 
         sent = record { there = omega arith; room = omega arith };
       }
 
-  in-room : (x : Room) (a : PlanAnswer) → (x ≡ Enough → Fits (putsOf a) ready b) → Fits (putsOf (ifRoom x a)) ready b
+  in-room : (x : Room) (a : PlanAnswer) → (x ≡ Enough → Fits (putsOf a) ready b) → Fits (putsOf (ifRoom Refused x a)) ready b
   unfolding ifRoom putsOf
   in-room Enough a f = f refl
   in-room (Short wanted) a f = none-fit
@@ -89,12 +88,12 @@ module _ (s : Session) (d : Draft) (bits probes : ℕ) (ready : PlanParts) (b : 
   by-test false x y f g = g
 
   module _ (m : SmallDraft s d bits) (long : Long s d bits ready) where
-    reset-fits : Fits (putsOf (ifRoom (messageRoom (resetStated (d .heads)) (plannedRooms b)) (Reset (resetStated (d .heads))))) ready b
+    reset-fits : Fits (putsOf (ifRoom Refused (messageRoom (resetStated (d .heads)) (putRooms b)) (Reset (resetStated (d .heads))))) ready b
     unfolding putsOf
     reset-fits =
-        in-room (messageRoom (resetStated (d .heads)) (plannedRooms b)) (Reset (resetStated (d .heads)))
+        in-room (messageRoom (resetStated (d .heads)) (putRooms b)) (Reset (resetStated (d .heads)))
         (λ e.
-        let f = message-fits (resetStated (d .heads)) (plannedRooms b) e in
+        let f = message-fits (resetStated (d .heads)) (putRooms b) e in
         record {
           heads = record { there = long .heads; room = f .heads };
           need = record { there = omega arith; room = omega arith };
@@ -104,17 +103,17 @@ module _ (s : Session) (d : Draft) (bits probes : ℕ) (ready : PlanParts) (b : 
           sent = record { there = omega arith; room = omega arith };
         })
 
-    says-fits : Fits (putsOf (saysWith s d bits probes (plannedRooms b))) ready b
+    says-fits : Fits (putsOf (saysWith s d bits probes (putRooms b))) ready b
     unfolding saysWith putsOf
     says-fits =
         let p : Stated = drafted s d bits probes in
         let said : PlanAnswer = Says p (plannedCounts s (d .heads) (d .sent)) in
-        in-room (messageRoom p (plannedRooms b)) (ifRoom (sessionRoom (d .heads) (d .sent) (plannedRooms b)) said)
+        in-room (messageRoom p (putRooms b)) (ifRoom Refused (sessionRoom (d .heads) (d .sent) (putRooms b)) said)
         (λ e.
-        in-room (sessionRoom (d .heads) (d .sent) (plannedRooms b)) said
+        in-room (sessionRoom (d .heads) (d .sent) (putRooms b)) said
         (λ g.
-        let f = message-fits p (plannedRooms b) e in
-        let h = session-fits (d .heads) (d .sent) (plannedRooms b) g in
+        let f = message-fits p (putRooms b) e in
+        let h = session-fits (d .heads) (d .sent) (putRooms b) g in
         record {
           heads = record { there = heads-there (s .«needs_reset») (s .«supports_reset») _ _ (long .heads); room = f .heads };
           need = record { there = long .need; room = f .need };
@@ -124,7 +123,7 @@ module _ (s : Session) (d : Draft) (bits probes : ℕ) (ready : PlanParts) (b : 
           sent = record { there = long .sent; room = h .1 };
         }))
 
-    pub decided-fits : Fits (putsOf (decided s d bits probes (plannedRooms b))) ready b
+    pub decided-fits : Fits (putsOf (decided s d bits probes (putRooms b))) ready b
     unfolding decided putsOf
     decided-fits =
         by-test (ltb (sizes .hashes) (d .need)) _ _ none-fit
@@ -132,11 +131,11 @@ module _ (s : Session) (d : Draft) (bits probes : ℕ) (ready : PlanParts) (b : 
         (by-test (d .silent) _ _ none-fit (by-test (ltb (sizes .sentHashes) (d .sent)) _ _ none-fit says-fits)))
 
 -- What was decided and is counted fits.
-pub puts-fit : (s : Session) (d : Draft) (bits probes : ℕ) (ready : PlanParts) (b : Buffers) (a : PlanAnswer) (p : Puts) → SmallDraft s d bits → Long s d bits ready
-    → a ≡ decided s d bits probes (plannedRooms b) → p ≡ putsOf a → Fits p ready b
+pub puts-fit : (s : Session) (d : Draft) (bits probes : ℕ) (ready : PlanParts) (b : PutLists) (a : PlanAnswer) (p : Puts) → SmallDraft s d bits → Long s d bits ready
+    → a ≡ decided s d bits probes (putRooms b) → p ≡ putsOf a → Fits p ready b
 puts-fit s d bits probes ready b a p m long e q = rw (q, e) (decided-fits s d bits probes ready b m long)
 
 -- And once it is put, the plan is finished.
-pub put-finished : (s : Session) (d : Draft) (bits probes : ℕ) (ready : PlanParts) (before after : Buffers) (a : PlanAnswer) (p : Puts)
-    → a ≡ decided s d bits probes (plannedRooms before) → p ≡ putsOf a → after ≡ allPut p ready before → Finished s d bits probes ready before after a
+pub put-finished : (s : Session) (d : Draft) (bits probes : ℕ) (ready : PlanParts) (before after : PutLists) (a : PlanAnswer) (p : Puts)
+    → a ≡ decided s d bits probes (putRooms before) → p ≡ putsOf a → after ≡ allPut p ready before → Finished s d bits probes ready before after a
 put-finished s d bits probes ready before after a p e q f = record { answer = e; buffers = rw q at f }

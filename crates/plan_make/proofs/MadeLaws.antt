@@ -32,14 +32,14 @@ use Rattle.waiting.specs.Waiting.{Waiting}
 use Rattle.bloom.specs.Have.{Have}
 use mathlib.Core.Option.{none}
 use Rattle.plan_parts.specs.Internal.PlanParts.{Setting}
-use Rattle.session.specs.PlanCall.{Buffers, syncsOf, filterNumbers, plannedAnswer, plannedRoomed, plannedRooms, PlanCalled}
-use Rattle.plan_decide.specs.Internal.Draft.{PlanParts, SmallDraft, putsOf, allPut}
+use Rattle.session.specs.PlanCall.{Buffers, buffersOf, syncsOf, filterNumbers, plannedAnswer, plannedRoomed, plannedRooms, putInto, plannedLists, PlanCalled}
+use Rattle.plan_decide.specs.Internal.Draft.{PlanParts, PutLists, SmallDraft, putsOf, allPut}
 use Rattle.session.specs.declared.plan_answer.PlanAnswer.{PlanAnswer}
 use Rattle.plan_decide.specs.declared.decide.Draft.{Draft}
 use Rattle.session.proofs.PlanLaws.{list-few}
 use Rattle.plan_make.specs.Internal.PlanMake.{DraftMade, Finished}
 use Rattle.plan_make.proofs.Decided.{found-many, found-all, field-long, have-given, have-none, plan-decided}
-use Rattle.plan_decide.proofs.PutLaws.{Starts, put-as-said, refused-starts, silent-starts, roomed-starts}
+use Rattle.plan_decide.proofs.PutLaws.{Starts, listsOf, changed, lists-change, put-as-said, refused-starts, silent-starts, roomed-starts}
 
 -- ---- small
 
@@ -162,10 +162,18 @@ module _ (bits probes : ℕ) (t : List Row) (w : List Waiting) (s : Session) (l 
       (λ e. reset-starts (few-asked (ltb-false _ _ e)))
 
   -- So a plan that is finished is what the call promises.
-  pub plan-called : (before after : Buffers) (a : PlanAnswer) → Finished s d bits probes ready before after a
-      → PlanCalled s (plan bits probes t w (stateOf s l)) before after a
-  plan-called before after a fin =
-      let q : Planned = plannedRoomed (plannedRooms before) (plan bits probes t w (stateOf s l)) in
-      let is : a ≡ plannedAnswer s q = fin .answer ∙ plan-decided bits probes t w s l ready d asked m f (plannedRooms before) in
-      let put : after ≡ allPut (putsOf (plannedAnswer s q)) ready before = rw is at (fin .buffers) in
-      record { answer = is; buffers = put ∙ put-as-said s ready before q (roomed-starts (plannedRooms before) _ ready plan-starts) }
+  pub plan-called : sessionGood s l ≡ true → (before after : Buffers) (lastSent sent : List ℕ) (a : PlanAnswer)
+      → Finished s d bits probes ready (listsOf before l) (listsOf after (changed l lastSent sent)) a
+      → PlanCalled (plan bits probes t w (stateOf s l)) l (changed l lastSent sent) before after a
+  plan-called good before after lastSent sent a fin =
+      let q : Planned = plannedRoomed (plannedRooms before l) (plan bits probes t w (stateOf s l)) in
+      let is : a ≡ plannedAnswer q = fin .answer ∙ plan-decided bits probes t w s l ready d asked m f good (plannedRooms before l) in
+      let put : listsOf after (changed l lastSent sent) ≡ allPut (putsOf (plannedAnswer q)) ready (listsOf before l) = rw is at (fin .buffers) in
+      let all : listsOf after (changed l lastSent sent) ≡ listsOf (putInto q before) (plannedLists q l) =
+      put ∙ put-as-said ready before l q (roomed-starts (plannedRooms before l) _ ready plan-starts)
+      in
+      record {
+        answer = is;
+        buffers = ap (λ (x : PutLists). buffersOf (x .heads) (x .need) (x .have) (x .list)) all;
+        lists = ap (λ (x : PutLists). changed l (x .lastSent) (x .sent)) all ∙ lists-change q l;
+      }

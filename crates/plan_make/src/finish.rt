@@ -6,8 +6,7 @@ use plan_decide::put::puts_of;
 use session::plan_answer::PlanAnswer;
 use session::plan_answer::Rooms;
 use session_state::session::Session;
-ghost use Rattle.plan_decide.specs.Internal.Draft.{SmallDraft, planParts};
-ghost use Rattle.session.specs.PlanCall.{buffersOf};
+ghost use Rattle.plan_decide.specs.Internal.Draft.{SmallDraft, planParts, putLists};
 ghost use Rattle.plan_make.specs.Internal.PlanMake.{Long, Finished};
 
 // Decides over the lengths of the lent buffers, and puts what was decided.
@@ -34,8 +33,8 @@ pub fn finish(
     ensures { λ r. ⌜ Finished session draft bits probes
         (planParts (now («ready_heads» .entry)) (now («ready_need» .entry)) (now (shared .entry)) (now (field .entry)) (now («ready_list» .entry))
         (now («ready_sent» .entry)))
-        (buffersOf (now (heads .entry)) (now (need .entry)) (now (have .entry)) (now (list .entry)) (now («last_sent» .entry)) (now (sent .entry)))
-        (buffersOf (now (heads .exit)) (now (need .exit)) (now (have .exit)) (now (list .exit)) (now («last_sent» .exit)) (now (sent .exit))) r ⌝ }
+        (putLists (now (heads .entry)) (now (need .entry)) (now (have .entry)) (now (list .entry)) (now («last_sent» .entry)) (now (sent .entry)))
+        (putLists (now (heads .exit)) (now (need .exit)) (now (have .exit)) (now (list .exit)) (now («last_sent» .exit)) (now (sent .exit))) r ⌝ }
 {
     let rooms = Rooms {
         heads: heads.len(),

@@ -21,7 +21,7 @@ use Rattle.rules.specs.Hash.{Bytes}
 use Rattle.rules.specs.declared.refusal.Refusal.{Refusal}
 use Rattle.rules.specs.declared.refusal.Refusal.the-variants.{BadNumbers, BadRowsBefore}
 use Rattle.rules.proofs.Cases.{split}
-use Rattle.session.specs.Receive.{Received, told, receive, receiveRead, receiveBytes}
+use Rattle.session.specs.Receive.{Received, flagTaken, receive, receiveRead, receiveBytes}
 use Rattle.session_state.specs.Value.{Lent, stateOf}
 use Rattle.session_state.specs.declared.session.Session.{Session}
 use Rattle.table.specs.TableBytes.{rowsAt, tableOf}
@@ -29,7 +29,7 @@ use Rattle.table.specs.declared.check.Checked.{Checked}
 use Rattle.table.specs.declared.check.Checked.the-variants as tables
 use Rattle.table.proofs.TableLaws.{table-good}
 use Rattle.receive_parts.specs.Internal.ReceiveParts.{flaggedCounts}
-use Rattle.session.specs.ReceiveCall.{afterTable, receiveWith, receivedRoomed, refusalAnswer, receivedAnswer, keptIn, receivedRooms, ReceiveCalled}
+use Rattle.session.specs.ReceiveCall.{afterTable, receiveWith, receivedRoomed, receivedAnswer, receivedLists, receivedRooms, ReceiveCalled}
 use Rattle.receive_make.specs.Internal.ReceiveChecks.{besideRows, afterRows, checked, Accepted}
 use Rattle.receive_make.specs.Internal.ReceiveMake.{saidAt, Prepared, Stands, Makes, ReceiptMade}
 use Rattle.receive_decide.specs.Internal.Receipt.{receiptDecided, SmallReceipt, ReceiptParts, receiptPuts, ReceiptFits, receiptPut}
@@ -38,7 +38,6 @@ use Rattle.session.specs.declared.receive_answer.ReceiveAnswer.the-variants.{Re
 use Rattle.receive_make.specs.declared.check.ReceiptChecks.the-variants as checks
 use Rattle.receive_decide.specs.declared.decide.Receipt.{Receipt}
 use Rattle.receive.proofs.DraftLaws.{forgets-most, DraftedAs, Drafted, draft-small}
-use Rattle.receive.proofs.OtherLaws.{Other, message-other, table-other}
 use Rattle.receive.proofs.Outcomes.{Outcomes, outcome, same-answer}
 use Rattle.receive.proofs.KeptLaws.{puts-fit, puts-kept}
 use Rattle.receive_make.proofs.SaidLaws.{read-receives}
@@ -56,14 +55,14 @@ module _ (s : Session) (l : Lent) (table index : List ℕ) (before : ℕ) (messa
     abbrev result : Received
     result = receiveWith loaded before s l table index message
 
-    as-refused : (r : Refusal) → Other r → result ≡ Received.refused r (stateOf s l) → ReceiveCalled s result l l (Refused r)
-    unfolding receivedRoomed receivedAnswer refusalAnswer keptIn
-    as-refused r o e = record { answer = rw (e, o); lists = rw e }
+    as-refused : (r : Refusal) → result ≡ Received.refused r → ReceiveCalled result l l (Refused r)
+    unfolding receivedRoomed receivedAnswer receivedLists
+    as-refused r e = record { answer = rw e; lists = rw e }
 
     module _ (good : sessionGood s l ≡ true) (r : Refusal) where
       -- 11, and the message's own
       beside : (n : ℕ) → indexChecked table index ≡ tables.Good n → (x : Decoded) → decodedOf (messageAt message) ≡ x
-          → cond (ltb n before) (checks.Refused BadRowsBefore) (besideRows n x) ≡ checks.Refused r → ReceiveCalled s result l l (Refused r)
+          → cond (ltb n before) (checks.Refused BadRowsBefore) (besideRows n x) ≡ checks.Refused r → ReceiveCalled result l l (Refused r)
       unfolding receiveWith afterTable besideRows receiveBytes receiveRead
       beside n rows x is e =
           let long : length (tableOf table) ≡ n = table-good table n (checked-table table index n rows) .long in
@@ -71,28 +70,28 @@ module _ (s : Session) (l : Lent) (table index : List ℕ) (before : ℕ) (messa
           (λ t.
           let f : checks.Refused BadRowsBefore ≡ checks.Refused r = rw t at e in
           let same : BadRowsBefore ≡ r = cc in
-          rw (← same) (as-refused BadRowsBefore refl (rw (good, rows, long, t))))
+          rw (← same) (as-refused BadRowsBefore (rw (good, rows, long, t))))
           (λ t. go x is t (rw t at e))
         where
           go : (x : Decoded) → decodedOf (messageAt message) ≡ x → ltb n before ≡ false → besideRows n x ≡ checks.Refused r
-              → ReceiveCalled s result l l (Refused r)
+              → ReceiveCalled result l l (Refused r)
           go (Placed p) is t e = good-not-refused e
           go (NotRead f) is t e =
               let same : f ≡ r = cc in
               let q : messageAt message ≡ Reading.refused f = not-placed (messageAt message) f is in
               let long : length (tableOf table) ≡ n = table-good table n (checked-table table index n rows) .long in
-              rw (← same) (as-refused f (message-other message f q) (rw (good, rows, long, t, q)))
+              rw (← same) (as-refused f (rw (good, rows, long, t, q)))
 
       -- 4, 6 and 12 before these
-      after : (x : Checked) → indexChecked table index ≡ x → afterRows x before message ≡ checks.Refused r → ReceiveCalled s result l l (Refused r)
+      after : (x : Checked) → indexChecked table index ≡ x → afterRows x before message ≡ checks.Refused r → ReceiveCalled result l l (Refused r)
       unfolding afterRows receiveWith afterTable
       after (tables.Good n) is e = beside n is (decodedOf (messageAt message)) refl e
       after (tables.Refused f) is e =
           let same : f ≡ r = cc in
-          rw (← same) (as-refused f (table-other table index f is) (rw (good, is)))
+          rw (← same) (as-refused f (rw (good, is)))
 
     -- a test that fails is the answer, and everything lent stays
-    pub refused-called : (r : Refusal) → checked s l table index before message ≡ checks.Refused r → ReceiveCalled s result l l (Refused r)
+    pub refused-called : (r : Refusal) → checked s l table index before message ≡ checks.Refused r → ReceiveCalled result l l (Refused r)
     unfolding checked receiveWith
     refused-called r e =
         split (sessionGood s l)
@@ -100,7 +99,7 @@ module _ (s : Session) (l : Lent) (table index : List ℕ) (before : ℕ) (messa
         (λ t.
         let f : checks.Refused BadNumbers ≡ checks.Refused r = rw t at e in
         let same : BadNumbers ≡ r = cc in
-        rw (← same) (as-refused BadNumbers refl (rw t)))
+        rw (← same) (as-refused BadNumbers (rw t)))
 
   module _ (n : ℕ) (p : Places) where
     beside-good : (k : ℕ) (x : Decoded) → besideRows k x ≡ checks.Good n p → (k ≡ n) × (x ≡ Placed p)
@@ -134,7 +133,7 @@ module _ (s : Session) (l : Lent) (table index : List ℕ) (n before : ℕ) (mes
   pub can-make : (flagged : Session) → flagged ≡ flaggedCounts (p .flags) s → Makes flagged table index n before message p (l .shared) (l .sent)
   can-make flagged e =
       let g = session-parts s l (ok .good) in
-      let least = forgets-most (told (λ f. hasFlag f syncReset) (p .flags) false) (s .«sent_hashes») in
+      let least = forgets-most (flagTaken (λ f. hasFlag f syncReset) (p .flags) false) (s .«sent_hashes») in
       rw e
       (record {
         rows = checked-indexed table index n (ok .rows);
@@ -149,7 +148,7 @@ module _ (s : Session) (l : Lent) (table index : List ℕ) (n before : ℕ) (mes
       → Prepared table n message p (s .«sent_hashes») marks all readyShared readySent
       → Prepared table n message p (flagged .«sent_hashes») marks all readyShared readySent
   can-prepare flagged e given =
-      let least = forgets-most (told (λ f. hasFlag f syncReset) (p .flags) false) (s .«sent_hashes») in
+      let least = forgets-most (flagTaken (λ f. hasFlag f syncReset) (p .flags) false) (s .«sent_hashes») in
       rw e
       (record {
         long = given .long;
@@ -187,7 +186,7 @@ module _ (s : Session) (l : Lent) (table index : List ℕ) (n before : ℕ) (mes
             is-decided = rw (← loading, ← failing, ← flags) decides
 
             abbrev values : Received
-            values = receivedRoomed (receivedRooms l) (stateOf s l) (receive loaded before (rowsAt table 0 n) (stateOf s l) (saidAt message p))
+            values = receivedRoomed (receivedRooms l) (receive loaded before (rowsAt table 0 n) (stateOf s l) (saidAt message p))
 
             together : Outcomes s l table n before message p d (receivedRooms l) a values
             together = rw is-decided (outcome s l (ok .good) table n before (ok .inside) message p (ok .read) ready d whole loaded (receivedRooms l))
@@ -202,7 +201,7 @@ module _ (s : Session) (l : Lent) (table index : List ℕ) (n before : ℕ) (mes
             -- the promise
             pub received-called : (puts : Receipt) (after : Lent) → Bytes (l .lastSent) → puts ≡ receiptPuts a d
                 → after ≡ receiptPut puts message (p .heads .start) (p .need .start) ready l
-                → ReceiveCalled s (receiveWith loaded before s l table index message) l after a
+                → ReceiveCalled (receiveWith loaded before s l table index message) l after a
             received-called puts after last is put =
                 let kept =
                 puts-kept s l (ok .good) table n before (ok .inside) message p (ok .read) ready d stands all whole a values together last

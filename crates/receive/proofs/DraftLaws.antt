@@ -2,18 +2,16 @@
 use Prim.Native.Nat.{ℕ, zero, suc, _+_, _*_, _/_, _≤_, _<_}
 use mathlib.Core.Bool.{Bool, true, false, cond, not, _&&_}
 use mathlib.Core.List.{List, []}
-use mathlib.Core.Option.{Option, none, some}
 use mathlib.Core.Path.{_≡_, refl, sym, ap, _∙_}
 use native.Mathlib.Omega.{arith}
-use borrow.Author.Tests.{ltb-true, lt-ltb, ne-eqb}
+use borrow.Author.Tests.{lt-ltb, ne-eqb}
 use lib.Dec.{ltb, eqb}
 use lib.ListN.{length, take}
-use Rattle.bloom.specs.Have.{haveWords}
 use Rattle.message_read.specs.MessageRead.{messageAt, decodedOf}
 use Rattle.message_read.specs.declared.parse.Decoded.the-variants.{Message as Placed}
 use Rattle.message_read.specs.declared.parse.Places.{Places}
 use Rattle.table_graph.specs.Graph.{heads, below}
-use Rattle.session.specs.Receive.{Said, told, sentFlagged, flagged, loads, sharedLoaded, sharedAfter, sentLeft, lastSentAfter, received}
+use Rattle.session.specs.Receive.{Said, flagTaken, sentFlagged, flagged, loads, sharedLoaded, sharedAfter, sentLeft, lastSentAfter, received}
 use Rattle.session_check.proofs.GoodSessions.{session-parts}
 use Rattle.session_check.specs.SessionGood.{sessionGood}
 use Rattle.hash_lists.specs.Internal.Lists.{same}
@@ -28,7 +26,6 @@ use Rattle.rules.specs.Hash.{hashesAt}
 use Rattle.rules.specs.Output.{Gathered}
 use Rattle.rules.specs.Sizes.{sizes}
 use Rattle.session.specs.Plan.{empty}
-use Rattle.session.specs.Rooms.{orShort}
 use Rattle.session_state.proofs.ValueLaws.{hashes-counted, haves-counted}
 use Rattle.session_state.specs.Session.{State}
 use Rattle.session_state.specs.Value.{Lent, stateOf, countsOf}
@@ -36,9 +33,9 @@ use Rattle.session_state.specs.declared.session.Session.{Session}
 use Rattle.table.proofs.TableLaws.{take-rows-at}
 use Rattle.table.specs.TableBytes.{rowsAt}
 use Rattle.table.specs.Table.{Row}
-use Rattle.session.specs.ReceiveCall.{shortFor}
+use Rattle.session.specs.ReceiveCall.{keptRoom}
 use Rattle.receive_make.specs.Internal.ReceiveMake.{saidAt, toldHeads, lastSentCount, keptHashes, ReceiptMade}
-use Rattle.receive_decide.specs.Internal.Receipt.{SmallReceipt, receivedCounts, orWanted, shortWith, ReceiptParts}
+use Rattle.receive_decide.specs.Internal.Receipt.{SmallReceipt, receivedCounts, receiptRoom, ReceiptParts}
 use Rattle.session.specs.declared.receive_answer.SessionRooms.{SessionRooms}
 use Rattle.receive_decide.specs.declared.decide.Receipt.{Receipt}
 use Rattle.receive_make.proofs.SaidLaws.{read-words, haves-many}
@@ -47,9 +44,9 @@ use Rattle.receive_make.proofs.MakeLaws.{kept-most}
 -- ---- counts of a good session
 
 flagged-count : (flags : Section) (s : List ℕ) (n : ℕ)
-    → length (sentFlagged flags (hashesAt s 0 n)) ≡ cond (told (λ f. hasFlag f syncReset) flags false) 0 n
+    → length (sentFlagged flags (hashesAt s 0 n)) ≡ cond (flagTaken (λ f. hasFlag f syncReset) flags false) 0 n
 unfolding sentFlagged
-flagged-count flags s n = split (told (λ f. hasFlag f syncReset) flags false) (λ e. rw e) (λ e. rw e (length-hashes-at s 0 n))
+flagged-count flags s n = split (flagTaken (λ f. hasFlag f syncReset) flags false) (λ e. rw e) (λ e. rw e (length-hashes-at s 0 n))
 
 -- the counts that a failed load leaves
 pub flagged-counts : (s : Session) (l : Lent) → sessionGood s l ≡ true → (flags : Section)
@@ -135,42 +132,6 @@ module _ {hs after : List ℕ} {count : ℕ} (f : SharedMade hs sharedRoom after
 
 -- ---- room
 
--- 0 is no wanted length
-abbrev pub wantedOf : ℕ → Option ℕ
-wantedOf n = cond (ltb 0 n) (some n) none
-
-or-wanted : (room wanted rest : ℕ) → orShort some room wanted (wantedOf rest) ≡ wantedOf (orWanted room wanted rest)
-or-wanted room wanted rest =
-    split (ltb room wanted)
-    (λ e.
-    let some′ : 0 < wanted = omega (arith, ltb-true room wanted e) in
-    rw (e, lt-ltb 0 wanted some′))
-    (λ e. rw e)
-
-or-more : (room wanted : ℕ) (rest : Option ℕ) (n : ℕ) → rest ≡ wantedOf n → orShort some room wanted rest ≡ wantedOf (orWanted room wanted n)
-or-more room wanted rest n e = ap (λ (o : Option ℕ). orShort some room wanted o) e ∙ or-wanted room wanted n
-
--- the first too short list says the same on both sides
-shorts : (d : Receipt) (r : SessionRooms)
-    → orShort some (r .shared) (sizes .hash * d .shared)
-    (orShort some (r .«last_sent») (sizes .hash * d .«last_sent»)
-    (orShort some (r .«their_heads») (sizes .hash * d .heads)
-    (orShort some (r .«their_need») (sizes .hash * d .need)
-    (orShort some (r .haves) (haveWords * d .haves) (orShort some (r .bytes) (d .bytes) none)))))
-    ≡ wantedOf (shortWith d r)
-unfolding shortWith
-shorts d r =
-    let bytes : ℕ = orWanted (r .bytes) (d .bytes) 0 in
-    let haves : ℕ = orWanted (r .haves) (haveWords * d .haves) bytes in
-    let need : ℕ = orWanted (r .«their_need») (sizes .hash * d .need) haves in
-    let heads : ℕ = orWanted (r .«their_heads») (sizes .hash * d .heads) need in
-    let last : ℕ = orWanted (r .«last_sent») (sizes .hash * d .«last_sent») heads in
-    or-more _ (sizes .hash * d .shared) _ last
-    (or-more _ (sizes .hash * d .«last_sent») _ heads
-    (or-more _ (sizes .hash * d .heads) _ need
-    (or-more _ (sizes .hash * d .need) _ haves
-    (or-more _ (haveWords * d .haves) _ bytes (or-wanted (r .bytes) (d .bytes) 0)))))
-
 -- ---- all parts
 
 -- The draft that is made where a message was read for a session, its flags being taken, whether its changes are loaded or not.
@@ -194,7 +155,7 @@ module _ (s : Session) (l : Lent) (good : sessionGood s l ≡ true) (table : Lis
   m = saidAt message p
 
   abbrev forgets : Bool
-  forgets = told (λ f. hasFlag f syncReset) (p .flags) false
+  forgets = flagTaken (λ f. hasFlag f syncReset) (p .flags) false
 
   abbrev tells : Bool
   tells = not (ltb 0 (p .chunks .count)) && same (m .heads) (heads (take before t))
@@ -266,12 +227,11 @@ module _ (s : Session) (l : Lent) (good : sessionGood s l ≡ true) (table : Lis
 
       -- the counts that a message leaves
       pub received-counts : countsOf (received before t v m) ≡ receivedCounts (flaggedCounts (p .flags) s) d
-      unfolding received
+      unfolding received flagged
       received-counts =
           rw (shared-gathered .many, last-count ready d made, heads-count ready d made, need-count ready d made, haves-count ready d made, sent-made ready d made .many)
 
-      pub short-is : (r : SessionRooms) → shortFor (received before t v m) r ≡ wantedOf (shortWith d r)
-      unfolding shortFor received
-      short-is r =
+      pub room-is : (r : SessionRooms) → keptRoom (received before t v m) r ≡ receiptRoom d r
+      unfolding keptRoom receiptRoom received
+      room-is r =
           rw (← shared-gathered .many, ← last-count ready d made, ← heads-count ready d made, ← need-count ready d made, ← haves-count ready d made, ← made .words .bytes)
-          (shorts d r)

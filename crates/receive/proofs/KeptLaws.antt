@@ -6,7 +6,7 @@ use mathlib.Core.List.{List, [], _++_}
 use mathlib.Core.Path.{_≡_, refl, sym, ap, _∙_}
 use native.Mathlib.Nat.{add-zero, zero-add}
 use native.Mathlib.Omega.{arith}
-use borrow.Author.Tests.{ltb-true, ltb-false}
+use borrow.Author.Tests.{ltb-false}
 use lib.Dec.{ltb}
 use lib.ListN.{length, take, drop, take-append-drop}
 use lib.Seq.{sets, slice, sets-eq, slice-empty, length-take-le}
@@ -32,11 +32,15 @@ use Rattle.session_state.specs.declared.session.Session.{Session}
 use Rattle.table.specs.TableBytes.{rowsAt}
 use Rattle.table.specs.Table.{Row}
 use Rattle.receive_haves.specs.Internal.HavesLaid.{Layable}
-use Rattle.session.specs.ReceiveCall.{keptIn, receivedRooms}
+use Rattle.session.specs.ReceiveCall.{receivedLists, receivedRooms}
 use Rattle.receive_make.specs.Internal.ReceiveMake.{saidAt, havesWords, Stands}
-use Rattle.receive_decide.specs.Internal.Receipt.{orWanted, shortWith, receiptDecided, ReceiptParts, noReceipt, receiptPuts, ReceiptFits, receiptPut}
+use Rattle.receive_decide.specs.Internal.Receipt.{receivedCounts, receiptRoom, receiptDecided, ReceiptParts, noReceipt, receiptPuts, ReceiptFits, receiptPut}
 use Rattle.session.specs.declared.receive_answer.ReceiveAnswer.{ReceiveAnswer}
+use Rattle.session.specs.declared.receive_answer.ReceiveAnswer.the-variants.{Took, Refused}
 use Rattle.session.specs.declared.receive_answer.SessionRooms.{SessionRooms}
+use Rattle.session.specs.declared.room.Room.{Room}
+use Rattle.session.specs.declared.room.Room.the-variants.{Enough, Short}
+use Rattle.session.specs.Rooms.{orShort, ifRoom}
 use Rattle.receive_decide.specs.declared.decide.Receipt.{Receipt}
 use Rattle.receive.proofs.DraftLaws.{DraftedAs, Drafted, shared-gathered, sent-made, told-made, told-few, told-within, sent-within, draft-small}
 use Rattle.receive.proofs.Outcomes.{Outcome, Outcomes}
@@ -84,11 +88,14 @@ last-put message place (suc count) false lastSent n c h d k = rw (none-at place 
 
 -- ---- room
 
-not-short : (room wanted rest : ℕ) → orWanted room wanted rest ≡ 0 → (wanted ≤ room) × (rest ≡ 0)
+short-enough : {A : Type 0} {wanted : ℕ} → Short wanted ≡ Enough → A
+short-enough e = absurd (let z : _≡_ {A = ℕ} 0 1 = cc in omega arith)
+
+not-short : (room wanted : ℕ) (rest : Room) → orShort room wanted rest ≡ Enough → (wanted ≤ room) × (rest ≡ Enough)
 not-short room wanted rest e =
     split (ltb room wanted)
-    (λ t. let f : wanted ≡ 0 = rw t at e in absurd (omega (arith, ltb-true room wanted t)))
-    (λ t. let f : rest ≡ 0 = rw t at e in (omega (arith, ltb-false room wanted t), f))
+    (λ t. short-enough (let f : Short wanted ≡ Enough = rw t at e in f))
+    (λ t. let f : rest ≡ Enough = rw t at e in (omega (arith, ltb-false room wanted t), f))
 
 -- Room for every list.
 pub record Roomy (d : Receipt) (r : SessionRooms) : Type 0 where
@@ -99,8 +106,8 @@ pub record Roomy (d : Receipt) (r : SessionRooms) : Type 0 where
   pub haves : haveWords * d .haves ≤ r .haves
   pub bytes : d .bytes ≤ r .bytes
 
-roomy : (d : Receipt) (r : SessionRooms) → shortWith d r ≡ 0 → Roomy d r
-unfolding shortWith
+roomy : (d : Receipt) (r : SessionRooms) → receiptRoom d r ≡ Enough → Roomy d r
+unfolding receiptRoom
 roomy d r e =
     let a = not-short _ _ _ e in
     let b = not-short _ _ _ (a .1) in
@@ -119,7 +126,7 @@ module _ (s : Session) (l : Lent) (good : sessionGood s l ≡ true) (table : Lis
       words-ready : take (haveWords * d .haves) (ready .words) ≡ havesWords message p
       words-ready = rw (made .haves) (made .words .words)
 
-      took-fits : shortWith d (receivedRooms l) ≡ 0 → ReceiptFits d message (p .heads .start) (p .need .start) ready l
+      took-fits : receiptRoom d (receivedRooms l) ≡ Enough → ReceiptFits d message (p .heads .start) (p .need .start) ready l
       took-fits room =
           let g = session-parts s l good in
           let w = read-words message p read in
@@ -168,19 +175,19 @@ module _ (s : Session) (l : Lent) (good : sessionGood s l ≡ true) (table : Lis
       -- what is put has room, whatever was decided
       pub puts-fit : (flagged : Session) (failed : Bool)
           → ReceiptFits (receiptPuts (receiptDecided flagged failed d (receivedRooms l)) d) message (p .heads .start) (p .need .start) ready l
-      unfolding receiptPuts receiptDecided
+      unfolding receiptPuts receiptDecided ifRoom
       puts-fit flagged failed =
           split failed
           (λ e. rw e none-fits)
           (λ e.
           split (ltb (sizes .hashes) (d .shared))
           (λ f. rw (e, f) none-fits)
-          (λ f.
-          split (ltb 0 (shortWith d (receivedRooms l)))
-          (λ g. rw (e, f, g) none-fits)
-          (λ g.
-          let room : shortWith d (receivedRooms l) ≡ 0 = omega (arith, ltb-false 0 (shortWith d (receivedRooms l)) g) in
-          rw (e, f, g) (took-fits room))))
+          (λ f. rw (e, f) (in-room (receiptRoom d (receivedRooms l)) refl)))
+        where
+          in-room : (x : Room) → receiptRoom d (receivedRooms l) ≡ x
+              → ReceiptFits (receiptPuts (ifRoom Refused x (Took (receivedCounts flagged d))) d) message (p .heads .start) (p .need .start) ready l
+          in-room Enough e = took-fits e
+          in-room (Short wanted) e = none-fits
 
     module _ (made : Drafted s l table n before message p ready d) (a : ReceiveAnswer) (q : Received) (o : Outcomes s l table n before message p d (receivedRooms l) a q) where
       abbrev v : State
@@ -193,8 +200,8 @@ module _ (s : Session) (l : Lent) (good : sessionGood s l ≡ true) (table : Lis
       m = saidAt message p
 
       module _ (lastBytes : Bytes (l .lastSent)) where
-        took-put : d .shared ≤ sizes .hashes → receiptPut d message (p .heads .start) (p .need .start) ready l ≡ keptIn (Received.took (received before t v m)) l
-        unfolding keptIn received lastSentAfter
+        took-put : d .shared ≤ sizes .hashes → receiptPut d message (p .heads .start) (p .need .start) ready l ≡ receivedLists (Received.took (received before t v m)) l
+        unfolding receivedLists received lastSentAfter
         took-put few =
             let g = session-parts s l good in
             let w = read-words message p read in
@@ -212,11 +219,11 @@ module _ (s : Session) (l : Lent) (good : sessionGood s l ≡ true) (table : Lis
             (ap (sets (l .sent) 0) (sym (gathered-bytes sent (stands .sent) (stands .sentThere))))
 
         -- and is what is kept
-        pub puts-kept : receiptPut (receiptPuts a d) message (p .heads .start) (p .need .start) ready l ≡ keptIn q l
-        unfolding receiptPuts keptIn
+        pub puts-kept : receiptPut (receiptPuts a d) message (p .heads .start) (p .need .start) ready l ≡ receivedLists q l
+        unfolding receiptPuts receivedLists
         puts-kept = go o
           where
             go : Outcomes s l table n before message p d (receivedRooms l) a q
-                → receiptPut (receiptPuts a d) message (p .heads .start) (p .need .start) ready l ≡ keptIn q l
-            go (Outcome.refuses refusal left e f g) = rw (e, f) (none-put message (p .heads .start) (p .need .start) ready l)
-            go (Outcome.takes few room e f g) = rw (e, f) (took-put few)
+                → receiptPut (receiptPuts a d) message (p .heads .start) (p .need .start) ready l ≡ receivedLists q l
+            go (Outcome.leaves kept f g) = rw (f, kept) (none-put message (p .heads .start) (p .need .start) ready l)
+            go (Outcome.takes few e f g) = rw (e, f) (took-put few)

@@ -1,7 +1,6 @@
 pub mod CallLaws
 pub mod DraftLaws
 pub mod KeptLaws
-pub mod OtherLaws
 pub mod Outcomes
 pub mod Promises
 pub mod ReceiveOnce

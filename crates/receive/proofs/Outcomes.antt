@@ -14,44 +14,47 @@ use Rattle.message_read.specs.declared.parse.Places.{Places}
 use Rattle.session_check.specs.SessionGood.{sessionGood}
 use Rattle.rules.specs.Sizes.{sizes}
 use Rattle.rules.specs.declared.refusal.Refusal.{Refusal}
-use Rattle.rules.specs.declared.refusal.Refusal.the-variants.{PastSize, NoRoom, LoadFailed}
+use Rattle.rules.specs.declared.refusal.Refusal.the-variants.{PastSize, NoRoom}
 use Rattle.rules.proofs.Cases.{split}
-use Rattle.session.specs.Receive.{Said, Received, flagged, loads, sharedAfter, received, receive}
+use Rattle.session.specs.Receive.{Said, Received, loads, sharedAfter, received, receive}
 use Rattle.session_state.specs.Session.{State}
 use Rattle.session_state.specs.Value.{Lent, stateOf, countsOf}
 use Rattle.session_state.specs.declared.session.Session.{Session}
 use Rattle.table.specs.TableBytes.{rowsAt}
 use Rattle.table.specs.Table.{Row}
 use Rattle.receive_parts.specs.Internal.ReceiveParts.{flaggedCounts}
-use Rattle.session.specs.ReceiveCall.{unlessShort, receivedRoomed, refusalAnswer, receivedAnswer}
+use Rattle.session.specs.ReceiveCall.{receivedRoomed, receivedAnswer, receivedLists}
 use Rattle.receive_make.specs.Internal.ReceiveMake.{saidAt}
-use Rattle.receive_decide.specs.Internal.Receipt.{receivedCounts, shortWith, receiptDecided, ReceiptParts, noReceipt, receiptPuts}
+use Rattle.receive_decide.specs.Internal.Receipt.{receivedCounts, receiptRoom, receiptDecided, ReceiptParts, noReceipt, receiptPuts}
 use Rattle.session.specs.declared.receive_answer.ReceiveAnswer.{ReceiveAnswer}
 use Rattle.session.specs.declared.receive_answer.ReceiveAnswer.the-variants.{Took, Failed, Refused}
 use Rattle.session.specs.declared.receive_answer.SessionRooms.{SessionRooms}
+use Rattle.session.specs.declared.room.Room.{Room}
+use Rattle.session.specs.declared.room.Room.the-variants.{Enough, Short}
+use Rattle.session.specs.Rooms.{ifRoom}
 use Rattle.receive_decide.specs.declared.decide.Receipt.{Receipt}
-use Rattle.receive.proofs.DraftLaws.{Drafted, flagged-counts, shared-made, shared-many, shared-gathered, received-counts, wantedOf, short-is}
+use Rattle.receive.proofs.DraftLaws.{Drafted, flagged-counts, shared-made, shared-many, shared-gathered, received-counts, room-is}
 
 module _ (d : Receipt) (r : SessionRooms) (after : Session) (new : State) where
-  -- The two ways that an answer and a result on values go together.
+  -- The two ways that an answer and a result on values go together: all lists stay, with nothing put, or the session is taken.
   pub data Outcome (a : ReceiveAnswer) (q : Received) : Type 0 where
-    refuses : (refusal : Refusal) (left : State) → q ≡ Received.refused refusal left → receiptPuts a d ≡ noReceipt → a ≡ receivedAnswer q → Outcome a q
-    takes : d .shared ≤ sizes .hashes → shortWith d r ≡ 0 → a ≡ Took after → q ≡ Received.took new → a ≡ receivedAnswer q → Outcome a q
+    leaves : ((l : Lent) → receivedLists q l ≡ l) → receiptPuts a d ≡ noReceipt → a ≡ receivedAnswer q → Outcome a q
+    takes : d .shared ≤ sizes .hashes → a ≡ Took after → q ≡ Received.took new → a ≡ receivedAnswer q → Outcome a q
 
   pub same-answer : (a : ReceiveAnswer) (q : Received) → Outcome a q → a ≡ receivedAnswer q
-  same-answer a q (Outcome.refuses refusal left e f g) = g
-  same-answer a q (Outcome.takes few room e f g) = g
+  same-answer a q (Outcome.leaves kept f g) = g
+  same-answer a q (Outcome.takes few e f g) = g
+
+  refuses : (refusal : Refusal) → Outcome (Refused refusal) (Received.refused refusal)
+  unfolding receiptPuts receivedAnswer receivedLists
+  refuses refusal = Outcome.leaves (λ l. refl) refl refl
 
   -- room is asked last
-  room-asked : (old : State) (w : ℕ) → w ≡ shortWith d r → d .shared ≤ sizes .hashes → countsOf new ≡ after
-      → Outcome (cond (ltb 0 w) (Refused (NoRoom w)) (Took after)) (unlessShort (wantedOf w) old new)
-  unfolding unlessShort receiptPuts receivedAnswer refusalAnswer
-  room-asked old w is few counts =
-      split (ltb 0 w)
-      (λ e. rw e (Outcome.refuses (NoRoom w) old refl refl refl))
-      (λ e.
-      let none : shortWith d r ≡ 0 = omega (arith, ltb-false 0 w e) in
-      rw e (Outcome.takes few none refl refl (ap Took (sym counts))))
+  room-asked : (room : Room) → d .shared ≤ sizes .hashes → countsOf new ≡ after
+      → Outcome (ifRoom Refused room (Took after)) (ifRoom Received.refused room (Received.took new))
+  unfolding ifRoom receivedAnswer
+  room-asked Enough few counts = Outcome.takes few refl refl (ap Took (sym counts))
+  room-asked (Short wanted) few counts = refuses (NoRoom wanted)
 
 -- How the answer and the result on values go together for a message that was read, over its draft and the lengths of the lent lists.
 abbrev pub Outcomes : Session → Lent → List ℕ → ℕ → ℕ → List ℕ → Places → Receipt → SessionRooms → ReceiveAnswer → Received → Type 0
@@ -79,28 +82,26 @@ module _ (s : Session) (l : Lent) (good : sessionGood s l ≡ true) (table : Lis
   abbrev Of : ReceiveAnswer → Received → Type 0
   Of a q = Outcomes s l table n before message p d r a q
 
-  joined : Of (cond (ltb (sizes .hashes) (d .shared))
-      (Refused (PastSize 0))
-      (cond (ltb 0 (shortWith d r)) (Refused (NoRoom (shortWith d r))) (Took (receivedCounts taken d))))
-      (receivedRoomed r v (cond (ltb (sizes .hashes) (length (sharedAfter before t v m))) (Received.refused (PastSize 0) v) (Received.took (received before t v m))))
-  unfolding receivedRoomed receiptPuts receivedAnswer refusalAnswer
+  joined : Of (cond (ltb (sizes .hashes) (d .shared)) (Refused (PastSize 0)) (ifRoom Refused (receiptRoom d r) (Took (receivedCounts taken d))))
+      (receivedRoomed r (cond (ltb (sizes .hashes) (length (sharedAfter before t v m))) (Received.refused (PastSize 0)) (Received.took (received before t v m))))
+  unfolding receivedRoomed
   joined =
       split (ltb (sizes .hashes) (d .shared))
       (λ e.
       let shared = shared-made s l good table n before inside message p read ready d made in
       let many : sizes .hashes < length (sharedAfter before t v m) = shared-many shared (ltb-true _ _ e) in
-      rw (e, lt-ltb _ _ many) (Outcome.refuses (PastSize 0) v refl refl refl))
+      rw (e, lt-ltb _ _ many) (refuses d r (receivedCounts taken d) (received before t v m) (PastSize 0)))
       (λ e.
       let few : d .shared ≤ sizes .hashes = ltb-false _ _ e in
       let g = shared-gathered s l good table n before inside message p read ready d made few in
       let fits : length (sharedAfter before t v m) ≤ sizes .hashes = omega (arith, g .many) in
-      rw (e, le-ltb _ _ fits, short-is s l good table n before inside message p read ready d made few r)
-      (room-asked d r (receivedCounts taken d) (received before t v m) v (shortWith d r) refl few
+      rw (e, le-ltb _ _ fits, room-is s l good table n before inside message p read ready d made few r)
+      (room-asked d r (receivedCounts taken d) (received before t v m) (receiptRoom d r) few
       (received-counts s l good table n before inside message p read ready d made few)))
 
-  pub outcome : Of (receiptDecided taken fails d r) (receivedRoomed r v (receive loaded before t v m))
-  unfolding receiptDecided receive loads receivedRoomed receiptPuts receivedAnswer refusalAnswer
+  pub outcome : Of (receiptDecided taken fails d r) (receivedRoomed r (receive loaded before t v m))
+  unfolding receiptDecided receive loads receivedRoomed receiptPuts receivedAnswer receivedLists
   outcome =
       split fails
-      (λ e. rw e (Outcome.refuses LoadFailed (flagged (p .flags) v) refl refl (ap Failed (sym (flagged-counts s l good (p .flags))))))
+      (λ e. rw e (Outcome.leaves (λ l. refl) refl (ap Failed (sym (flagged-counts s l good (p .flags))))))
       (λ e. rw e joined)

@@ -74,7 +74,7 @@ fn receive_checked(
     requires { ⌜ Accepted session (lentOf (now shared) (now «last_sent») (now «their_heads») (now «their_need») (now haves) (now bytes) (now sent))
         (now table) (now index) n before (now message) places
         × Prepared (now table) n (now message) places (session .«sent_hashes») (now marks) all (now «ready_shared») (now «ready_sent») ⌝ }
-    ensures { λ r. ⌜ ReceiveCalled session (receiveWith loaded before session
+    ensures { λ r. ⌜ ReceiveCalled (receiveWith loaded before session
         (lentOf (now (shared .entry)) (now («last_sent» .entry)) (now («their_heads» .entry)) (now («their_need» .entry))
         (now (haves .entry)) (now (bytes .entry)) (now (sent .entry))) (now (table .entry)) (now (index .entry)) (now (message .entry)))
         (lentOf (now (shared .entry)) (now («last_sent» .entry)) (now («their_heads» .entry)) (now («their_need» .entry))
@@ -155,7 +155,7 @@ fn receive_sized(
 ) -> ReceiveAnswer
     requires { ⌜ Accepted session (lentOf (now shared) (now «last_sent») (now «their_heads») (now «their_need») (now haves) (now bytes) (now sent))
         (now table) (now index) n before (now message) places ⌝ }
-    ensures { λ r. ⌜ ReceiveCalled session (receiveWith loaded before session
+    ensures { λ r. ⌜ ReceiveCalled (receiveWith loaded before session
         (lentOf (now (shared .entry)) (now («last_sent» .entry)) (now («their_heads» .entry)) (now («their_need» .entry))
         (now (haves .entry)) (now (bytes .entry)) (now (sent .entry))) (now (table .entry)) (now (index .entry)) (now (message .entry)))
         (lentOf (now (shared .entry)) (now («last_sent» .entry)) (now («their_heads» .entry)) (now («their_need» .entry))
@@ -242,7 +242,7 @@ pub fn receive_sync_message(
     bytes: &mut [u8],
     sent: &mut [u8],
 ) -> ReceiveAnswer
-    ensures { λ r. ⌜ ReceiveCalled session (receiveWith loaded before session
+    ensures { λ r. ⌜ ReceiveCalled (receiveWith loaded before session
         (lentOf (now (shared .entry)) (now («last_sent» .entry)) (now («their_heads» .entry)) (now («their_need» .entry))
         (now (haves .entry)) (now (bytes .entry)) (now (sent .entry))) (now (table .entry)) (now (index .entry)) (now (message .entry)))
         (lentOf (now (shared .entry)) (now («last_sent» .entry)) (now («their_heads» .entry)) (now («their_need» .entry))

@@ -8,46 +8,49 @@ use Rattle.rules.specs.Sizes.{sizes}
 use Rattle.rules.specs.declared.refusal.Refusal.{Refusal}
 use Rattle.rules.specs.declared.refusal.Refusal.the-variants.{PastSize, NoRoom}
 use Rattle.session_state.specs.declared.session.Session.{Session}
-use Rattle.receive_decide.specs.Internal.Receipt.{receivedCounts, shortWith, receiptDecided, noReceipt, receiptPuts}
+use Rattle.receive_decide.specs.Internal.Receipt.{receivedCounts, receiptRoom, receiptDecided, noReceipt, receiptPuts}
 use Rattle.session.specs.declared.receive_answer.ReceiveAnswer.{ReceiveAnswer}
 use Rattle.session.specs.declared.receive_answer.ReceiveAnswer.the-variants.{Took, Failed, Refused}
 use Rattle.session.specs.declared.receive_answer.SessionRooms.{SessionRooms}
+use Rattle.session.specs.Rooms.{ifRoom}
+use Rattle.session.specs.declared.room.Room.{Room}
+use Rattle.session.specs.declared.room.Room.the-variants.{Enough, Short}
 use Rattle.receive_decide.specs.declared.decide.Receipt.{Receipt}
 
 -- ---- room
 
 module _ (d : Receipt) (r : SessionRooms) where
-  pub shared-short : r .shared < sizes .hash * d .shared → sizes .hash * d .shared ≡ shortWith d r
-  unfolding shortWith
+  pub shared-short : r .shared < sizes .hash * d .shared → Short (sizes .hash * d .shared) ≡ receiptRoom d r
+  unfolding receiptRoom
   shared-short h = rw (lt-ltb _ _ h)
 
   module _ (shared : sizes .hash * d .shared ≤ r .shared) where
-    pub last-short : r .«last_sent» < sizes .hash * d .«last_sent» → sizes .hash * d .«last_sent» ≡ shortWith d r
-    unfolding shortWith
+    pub last-short : r .«last_sent» < sizes .hash * d .«last_sent» → Short (sizes .hash * d .«last_sent») ≡ receiptRoom d r
+    unfolding receiptRoom
     last-short h = rw (le-ltb _ _ shared, lt-ltb _ _ h)
 
     module _ (last : sizes .hash * d .«last_sent» ≤ r .«last_sent») where
-      pub heads-short : r .«their_heads» < sizes .hash * d .heads → sizes .hash * d .heads ≡ shortWith d r
-      unfolding shortWith
+      pub heads-short : r .«their_heads» < sizes .hash * d .heads → Short (sizes .hash * d .heads) ≡ receiptRoom d r
+      unfolding receiptRoom
       heads-short h = rw (le-ltb _ _ shared, le-ltb _ _ last, lt-ltb _ _ h)
 
       module _ (heads : sizes .hash * d .heads ≤ r .«their_heads») where
-        pub need-short : r .«their_need» < sizes .hash * d .need → sizes .hash * d .need ≡ shortWith d r
-        unfolding shortWith
+        pub need-short : r .«their_need» < sizes .hash * d .need → Short (sizes .hash * d .need) ≡ receiptRoom d r
+        unfolding receiptRoom
         need-short h = rw (le-ltb _ _ shared, le-ltb _ _ last, le-ltb _ _ heads, lt-ltb _ _ h)
 
         module _ (need : sizes .hash * d .need ≤ r .«their_need») where
-          pub haves-short : r .haves < haveWords * d .haves → haveWords * d .haves ≡ shortWith d r
-          unfolding shortWith
+          pub haves-short : r .haves < haveWords * d .haves → Short (haveWords * d .haves) ≡ receiptRoom d r
+          unfolding receiptRoom
           haves-short h = rw (le-ltb _ _ shared, le-ltb _ _ last, le-ltb _ _ heads, le-ltb _ _ need, lt-ltb _ _ h)
 
           module _ (haves : haveWords * d .haves ≤ r .haves) where
-            pub bytes-short : r .bytes < d .bytes → d .bytes ≡ shortWith d r
-            unfolding shortWith
+            pub bytes-short : r .bytes < d .bytes → Short (d .bytes) ≡ receiptRoom d r
+            unfolding receiptRoom
             bytes-short h = rw (le-ltb _ _ shared, le-ltb _ _ last, le-ltb _ _ heads, le-ltb _ _ need, le-ltb _ _ haves, lt-ltb _ _ h)
 
-            pub enough : d .bytes ≤ r .bytes → 0 ≡ shortWith d r
-            unfolding shortWith
+            pub enough : d .bytes ≤ r .bytes → Enough ≡ receiptRoom d r
+            unfolding receiptRoom
             enough h = rw (le-ltb _ _ shared, le-ltb _ _ last, le-ltb _ _ heads, le-ltb _ _ need, le-ltb _ _ haves, le-ltb _ _ h)
 
 -- ---- the answer
@@ -62,14 +65,14 @@ module _ (flagged : Session) (failed : Bool) (d : Receipt) (r : SessionRooms) wh
     unfolding receiptDecided
     is-past h = rw (fine, lt-ltb _ _ h)
 
-    module _ (few : d .shared ≤ sizes .hashes) (wanted : ℕ) (short : wanted ≡ shortWith d r) where
-      pub is-short : 0 < wanted → Refused (NoRoom wanted) ≡ receiptDecided flagged failed d r
-      unfolding receiptDecided
-      is-short h = rw (fine, le-ltb _ _ few, ← short, lt-ltb _ _ h)
+    module _ (few : d .shared ≤ sizes .hashes) (room : Room) (asked : room ≡ receiptRoom d r) where
+      pub is-short : (wanted : ℕ) → room ≡ Short wanted → Refused (NoRoom wanted) ≡ receiptDecided flagged failed d r
+      unfolding receiptDecided ifRoom
+      is-short wanted e = rw (fine, le-ltb _ _ few, ← asked, e)
 
-      pub is-taken : (next : Session) → wanted ≤ 0 → next ≡ receivedCounts flagged d → Took next ≡ receiptDecided flagged failed d r
-      unfolding receiptDecided
-      is-taken next h e = rw (fine, le-ltb _ _ few, ← short, le-ltb _ _ h) (ap Took e)
+      pub is-taken : (next : Session) → room ≡ Enough → next ≡ receivedCounts flagged d → Took next ≡ receiptDecided flagged failed d r
+      unfolding receiptDecided ifRoom
+      is-taken next e is = rw (fine, le-ltb _ _ few, ← asked, e) (ap Took is)
 
 -- ---- what an answer puts
 

@@ -5,10 +5,11 @@ use rules::sizes::HASH_SIZE;
 use rules::sizes::HASHES;
 use session::receive_answer::ReceiveAnswer;
 use session::receive_answer::SessionRooms;
+use session::room::Room;
 use session_state::session::Heard;
 use session_state::session::Session;
 ghost use mathlib.Core.Path.{_≡_};
-ghost use Rattle.receive_decide.specs.Internal.Receipt.{SmallReceipt, receivedCounts, shortWith, receiptDecided};
+ghost use Rattle.receive_decide.specs.Internal.Receipt.{SmallReceipt, receivedCounts, receiptRoom, receiptDecided};
 
 // The numbers of a session after a message: how many shared heads, heads sent last and hashes sent it has, how many of the message's heads become
 // the ones sent last, how many heads, needs and haves the message has, and how many bytes the haves take.
@@ -44,35 +45,35 @@ fn received_session(flagged: Session, d: Receipt) -> Session
     }
 }
 
-// The length that the first too short list wants, or 0: no list is too short for nothing.
-fn short_for(d: Receipt, r: SessionRooms) -> usize
+// Whether the session's lists have room, in the order in which 7 names them.
+fn receipt_room(d: Receipt, r: SessionRooms) -> Room
     requires { ⌜ SmallReceipt d ⌝ }
-    ensures { λ x. ⌜ x ≡ shortWith d r ⌝ }
+    ensures { λ x. ⌜ x ≡ receiptRoom d r ⌝ }
 {
     let shared = HASH_SIZE * d.shared;
     if r.shared < shared {
-        return shared;
+        return Room::Short(shared);
     }
     let last_sent = HASH_SIZE * d.last_sent;
     if r.last_sent < last_sent {
-        return last_sent;
+        return Room::Short(last_sent);
     }
     let heads = HASH_SIZE * d.heads;
     if r.their_heads < heads {
-        return heads;
+        return Room::Short(heads);
     }
     let need = HASH_SIZE * d.need;
     if r.their_need < need {
-        return need;
+        return Room::Short(need);
     }
     let haves = HAVE_WORDS * d.haves;
     if r.haves < haves {
-        return haves;
+        return Room::Short(haves);
     }
     if r.bytes < d.bytes {
-        return d.bytes;
+        return Room::Short(d.bytes);
     }
-    0
+    Room::Enough
 }
 
 // Decides: 8 where changes were to be loaded and weren't, which leaves the flags taken; 4 for too many shared heads; 7.
@@ -86,9 +87,8 @@ pub fn decide(flagged: Session, failed: bool, d: Receipt, r: SessionRooms) -> Re
     if HASHES < d.shared {
         return ReceiveAnswer::Refused(Refusal::PastSize(0));
     }
-    let wanted = short_for(d, r);
-    if 0 < wanted {
-        return ReceiveAnswer::Refused(Refusal::NoRoom(wanted));
+    match receipt_room(d, r) {
+        Room::Short(wanted) => ReceiveAnswer::Refused(Refusal::NoRoom(wanted)),
+        Room::Enough => ReceiveAnswer::Took(received_session(flagged, d)),
     }
-    ReceiveAnswer::Took(received_session(flagged, d))
 }

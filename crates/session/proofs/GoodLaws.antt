@@ -2,7 +2,6 @@
 use Prim.Native.Nat.{ℕ, zero, suc, _+_, _≤_, _<_}
 use mathlib.Core.Bool.{Bool, true, false, not, _&&_}
 use mathlib.Core.List.{List, [], _∷_}
-use mathlib.Core.Logic.{_⊎_, inl, inr}
 use mathlib.Core.Option.{Option, none, some}
 use mathlib.Core.Path.{_≡_, refl, sym, ap, _∙_}
 use native.Mathlib.Nat.{le-trans}
@@ -21,7 +20,7 @@ use Rattle.table_graph.proofs.BelowLaws.{beyond-few}
 use Rattle.table_graph.proofs.HeadLaws.{heads-few, heads-hashes}
 use Rattle.table_graph.specs.Graph.{heads, beyond}
 use Rattle.hash_lists.specs.Internal.Lists.{same}
-use Rattle.message.specs.Sound.{Each, SoundHashes, SoundHave, SaidFilter, SaidHave}
+use Rattle.message.specs.Sound.{Each, SoundHashes, SoundHave, FilterReadsBack, HaveReadsBack}
 use Rattle.message.specs.declared.flags.Section.{Section}
 use Rattle.waiting_missing.specs.Missing.{missing}
 use Rattle.hash_order.proofs.KeepLaws.{hashes-member, hashes-each, hashes-inside}
@@ -32,7 +31,7 @@ use Rattle.rules.proofs.Cases.{split, both, either}
 use Rattle.rules.proofs.Hash.{length-hashes-at, hashes-are-hashes, length-slice-of}
 use Rattle.rules.specs.Hash.{Bytes, AreHashes, hashesAt}
 use Rattle.rules.specs.Sizes.{sizes}
-use Rattle.rules.specs.declared.refusal.Refusal.the-variants.{LoadFailed, BadRowsBefore}
+use Rattle.rules.specs.declared.refusal.Refusal.the-variants.{BadRowsBefore}
 use Rattle.rules.specs.declared.refusal.Refusal.{Refusal}
 use Rattle.session.specs.Plan.{
   Plan,
@@ -69,7 +68,6 @@ use Rattle.session.specs.GoodState.{SoundTable, SoundHaves, WhereHeard, 
 use Rattle.session.specs.Receive.{
   Said,
   saidIn,
-  saidBy,
   Received,
   sentFlagged,
   flagged,
@@ -96,7 +94,7 @@ use Rattle.session.proofs.ReceiveLaws.{
   left-few,
   left-inside,
   receive-taking,
-  refused-leaves,
+  failed-leaves,
   bytes-beyond,
   bytes-refused,
   bytes-read,
@@ -233,6 +231,12 @@ module _ (bits probes : ℕ) (t : List Row) (w : List Waiting) (s : State) (soun
 
 -- ---- messages that are planned with the filters of the setting
 
+-- The lists of a plan may stand in a message.
+pub record SoundPlan (q : Plan) : Type 0 where
+  pub heads : SoundHashes (q .heads)
+  pub need : SoundHashes (q .need)
+  pub haves : SoundHaves (q .haves)
+
 module _ (t : List Row) (sound : SoundTable t) where
   have-sound : (l : List ℕ) → SoundHashes l → SoundHave (haveOf defaultBits defaultProbes t l)
   unfolding haveOf filterOf
@@ -256,11 +260,11 @@ module _ (t : List Row) (sound : SoundTable t) where
   need-hashes w true l a = rw (need-none-read-only t w l) tt
   need-hashes w false l a = rw (need-missing t w l) a
 
-  -- a message that is said is one that a session can take, if what is missing are hashes
+  -- the lists of a message that is said are sound, if what is missing are hashes
   pub said-sound : (w : List Waiting) (s : State) → GoodState s → AreHashes (missing t w (heard (s .theirHeads)))
       → (q : Plan) (s′ : State) → plan defaultBits defaultProbes t w s ≡ Planned.says q s′
-      → SoundSaid (saidBy q)
-  unfolding saidBy planOf
+      → SoundPlan q
+  unfolding planOf
   said-sound w s g a q s′ e =
       let p = plan-saying defaultBits defaultProbes t w s q s′ e in
       rw (p .message)
@@ -270,13 +274,13 @@ module _ (t : List Row) (sound : SoundTable t) where
         haves = haves-sound _ _ (s .sharedHeads) (g .shared);
       })
 
-filter-said : (hs : List ℕ) → SaidFilter (filterOf defaultBits defaultProbes hs)
+filter-said : (hs : List ℕ) → FilterReadsBack (filterOf defaultBits defaultProbes hs)
 unfolding filterOf fieldSize addHashes
-filter-said [] = SaidFilter.default refl
-filter-said (h ∷ hs) = SaidFilter.entries (omega arith)
+filter-said [] = FilterReadsBack.default refl
+filter-said (h ∷ hs) = FilterReadsBack.entries (omega arith)
 
 -- and its have is read back as it was written: a filter over no rows is the default
-pub said-back : (t : List Row) (w : List Waiting) (s : State) → Each SaidHave (planOf defaultBits defaultProbes t w s .haves)
+pub said-back : (t : List Row) (w : List Waiting) (s : State) → Each HaveReadsBack (planOf defaultBits defaultProbes t w s .haves)
 unfolding planOf haveOf Each
 said-back t w s =
     let need : List ℕ = needOf t w (s .readOnly) (heard (s .theirHeads)) in
@@ -361,15 +365,10 @@ flagged-good flags s g =
       ascending = flagged-ascends flags (s .sentHashes) (g .ascending);
     }
 
--- and so does a refusal, 8 as well
-pub refused-good : (loaded : Bool) (before : ℕ) (t : List Row) (s : State) (m : Said) → GoodState s
-    → (r : Refusal) (s′ : State) → receive loaded before t s m ≡ Received.refused r s′ → GoodState s′
-refused-good loaded before t s m g r s′ e =
-    left (refused-leaves loaded before t s m r s′ e)
-  where
-    left : ((r ≡ LoadFailed) × (s′ ≡ flagged (m .flags) s)) ⊎ (s′ ≡ s) → GoodState s′
-    left (inl p) = rw (p .1) (flagged-good (m .flags) s g)
-    left (inr p) = rw p g
+-- and so does a failed load
+pub failed-good : (loaded : Bool) (before : ℕ) (t : List Row) (s : State) (m : Said) → GoodState s
+    → (s′ : State) → receive loaded before t s m ≡ Received.failed s′ → GoodState s′
+failed-good loaded before t s m g s′ e = rw (failed-leaves loaded before t s m s′ e) (flagged-good (m .flags) s g)
 
 -- ---- messages that were read
 
@@ -419,14 +418,14 @@ read-sound bytes all p haves chunks e =
 -- What receiving leaves of a session is good.
 pub record LeavesGood (x : Received) : Type 0 where
   pub took : (s′ : State) → x ≡ Received.took s′ → GoodState s′
-  pub refused : (r : Refusal) (s′ : State) → x ≡ Received.refused r s′ → GoodState s′
+  pub failed : (s′ : State) → x ≡ Received.failed s′ → GoodState s′
 
 module _ (loaded : Bool) (before : ℕ) (t : List Row) (s : State) (bytes : List ℕ) (all : Bytes bytes) (are : AreHashes (rows t)) (g : GoodState s) where
-  as-was : (x : Received) (r : Refusal) → x ≡ Received.refused r s → LeavesGood x
+  as-was : (x : Received) (r : Refusal) → x ≡ Received.refused r → LeavesGood x
   as-was x r e =
       record {
         took = λ s′ f. absurd (let z : _≡_ {A = ℕ} 0 1 = cc in omega arith);
-        refused = λ q s′ f. let same : s′ ≡ s = cc in rw same g;
+        failed = λ s′ f. absurd (let z : _≡_ {A = ℕ} 0 1 = cc in omega arith);
       }
 
   read-good : before ≤ length t → (x : Reading) → messageAt bytes ≡ x → LeavesGood (receiveBytes loaded before t s bytes)
@@ -436,7 +435,7 @@ module _ (loaded : Bool) (before : ℕ) (t : List Row) (s : State) (bytes : List
       rw (bytes-read loaded before t s bytes inside p haves chunks e)
       (record {
         took = received-good before t s m are g (read-sound bytes all p haves chunks e) loaded;
-        refused = refused-good loaded before t s m g;
+        failed = failed-good loaded before t s m g;
       })
 
   -- receiving any bytes leaves a good session

@@ -2,7 +2,6 @@
 use Prim.Native.Nat.{ℕ, _*_, _≤_}
 use mathlib.Core.Bool.{Bool, true, false}
 use mathlib.Core.List.{List}
-use mathlib.Core.Logic.{_⊎_, inl, inr}
 use mathlib.Core.Path.{_≡_, refl}
 use native.Mathlib.Omega.{arith}
 use borrow.Author.Tests.{ltb-true, ltb-false}
@@ -10,9 +9,9 @@ use lib.Dec.{ltb}
 use lib.ListN.{length}
 use Rattle.message_read.specs.MessageRead.{Reading, messageAt, messageIn}
 use Rattle.session.specs.GoodState.{SoundTable, GoodState}
-use Rattle.session.specs.Receive.{Said, saidIn, Received, told, sentFlagged, flagged, received, receive, receiveBytes}
+use Rattle.session.specs.Receive.{Said, saidIn, Received, flagTaken, sentFlagged, flagged, received, receive, receiveBytes}
 use Rattle.session.proofs.GoodLaws.{planned-good, LeavesGood, bytes-good}
-use Rattle.session.proofs.ReceiveLaws.{left-few, receive-taking, refused-leaves, bytes-beyond, bytes-refused, bytes-read}
+use Rattle.session.proofs.ReceiveLaws.{left-few, receive-taking, failed-leaves, bytes-beyond, bytes-refused, bytes-read}
 use Rattle.session_check.specs.SessionGood.{sessionGood}
 use Rattle.session_check.proofs.GoodSessions.{session-parts, LentBytes}
 use Rattle.message.specs.Flags.{syncReset, hasFlag}
@@ -20,7 +19,7 @@ use Rattle.message.specs.declared.flags.Section.{Section}
 use Rattle.rules.specs.Hash.{Bytes, AreHashes}
 use Rattle.rules.specs.Sizes.{sizes}
 use Rattle.rules.specs.declared.refusal.Refusal.{Refusal}
-use Rattle.rules.specs.declared.refusal.Refusal.the-variants.{LoadFailed, BadRowsBefore}
+use Rattle.rules.specs.declared.refusal.Refusal.the-variants.{BadRowsBefore}
 use Rattle.rules.proofs.Cases.{split}
 use Rattle.rules.proofs.Hash.{length-hashes-at}
 use Rattle.session.specs.Plan.{Plan, Planned, planned, plan}
@@ -81,7 +80,7 @@ received-kept s l g room fits =
 
 sent-flagged : (flags : Section) (sent buffer : List ℕ) → Stand sent buffer → Stand (sentFlagged flags sent) buffer
 unfolding sentFlagged
-sent-flagged flags sent buffer k = split (told (λ f. hasFlag f syncReset) flags false) (λ e. rw e (stand-none buffer)) (λ e. rw e k)
+sent-flagged flags sent buffer k = split (flagTaken (λ f. hasFlag f syncReset) flags false) (λ e. rw e (stand-none buffer)) (λ e. rw e k)
 
 -- what every message does changes counts alone
 pub flagged-kept : (flags : Section) (s : State) (l : Lent) → Kept s l → Kept (flagged flags s) l
@@ -96,10 +95,10 @@ flagged-kept flags s l k =
       sent = sent-flagged flags (s .sentHashes) (l .sent) (k .sent);
     }
 
--- What receiving leaves: fewer hashes sent after a message that is taken, and lists that hold the session after a refusal.
+-- What receiving leaves: fewer hashes sent after a message that is taken, and lists that hold the session after a failed load.
 record LeavesKept (s : State) (l : Lent) (x : Received) : Type 0 where
   took : (s′ : State) → x ≡ Received.took s′ → length (s′ .sentHashes) ≤ length (s .sentHashes)
-  refused : (r : Refusal) (s′ : State) → x ≡ Received.refused r s′ → Kept s′ l
+  failed : (s′ : State) → x ≡ Received.failed s′ → Kept s′ l
 
 module _ (loaded : Bool) (before : ℕ) (t : List Row) (s : State) (l : Lent) (k : Kept s l) where
   message-leaves : (m : Said) → LeavesKept s l (receive loaded before t s m)
@@ -107,18 +106,14 @@ module _ (loaded : Bool) (before : ℕ) (t : List Row) (s : State) (l : Lent) (k
   message-leaves m =
       record {
         took = λ s′ e. let is : s′ ≡ received before t s m = receive-taking loaded before t s m s′ e .session in rw is (left-few t s m);
-        refused = λ r s′ e. left r s′ (refused-leaves loaded before t s m r s′ e);
+        failed = λ s′ e. rw (failed-leaves loaded before t s m s′ e) (flagged-kept (m .flags) s l k);
       }
-    where
-      left : (r : Refusal) (s′ : State) → ((r ≡ LoadFailed) × (s′ ≡ flagged (m .flags) s)) ⊎ (s′ ≡ s) → Kept s′ l
-      left r s′ (inl p) = rw (p .1) (flagged-kept (m .flags) s l k)
-      left r s′ (inr p) = rw p k
 
-  as-was : (x : Received) (r : Refusal) → x ≡ Received.refused r s → LeavesKept s l x
+  as-was : (x : Received) (r : Refusal) → x ≡ Received.refused r → LeavesKept s l x
   as-was x r e =
       record {
         took = λ s′ f. absurd (let z : _≡_ {A = ℕ} 0 1 = cc in omega arith);
-        refused = λ q s′ f. let same : s′ ≡ s = cc in rw same k;
+        failed = λ s′ f. absurd (let z : _≡_ {A = ℕ} 0 1 = cc in omega arith);
       }
 
   read-leaves : (bytes : List ℕ) → before ≤ length t → (x : Reading) → messageAt bytes ≡ x → LeavesKept s l (receiveBytes loaded before t s bytes)
@@ -156,6 +151,6 @@ module _ (loaded : Bool) (before : ℕ) (t : List Row) (are : AreHashes (rows t)
         let g : GoodState s′ = leaves-good .took s′ e in
         stays s′ (receivedIn s′ l) g (received-kept s′ l g room (sent-fits s′ e))
 
-    -- and after a refusal over the same lists, 8 as well
-    pub refuse-stays-good : (r : Refusal) (s′ : State) → receiveBytes loaded before t (stateOf c l) bytes ≡ Received.refused r s′ → Stays s′ l
-    refuse-stays-good r s′ e = stays s′ l (leaves-good .refused r s′ e) (leaves-kept .refused r s′ e)
+    -- and after a failed load over the same lists; any other refusal leaves all as it was
+    pub failed-stays-good : (s′ : State) → receiveBytes loaded before t (stateOf c l) bytes ≡ Received.failed s′ → Stays s′ l
+    failed-stays-good s′ e = stays s′ l (leaves-good .failed s′ e) (leaves-kept .failed s′ e)

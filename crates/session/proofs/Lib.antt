@@ -3,9 +3,10 @@ pub mod GoodLaws
 pub mod KeptCalls
 pub mod KeptSessions
 pub mod LaidLaws
+pub mod PlanCalls
 pub mod PlanLaws
-pub mod PlanOnce
 pub mod PlanStages
 pub mod Promises
 pub mod ReceiveLaws
 pub mod Stands
+pub mod WrittenLaws

@@ -27,10 +27,11 @@ pub use Rattle.session.proofs.ReceiveLaws.{
   flagged-forgets,
   receive-took,
   load-failed,
-  refused-keeps,
+  refused-leaves,
+  failed-lists,
 }
-pub use Rattle.session.proofs.PlanOnce.{plan-called-once}
+pub use Rattle.session.proofs.PlanCalls.{plan-called-once, plan-refused-leaves, silence-leaves, reset-leaves}
 pub use Rattle.session.proofs.Arms.{probes-inside, planned-rows}
-pub use Rattle.session.proofs.KeptCalls.{plan-stays-good, receive-stays-good, refuse-stays-good}
+pub use Rattle.session.proofs.KeptCalls.{plan-stays-good, receive-stays-good, failed-stays-good}
 pub use Rattle.session.proofs.KeptSessions.{counts-back}
 pub use Rattle.session.proofs.Stands.{stand-same}

@@ -3,7 +3,6 @@
 use Prim.Native.Nat.{ℕ, _≤_, _<_}
 use mathlib.Core.Bool.{Bool, true, false, not, _&&_, _||_}
 use mathlib.Core.List.{List, [], _++_}
-use mathlib.Core.Logic.{_⊎_, inl, inr, ⊎-elim}
 use mathlib.Core.Path.{_≡_, refl, sym, _∙_}
 use native.Mathlib.Nat.{le-trans}
 use native.Mathlib.Omega.{arith}
@@ -20,16 +19,19 @@ use Rattle.hash_order.proofs.OrderLaws.{ascend-ascends, ascend-members, ascendi
 use Rattle.hash_order.specs.Order.{member, keep, every, ascends, Once}
 use Rattle.rules.proofs.Cases.{split, both}
 use Rattle.rules.specs.Sizes.{sizes}
-use Rattle.rules.specs.declared.refusal.Refusal.the-variants.{PastSize, LoadFailed, BadRowsBefore}
+use Rattle.rules.specs.declared.refusal.Refusal.the-variants.{PastSize, BadRowsBefore}
 use Rattle.rules.specs.declared.refusal.Refusal.{Refusal}
 use Rattle.session.specs.Plan.{empty}
+use Rattle.session.specs.ReceiveCall.{receivedLists}
 use Rattle.session_state.specs.Session.{State}
+use Rattle.session_state.specs.Value.{Lent}
 use Rattle.table.specs.Table.{Row, held}
 use Rattle.session.specs.Receive.{
   Said,
   saidIn,
   Received,
-  told,
+  left,
+  flagTaken,
   sentFlagged,
   flagged,
   loads,
@@ -122,16 +124,16 @@ module _ (before : ℕ) (t : List Row) (s : State) (m : Said) where
 
 pub flagged-ascends : (flags : Section) (sent : List ℕ) → ascends sent ≡ true → ascends (sentFlagged flags sent) ≡ true
 unfolding sentFlagged ascends
-flagged-ascends flags sent a = split (told (λ f. hasFlag f syncReset) flags false) (λ e. rw e) (λ e. rw e a)
+flagged-ascends flags sent a = split (flagTaken (λ f. hasFlag f syncReset) flags false) (λ e. rw e) (λ e. rw e a)
 
 pub flagged-few : (flags : Section) (sent : List ℕ) → length (sentFlagged flags sent) ≤ length sent
 unfolding sentFlagged
-flagged-few flags sent = split (told (λ f. hasFlag f syncReset) flags false) (λ e. rw e (omega arith)) (λ e. rw e (omega arith))
+flagged-few flags sent = split (flagTaken (λ f. hasFlag f syncReset) flags false) (λ e. rw e (omega arith)) (λ e. rw e (omega arith))
 
 -- a reset makes them forgotten, and nothing is added
 pub flagged-inside : (flags : Section) (sent : List ℕ) (h : ℕ) → member h (sentFlagged flags sent) ≡ true → member h sent ≡ true
 unfolding sentFlagged
-flagged-inside flags sent h = split (told (λ f. hasFlag f syncReset) flags false) (λ e. rw e (λ m. absurd (member-none h m))) (λ e. rw e (λ m. m))
+flagged-inside flags sent h = split (flagTaken (λ f. hasFlag f syncReset) flags false) (λ e. rw e (λ m. absurd (member-none h m))) (λ e. rw e (λ m. m))
 
 module _ (t : List Row) (s : State) (m : Said) where
   pub left-ascends : ascends (s .sentHashes) ≡ true → ascends (sentLeft t s m) ≡ true
@@ -198,30 +200,36 @@ module _ (flags : Section) (s : State) where
   flagged-lands = refl
 
   -- the hashes sent stay, unless it is a reset
-  pub flagged-sent : told (λ f. hasFlag f syncReset) flags false ≡ false → flagged flags s .sentHashes ≡ s .sentHashes
+  pub flagged-sent : flagTaken (λ f. hasFlag f syncReset) flags false ≡ false → flagged flags s .sentHashes ≡ s .sentHashes
   unfolding flagged sentFlagged
   flagged-sent e = rw e
 
-  pub flagged-forgets : told (λ f. hasFlag f syncReset) flags false ≡ true → flagged flags s .sentHashes ≡ []
+  pub flagged-forgets : flagTaken (λ f. hasFlag f syncReset) flags false ≡ true → flagged flags s .sentHashes ≡ []
   unfolding flagged sentFlagged
   flagged-forgets e = rw e
 
 -- ---- the stages
 
--- a session that was taken is no refusal, and back
-refused-untaken : {A : Type 0} {r : Refusal} {s s′ : State} → Received.refused r s ≡ Received.took s′ → A
+-- a session that was taken is neither what a failed load leaves nor a refusal, and these two aren't each other
+refused-untaken : {A : Type 0} {r : Refusal} {s : State} → Received.refused r ≡ Received.took s → A
 refused-untaken e = absurd (let z : _≡_ {A = ℕ} 0 1 = cc in omega arith)
 
-took-unrefused : {A : Type 0} {r : Refusal} {s s′ : State} → Received.took s ≡ Received.refused r s′ → A
-took-unrefused e = absurd (let z : _≡_ {A = ℕ} 0 1 = cc in omega arith)
+failed-untaken : {A : Type 0} {s s′ : State} → Received.failed s ≡ Received.took s′ → A
+failed-untaken e = absurd (let z : _≡_ {A = ℕ} 0 1 = cc in omega arith)
+
+refused-loaded : {A : Type 0} {r : Refusal} {s : State} → Received.refused r ≡ Received.failed s → A
+refused-loaded e = absurd (let z : _≡_ {A = ℕ} 0 1 = cc in omega arith)
+
+took-loaded : {A : Type 0} {s s′ : State} → Received.took s ≡ Received.failed s′ → A
+took-loaded e = absurd (let z : _≡_ {A = ℕ} 0 1 = cc in omega arith)
 
 module _ (loaded : Bool) (before : ℕ) (t : List Row) (s : State) (m : Said) where
-  pub receive-failed : (loads s m && not loaded) ≡ true → receive loaded before t s m ≡ Received.refused LoadFailed (flagged (m .flags) s)
+  pub receive-failed : (loads s m && not loaded) ≡ true → receive loaded before t s m ≡ Received.failed (flagged (m .flags) s)
   unfolding receive
   receive-failed e = rw e
 
   module _ (fine : (loads s m && not loaded) ≡ false) where
-    pub receive-past : sizes .hashes < length (sharedAfter before t s m) → receive loaded before t s m ≡ Received.refused (PastSize 0) s
+    pub receive-past : sizes .hashes < length (sharedAfter before t s m) → receive loaded before t s m ≡ Received.refused (PastSize 0)
     unfolding receive
     receive-past h = rw (fine, lt-ltb _ _ h)
 
@@ -238,7 +246,7 @@ module _ (loaded : Bool) (before : ℕ) (t : List Row) (s : State) (m : Said) wh
   pub receive-taking : (s′ : State) → receive loaded before t s m ≡ Received.took s′ → Taking s′
   receive-taking s′ e =
       split (loads s m && not loaded)
-      (λ a. refused-untaken (sym (receive-failed a) ∙ e))
+      (λ a. failed-untaken (sym (receive-failed a) ∙ e))
       (λ a.
       split (ltb (sizes .hashes) (length (sharedAfter before t s m)))
       (λ b. refused-untaken (sym (receive-past a (ltb-true _ _ b)) ∙ e))
@@ -251,33 +259,30 @@ module _ (loaded : Bool) (before : ℕ) (t : List Row) (s : State) (m : Said) wh
   pub receive-took : (s′ : State) → receive loaded before t s m ≡ Received.took s′ → s′ ≡ received before t s m
   receive-took s′ e = receive-taking s′ e .session
 
-  -- a refusal leaves the session as it was, but 8, which leaves what every message does
-  pub refused-leaves : (r : Refusal) (s′ : State) → receive loaded before t s m ≡ Received.refused r s′
-      → ((r ≡ LoadFailed) × (s′ ≡ flagged (m .flags) s)) ⊎ (s′ ≡ s)
-  refused-leaves r s′ e =
+  -- a failed load leaves what every message does
+  pub failed-leaves : (s′ : State) → receive loaded before t s m ≡ Received.failed s′ → s′ ≡ flagged (m .flags) s
+  failed-leaves s′ e =
       split (loads s m && not loaded)
-      (λ a.
-      let is : Received.refused r s′ ≡ Received.refused LoadFailed (flagged (m .flags) s) = sym e ∙ receive-failed a in
-      inl (cc, cc))
+      (λ a. let is : Received.failed s′ ≡ Received.failed (flagged (m .flags) s) = sym e ∙ receive-failed a in cc)
       (λ a.
       split (ltb (sizes .hashes) (length (sharedAfter before t s m)))
-      (λ b. let is : Received.refused r s′ ≡ Received.refused (PastSize 0) s = sym e ∙ receive-past a (ltb-true _ _ b) in inr cc)
-      (λ b. took-unrefused (sym (receive-is a (ltb-false _ _ b)) ∙ e)))
+      (λ b. refused-loaded (sym (receive-past a (ltb-true _ _ b)) ∙ e))
+      (λ b. took-loaded (sym (receive-is a (ltb-false _ _ b)) ∙ e)))
 
 -- changes that are there for this unit and don't load
 pub load-failed : (before : ℕ) (t : List Row) (s : State) (m : Said) → loads s m ≡ true
-    → receive false before t s m ≡ Received.refused LoadFailed (flagged (m .flags) s)
+    → receive false before t s m ≡ Received.failed (flagged (m .flags) s)
 load-failed before t s m e = receive-failed false before t s m (rw e)
 
 -- ---- the same of bytes
 
 module _ (loaded : Bool) (before : ℕ) (t : List Row) (s : State) (bytes : List ℕ) where
-  pub bytes-beyond : length t < before → receiveBytes loaded before t s bytes ≡ Received.refused BadRowsBefore s
+  pub bytes-beyond : length t < before → receiveBytes loaded before t s bytes ≡ Received.refused BadRowsBefore
   unfolding receiveBytes
   bytes-beyond h = rw (lt-ltb _ _ h)
 
   module _ (inside : before ≤ length t) where
-    pub bytes-refused : (r : Refusal) → messageAt bytes ≡ Reading.refused r → receiveBytes loaded before t s bytes ≡ Received.refused r s
+    pub bytes-refused : (r : Refusal) → messageAt bytes ≡ Reading.refused r → receiveBytes loaded before t s bytes ≡ Received.refused r
     unfolding receiveBytes receiveRead
     bytes-refused r e = rw (le-ltb _ _ inside, e)
 
@@ -286,19 +291,14 @@ module _ (loaded : Bool) (before : ℕ) (t : List Row) (s : State) (bytes : List
     unfolding receiveBytes receiveRead
     bytes-read p haves chunks e = rw (le-ltb _ _ inside, e)
 
-  reading-keeps : before ≤ length t → (x : Reading) → messageAt bytes ≡ x
-      → (r : Refusal) (s′ : State) → receiveBytes loaded before t s bytes ≡ Received.refused r s′
-      → (r ≡ LoadFailed) ⊎ (s′ ≡ s)
-  reading-keeps inside (Reading.read p haves chunks) q r s′ e =
-      ⊎-elim (λ f. inl (f .0)) inr
-      (refused-leaves loaded before t s (saidIn (messageIn bytes p haves chunks)) r s′ (sym (bytes-read inside p haves chunks q) ∙ e))
-  reading-keeps inside (Reading.refused f) q r s′ e =
-      let is : Received.refused r s′ ≡ Received.refused f s = sym e ∙ bytes-refused inside f q in
-      inr cc
+-- ---- what a refusal leaves
 
-  -- every refusal but 8 leaves the session as it was
-  pub refused-keeps : (r : Refusal) (s′ : State) → receiveBytes loaded before t s bytes ≡ Received.refused r s′ → (r ≡ LoadFailed) ⊎ (s′ ≡ s)
-  refused-keeps r s′ e =
-      split (ltb (length t) before)
-      (λ a. let is : Received.refused r s′ ≡ Received.refused BadRowsBefore s = sym e ∙ bytes-beyond (ltb-true _ _ a) in inr cc)
-      (λ a. reading-keeps (ltb-false _ _ a) (messageAt bytes) refl r s′ e)
+-- every refusal but 8 leaves the session and its lists as they were
+pub refused-leaves : (r : Refusal) (s : State) (l : Lent) → (left (Received.refused r) s ≡ s) × (receivedLists (Received.refused r) l ≡ l)
+unfolding receivedLists
+refused-leaves r s l = (refl, refl)
+
+-- and 8 the lists
+pub failed-lists : (s : State) (l : Lent) → receivedLists (Received.failed s) l ≡ l
+unfolding receivedLists
+failed-lists s l = refl

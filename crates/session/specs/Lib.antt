@@ -7,3 +7,4 @@ pub mod PlanCall
 pub mod Receive
 pub mod ReceiveCall
 pub mod Rooms
+pub mod Written

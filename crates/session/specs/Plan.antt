@@ -10,7 +10,7 @@ use Rattle.bloom.specs.Filter.{filterOf4, defaultBits, defaultProbes}
 use Rattle.bloom.specs.Have.{Have}
 use Rattle.table_graph.specs.Graph.{heads, beyond}
 use Rattle.hash_lists.specs.Internal.Lists.{same}
-use Rattle.message.specs.Flags.{syncReset, readOnly, supportsSyncReset, flagsOf}
+use Rattle.message.specs.Flags.{syncReset, readOnlyFlag, supportsSyncReset, flagsOf}
 use Rattle.message.specs.declared.flags.MessageFlags.{MessageFlags}
 use Rattle.message.specs.declared.version.MessageVersion.the-variants.{V1, V2}
 use Rattle.message.specs.declared.version.MessageVersion.{MessageVersion}
@@ -131,7 +131,7 @@ headsFor needsReset supportsReset ourHeads = cond (needsReset && not supportsRes
 
 -- The flags of a message: a reset is always understood here; read-only and forgetting as they are.
 unfoldable pub flagsFor : Bool → Bool → MessageFlags
-flagsFor readOnlyUnit tellsReset = flagsOf (supportsSyncReset + (cond readOnlyUnit readOnly 0 + cond tellsReset syncReset 0))
+flagsFor readOnlyUnit tellsReset = flagsOf (supportsSyncReset + (cond readOnlyUnit readOnlyFlag 0 + cond tellsReset syncReset 0))
 
 -- V2 for a peer that knows it, whatever the body.
 unfoldable pub versionFor : Bool → MessageVersion

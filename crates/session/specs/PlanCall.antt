@@ -1,7 +1,7 @@
 -- What the call answers, and what it leaves in the buffers that it is lent. 01, Refusal numbers, and 02, M-100, for 12: 10; 4 and 6; 12; 4 and 9; what
 -- planning itself refuses; 7 for the first buffer that is too short, the message's in wire order and then the session's.
 use Prim.Native.Nat.{ℕ, _+_, _*_}
-use mathlib.Core.Bool.{true, false, cond, not}
+use mathlib.Core.Bool.{cond, not}
 use mathlib.Core.List.{List, [], _∷_}
 use mathlib.Core.Path.{_≡_}
 use lib.ListN.{length}
@@ -9,15 +9,14 @@ use lib.Seq.{sets}
 use Rattle.bloom.specs.Have.{Have, numbersOf}
 use Rattle.bloom.specs.declared.have.FilterNumbers.{FilterNumbers}
 use Rattle.session_check.specs.SessionGood.{sessionGood}
-use Rattle.message.specs.Flags.{flagsOf}
-use Rattle.message.specs.declared.version.MessageVersion.the-variants.{V1}
 use Rattle.rules.specs.Hash.{hashesBytes}
 use Rattle.rules.specs.Sizes.{sizes}
-use Rattle.rules.specs.declared.refusal.Refusal.the-variants.{BadNumbers, NoRoom}
+use Rattle.rules.specs.declared.refusal.Refusal.the-variants.{BadNumbers}
+use Rattle.session.specs.Kept.{plannedIn}
 use Rattle.session.specs.Laid.{laidBytes}
-use Rattle.session.specs.Plan.{Plan, Planned, listOf, plan}
-use Rattle.session.specs.Rooms.{orShort}
-use Rattle.session_state.specs.Value.{Lent, stateOf}
+use Rattle.session.specs.Plan.{Plan, Planned, plan}
+use Rattle.session.specs.Rooms.{orShort, ifRoom}
+use Rattle.session_state.specs.Value.{Lent, stateOf, countsOf}
 use Rattle.session_state.specs.declared.session.Session.{Session}
 use Rattle.table.specs.TableBytes.{tableOf}
 use Rattle.table.specs.declared.check.Checked.{Checked}
@@ -26,10 +25,10 @@ use Rattle.waiting.specs.WaitingBytes.{waitingOf}
 use Rattle.waiting.specs.WaitingCalls.{tablesChecked}
 use Rattle.session.specs.declared.plan_answer.PlanAnswer.{PlanAnswer}
 use Rattle.session.specs.declared.plan_answer.PlanAnswer.the-variants.{Refused, Silent, Reset, Says}
-use Rattle.session.specs.declared.plan_answer.Room.{Room}
-use Rattle.session.specs.declared.plan_answer.Room.the-variants.{Enough, Short}
 use Rattle.session.specs.declared.plan_answer.Rooms.{Rooms}
 use Rattle.session.specs.declared.plan_answer.Stated.{Stated}
+use Rattle.session.specs.declared.room.Room.{Room}
+use Rattle.session.specs.declared.room.Room.the-variants.{Enough}
 
 -- ---- what is planned, for a session as counts with its lent lists, and tables and index as bytes
 
@@ -78,128 +77,88 @@ statedOf p =
       hashes = length (p .body .hashes);
     }
 
--- The counts of the session after a message: how many heads were sent last, the unit's own even where the message has none, and how many hashes are sent.
-abbrev pub plannedCounts : Session → ℕ → ℕ → Session
-plannedCounts s lastSent sent =
-    record {
-      «shared_heads» = s .«shared_heads»;
-      «last_sent_heads» = lastSent;
-      «their_heads» = s .«their_heads»;
-      «their_need» = s .«their_need»;
-      «their_have» = s .«their_have»;
-      «sent_hashes» = sent;
-      «in_flight» = true;
-      «have_responded» = true;
-      «supports_v2» = s .«supports_v2»;
-      «supports_reset» = s .«supports_reset»;
-      «read_only» = s .«read_only»;
-      «peer_read_only» = s .«peer_read_only»;
-      «needs_reset» = false;
-    }
-
 -- What the call answers, once there is room.
-unfoldable pub plannedAnswer : Session → Planned → PlanAnswer
-plannedAnswer s (Planned.refused r) = Refused r
-plannedAnswer s Planned.silent = Silent
-plannedAnswer s (Planned.reset p) = Reset (statedOf p)
-plannedAnswer s (Planned.says p after) =
-    Says (statedOf p) (plannedCounts s (length (after .lastSentHeads)) (length (after .sentHashes)))
+unfoldable pub plannedAnswer : Planned → PlanAnswer
+plannedAnswer (Planned.refused r) = Refused r
+plannedAnswer Planned.silent = Silent
+plannedAnswer (Planned.reset p) = Reset (statedOf p)
+plannedAnswer (Planned.says p after) = Says (statedOf p) (countsOf after)
 
 -- ---- room
 
 -- The message's lists in wire order: heads, need, the have's bytes, the hash list.
 unfoldable pub messageRoom : Stated → Rooms → Room
 messageRoom p r =
-    orShort Short (r .heads) (sizes .hash * p .heads)
-    (orShort Short (r .need) (sizes .hash * p .need)
-    (orShort Short (r .have) (sizes .hash * p .syncs + p .filter .size)
-    (orShort Short (r .list) (sizes .hash * p .hashes) Enough)))
+    orShort (r .heads) (sizes .hash * p .heads)
+    (orShort (r .need) (sizes .hash * p .need)
+    (orShort (r .have) (sizes .hash * p .syncs + p .filter .size)
+    (orShort (r .list) (sizes .hash * p .hashes) Enough)))
 
 -- The session's lists that change: last-sent heads, sent hashes.
 unfoldable pub sessionRoom : ℕ → ℕ → Rooms → Room
 sessionRoom lastSent sent r =
-    orShort Short (r .«last_sent») (sizes .hash * lastSent) (orShort Short (r .sent) (sizes .hash * sent) Enough)
-
--- A plan where there is room, else 7.
-unfoldable pub afterRoom : Room → Planned → Planned
-afterRoom Enough p = p
-afterRoom (Short wanted) p = Planned.refused (NoRoom wanted)
+    orShort (r .«last_sent») (sizes .hash * lastSent) (orShort (r .sent) (sizes .hash * sent) Enough)
 
 -- 7 comes last. A reset changes no list of the session.
 unfoldable pub plannedRoomed : Rooms → Planned → Planned
 plannedRoomed r (Planned.refused refusal) = Planned.refused refusal
 plannedRoomed r Planned.silent = Planned.silent
-plannedRoomed r (Planned.reset p) = afterRoom (messageRoom (statedOf p) r) (Planned.reset p)
+plannedRoomed r (Planned.reset p) = ifRoom Planned.refused (messageRoom (statedOf p) r) (Planned.reset p)
 plannedRoomed r (Planned.says p after) =
-    afterRoom (messageRoom (statedOf p) r)
-    (afterRoom (sessionRoom (length (after .lastSentHeads)) (length (after .sentHashes)) r) (Planned.says p after))
+    ifRoom Planned.refused (messageRoom (statedOf p) r)
+    (ifRoom Planned.refused (sessionRoom (length (after .lastSentHeads)) (length (after .sentHashes)) r) (Planned.says p after))
 
--- ---- the lent buffers at exit: bytes at their start, the rest as it was
+-- ---- the lent buffers at exit: what is said at their start, the rest as it was
 
--- Nothing said.
-abbrev pub noPlan : Plan
-noPlan = record { version = V1; heads = []; need = []; haves = []; body = listOf []; flags = flagsOf 0 }
-
--- What is said: nothing after a refusal and in silence.
-abbrev pub said : Planned → Plan
-said (Planned.refused r) = noPlan
-said Planned.silent = noPlan
-said (Planned.reset p) = p
-said (Planned.says p after) = p
-
--- The heads sent last, where they change.
-abbrev pub lastSentPut : Planned → List ℕ
-lastSentPut (Planned.refused r) = []
-lastSentPut Planned.silent = []
-lastSentPut (Planned.reset p) = []
-lastSentPut (Planned.says p after) = after .lastSentHeads
-
--- The hashes sent, where they change.
-abbrev pub sentPut : Planned → List ℕ
-sentPut (Planned.refused r) = []
-sentPut Planned.silent = []
-sentPut (Planned.reset p) = []
-sentPut (Planned.says p after) = after .sentHashes
-
--- The lent buffers, before and after, in the order in which room is asked for.
+-- The buffers for the message's lists, in wire order: heads, need, the have's bytes, the hash list.
 pub record Buffers : Type 0 where
   pub heads : List ℕ
   pub need : List ℕ
   pub have : List ℕ
   pub list : List ℕ
-  pub lastSent : List ℕ
-  pub sent : List ℕ
 
 -- The buffers, in the order in which they are lent.
-abbrev pub buffersOf : List ℕ → List ℕ → List ℕ → List ℕ → List ℕ → List ℕ → Buffers
-buffersOf heads need have list lastSent sent =
-    record { heads = heads; need = need; have = have; list = list; lastSent = lastSent; sent = sent }
+abbrev pub buffersOf : List ℕ → List ℕ → List ℕ → List ℕ → Buffers
+buffersOf heads need have list = record { heads = heads; need = need; have = have; list = list }
 
--- How long they are.
-abbrev pub plannedRooms : Buffers → Rooms
-plannedRooms b =
+-- How long they are, and the session's lists that change.
+abbrev pub plannedRooms : Buffers → Lent → Rooms
+plannedRooms b l =
     record {
       heads = length (b .heads);
       need = length (b .need);
       have = length (b .have);
       list = length (b .list);
-      «last_sent» = length (b .lastSent);
-      sent = length (b .sent);
+      «last_sent» = length (l .lastSent);
+      sent = length (l .sent);
     }
 
--- Each buffer at exit: what is said at its start, the rest as it was.
-unfoldable pub putInto : Planned → Buffers → Buffers
-putInto p b =
+-- A message in its buffers.
+abbrev pub messagePut : Plan → Buffers → Buffers
+messagePut p b =
     record {
-      heads = sets (b .heads) 0 (hashesBytes (said p .heads));
-      need = sets (b .need) 0 (hashesBytes (said p .need));
-      have = sets (b .have) 0 (laidBytes (said p .haves));
-      list = sets (b .list) 0 (hashesBytes (said p .body .hashes));
-      lastSent = sets (b .lastSent) 0 (hashesBytes (lastSentPut p));
-      sent = sets (b .sent) 0 (hashesBytes (sentPut p));
+      heads = sets (b .heads) 0 (hashesBytes (p .heads));
+      need = sets (b .need) 0 (hashesBytes (p .need));
+      have = sets (b .have) 0 (laidBytes (p .haves));
+      list = sets (b .list) 0 (hashesBytes (p .body .hashes));
     }
 
--- What the call ensures: the answer, and all buffers, of what was planned and has room.
-pub record PlanCalled (s : Session) (p : Planned) (before after : Buffers) (r : PlanAnswer) : Type 0 where
-  pub answer : r ≡ plannedAnswer s (plannedRoomed (plannedRooms before) p)
-  pub buffers : after ≡ putInto (plannedRoomed (plannedRooms before) p) before
+-- The message's buffers at exit: a refusal and silence leave all as it was.
+unfoldable pub putInto : Planned → Buffers → Buffers
+putInto (Planned.refused r) b = b
+putInto Planned.silent b = b
+putInto (Planned.reset p) b = messagePut p b
+putInto (Planned.says p after) b = messagePut p b
+
+-- The session's lists at exit: only a message changes them, a reset doesn't.
+unfoldable pub plannedLists : Planned → Lent → Lent
+plannedLists (Planned.refused r) l = l
+plannedLists Planned.silent l = l
+plannedLists (Planned.reset p) l = l
+plannedLists (Planned.says p after) l = plannedIn after l
+
+-- What the call ensures: the answer, the message's buffers and the session's lists, of what was planned and has room.
+pub record PlanCalled (p : Planned) (l l′ : Lent) (before after : Buffers) (r : PlanAnswer) : Type 0 where
+  pub answer : r ≡ plannedAnswer (plannedRoomed (plannedRooms before l) p)
+  pub buffers : after ≡ putInto (plannedRoomed (plannedRooms before l) p) before
+  pub lists : l′ ≡ plannedLists (plannedRoomed (plannedRooms before l) p) l

@@ -1,7 +1,7 @@
 -- What a message does to a session. 01, Session, which goes by `receive_sync_message` of src/sync.rs: the definitions stand in the order in which it
 -- computes them. The table is the one after loading; its first rows, "rows before", were held before.
 use Prim.Native.Nat.{ℕ}
-use mathlib.Core.Bool.{Bool, true, false, cond, not, _&&_, _||_}
+use mathlib.Core.Bool.{Bool, true, false, cond, not, _&&_}
 use mathlib.Core.List.{List, [], _∷_, _++_}
 use mathlib.Core.Option.{some}
 use lib.Dec.{ltb}
@@ -10,16 +10,16 @@ use Rattle.bloom.specs.Have.{Have}
 use Rattle.message_read.specs.MessageRead.{Reading, messageAt, messageIn}
 use Rattle.table_graph.specs.Graph.{heads, below}
 use Rattle.hash_lists.specs.Internal.Lists.{same}
-use Rattle.message.specs.Flags.{syncReset, readOnly, supportsSyncReset, hasFlag}
+use Rattle.message.specs.Flags.{syncReset, readOnlyFlag, supportsSyncReset, hasFlag}
 use Rattle.message.specs.Message.{Message}
 use Rattle.message.specs.declared.flags.MessageFlags.{MessageFlags}
 use Rattle.message.specs.declared.flags.Section.the-variants.{Absent, Present}
 use Rattle.message.specs.declared.flags.Section.{Section}
 use Rattle.hash_order.specs.Order.{member, keep, every, ascend}
 use Rattle.rules.specs.Sizes.{sizes}
-use Rattle.rules.specs.declared.refusal.Refusal.the-variants.{PastSize, LoadFailed, BadRowsBefore}
+use Rattle.rules.specs.declared.refusal.Refusal.the-variants.{PastSize, BadRowsBefore}
 use Rattle.rules.specs.declared.refusal.Refusal.{Refusal}
-use Rattle.session.specs.Plan.{Plan, Body, empty}
+use Rattle.session.specs.Plan.{empty}
 use Rattle.session_state.specs.Session.{State}
 use Rattle.table.specs.Table.{Row, held}
 
@@ -41,34 +41,26 @@ unfoldable pub saidIn : Message → Said
 saidIn m =
     record { heads = m .heads; need = m .need; haves = m .haves; flags = m .flags; chunks = someChunk (m .chunks) }
 
--- A body has chunks if it is the document or names a hash.
-abbrev pub carries : Body → Bool
-carries b = b .document || not (empty (b .hashes))
-
--- And so does the message that is written for a plan.
-unfoldable pub saidBy : Plan → Said
-saidBy p =
-    record {
-      heads = p .heads;
-      need = p .need;
-      haves = p .haves;
-      flags = Present (p .flags);
-      chunks = carries (p .body);
-    }
-
--- What receiving gives: the session afterwards, or a refusal and what it leaves of the session.
+-- What receiving gives: the session afterwards; the session that a failed load leaves, which is 8; or another refusal, which leaves the session as it was.
 pub data Received : Type 0 where
   took : State → Received
-  refused : Refusal → State → Received
+  failed : State → Received
+  refused : Refusal → Received
+
+-- The session after receiving.
+abbrev pub left : Received → State → State
+left (took s′) s = s′
+left (failed s′) s = s′
+left (refused r) s = s
 
 -- What a flags section says, or what was so before where there is none.
-abbrev pub told : (MessageFlags → Bool) → Section → Bool → Bool
-told f Absent was = was
-told f (Present flags) was = f flags
+abbrev pub flagTaken : (MessageFlags → Bool) → Section → Bool → Bool
+flagTaken f Absent was = was
+flagTaken f (Present flags) was = f flags
 
 -- Hashes sent, which a reset makes forgotten.
 unfoldable pub sentFlagged : Section → List ℕ → List ℕ
-sentFlagged flags sent = cond (told (λ f. hasFlag f syncReset) flags false) [] sent
+sentFlagged flags sent = cond (flagTaken (λ f. hasFlag f syncReset) flags false) [] sent
 
 -- What every message does, even one whose changes don't load: nothing is in flight any more, and a flags section is taken, which tells that the peer
 -- knows V2.
@@ -83,10 +75,10 @@ flagged flags s =
       sentHashes = sentFlagged flags (s .sentHashes);
       inFlight = false;
       haveResponded = s .haveResponded;
-      supportsV2 = told (λ f. true) flags (s .supportsV2);
-      supportsReset = told (λ f. hasFlag f supportsSyncReset) flags (s .supportsReset);
+      supportsV2 = flagTaken (λ f. true) flags (s .supportsV2);
+      supportsReset = flagTaken (λ f. hasFlag f supportsSyncReset) flags (s .supportsReset);
       readOnly = s .readOnly;
-      peerReadOnly = told (λ f. hasFlag f readOnly) flags (s .peerReadOnly);
+      peerReadOnly = flagTaken (λ f. hasFlag f readOnlyFlag) flags (s .peerReadOnly);
       needsReset = s .needsReset;
     }
 
@@ -123,7 +115,7 @@ lastSentAfter before t s m =
     []
     (cond (not (m .chunks) && same (m .heads) (heads (take before t))) (m .heads) (s .lastSentHeads))
 
--- The session after a message: its heads, need and haves are kept as they stand.
+-- The session after a message: its heads, need and haves are kept as they stand, and its flags are taken.
 unfoldable pub received : ℕ → List Row → State → Said → State
 received before t s m =
     record {
@@ -133,13 +125,13 @@ received before t s m =
       theirNeed = some (m .need);
       theirHave = some (m .haves);
       sentHashes = sentLeft t s m;
-      inFlight = false;
-      haveResponded = s .haveResponded;
-      supportsV2 = told (λ f. true) (m .flags) (s .supportsV2);
-      supportsReset = told (λ f. hasFlag f supportsSyncReset) (m .flags) (s .supportsReset);
-      readOnly = s .readOnly;
-      peerReadOnly = told (λ f. hasFlag f readOnly) (m .flags) (s .peerReadOnly);
-      needsReset = s .needsReset;
+      inFlight = flagged (m .flags) s .inFlight;
+      haveResponded = flagged (m .flags) s .haveResponded;
+      supportsV2 = flagged (m .flags) s .supportsV2;
+      supportsReset = flagged (m .flags) s .supportsReset;
+      readOnly = flagged (m .flags) s .readOnly;
+      peerReadOnly = flagged (m .flags) s .peerReadOnly;
+      needsReset = flagged (m .flags) s .needsReset;
     }
 
 -- A message that was read, in 01's order of refusals: 8 where changes were to be loaded and that failed, which alone leaves something, since the flags are
@@ -147,18 +139,18 @@ received before t s m =
 unfoldable pub receive : Bool → ℕ → List Row → State → Said → Received
 receive loaded before t s m =
     cond (loads s m && not loaded)
-    (refused LoadFailed (flagged (m .flags) s))
+    (failed (flagged (m .flags) s))
     (cond (ltb (sizes .hashes) (length (sharedAfter before t s m)))
-    (refused (PastSize 0) s)
+    (refused (PastSize 0))
     (took (received before t s m)))
 
--- A message that was read, or its refusal, which leaves the session.
+-- A message that was read, or its refusal.
 unfoldable pub receiveRead : Bool → ℕ → List Row → State → List ℕ → Reading → Received
 receiveRead loaded before t s bytes (Reading.read places haves chunks) =
     receive loaded before t s (saidIn (messageIn bytes places haves chunks))
-receiveRead loaded before t s bytes (Reading.refused r) = refused r s
+receiveRead loaded before t s bytes (Reading.refused r) = refused r
 
 -- 11 comes first, then the message from its first byte.
 unfoldable pub receiveBytes : Bool → ℕ → List Row → State → List ℕ → Received
 receiveBytes loaded before t s bytes =
-    cond (ltb (length t) before) (refused BadRowsBefore s) (receiveRead loaded before t s bytes (messageAt bytes))
+    cond (ltb (length t) before) (refused BadRowsBefore) (receiveRead loaded before t s bytes (messageAt bytes))

@@ -2,7 +2,16 @@
 use Prim.Native.Nat.{ℕ}
 use mathlib.Core.Bool.{cond}
 use lib.Dec.{ltb}
+use Rattle.rules.specs.declared.refusal.Refusal.{Refusal}
+use Rattle.rules.specs.declared.refusal.Refusal.the-variants.{NoRoom}
+use Rattle.session.specs.declared.room.Room.{Room}
+use Rattle.session.specs.declared.room.Room.the-variants.{Enough, Short}
 
--- One list: what is said where it is too short for what it is to hold, or the rest.
-abbrev pub orShort : {A : Type 0} → (ℕ → A) → ℕ → ℕ → A → A
-orShort short room wanted rest = cond (ltb room wanted) (short wanted) rest
+-- One list: the length wanted where it is too short for what it is to hold, or what the rest of the lists say.
+abbrev pub orShort : ℕ → ℕ → Room → Room
+orShort room wanted rest = cond (ltb room wanted) (Short wanted) rest
+
+-- What comes where there is room, else 7.
+unfoldable pub ifRoom : {A : Type 0} → (Refusal → A) → Room → A → A
+ifRoom refuse Enough x = x
+ifRoom refuse (Short wanted) x = refuse (NoRoom wanted)

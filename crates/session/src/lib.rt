@@ -7,3 +7,4 @@
 // The types of both answers are here; the code that plans stands in the crates plan_.. up to `plan`, the code that receives in receive_.. up to `receive`.
 pub mod plan_answer;
 pub mod receive_answer;
+pub mod room;

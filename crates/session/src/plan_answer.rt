@@ -38,9 +38,3 @@ pub struct Rooms {
     pub last_sent: usize,
     pub sent: usize,
 }
-
-// Whether there is room, or the length that the first too short buffer wants.
-pub enum Room {
-    Enough,
-    Short(usize),
-}

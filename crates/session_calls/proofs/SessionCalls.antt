@@ -27,32 +27,33 @@ stated-made what p v e = rw (e, flag-byte (p .document))
 
 -- ---- planning
 
-module _ {session₀ session₁ : List ℕ} {l : Lent} {table index waiting : List ℕ} {before after : Buffers} {words : List ℕ} where
+module _ {session₀ session₁ : List ℕ} {l l′ : Lent} {table index waiting : List ℕ} {before after : Buffers} {words : List ℕ} where
   pub plan-answered : (s : Session) (r : PlanAnswer) → s ≡ sessionOf session₀
-      → PlanCalled s (planWith defaultBits defaultProbes s l table index waiting) before after r
+      → PlanCalled (planWith defaultBits defaultProbes s l table index waiting) l l′ before after r
       → session₁ ≡ plannedSession r session₀
       → words ≡ plannedWords r
-      → PlanAnswered session₀ session₁ l table index waiting before after words
+      → PlanAnswered session₀ session₁ l l′ table index waiting before after words
   plan-answered s r same called e f =
       let known = rw same at called in
       record {
         answer = f ∙ ap plannedWords (known .answer);
         session = e ∙ ap (λ (k : PlanAnswer). plannedSession k session₀) (known .answer);
+        lists = known .lists;
         buffers = known .buffers;
       }
 
-pub plan-answered-once : {session table index waiting t₁ t₂ w₁ w₂ : List ℕ} {l : Lent} {before b₁ b₂ : Buffers}
-    → PlanAnswered session t₁ l table index waiting before b₁ w₁
-    → PlanAnswered session t₂ l table index waiting before b₂ w₂
-    → (w₁ ≡ w₂) × (t₁ ≡ t₂) × (b₁ ≡ b₂)
+pub plan-answered-once : {session table index waiting t₁ t₂ w₁ w₂ : List ℕ} {l l₁ l₂ : Lent} {before b₁ b₂ : Buffers}
+    → PlanAnswered session t₁ l l₁ table index waiting before b₁ w₁
+    → PlanAnswered session t₂ l l₂ table index waiting before b₂ w₂
+    → (w₁ ≡ w₂) × (t₁ ≡ t₂) × (l₁ ≡ l₂) × (b₁ ≡ b₂)
 plan-answered-once x y =
-    (x .answer ∙ sym (y .answer), x .session ∙ sym (y .session), x .buffers ∙ sym (y .buffers))
+    (x .answer ∙ sym (y .answer), x .session ∙ sym (y .session), x .lists ∙ sym (y .lists), x .buffers ∙ sym (y .buffers))
 
 -- ---- receiving
 
 module _ {session₀ session₁ : List ℕ} {before after : Lent} {table index : List ℕ} {rows : ℕ} {message : List ℕ} {loaded : Bool} {words : List ℕ} where
   pub receive-answered : (s : Session) (r : ReceiveAnswer) → s ≡ sessionOf session₀
-      → ReceiveCalled s (receiveWith loaded rows s before table index message) before after r
+      → ReceiveCalled (receiveWith loaded rows s before table index message) before after r
       → session₁ ≡ receivedSession r session₀
       → words ≡ receivedWords r
       → ReceiveAnswered session₀ session₁ before after table index rows message loaded words

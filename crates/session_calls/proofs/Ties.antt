@@ -19,9 +19,10 @@ PlanTied κs
     (session′, (_, (last-sent′, (_, (_, (_, (_, (sent′, (_, (_, (_, (heads′, (need′, (have′, (list′, (answer′, _)))))))))))))))) =
     PlanAnswered (now session) (now session′)
     (lentOf (now shared) (now last-sent) (now their-heads) (now their-need) (now haves) (now bytes) (now sent))
+    (lentOf (now shared) (now last-sent′) (now their-heads) (now their-need) (now haves) (now bytes) (now sent′))
     (now table) (now index) (now waiting)
-    (buffersOf (now heads) (now need) (now have) (now list) (now last-sent) (now sent))
-    (buffersOf (now heads′) (now need′) (now have′) (now list′) (now last-sent′) (now sent′))
+    (buffersOf (now heads) (now need) (now have) (now list))
+    (buffersOf (now heads′) (now need′) (now have′) (now list′))
     (now answer′)
 
 pub plan-tied : Ties of-bt-plan.ended of-bt-plan.Reads.Post PlanTied

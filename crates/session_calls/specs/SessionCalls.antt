@@ -7,15 +7,15 @@ use Rattle.call_words.specs.Answer.{refusalWords}
 use Rattle.bloom.specs.Filter.{defaultBits, defaultProbes}
 use Rattle.message.specs.declared.version.MessageVersion.{MessageVersion}
 use Rattle.message.specs.declared.version.MessageVersion.the-variants.{V1, V2}
-use Rattle.session.specs.PlanCall.{Buffers, planWith, plannedRoomed, plannedRooms, plannedAnswer, putInto}
+use Rattle.session.specs.PlanCall.{Buffers, planWith, plannedRoomed, plannedRooms, plannedAnswer, putInto, plannedLists}
 use Rattle.session.specs.declared.plan_answer.PlanAnswer.{PlanAnswer}
 use Rattle.session.specs.declared.plan_answer.PlanAnswer.the-variants.{Refused, Silent, Reset, Says}
 use Rattle.session.specs.declared.plan_answer.Stated.{Stated}
-use Rattle.session.specs.ReceiveCall.{receiveWith, receivedRoomed as roomedFor, receivedRooms as roomsOf, receivedAnswer as answerFor, keptIn}
+use Rattle.session.specs.ReceiveCall.{receiveWith, receivedRoomed, receivedRooms, receivedAnswer, receivedLists}
 use Rattle.rules.specs.Refusal.{numberOf, valueOf}
 use Rattle.rules.specs.declared.refusal.Refusal.the-variants.{LoadFailed}
 use Rattle.call_words.specs.SessionWords.{flagWord, sessionWords, sessionOf}
-use Rattle.session_state.specs.Value.{Lent, stateOf as sessionValue}
+use Rattle.session_state.specs.Value.{Lent}
 use Rattle.session.specs.declared.receive_answer.ReceiveAnswer.{ReceiveAnswer}
 use Rattle.session.specs.declared.receive_answer.ReceiveAnswer.the-variants.{Took, Failed, Refused as NotTaken}
 
@@ -73,22 +73,23 @@ receivedSession (NotTaken r) before = before
 
 -- What is planned for a session's words, with the filter of 01, once there is room.
 abbrev pub planFor : List ℕ → Lent → List ℕ → List ℕ → List ℕ → Buffers → Rattle.session.specs.Plan.Planned
-planFor words l table index waiting before = plannedRoomed (plannedRooms before) (planWith defaultBits defaultProbes (sessionOf words) l table index waiting)
+planFor words l table index waiting before = plannedRoomed (plannedRooms before l) (planWith defaultBits defaultProbes (sessionOf words) l table index waiting)
 
--- What `bt_plan` leaves: its answer, the session's words, and every buffer.
-pub record PlanAnswered (session₀ session₁ : List ℕ) (l : Lent) (table index waiting : List ℕ) (before after : Buffers) (words : List ℕ) : Type 0 where
-  pub answer : words ≡ plannedWords (plannedAnswer (sessionOf session₀) (planFor session₀ l table index waiting before))
-  pub session : session₁ ≡ plannedSession (plannedAnswer (sessionOf session₀) (planFor session₀ l table index waiting before)) session₀
+-- What `bt_plan` leaves: its answer, the session's words and lists, and every buffer.
+pub record PlanAnswered (session₀ session₁ : List ℕ) (l l′ : Lent) (table index waiting : List ℕ) (before after : Buffers) (words : List ℕ) : Type 0 where
+  pub answer : words ≡ plannedWords (plannedAnswer (planFor session₀ l table index waiting before))
+  pub session : session₁ ≡ plannedSession (plannedAnswer (planFor session₀ l table index waiting before)) session₀
+  pub lists : l′ ≡ plannedLists (planFor session₀ l table index waiting before) l
   pub buffers : after ≡ putInto (planFor session₀ l table index waiting before) before
 
 -- What is received for a session's words, once there is room.
 abbrev pub receiveFor : List ℕ → Lent → List ℕ → List ℕ → ℕ → List ℕ → Bool → Rattle.session.specs.Receive.Received
 receiveFor words l table index before message loaded =
-    roomedFor (roomsOf l) (sessionValue (sessionOf words) l) (receiveWith loaded before (sessionOf words) l table index message)
+    receivedRoomed (receivedRooms l) (receiveWith loaded before (sessionOf words) l table index message)
 
 -- What `bt_receive` leaves: its answer, the session's words, and every list.
 pub record ReceiveAnswered (session₀ session₁ : List ℕ) (before after : Lent) (table index : List ℕ) (rowsBefore : ℕ) (message : List ℕ) (loaded : Bool)
     (words : List ℕ) : Type 0 where
-  pub answer : words ≡ receivedWords (answerFor (receiveFor session₀ before table index rowsBefore message loaded))
-  pub session : session₁ ≡ receivedSession (answerFor (receiveFor session₀ before table index rowsBefore message loaded)) session₀
-  pub lists : after ≡ keptIn (receiveFor session₀ before table index rowsBefore message loaded) before
+  pub answer : words ≡ receivedWords (receivedAnswer (receiveFor session₀ before table index rowsBefore message loaded))
+  pub session : session₁ ≡ receivedSession (receivedAnswer (receiveFor session₀ before table index rowsBefore message loaded)) session₀
+  pub lists : after ≡ receivedLists (receiveFor session₀ before table index rowsBefore message loaded) before

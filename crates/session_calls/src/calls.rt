@@ -36,9 +36,11 @@ pub extern "C" fn bt_plan(
     ensures { λ _. ⌜ PlanAnswered (now (session .entry)) (now (session .exit))
         (lentOf (now (shared .entry)) (now («last_sent» .entry)) (now («their_heads» .entry)) (now («their_need» .entry)) (now (haves .entry))
         (now (bytes .entry)) (now (sent .entry)))
+        (lentOf (now (shared .entry)) (now («last_sent» .exit)) (now («their_heads» .entry)) (now («their_need» .entry)) (now (haves .entry))
+        (now (bytes .entry)) (now (sent .exit)))
         (now (table .entry)) (now (index .entry)) (now (waiting .entry))
-        (buffersOf (now (heads .entry)) (now (need .entry)) (now (have .entry)) (now (list .entry)) (now («last_sent» .entry)) (now (sent .entry)))
-        (buffersOf (now (heads .exit)) (now (need .exit)) (now (have .exit)) (now (list .exit)) (now («last_sent» .exit)) (now (sent .exit)))
+        (buffersOf (now (heads .entry)) (now (need .entry)) (now (have .entry)) (now (list .entry)))
+        (buffersOf (now (heads .exit)) (now (need .exit)) (now (have .exit)) (now (list .exit)))
         (now (answer .exit)) ⌝ }
 {
     let planned = plan::plan::generate_sync_message(

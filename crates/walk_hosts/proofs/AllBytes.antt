@@ -25,10 +25,10 @@ use Rattle.rules.specs.Sizes.{sizes}
 use Rattle.rules.proofs.Cases.{split}
 use Rattle.rules.proofs.Hash.{bytes-head, bytes-tail, big-endian-bytes-bytes}
 use Rattle.session.specs.Laid.{laidBytes}
-use Rattle.walk_sessions.specs.Talk.{Host, listChunks, chunksFor, messageFor}
 use Rattle.session.specs.Plan.{Plan}
 use Rattle.wire.specs.Item.{prefixedBytes, hashListBytes}
 use Rattle.walk_hosts.specs.Memory.{HostBytes}
+use Rattle.session.specs.Written.{Host, listChunks, chunksFor, messageFor}
 
 -- ---- lists
 

@@ -9,7 +9,7 @@ use Rattle.walk_hosts.specs.Contracts.{Contracts}
 pub contracts : Contracts
 contracts =
     record {
-      plan = λ κs a x u p bytes. record { call = plan-tied κs a x u p; others = refl; bytes = bytes };
+      plan = λ κs a x u p bytes. record { call = plan-tied κs a x u p; bytes = bytes };
       write = λ κs a x u p host plan o version heads need have haves flags lends whole room.
           record {
             chunks = _;

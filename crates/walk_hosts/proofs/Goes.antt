@@ -15,17 +15,16 @@ use Rattle.bloom.specs.Filter.{defaultBits, defaultProbes}
 use Rattle.bloom.specs.Have.{Have, haveCount, numbersIn, filterWith, haveIn, havesFrom, havesOf}
 use Rattle.message_read.specs.MessageRead.{Reading, messageAt, messageIn}
 use Rattle.session.proofs.ReceiveLaws.{receive-taking, bytes-beyond, bytes-refused, bytes-read}
-use Rattle.session.specs.Receive.{saidIn, Received, received, receiveBytes}
-use Rattle.session_check.specs.SessionGood.{lentOf}
+use Rattle.session.specs.Receive.{saidIn, Received, received, receiveBytes, left}
 use Rattle.walk_hosts.proofs.AllBytes.{bytes-none, bytes-sets, hashes-bytes, field-bytes, FieldBytes, laid-bytes, plan-bytes}
-use Rattle.walk_hosts.specs.Memory.{Memory, OfBytes, Holds, Fresh, Out, RoomyOut, Tabled, Beside, HostBytes}
+use Rattle.walk_hosts.specs.Memory.{Memory, OfBytes, Holds, Fresh, RoomyOut, Tabled, Beside, HostBytes}
 use Rattle.message.specs.Message.{joined, total}
 use Rattle.message.specs.Sound.{Each}
 use Rattle.message.specs.Write.{partsOf, chunksFrom, messageOutput}
 use Rattle.message_calls.specs.MessageWords.{versionOf, sectionOf}
 use Rattle.hash_order.specs.Order.{member, every}
-use Rattle.session.specs.PlanCall.{Buffers, buffersOf, plannedAnswer, putInto}
-use Rattle.session.specs.ReceiveCall.{receivedAnswer as answerFor, keptIn}
+use Rattle.session.specs.PlanCall.{Buffers, plannedAnswer, putInto, plannedLists}
+use Rattle.session.specs.ReceiveCall.{receivedAnswer, receivedLists}
 use Rattle.rules.proofs.Cases.{split}
 use Rattle.rules.proofs.Hash.{slice-parts, bytes-slice}
 use Rattle.rules.specs.Hash.{Bytes, hashesBytes}
@@ -36,12 +35,11 @@ use Rattle.session.proofs.PlanLaws.{have-one, have-none, plan-saying}
 use Rattle.session.specs.Laid.{laidBytes}
 use Rattle.session.specs.Plan.{Plan, Planned, heard, needOf, haveOf, planOf, resetOf, plan, after}
 use Rattle.session_calls.specs.SessionCalls.{plannedWords, plannedSession, planFor, receivedWords, receivedSession, receiveFor}
-use Rattle.call_words.specs.SessionWords.{sessionOf}
 use Rattle.session_state.specs.Session.{State}
 use Rattle.session_state.specs.Value.{Lent}
 use Rattle.table.specs.TableBytes.{tableOf}
 use Rattle.table.specs.Table.{Row}
-use Rattle.walk_sessions.specs.Talk.{Host, chunksFor, bytesFor, left, pairAt}
+use Rattle.walk_sessions.specs.Talk.{bytesFor, pairAt}
 use Rattle.waiting.specs.WaitingBytes.{waitingOf}
 use Rattle.waiting.specs.Waiting.{Waiting}
 use Rattle.walk_hosts.specs.Calls.{speaks, haveWordsIn, planIn, PlanMade, Speaks, Hears, Both, CallsRound, TalkOfCalls, AreSessions, Lends, CallsGo}
@@ -49,6 +47,7 @@ use Rattle.walk_hosts.proofs.Planning.{held-good, reset-is}
 use Rattle.walk_hosts.proofs.Receiving.{receive-for, receive-holds}
 use Rattle.walk_hosts.proofs.Speaking.{speaking-holds, crossing}
 use Rattle.walk_hosts.proofs.Talk.{fresh-holds, next}
+use Rattle.session.specs.Written.{Host, chunksFor}
 
 -- ---- chunks as they are lent: one after the other, with their lengths
 
@@ -106,41 +105,40 @@ module _ (table waiting : List ℕ) (tabled : Tabled table) (beside : Beside (ta
 
   -- ---- a unit speaks
 
-  module _ (host : Host) (b : HostBytes host) (o : Out) (wide : RoomyOut o) (buffer : List ℕ) (room : sizes .message ≤ length buffer) where
-    abbrev given : Buffers
-    given = buffersOf (o .heads) (o .need) (o .have) (o .list) (m .lists .lastSent) (m .lists .sent)
+  planned-bytes : (q : Planned) (l : Lent) → OfBytes l → OfBytes (plannedLists q l)
+  unfolding plannedLists
+  planned-bytes (Planned.refused r) l b = b
+  planned-bytes Planned.silent l b = b
+  planned-bytes (Planned.reset p) l b = b
+  planned-bytes (Planned.says p after) l b =
+      record {
+        shared = b .shared;
+        lastSent = bytes-sets (hashesBytes (after .lastSentHeads)) (l .lastSent) 0 (b .lastSent) (hashes-bytes _);
+        theirHeads = b .theirHeads;
+        theirNeed = b .theirNeed;
+        bytes = b .bytes;
+        sent = bytes-sets (hashesBytes (after .sentHashes)) (l .sent) 0 (b .sent) (hashes-bytes _);
+      }
 
-    abbrev leaves : Buffers
-    leaves = putInto (planFor (m .words) (m .lists) table (tabled .index) waiting given) given
+  module _ (host : Host) (b : HostBytes host) (o : Buffers) (wide : RoomyOut o) (buffer : List ℕ) (room : sizes .message ≤ length buffer) where
+    abbrev planned : Planned
+    planned = planFor (m .words) (m .lists) table (tabled .index) waiting o
 
     abbrev then : Memory
-    then =
-        record {
-          words = plannedSession (plannedAnswer (sessionOf (m .words)) (planFor (m .words) (m .lists) table (tabled .index) waiting given)) (m .words);
-          lists =
-              lentOf (m .lists .shared) (leaves .lastSent) (m .lists .theirHeads) (m .lists .theirNeed) (m .lists .haves) (m .lists .bytes) (leaves .sent);
-        }
+    then = record { words = plannedSession (plannedAnswer planned) (m .words); lists = plannedLists planned (m .lists) }
 
-    abbrev parts : Out
-    parts = record { heads = leaves .heads; need = leaves .need; have = leaves .have; list = leaves .list }
+    abbrev parts : Buffers
+    parts = putInto planned o
 
     abbrev answer : List ℕ
-    answer = plannedWords (plannedAnswer (sessionOf (m .words)) (planFor (m .words) (m .lists) table (tabled .index) waiting given))
-
-    still-bytes : OfBytes (then .lists)
-    unfolding putInto
-    still-bytes =
-        record {
-          shared = h .bytes .shared;
-          lastSent = bytes-sets (hashesBytes _) (m .lists .lastSent) 0 (h .bytes .lastSent) (hashes-bytes _);
-          theirHeads = h .bytes .theirHeads;
-          theirNeed = h .bytes .theirNeed;
-          bytes = h .bytes .bytes;
-          sent = bytes-sets (hashesBytes _) (m .lists .sent) 0 (h .bytes .sent) (hashes-bytes _);
-        }
+    answer = plannedWords (plannedAnswer planned)
 
     plans : PlanMade table (tabled .index) waiting m then o parts answer
-    plans = record { call = record { answer = refl; session = refl; buffers = refl }; others = refl; bytes = still-bytes }
+    plans =
+        record {
+          call = record { answer = refl; session = refl; lists = refl; buffers = refl };
+          bytes = planned-bytes planned (m .lists) (h .bytes);
+        }
 
     abbrev lent : List (List ℕ)
     lent = chunksFor host (planIn answer parts)
@@ -201,7 +199,7 @@ abbrev HeardFields : Option (List Have) → Type 0
 HeardFields o = Each FieldBytes (heard o)
 
 module _ (before : ℕ) (t : List Row) (x : State) (message : List ℕ) (said : Bytes message) where
-  untaken : {C : Type 0} {q : Refusal} {s s′ : State} → Received.refused q s ≡ Received.took s′ → C
+  untaken : {C : Type 0} {q : Refusal} {s : State} → Received.refused q ≡ Received.took s → C
   untaken f = absurd (let c : _≡_ {A = ℕ} 0 1 = cc in omega arith)
 
   read-heard : before ≤ length t → (y : Reading) → messageAt message ≡ y → (s : State) → receiveBytes true before t x message ≡ Received.took s
@@ -218,9 +216,10 @@ module _ (before : ℕ) (t : List Row) (x : State) (message : List ℕ) (said : 
       (λ f. untaken (sym (bytes-beyond true before t x message (ltb-true _ _ f)) ∙ e))
       (λ f. read-heard (ltb-false _ _ f) (messageAt message) refl s e)
 
-kept-bytes : (y : Received) (l : Lent) → OfBytes l → ((s : State) → y ≡ Received.took s → HeardFields (s .theirHave)) → OfBytes (keptIn y l)
-unfolding keptIn
-kept-bytes (Received.refused q s) l b f = b
+kept-bytes : (y : Received) (l : Lent) → OfBytes l → ((s : State) → y ≡ Received.took s → HeardFields (s .theirHave)) → OfBytes (receivedLists y l)
+unfolding receivedLists
+kept-bytes (Received.refused q) l b f = b
+kept-bytes (Received.failed s) l b f = b
 kept-bytes (Received.took s) l b f =
     record {
       shared = bytes-sets (hashesBytes (s .sharedHeads)) (l .shared) 0 (b .shared) (hashes-bytes _);
@@ -236,7 +235,7 @@ module _ (table : List ℕ) (tabled : Tabled table) (before : ℕ) (message : Li
   gives = receiveFor (m .words) (m .lists) table (tabled .index) before message true
 
   abbrev later : Memory
-  later = record { words = receivedSession (answerFor gives) (m .words); lists = keptIn gives (m .lists) }
+  later = record { words = receivedSession (receivedAnswer gives) (m .words); lists = receivedLists gives (m .lists) }
 
   later-bytes : OfBytes (later .lists)
   later-bytes =
@@ -246,7 +245,7 @@ module _ (table : List ℕ) (tabled : Tabled table) (before : ℕ) (message : Li
   hearing : Hears table (tabled .index) before message m later
   hearing =
       record {
-        answer = receivedWords (answerFor gives);
+        answer = receivedWords (receivedAnswer gives);
         call = record { answer = refl; session = refl; lists = refl };
         said = said;
         bytes = later-bytes;
@@ -283,7 +282,7 @@ module _ (a : List ℕ) (b w u : ℕ → List ℕ) (hosts : ℕ → Host) (lends
     hears = hearing a (lends .tableA) (length (tableOf a)) question question-bytes x (s .atA) heldA
 
     abbrev heardA : State
-    heardA = left (receiveBytes true (length (tableOf a)) (tableOf a) x question)
+    heardA = left (receiveBytes true (length (tableOf a)) (tableOf a) x question) x
 
     heldMid : Holds heardA midA
     heldMid = receive-holds a (lends .tableA) (length (tableOf a)) question question-bytes x (s .atA) heldA midA hears

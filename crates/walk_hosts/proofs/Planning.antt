@@ -4,7 +4,7 @@ use Prim.Native.Nat.{ℕ, _≤_, _<_}
 use mathlib.Core.Bool.{true}
 use mathlib.Core.List.{List, []}
 use mathlib.Core.Option.{Option, none, some}
-use mathlib.Core.Path.{_≡_, refl, sym, ap, ap₂, _∙_}
+use mathlib.Core.Path.{_≡_, refl, sym, ap, _∙_}
 use native.Mathlib.Omega.{arith}
 use borrow.Author.Tests.{ltb-true, ltb-false}
 use lib.Dec.{ltb}
@@ -12,7 +12,7 @@ use lib.ListN.{length}
 use lib.Seq.{sets, length-sets}
 use Rattle.bloom.specs.Filter.{defaultBits, defaultProbes}
 use Rattle.bloom.proofs.Rules.{rules-none}
-use Rattle.session.specs.PlanCall.{Buffers, buffersOf, afterTables, planWith, plannedCounts, plannedAnswer, plannedRoomed, plannedRooms, said, lastSentPut, sentPut, putInto}
+use Rattle.session.specs.PlanCall.{Buffers, afterTables, planWith, plannedAnswer, plannedRoomed, plannedRooms, messagePut, putInto, plannedLists}
 use Rattle.table_graph.specs.Graph.{heads}
 use Rattle.table_index.proofs.CheckLaws.{checked-table}
 use Rattle.session.specs.Kept.{plannedIn}
@@ -28,8 +28,7 @@ use Rattle.rules.specs.declared.refusal.Refusal.{Refusal}
 use Rattle.rules.proofs.Cases.{split}
 use Rattle.session.specs.GoodState.{SoundTable, WhereHeard, GoodState}
 use Rattle.session.specs.Laid.{laidBytes}
-use Rattle.session.specs.Plan.{Plan, Planned, heard, needOf, unknownSync, silence, sentAfter, planOf, planned, resetOf, plan, after}
-use Rattle.session.specs.Receive.{saidBy}
+use Rattle.session.specs.Plan.{Plan, Planned, heard, needOf, unknownSync, silence, sentAfter, planOf, resetOf, plan, after}
 use Rattle.session.proofs.GoodLaws.{heads-sound, body-few, planned-good, said-sound}
 use Rattle.session.proofs.PlanLaws.{body-hashes, have-or-none, said-flags, plan-need-past, plan-resets, plan-silent, plan-sent-past, plan-is, plan-saying}
 use Rattle.session_calls.specs.SessionCalls.{plannedWords, plannedSession, planFor}
@@ -47,7 +46,7 @@ use Rattle.table.specs.TableCalls.{passedOn}
 use Rattle.waiting.specs.WaitingCalls.{tablesChecked}
 use Rattle.waiting.specs.Waiting.{Waiting}
 use Rattle.walk_hosts.specs.Calls.{PlanMade}
-use Rattle.walk_hosts.specs.Memory.{Memory, Roomy, OfBytes, Holds, Out, RoomyOut, Tabled, Beside}
+use Rattle.walk_hosts.specs.Memory.{Memory, Roomy, OfBytes, Holds, RoomyOut, Tabled, Beside}
 use Rattle.walk_hosts.proofs.Rooms.{Fine, planned-room, reset-roomed, says-roomed}
 
 -- ---- tables and memory as the laws below want them
@@ -84,7 +83,7 @@ still-roomy s l r =
     }
 
 -- What is said stands at the start of the buffers.
-pub record Put (q : Plan) (o o′ : Out) : Type 0 where
+pub record Put (q : Plan) (o o′ : Buffers) : Type 0 where
   pub heads : o′ .heads ≡ sets (o .heads) 0 (hashesBytes (q .heads))
   pub need : o′ .need ≡ sets (o .need) 0 (hashesBytes (q .need))
   pub have : o′ .have ≡ sets (o .have) 0 (laidBytes (q .haves))
@@ -155,7 +154,7 @@ module _ (table waiting : List ℕ) (tabled : Tabled table) (beside : Beside (ta
         found (some hs) g = g .are
 
     pub says-fine : (q : Plan) (s : State) → plan defaultBits defaultProbes t w x ≡ Planned.says q s → Fine q
-    unfolding planOf saidBy
+    unfolding planOf
     says-fine q s e =
         let p = plan-saying defaultBits defaultProbes t w x q s e in
         let g = said-sound t sound w x good (missing-hashes t waiting (heard (x .theirHeads)) (beside .bytes) heard-hashes) q s e in
@@ -172,12 +171,9 @@ module _ (table waiting : List ℕ) (tabled : Tabled table) (beside : Beside (ta
         small-flags : (n : ℕ) → n < 0x80 → n < 256
         small-flags n h = omega arith
 
-    module _ (o : Out) (l : Lent) (wide : RoomyOut o) (room : Roomy l) where
-      abbrev lent : Buffers
-      lent = buffersOf (o .heads) (o .need) (o .have) (o .list) (l .lastSent) (l .sent)
-
+    module _ (o : Buffers) (l : Lent) (wide : RoomyOut o) (room : Roomy l) where
       -- 7 is never answered
-      has-room : (p : Planned) → plan defaultBits defaultProbes t w x ≡ p → plannedRoomed (plannedRooms lent) p ≡ p
+      has-room : (p : Planned) → plan defaultBits defaultProbes t w x ≡ p → plannedRoomed (plannedRooms o l) p ≡ p
       unfolding plannedRoomed
       has-room (Planned.refused r) e = refl
       has-room Planned.silent e = refl
@@ -193,44 +189,32 @@ module _ (table waiting : List ℕ) (tabled : Tabled table) (beside : Beside (ta
 
     -- ---- the call
 
-    module _ (m m′ : Memory) (o o′ : Out) (answer : List ℕ) (h : Holds x m) (wide : RoomyOut o) (made : PlanMade table (tabled .index) waiting m m′ o o′ answer) where
+    module _ (m m′ : Memory) (o o′ : Buffers) (answer : List ℕ) (h : Holds x m) (wide : RoomyOut o) (made : PlanMade table (tabled .index) waiting m m′ o o′ answer) where
       abbrev p : Planned
       p = plan defaultBits defaultProbes t w x
 
-      abbrev given : Buffers
-      given = buffersOf (o .heads) (o .need) (o .have) (o .list) (m .lists .lastSent) (m .lists .sent)
-
-      plan-for : planFor (m .words) (m .lists) table (tabled .index) waiting given ≡ p
+      plan-for : planFor (m .words) (m .lists) table (tabled .index) waiting o ≡ p
       plan-for =
-          ap (plannedRoomed (plannedRooms given)) (plan-with o (m .lists) wide (h .room) (sessionOf (m .words)) (h .counts) (h .stays .good) (h .stays .value))
+          ap (plannedRoomed (plannedRooms o (m .lists))) (plan-with o (m .lists) wide (h .room) (sessionOf (m .words)) (h .counts) (h .stays .good) (h .stays .value))
           ∙ has-room o (m .lists) wide (h .room) p refl
 
       -- it answers what the step plans
-      pub plan-answer : answer ≡ plannedWords (plannedAnswer (countsOf x) p)
-      plan-answer = made .call .answer ∙ ap₂ (λ (c : Session) (q : Planned). plannedWords (plannedAnswer c q)) (h .counts) plan-for
+      pub plan-answer : answer ≡ plannedWords (plannedAnswer p)
+      plan-answer = made .call .answer ∙ ap (λ (q : Planned). plannedWords (plannedAnswer q)) plan-for
 
-      plan-words : m′ .words ≡ plannedSession (plannedAnswer (countsOf x) p) (m .words)
-      plan-words =
-          made .call .session ∙ ap₂ (λ (c : Session) (q : Planned). plannedSession (plannedAnswer c q) (m .words)) (h .counts) plan-for
+      plan-words : m′ .words ≡ plannedSession (plannedAnswer p) (m .words)
+      plan-words = made .call .session ∙ ap (λ (q : Planned). plannedSession (plannedAnswer q) (m .words)) plan-for
 
-      plan-buffers : buffersOf (o′ .heads) (o′ .need) (o′ .have) (o′ .list) (m′ .lists .lastSent) (m′ .lists .sent) ≡ putInto p given
-      plan-buffers = made .call .buffers ∙ ap (λ (q : Planned). putInto q given) plan-for
+      plan-buffers : o′ ≡ putInto p o
+      plan-buffers = made .call .buffers ∙ ap (λ (q : Planned). putInto q o) plan-for
 
-      list-last : m′ .lists .lastSent ≡ sets (m .lists .lastSent) 0 (hashesBytes (lastSentPut p))
-      unfolding putInto
-      list-last = ap (λ (b : Buffers). b .lastSent) plan-buffers
-
-      list-sent : m′ .lists .sent ≡ sets (m .lists .sent) 0 (hashesBytes (sentPut p))
-      unfolding putInto
-      list-sent = ap (λ (b : Buffers). b .sent) plan-buffers
+      plan-lists : m′ .lists ≡ plannedLists p (m .lists)
+      plan-lists = made .call .lists ∙ ap (λ (q : Planned). plannedLists q (m .lists)) plan-for
 
       -- what isn't a message leaves the memory as it was
-      unchanged : lastSentPut p ≡ [] → sentPut p ≡ [] → plannedSession (plannedAnswer (countsOf x) p) (m .words) ≡ m .words → Holds x m′
-      unfolding hashesBytes
-      unchanged e f g =
-          let last : m′ .lists .lastSent ≡ m .lists .lastSent = list-last ∙ ap (λ (l : List ℕ). sets (m .lists .lastSent) 0 (hashesBytes l)) e in
-          let sent : m′ .lists .sent ≡ m .lists .sent = list-sent ∙ ap (λ (l : List ℕ). sets (m .lists .sent) 0 (hashesBytes l)) f in
-          let same : m′ .lists ≡ m .lists = made .others ∙ rw (last, sent) in
+      unchanged : plannedLists p (m .lists) ≡ m .lists → plannedSession (plannedAnswer p) (m .words) ≡ m .words → Holds x m′
+      unchanged e g =
+          let same : m′ .lists ≡ m .lists = plan-lists ∙ e in
           let words : m′ .words ≡ m .words = plan-words ∙ g in
           record {
             counts = ap sessionOf words ∙ h .counts;
@@ -241,19 +225,15 @@ module _ (table waiting : List ℕ) (tabled : Tabled table) (beside : Beside (ta
 
       -- a message leaves the session that is planned
       changed : (q : Plan) (s : State) → p ≡ Planned.says q s → Holds s m′
-      unfolding planned plannedAnswer
+      unfolding plannedAnswer plannedLists
       changed q s e =
           let l : Lent = m .lists in
-          let saying = plan-saying defaultBits defaultProbes t w x q s e in
           let left : GoodState s = planned-good defaultBits defaultProbes t w x sound good q s e in
-          let last : m′ .lists .lastSent ≡ sets (l .lastSent) 0 (hashesBytes (s .lastSentHeads)) = rw e at list-last in
-          let sent : m′ .lists .sent ≡ sets (l .sent) 0 (hashesBytes (s .sentHashes)) = rw e at list-sent in
-          let lists : m′ .lists ≡ plannedIn s l = made .others ∙ rw (last, sent) in
-          let counts : plannedCounts (countsOf x) (length (s .lastSentHeads)) (length (s .sentHashes)) ≡ countsOf s = rw (saying .session) in
-          let words : m′ .words ≡ sessionWords (plannedCounts (countsOf x) (length (s .lastSentHeads)) (length (s .sentHashes))) = rw e at plan-words in
+          let lists : m′ .lists ≡ plannedIn s l = rw e at plan-lists in
+          let words : m′ .words ≡ sessionWords (countsOf s) = rw e at plan-words in
           let before : plan defaultBits defaultProbes t w (stateOf (countsOf x) l) ≡ Planned.says q s = rw (h .stays .value) e in
           record {
-            counts = ap sessionOf words ∙ words-back _ ∙ counts;
+            counts = ap sessionOf words ∙ words-back (countsOf s);
             stays =
                 rw lists
                 (plan-stays-good defaultBits defaultProbes t w sound (countsOf x) l (h .stays .good) (of-bytes l (h .bytes)) q s before
@@ -263,10 +243,10 @@ module _ (table waiting : List ℕ) (tabled : Tabled table) (beside : Beside (ta
           }
 
       after-call : (p′ : Planned) → p ≡ p′ → Holds (after p′ x) m′
-      unfolding plannedAnswer
-      after-call (Planned.refused r) e = unchanged (rw e) (rw e) (rw e)
-      after-call Planned.silent e = unchanged (rw e) (rw e) (rw e)
-      after-call (Planned.reset q) e = unchanged (rw e) (rw e) (rw e)
+      unfolding plannedAnswer plannedLists
+      after-call (Planned.refused r) e = unchanged (rw e) (rw e)
+      after-call Planned.silent e = unchanged (rw e) (rw e)
+      after-call (Planned.reset q) e = unchanged (rw e) (rw e)
       after-call (Planned.says q s) e = changed q s e
 
       -- and the memory holds the session that the step leaves
@@ -274,12 +254,12 @@ module _ (table waiting : List ℕ) (tabled : Tabled table) (beside : Beside (ta
       plan-holds = after-call p refl
 
       -- and what the step says stands in the buffers
-      pub plan-put : Put (said p) o o′
-      unfolding putInto
-      plan-put =
+      pub plan-put : (q : Plan) → putInto p o ≡ messagePut q o → Put q o o′
+      plan-put q e =
+          let is : o′ ≡ messagePut q o = plan-buffers ∙ e in
           record {
-            heads = ap (λ (b : Buffers). b .heads) plan-buffers;
-            need = ap (λ (b : Buffers). b .need) plan-buffers;
-            have = ap (λ (b : Buffers). b .have) plan-buffers;
-            list = ap (λ (b : Buffers). b .list) plan-buffers;
+            heads = ap (λ (b : Buffers). b .heads) is;
+            need = ap (λ (b : Buffers). b .need) is;
+            have = ap (λ (b : Buffers). b .have) is;
+            list = ap (λ (b : Buffers). b .list) is;
           }

@@ -1,29 +1,26 @@
 -- A receive call is the step: over memory that holds a session, with room, it answers what the step gives and leaves the session that the step leaves.
 -- Assumes nothing.
 use Prim.Native.Nat.{ℕ}
-use mathlib.Core.Bool.{true, false}
+use mathlib.Core.Bool.{true}
 use mathlib.Core.List.{List}
-use mathlib.Core.Logic.{_⊎_, inl, inr}
-use mathlib.Core.Path.{_≡_, refl, sym, ap, _∙_}
+use mathlib.Core.Path.{_≡_, refl, ap, _∙_}
 use borrow.Author.Tests.{ltb-true, ltb-false}
-use lib.Dec.{ltb, eqb}
+use lib.Dec.{ltb}
 use lib.ListN.{length}
 use lib.Seq.{length-sets}
 use Rattle.message_read.specs.MessageRead.{Reading, messageAt}
 use Rattle.session.specs.GoodState.{GoodState}
-use Rattle.session.specs.Receive.{Received, receiveBytes}
+use Rattle.session.specs.Receive.{Received, left, receiveBytes}
 use Rattle.session.proofs.GoodLaws.{bytes-good}
-use Rattle.session.proofs.ReceiveLaws.{bytes-beyond, bytes-refused, refused-keeps}
+use Rattle.session.proofs.ReceiveLaws.{bytes-beyond, bytes-refused}
 use Rattle.session.specs.Kept.{receivedIn}
-use Rattle.session.proofs.KeptCalls.{receive-stays-good, refuse-stays-good}
+use Rattle.session.proofs.KeptCalls.{receive-stays-good, failed-stays-good}
 use Rattle.walk_hosts.specs.Memory.{Memory, Roomy, Holds, Tabled}
 use Rattle.walk_hosts.proofs.Rooms.{received-room, took-roomed}
-use Rattle.session.specs.ReceiveCall.{afterTable, receiveWith, receivedRoomed, receivedRooms, refusalAnswer, receivedAnswer, keptIn}
+use Rattle.session.specs.ReceiveCall.{afterTable, receiveWith, receivedRoomed, receivedRooms, receivedAnswer, receivedLists}
 use Rattle.rules.specs.Hash.{Bytes, AreHashes, hashesBytes}
-use Rattle.rules.specs.Refusal.{numberOf}
 use Rattle.rules.specs.declared.refusal.Refusal.{Refusal}
-use Rattle.rules.specs.declared.refusal.Refusal.the-variants.{LoadFailed}
-use Rattle.rules.proofs.Cases.{split, true-false}
+use Rattle.rules.proofs.Cases.{split}
 use Rattle.session.specs.Laid.{laidBytes, laidWords}
 use Rattle.session.specs.Plan.{heard}
 use Rattle.session_calls.specs.SessionCalls.{receivedWords, receivedSession, receiveFor}
@@ -34,7 +31,6 @@ use Rattle.session_state.specs.Value.{Lent, stateOf, countsOf}
 use Rattle.session_state.specs.declared.session.Session.{Session}
 use Rattle.table.specs.TableBytes.{tableOf}
 use Rattle.table.specs.Table.{Row, rows}
-use Rattle.walk_sessions.specs.Talk.{left}
 use Rattle.walk_hosts.specs.Calls.{Hears}
 use Rattle.walk_hosts.proofs.Planning.{table-sound, of-bytes, held-good}
 
@@ -67,10 +63,11 @@ module _ (table : List ℕ) (tabled : Tabled table) (before : ℕ) (message : Li
   taken-good s e = bytes-good true before t x message said are (held-good x m h) .took s e
 
   -- 7 is never answered
-  has-room : (old : State) (y : Received) → r ≡ y → receivedRoomed (receivedRooms (m .lists)) old y ≡ y
+  has-room : (y : Received) → r ≡ y → receivedRoomed (receivedRooms (m .lists)) y ≡ y
   unfolding receivedRoomed
-  has-room old (Received.took s) e = took-roomed s (m .lists) (taken-good s e) (h .room) old
-  has-room old (Received.refused q s) e = refl
+  has-room (Received.took s) e = took-roomed s (m .lists) (taken-good s e) (h .room)
+  has-room (Received.failed s) e = refl
+  has-room (Received.refused q) e = refl
 
   receive-with : (c : Session) → c ≡ countsOf x → receiveWith true before c (m .lists) table (tabled .index) message ≡ r
   unfolding receiveWith afterTable
@@ -78,8 +75,7 @@ module _ (table : List ℕ) (tabled : Tabled table) (before : ℕ) (message : Li
 
   pub receive-for : receiveFor (m .words) (m .lists) table (tabled .index) before message true ≡ r
   receive-for =
-      ap (receivedRoomed (receivedRooms (m .lists)) (stateOf (sessionOf (m .words)) (m .lists))) (receive-with (sessionOf (m .words)) (h .counts))
-      ∙ has-room _ r refl
+      ap (receivedRoomed (receivedRooms (m .lists))) (receive-with (sessionOf (m .words)) (h .counts)) ∙ has-room r refl
 
   module _ (m′ : Memory) (made : Hears table (tabled .index) before message m m′) where
     -- it answers what the step gives
@@ -89,11 +85,11 @@ module _ (table : List ℕ) (tabled : Tabled table) (before : ℕ) (message : Li
     receive-words : m′ .words ≡ receivedSession (receivedAnswer r) (m .words)
     receive-words = made .call .session ∙ ap (λ (y : Received). receivedSession (receivedAnswer y) (m .words)) receive-for
 
-    receive-lists : m′ .lists ≡ keptIn r (m .lists)
-    receive-lists = made .call .lists ∙ ap (λ (y : Received). keptIn y (m .lists)) receive-for
+    receive-lists : m′ .lists ≡ receivedLists r (m .lists)
+    receive-lists = made .call .lists ∙ ap (λ (y : Received). receivedLists y (m .lists)) receive-for
 
     taken : (s : State) → r ≡ Received.took s → Holds s m′
-    unfolding keptIn receivedAnswer
+    unfolding receivedLists receivedAnswer
     taken s e =
         let l : Lent = m .lists in
         let lists : m′ .lists ≡ receivedIn s l = receive-lists ∙ rw e in
@@ -109,47 +105,46 @@ module _ (table : List ℕ) (tabled : Tabled table) (before : ℕ) (message : Li
           room = rw lists (still-roomy s l (h .room));
         }
 
-    -- only 8 changes the words
-    refused-counts : (q : Refusal) (s : State) → r ≡ Received.refused q s → sessionOf (m′ .words) ≡ countsOf s
-    unfolding receivedAnswer refusalAnswer
-    refused-counts q s e =
-        split (eqb (numberOf q) (numberOf LoadFailed))
-        (λ f.
-        let words : m′ .words ≡ sessionWords (countsOf s) = receive-words ∙ rw (e, f) in
-        ap sessionOf words ∙ words-back (countsOf s))
-        (λ f.
-        let words : m′ .words ≡ m .words = receive-words ∙ rw (e, f) in
-        ap sessionOf words ∙ h .counts ∙ kept f (refused-keeps true before t x message q s e))
-      where
-        kept : eqb (numberOf q) (numberOf LoadFailed) ≡ false → (q ≡ LoadFailed) ⊎ (s ≡ x) → countsOf x ≡ countsOf s
-        kept f (inl g) = absurd (true-false (eqb (numberOf q) (numberOf LoadFailed)) (rw g) f)
-        kept f (inr g) = ap countsOf (sym g)
-
-    untaken : (q : Refusal) (s : State) → r ≡ Received.refused q s → Holds s m′
-    unfolding keptIn
-    untaken q s e =
+    -- 8 changes the words
+    failed : (s : State) → r ≡ Received.failed s → Holds s m′
+    unfolding receivedLists receivedAnswer
+    failed s e =
         let l : Lent = m .lists in
         let lists : m′ .lists ≡ l = receive-lists ∙ rw e in
-        let step : receiveBytes true before t was message ≡ Received.refused q s = rw (h .stays .value) e in
+        let words : m′ .words ≡ sessionWords (countsOf s) = receive-words ∙ rw e in
+        let step : receiveBytes true before t was message ≡ Received.failed s = rw (h .stays .value) e in
         record {
-          counts = refused-counts q s e;
-          stays =
-              rw lists (refuse-stays-good true before t are message said (countsOf x) l (h .stays .good) (of-bytes l (h .bytes)) q s step);
+          counts = ap sessionOf words ∙ words-back (countsOf s);
+          stays = rw lists (failed-stays-good true before t are message said (countsOf x) l (h .stays .good) (of-bytes l (h .bytes)) s step);
           bytes = made .bytes;
           room = rw lists (h .room);
         }
 
-    after-call : (y : Received) → r ≡ y → Holds (left y) m′
+    -- any other refusal leaves the memory as it was
+    refused : (q : Refusal) → r ≡ Received.refused q → Holds x m′
+    unfolding receivedLists receivedAnswer
+    refused q e =
+        let lists : m′ .lists ≡ m .lists = receive-lists ∙ rw e in
+        let words : m′ .words ≡ m .words = receive-words ∙ rw e in
+        record {
+          counts = ap sessionOf words ∙ h .counts;
+          stays = rw lists (h .stays);
+          bytes = made .bytes;
+          room = rw lists (h .room);
+        }
+
+    after-call : (y : Received) → r ≡ y → Holds (left y x) m′
     after-call (Received.took s) e = taken s e
-    after-call (Received.refused q s) e = untaken q s e
+    after-call (Received.failed s) e = failed s e
+    after-call (Received.refused q) e = refused q e
 
     -- and the memory holds the session that the step leaves
-    pub receive-holds : Holds (left r) m′
+    pub receive-holds : Holds (left r x) m′
     receive-holds = after-call r refl
 
 -- what can't be read changes nothing
 pub unread-leaves : (before : ℕ) (t : List Row) (x : State) (bytes : List ℕ) (q : Refusal) → messageAt bytes ≡ Reading.refused q
-    → left (receiveBytes true before t x bytes) ≡ x
+    → left (receiveBytes true before t x bytes) x ≡ x
 unread-leaves before t x bytes q e =
     split (ltb (length t) before)
     (λ a. rw (bytes-beyond true before t x bytes (ltb-true _ _ a)))

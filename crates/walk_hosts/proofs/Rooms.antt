@@ -13,8 +13,9 @@ use Rattle.session.specs.GoodState.{SoundHaves, WhereHeard, GoodState}
 use Rattle.session.specs.Receive.{Received}
 use Rattle.session.specs.Kept.{PlannedRoom, ReceivedRoom}
 use Rattle.message.specs.Sound.{Each, SoundHashes, SoundHave}
-use Rattle.session.specs.PlanCall.{Buffers, buffersOf, syncsOf, filterNumbers, messageRoom, sessionRoom, afterRoom, plannedRoomed, plannedRooms}
-use Rattle.session.specs.ReceiveCall.{shortFor, unlessShort, receivedRoomed as roomedFor, receivedRooms as roomsOf}
+use Rattle.session.specs.PlanCall.{Buffers, syncsOf, filterNumbers, messageRoom, sessionRoom, plannedRoomed, plannedRooms}
+use Rattle.session.specs.Rooms.{ifRoom}
+use Rattle.session.specs.ReceiveCall.{keptRoom, receivedRoomed, receivedRooms}
 use Rattle.rules.specs.Hash.{AreHashes}
 use Rattle.rules.specs.Sizes.{sizes}
 use Rattle.rules.proofs.Cases.{split}
@@ -24,7 +25,7 @@ use Rattle.session.proofs.LaidLaws.{laid-length-bytes}
 use Rattle.session_state.specs.Session.{State}
 use Rattle.session_state.specs.Value.{Lent}
 use Rattle.walk_sessions.proofs.Message.{some-entries}
-use Rattle.walk_hosts.specs.Memory.{haveRoom, Roomy, Out, RoomyOut}
+use Rattle.walk_hosts.specs.Memory.{haveRoom, Roomy, RoomyOut}
 
 -- A message that planning may state: what every stage above relies on.
 pub record Fine (q : Plan) : Type 0 where
@@ -68,10 +69,7 @@ wanted-small (v ∷ vs) g = have-small v (g .0)
 
 -- ---- planning
 
-module _ (o : Out) (l : Lent) (wide : RoomyOut o) (room : Roomy l) where
-  abbrev buffers : Buffers
-  buffers = buffersOf (o .heads) (o .need) (o .have) (o .list) (l .lastSent) (l .sent)
-
+module _ (o : Buffers) (l : Lent) (wide : RoomyOut o) (room : Roomy l) where
   pub planned-room : (s : State) → GoodState s → PlannedRoom s l
   planned-room s g =
       record { lastSent = fits _ _ _ (g .lastSent .few) (room .lastSent); sent = fits _ _ _ (g .sentFew) (room .sent) }
@@ -79,8 +77,8 @@ module _ (o : Out) (l : Lent) (wide : RoomyOut o) (room : Roomy l) where
   have-fits : (q : Plan) → Fine q → sizes .hash * syncsOf (q .haves) + filterNumbers (q .haves) .size ≤ length (o .have)
   have-fits q f = omega (arith, wanted-small (q .haves) (f .haves .each), wide .have)
 
-  pub reset-roomed : (q : Plan) → Fine q → plannedRoomed (plannedRooms buffers) (Planned.reset q) ≡ Planned.reset q
-  unfolding plannedRoomed messageRoom afterRoom
+  pub reset-roomed : (q : Plan) → Fine q → plannedRoomed (plannedRooms o l) (Planned.reset q) ≡ Planned.reset q
+  unfolding plannedRoomed messageRoom ifRoom
   reset-roomed q f =
       rw (
         le-ltb _ _ (fits _ _ _ (f .heads .few) (wide .heads)),
@@ -89,8 +87,8 @@ module _ (o : Out) (l : Lent) (wide : RoomyOut o) (room : Roomy l) where
         le-ltb _ _ (fits _ _ _ (f .few) (wide .list)),
       )
 
-  pub says-roomed : (q : Plan) (s : State) → Fine q → GoodState s → plannedRoomed (plannedRooms buffers) (Planned.says q s) ≡ Planned.says q s
-  unfolding plannedRoomed messageRoom sessionRoom afterRoom
+  pub says-roomed : (q : Plan) (s : State) → Fine q → GoodState s → plannedRoomed (plannedRooms o l) (Planned.says q s) ≡ Planned.says q s
+  unfolding plannedRoomed messageRoom sessionRoom ifRoom
   says-roomed q s f g =
       rw (
         le-ltb _ _ (fits _ _ _ (f .heads .few) (wide .heads)),
@@ -127,9 +125,9 @@ received-room s l g room =
       bytes = bytes-fit (s .theirHave) _ (g .theirHave) (room .bytes);
     }
 
-pub took-roomed : (s : State) (l : Lent) → GoodState s → Roomy l → (old : State) → roomedFor (roomsOf l) old (Received.took s) ≡ Received.took s
-unfolding roomedFor shortFor unlessShort
-took-roomed s l g room old =
+pub took-roomed : (s : State) (l : Lent) → GoodState s → Roomy l → receivedRoomed (receivedRooms l) (Received.took s) ≡ Received.took s
+unfolding receivedRoomed keptRoom ifRoom
+took-roomed s l g room =
     let r = received-room s l g room in
     rw (
       le-ltb _ _ (r .shared),

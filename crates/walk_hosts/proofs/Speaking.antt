@@ -10,25 +10,25 @@ use lib.ListN.{length, getD}
 use Rattle.bloom.specs.Filter.{defaultBits, defaultProbes}
 use Rattle.message_read.proofs.Messages.{message-long, message-empty}
 use Rattle.session.specs.GoodState.{GoodState}
-use Rattle.session.specs.Receive.{receiveBytes}
+use Rattle.session.specs.Receive.{receiveBytes, left}
 use Rattle.walk_hosts.specs.Memory.{Memory, Holds, Tabled, Beside}
 use Rattle.walk_hosts.proofs.Rooms.{Fine}
 use Rattle.message.specs.Message.{messageBytes}
-use Rattle.session.specs.PlanCall.{statedOf, plannedAnswer, said}
+use Rattle.session.specs.PlanCall.{statedOf, plannedAnswer, messagePut, putInto}
 use Rattle.rules.specs.Sizes.{sizes}
 use Rattle.rules.proofs.Cases.{split}
 use Rattle.session.specs.Plan.{Plan, Planned, plan, after}
 use Rattle.session_calls.specs.SessionCalls.{statedWords, plannedWords}
 use Rattle.session_state.specs.Session.{State}
-use Rattle.session_state.specs.Value.{countsOf}
 use Rattle.table.specs.TableBytes.{tableOf}
 use Rattle.table.specs.Table.{Row}
-use Rattle.walk_sessions.specs.Talk.{Host, messageFor, bytesFor, left}
+use Rattle.walk_sessions.specs.Talk.{bytesFor}
 use Rattle.waiting.specs.WaitingBytes.{waitingOf}
 use Rattle.walk_hosts.specs.Calls.{Speaks, speaks, planIn}
 use Rattle.walk_hosts.proofs.Planning.{Put, held-good, reset-is, reset-fine, says-fine, plan-answer, plan-holds, plan-put}
 use Rattle.walk_hosts.proofs.Receiving.{unread-leaves}
 use Rattle.walk_hosts.proofs.Writing.{number-some, plan-read, write-small, write-long}
+use Rattle.session.specs.Written.{Host, messageFor}
 
 -- What crosses is what the step's plan says, where that is within a message's size.
 pub record Crosses (bytes message : List ℕ) : Type 0 where
@@ -49,17 +49,14 @@ module _ (host : Host) (table waiting : List ℕ) (tabled : Tabled table) (besid
   pub speaking-holds : Holds (after p x) m′
   speaking-holds = plan-holds table waiting tabled beside x good m m′ (speech .out) (speech .out′) (speech .answer) h (speech .room) (speech .plans)
 
-  words : speech .answer ≡ plannedWords (plannedAnswer (countsOf x) p)
+  words : speech .answer ≡ plannedWords (plannedAnswer p)
   words = plan-answer table waiting tabled beside x good m m′ (speech .out) (speech .out′) (speech .answer) h (speech .room) (speech .plans)
 
-  put : Put (said p) (speech .out) (speech .out′)
-  put = plan-put table waiting tabled beside x good m m′ (speech .out) (speech .out′) (speech .answer) h (speech .room) (speech .plans)
-
   -- what is stated is written
-  module _ (q : Plan) (fine : Fine q) (says : said p ≡ q) (what : ℕ) (is : speech .answer ≡ statedWords what (statedOf q))
+  module _ (q : Plan) (fine : Fine q) (says : putInto p (speech .out) ≡ messagePut q (speech .out)) (what : ℕ) (is : speech .answer ≡ statedWords what (statedOf q))
       (told : speaks (speech .answer) ≡ true) where
     there : Put q (speech .out) (speech .out′)
-    there = rw says at put
+    there = plan-put table waiting tabled beside x good m m′ (speech .out) (speech .out′) (speech .answer) h (speech .room) (speech .plans) q says
 
     pub stated-read : planIn (speech .answer) (speech .out′) ≡ q
     stated-read = plan-read q fine (speech .out) (speech .out′) (speech .room) there what (speech .answer) is
@@ -81,7 +78,7 @@ module _ (host : Host) (table waiting : List ℕ) (tabled : Tabled table) (besid
         }
 
   pub crossing : (y : Planned) → p ≡ y → Crosses (bytesFor host y) message
-  unfolding plannedAnswer bytesFor
+  unfolding plannedAnswer putInto bytesFor
   crossing (Planned.refused r) e = nothing-crosses message (speech .silent (rw (words, e, number-some r)))
   crossing Planned.silent e = nothing-crosses message (speech .silent (rw (words, e)))
   crossing (Planned.reset q) e =
@@ -94,7 +91,7 @@ module _ (host : Host) (table waiting : List ℕ) (tabled : Tabled table) (besid
 
   -- the other end hears what the step's plan says
   pub heard-so : (before : ℕ) (t : List Row) (y : State)
-      → left (receiveBytes true before t y message) ≡ left (receiveBytes true before t y (bytesFor host p))
+      → left (receiveBytes true before t y message) y ≡ left (receiveBytes true before t y (bytesFor host p)) y
   heard-so before t y =
       let c = crossing p refl in
       split (ltb (sizes .message) (length (bytesFor host p)))
@@ -114,7 +111,7 @@ module _ (host : Host) (table waiting : List ℕ) (tabled : Tabled table) (besid
         → (message ≡ messageBytes (messageFor host q)) × (getD (speech .written) 0 0 ≡ 0)
 
   pub speaking-said : (q : Plan) (s : State) → p ≡ Planned.says q s → Said q
-  unfolding plannedAnswer
+  unfolding plannedAnswer putInto
   speaking-said q s e =
       let is : speech .answer ≡ statedWords 2 (statedOf q) = rw e at words in
       let fine : Fine q = says-fine table waiting tabled beside x good q s e in

@@ -7,12 +7,13 @@ use native.Mathlib.Omega.{arith}
 use Rattle.bloom.specs.Filter.{defaultBits, defaultProbes}
 use Rattle.session.specs.Plan.{Plan, Planned}
 use Rattle.session_state.specs.Session.{State}
-use Rattle.walk_sessions.specs.Talk.{Host, asked, answered}
+use Rattle.walk_sessions.specs.Talk.{asked, answered}
 use Rattle.walk_sessions.proofs.Talk.{theorem-2}
 use Rattle.walk_hosts.specs.Calls.{planIn, Both, CallsRound, askedIn, answeredIn, AreSessions}
 use Rattle.walk_hosts.specs.States.{CallsState}
 use Rattle.walk_hosts.proofs.Speaking.{speaking-said}
 use Rattle.walk_hosts.proofs.Talk.{calls-are-steps, held-mid, tables-given}
+use Rattle.session.specs.Written.{Host}
 
 module _ (a : List ℕ) (b w u : ℕ → List ℕ) (hosts : ℕ → Host) (k : ℕ) (s s′ : Both) (r : CallsRound a b w u hosts k s s′)
     (before : AreSessions a b w u hosts k s) where

@@ -10,7 +10,7 @@ use lib.Dec.{ltb}
 use lib.ListN.{length, getD}
 use Rattle.bloom.specs.Filter.{defaultBits, defaultProbes}
 use Rattle.message_read.proofs.Messages.{message-long}
-use Rattle.session.specs.Receive.{Received, receiveBytes}
+use Rattle.session.specs.Receive.{Received, receiveBytes, left}
 use Rattle.session.proofs.ReceiveLaws.{bytes-beyond, bytes-refused}
 use Rattle.session_check.proofs.GoodSessions.{fresh-good}
 use Rattle.walk_hosts.specs.Memory.{Memory, Holds, Tabled, Beside, Fresh}
@@ -28,7 +28,7 @@ use Rattle.session_state.specs.Session.{State, fresh}
 use Rattle.session_state.specs.Value.{heardHashes, heardHaves}
 use Rattle.table.specs.TableBytes.{tableOf}
 use Rattle.table.specs.Table.{Row}
-use Rattle.walk_sessions.specs.Talk.{Host, Pair, messageFor, bytesFor, goes, left, asked, toA, answered, toB, pairAt, Reached, Granted, Tables, Ended}
+use Rattle.walk_sessions.specs.Talk.{Pair, bytesFor, goes, asked, toA, answered, toB, pairAt, Reached, Granted, Tables, Ended}
 use Rattle.walk_sessions.proofs.Corollary.{corollary}
 use Rattle.walk_sessions.proofs.Talk.{default-setting}
 use Rattle.waiting.specs.WaitingBytes.{waitingOf}
@@ -54,6 +54,7 @@ use Rattle.walk_hosts.specs.Calls.{
 use Rattle.walk_hosts.proofs.Planning.{table-sound}
 use Rattle.walk_hosts.proofs.Receiving.{receive-answer, receive-holds}
 use Rattle.walk_hosts.proofs.Speaking.{speaking-holds, heard-so, speaking-said}
+use Rattle.session.specs.Written.{Host, messageFor}
 
 -- fresh words over any lists of limit size hold the fresh session
 pub fresh-holds : (m : Memory) → Fresh m → Holds fresh m
@@ -77,7 +78,7 @@ taken-small before t x z bytes e =
     (λ g. untaken (sym (bytes-refused true before t x bytes (ltb-false _ _ g) _ unread) ∙ e)))
     (λ f. ltb-false _ _ f)
   where
-    untaken : {C : Type 0} {q : Refusal} {s s′ : State} → Received.refused q s ≡ Received.took s′ → C
+    untaken : {C : Type 0} {q : Refusal} {s : State} → Received.refused q ≡ Received.took s → C
     untaken f = absurd (let c : _≡_ {A = ℕ} 0 1 = cc in omega arith)
 
 -- what is said and taken: its calls answered 0
@@ -120,7 +121,7 @@ module _ (a : List ℕ) (b w u : ℕ → List ℕ) (hosts : ℕ → Host) where
     y = pair k .atB
 
     abbrev heardA : State
-    heardA = left (toA defaultBits defaultProbes A B W U hosts k (pair k))
+    heardA = left (toA defaultBits defaultProbes A B W U hosts k (pair k)) x
 
     -- B has spoken
     spokenB : Holds (after (askedIn a b w u hosts k) y) (r .midB)
@@ -141,8 +142,8 @@ module _ (a : List ℕ) (b w u : ℕ → List ℕ) (hosts : ℕ → Host) where
     spokenA = speaking-holds (hosts k) a (u k) (r .tableA) (r .waitsA) heardA (r .midA) (s′ .atA) held-mid (r .reply) (r .answers)
 
     -- B has heard that
-    heldB : Holds (left (toB defaultBits defaultProbes A B W U hosts k (pair k))) (s′ .atB)
-    unfolding answered toB
+    heldB : Holds (left (toB defaultBits defaultProbes A B W U hosts k (pair k)) (after (askedIn a b w u hosts k) y)) (s′ .atB)
+    unfolding asked answered toB
     heldB =
         subst (λ (z : State). Holds z (s′ .atB))
         (heard-so (hosts k) a (u k) (r .tableA) (r .waitsA) heardA (r .midA) (s′ .atA) held-mid (r .reply) (r .answers) (length (B k)) (B (suc k)) _)

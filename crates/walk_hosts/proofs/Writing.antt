@@ -14,7 +14,7 @@ use Rattle.call_words.specs.Answer.{refusalWords, writeWords}
 use Rattle.bloom.specs.Have.{Have, havesOf}
 use Rattle.session.specs.Kept.{StandHaves}
 use Rattle.session.proofs.Stands.{stand-haves-sets}
-use Rattle.walk_hosts.specs.Memory.{Out, RoomyOut}
+use Rattle.walk_hosts.specs.Memory.{RoomyOut}
 use Rattle.walk_hosts.proofs.Rooms.{Fine, laid-small}
 use Rattle.message.specs.Message.{messageBytes}
 use Rattle.message.specs.declared.flags.Section.the-variants.{Present}
@@ -23,7 +23,7 @@ use Rattle.message.specs.declared.version.MessageVersion.the-variants.{V1, V2}
 use Rattle.message.specs.Write.{Parts, partsOf, hashesOf, chunksFrom, messageOf, messageOutput}
 use Rattle.message_calls.specs.MessageWords.{versionOf, sectionOf}
 use Rattle.message_calls.proofs.MessageLaws.{section-there}
-use Rattle.session.specs.PlanCall.{statedOf}
+use Rattle.session.specs.PlanCall.{Buffers, statedOf}
 use Rattle.rules.specs.Hash.{AreHashes, hashesAt, hashesBytes}
 use Rattle.rules.specs.Output.{Output, answerOf, contentOf}
 use Rattle.rules.specs.Passed.{passedHashes}
@@ -56,10 +56,10 @@ use Rattle.call_words.specs.SessionWords.{flagWord, flagOf}
 use Rattle.message_size.proofs.WriteLaws.{Accepted, message-written, accepted-written}
 use Rattle.message_size.proofs.SizeLaws.{chunks-long}
 use Rattle.session_state.specs.Value.{keptHaves}
-use Rattle.walk_sessions.specs.Talk.{Host, chunksFor, messageFor}
-use Rattle.walk_sessions.proofs.Message.{chunks-few}
 use Rattle.walk_hosts.specs.Calls.{haveWordsIn, planIn, WriteMade}
 use Rattle.walk_hosts.proofs.Planning.{Put}
+use Rattle.session.specs.Written.{Host, chunksFor, messageFor}
+use Rattle.session.proofs.WrittenLaws.{chunks-few}
 
 -- ---- words
 
@@ -116,7 +116,7 @@ bytes-passed : (hs : List ℕ) → length hs ≤ sizes .hashes → passedHashes 
 bytes-passed hs few =
     passed-whole (hashesBytes hs) (rw (length-hashes-bytes hs) (omega arith)) (rw (length-hashes-bytes hs) (omega arith))
 
-module _ (q : Plan) (fine : Fine q) (o o′ : Out) (wide : RoomyOut o) (put : Put q o o′) (what : ℕ) (answer : List ℕ)
+module _ (q : Plan) (fine : Fine q) (o o′ : Buffers) (wide : RoomyOut o) (put : Put q o o′) (what : ℕ) (answer : List ℕ)
     (is : answer ≡ statedWords what (statedOf q)) where
   haves-stand : StandHaves (q .haves) (sets (laidWords (q .haves)) 0 (laidWords (q .haves))) (o′ .have)
   haves-stand =

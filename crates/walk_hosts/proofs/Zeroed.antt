@@ -12,8 +12,9 @@ use Rattle.rules.specs.Sizes.{sizes}
 use Rattle.call_words.specs.SessionWords.{sessionWords}
 use Rattle.session_state.specs.Counts.{freshCounts}
 use Rattle.session_state.specs.Value.{Lent}
-use Rattle.walk_hosts.specs.Memory.{Memory, haveRoom, Roomy, OfBytes, Fresh, Out, RoomyOut}
+use Rattle.walk_hosts.specs.Memory.{Memory, haveRoom, Roomy, OfBytes, Fresh, RoomyOut}
 use Rattle.walk_hosts.proofs.AllBytes.{zeros-bytes}
+use Rattle.session.specs.PlanCall.{Buffers}
 
 -- n zeros.
 unfoldable pub zeroes : ℕ → List ℕ
@@ -71,7 +72,7 @@ pub zeroed-fresh : Fresh zeroed
 zeroed-fresh = record { words = refl; bytes = of-bytes; room = roomy }
 
 -- Buffers for a message's parts, each of limit size.
-abbrev pub zeroed-out : Out
+abbrev pub zeroed-out : Buffers
 zeroed-out =
     record {
       heads = zeroes (sizes .hash * sizes .hashes);

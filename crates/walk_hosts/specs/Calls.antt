@@ -9,13 +9,12 @@ use lib.ListN.{length, getD, take, drop}
 use Rattle.call_words.specs.Answer.{Answered}
 use Rattle.bloom.specs.Filter.{defaultBits, defaultProbes}
 use Rattle.bloom.specs.Have.{haveWords, havesOf}
-use Rattle.session_check.specs.SessionGood.{lentOf}
-use Rattle.walk_hosts.specs.Memory.{Memory, OfBytes, Holds, Fresh, Out, RoomyOut, Tabled, Beside, HostBytes}
+use Rattle.walk_hosts.specs.Memory.{Memory, OfBytes, Holds, Fresh, RoomyOut, Tabled, Beside, HostBytes}
 use Rattle.message.specs.Flags.{flagsOf}
 use Rattle.message.specs.Message.{total}
 use Rattle.message.specs.Write.{partsOf, chunksFrom, messageOutput}
 use Rattle.message_calls.specs.MessageWords.{versionOf, sectionOf}
-use Rattle.session.specs.PlanCall.{buffersOf}
+use Rattle.session.specs.PlanCall.{Buffers}
 use Rattle.rules.specs.Hash.{Bytes, hashesAt}
 use Rattle.rules.specs.Sizes.{sizes}
 use Rattle.session.specs.Plan.{Plan, Planned}
@@ -23,11 +22,12 @@ use Rattle.session_calls.specs.SessionCalls.{PlanAnswered, ReceiveAnswered}
 use Rattle.call_words.specs.SessionWords.{flagOf}
 use Rattle.table.specs.TableBytes.{tableOf}
 use Rattle.table.specs.Table.{Row}
-use Rattle.walk_sessions.specs.Talk.{Host, chunksFor, goes, Pair, asked, answered, pairAt, Reached, Granted, Ended}
+use Rattle.walk_sessions.specs.Talk.{goes, Pair, asked, answered, pairAt, Reached, Granted, Ended}
 use Rattle.waiting.specs.WaitingBytes.{waitingOf}
 use Rattle.waiting.specs.Waiting.{Waiting}
 use Rattle.walk.specs.Round.{Part}
 use Rattle.walk.specs.Walk.{lacking}
+use Rattle.session.specs.Written.{Host, chunksFor}
 
 -- ---- what a host reads of an answer to planning
 
@@ -40,7 +40,7 @@ abbrev pub haveWordsIn : List ℕ → List ℕ
 haveWordsIn answer = take (haveWords * getD answer 7 0) (drop 8 answer)
 
 -- The plan that words and buffers are; `statedWords` (session_calls SessionCalls) has the order of the words.
-abbrev pub planIn : List ℕ → Out → Plan
+abbrev pub planIn : List ℕ → Buffers → Plan
 planIn answer o =
     record {
       version = versionOf (getD answer 2 0);
@@ -53,18 +53,13 @@ planIn answer o =
 
 -- ---- the calls, each from memory to memory
 
--- bt_plan: two of the session's lists and the four buffers are lent to be changed, the other lists stay.
-pub record PlanMade (table index waiting : List ℕ) (m m′ : Memory) (o o′ : Out) (answer : List ℕ) : Type 0 where
-  pub call : PlanAnswered (m .words) (m′ .words) (m .lists) table index waiting
-      (buffersOf (o .heads) (o .need) (o .have) (o .list) (m .lists .lastSent) (m .lists .sent))
-      (buffersOf (o′ .heads) (o′ .need) (o′ .have) (o′ .list) (m′ .lists .lastSent) (m′ .lists .sent))
-      answer
-  pub others : m′ .lists
-      ≡ lentOf (m .lists .shared) (m′ .lists .lastSent) (m .lists .theirHeads) (m .lists .theirNeed) (m .lists .haves) (m .lists .bytes) (m′ .lists .sent)
+-- bt_plan, over a memory and the message's four buffers.
+pub record PlanMade (table index waiting : List ℕ) (m m′ : Memory) (o o′ : Buffers) (answer : List ℕ) : Type 0 where
+  pub call : PlanAnswered (m .words) (m′ .words) (m .lists) (m′ .lists) table index waiting o o′ answer
   pub bytes : OfBytes (m′ .lists)
 
 -- bt_write_message, over what planning left and the chunks that the host lends for it: the message is what was written, and none after a refusal.
-pub record WriteMade (host : Host) (plan : List ℕ) (o : Out) (answer message : List ℕ) : Type 0 where
+pub record WriteMade (host : Host) (plan : List ℕ) (o : Buffers) (answer message : List ℕ) : Type 0 where
   pub chunks : List ℕ
   pub lengths : List ℕ
   pub lends : chunksFrom chunks 0 lengths ≡ chunksFor host (planIn plan o)
@@ -78,8 +73,8 @@ pub record WriteMade (host : Host) (plan : List ℕ) (o : Out) (answer message :
 
 -- A unit speaks: it plans, and where something is said the message is written.
 pub record Speaks (host : Host) (table index waiting : List ℕ) (m m′ : Memory) (message : List ℕ) : Type 0 where
-  pub out : Out
-  pub out′ : Out
+  pub out : Buffers
+  pub out′ : Buffers
   pub room : RoomyOut out
   pub answer : List ℕ
   pub plans : PlanMade table index waiting m m′ out out′ answer
@@ -102,7 +97,7 @@ pub record Both : Type 0 where
   pub atB : Memory
 
 -- A message was planned and written, and carries these hashes: word 0 of an answer is 0 where nothing is refused, word 1 of a plan's is 2 for a message.
-pub record SaidSo (answer written : List ℕ) (o : Out) (hashes : List ℕ) : Type 0 where
+pub record SaidSo (answer written : List ℕ) (o : Buffers) (hashes : List ℕ) : Type 0 where
   pub planned : getD answer 0 0 ≡ 0
   pub message : getD answer 1 0 ≡ 2
   pub wrote : getD written 0 0 ≡ 0
@@ -191,7 +186,7 @@ module _ (a : List ℕ) (b w u : ℕ → List ℕ) (hosts : ℕ → Host) where
     pub waitsA : (k : ℕ) → Beside A (u k)
     pub waitsB : (k : ℕ) → Beside (B k) (w k)
     pub changes : (k : ℕ) → HostBytes (hosts k)
-    pub out : Out
+    pub out : Buffers
     pub wide : RoomyOut out
     pub buffer : List ℕ
     pub room : sizes .message ≤ length buffer

@@ -12,19 +12,20 @@ use lib.Dec.{eqb}
 use lib.ListN.{length, getD, take}
 use Rattle.call_words.specs.Ties.{Ties}
 use Rattle.session_check.specs.SessionGood.{lentOf}
-use Rattle.walk_hosts.specs.Memory.{OfBytes, Roomy, Fresh, Out}
+use Rattle.walk_hosts.specs.Memory.{OfBytes, Roomy, Fresh}
 use Rattle.message.specs.Message.{total}
 use Rattle.message.specs.Write.{chunksFrom}
 use Rattle.rules.specs.Hash.{Bytes}
 use Rattle.rules.specs.Sizes.{sizes}
 use Rattle.call_words.specs.SessionWords.{flagOf}
 use Rattle.session_state.specs.Value.{Lent}
-use Rattle.walk_sessions.specs.Talk.{Host, chunksFor}
 use Rattle.walk_hosts.specs.Calls.{haveWordsIn, planIn, PlanMade, WriteMade, Hears}
 use Rattle.session_calls.proofs.calls.bt_plan as of-bt-plan
 use Rattle.session_calls.proofs.calls.bt_receive as of-bt-receive
 use Rattle.message_calls.proofs.calls.bt_write_message as of-bt-write-message
 use Rattle.state_calls.proofs.calls.bt_fresh as of-bt-fresh
+use Rattle.session.specs.PlanCall.{Buffers}
+use Rattle.session.specs.Written.{Host, chunksFor}
 
 -- bt_plan, over a host's memory, its tables and its buffers: what it leaves is PlanMade. What slices of bytes hold are bytes.
 abbrev pub PlanSaid : (κs : Lfts (of-bt-plan.ended .signature .lifetimes)) → Args (of-bt-plan.ended .signature) κs → AtExit of-bt-plan.ended κs → Type 0
@@ -52,7 +53,7 @@ abbrev pub WriteSaid : (κs : Lfts (of-bt-write-message.ended .signature .lifeti
 WriteSaid κs
     (version, (heads, (need, (bytes, (haves, (chunks, (lengths, (flags, (out, (answer, _))))))))))
     (_, (_, (_, (_, (_, (_, (_, (_, (out′, (answer′, _)))))))))) =
-    (host : Host) (plan : List ℕ) (o : Out)
+    (host : Host) (plan : List ℕ) (o : Buffers)
     → version ≡ getD plan 2 0
     → now heads ≡ take (sizes .hash * getD plan 5 0) (o .heads)
     → now need ≡ take (sizes .hash * getD plan 6 0) (o .need)

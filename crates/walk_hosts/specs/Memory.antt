@@ -6,6 +6,7 @@ use lib.ListN.{length}
 use Rattle.bloom.specs.Have.{haveWords}
 use Rattle.table_index.specs.Index.{indexChecked}
 use Rattle.session.specs.Kept.{Stays}
+use Rattle.session.specs.PlanCall.{Buffers}
 use Rattle.rules.specs.Hash.{Bytes}
 use Rattle.rules.specs.Sizes.{sizes}
 use Rattle.call_words.specs.SessionWords.{sessionWords, sessionOf}
@@ -14,8 +15,8 @@ use Rattle.session_state.specs.Session.{State}
 use Rattle.session_state.specs.Value.{Lent, countsOf}
 use Rattle.table.specs.Table.{Row}
 use Rattle.table.specs.declared.check.Checked.the-variants.{Good}
-use Rattle.walk_sessions.specs.Talk.{Host}
 use Rattle.waiting.specs.WaitingBytes.{waitingChecked}
+use Rattle.session.specs.Written.{Host}
 
 -- A session as a host keeps it: its sixteen words, and the seven lists that are lent beside them.
 pub record Memory : Type 0 where
@@ -58,15 +59,8 @@ pub record Fresh (m : Memory) : Type 0 where
   pub bytes : OfBytes (m .lists)
   pub room : Roomy (m .lists)
 
--- Four buffers for the parts of a message, with room for what a message may have.
-pub record Out : Type 0 where
-  pub heads : List ℕ
-  pub need : List ℕ
-  pub have : List ℕ
-  pub list : List ℕ
-
 -- Buffers with room for whatever a message may have.
-pub record RoomyOut (o : Out) : Type 0 where
+pub record RoomyOut (o : Buffers) : Type 0 where
   pub heads : sizes .hash * sizes .hashes ≤ length (o .heads)
   pub need : sizes .hash * sizes .hashes ≤ length (o .need)
   pub have : haveRoom ≤ length (o .have)

@@ -5,10 +5,11 @@ use mathlib.Core.Path.{_≡_}
 use Rattle.bloom.specs.Filter.{defaultBits, defaultProbes}
 use Rattle.walk_hosts.specs.Memory.{Tabled}
 use Rattle.table.specs.TableBytes.{tableOf}
-use Rattle.walk_sessions.specs.Talk.{Host, Underway, WalkStated}
+use Rattle.walk_sessions.specs.Talk.{Underway, WalkStated}
 use Rattle.waiting.specs.WaitingBytes.{waitingOf}
 use Rattle.walk.specs.Round.{Part}
 use Rattle.walk_hosts.specs.Calls.{planIn, Both, CallsRound, TalkOfCalls, A, B, W, U}
+use Rattle.session.specs.Written.{Host}
 
 -- What both plan calls of round k put into words and buffers are the plans that `WalkStated` (walk_sessions Talk) holds beside the walk: B's heads, need and haves, A's
 -- reply.

@@ -44,7 +44,7 @@ use Rattle.session.specs.Plan.{
   planned,
   plan,
 }
-use Rattle.session.specs.Receive.{Said, Received, sentFlagged, sentLeft, loads, received, receive, receiveBytes}
+use Rattle.session.specs.Receive.{Said, Received, flagged, sentFlagged, sentLeft, loads, received, receive, receiveBytes}
 use Rattle.session.proofs.GoodLaws.{planned-good, received-good}
 use Rattle.session.proofs.PlanLaws.{
   planned-held,
@@ -63,13 +63,13 @@ use Rattle.table.specs.Table.{Row, held}
 use Rattle.waiting.specs.Waiting.{Waiting}
 use Rattle.walk.specs.Round.{Part, trim}
 use Rattle.wire.specs.Item.{prefixedBytes}
-use Rattle.walk_sessions.specs.Talk.{Host, chunksFor, messageFor}
 use Rattle.walk_sessions.proofs.Asks.{body-heard}
-use Rattle.walk_sessions.proofs.Message.{heardHaves, heardSaid, heard-selects}
+use Rattle.walk_sessions.proofs.Message.{heard-selects}
 use Rattle.walk_sessions.proofs.Sides.{Fixed, SideA, Going, not-same, heads-apart}
 use Rattle.walk_sessions.proofs.Small.{mostWords}
 use Rattle.walk_sessions.proofs.Spoken.{plain-writes, plain-keeps, Hears, hears-as, Spoken, spoken}
 use Rattle.walk_sessions.proofs.Waits.{rows-few}
+use Rattle.session.specs.Written.{Host, chunksFor, messageFor, heardHaves, heardSaid}
 
 or-swap : (x y : Bool) → (x || y) ≡ (y || x)
 or-swap true true = refl
@@ -152,27 +152,27 @@ module _ (bits probes : ℕ) (A b : List Row) (u : List Waiting) (k : ℕ) (T : 
     mid-good = received-good (length A) A a m (fixed .sound .are) (inv .good) (hm .sound) true mid taking
 
     mid-writes : mid .readOnly ≡ false
-    unfolding received
+    unfolding received flagged
     mid-writes = inv .writes
 
     mid-keeps : mid .needsReset ≡ false
-    unfolding received
+    unfolding received flagged
     mid-keeps = inv .keeps
 
     mid-peer : mid .peerReadOnly ≡ false
-    unfolding received
+    unfolding received flagged
     mid-peer = rw (hm .flags-are) plain-writes
 
     mid-v2 : mid .supportsV2 ≡ true
-    unfolding received
+    unfolding received flagged
     mid-v2 = rw (hm .flags-are)
 
     mid-lands : mid .inFlight ≡ false
-    unfolding received
+    unfolding received flagged
     mid-lands = refl
 
     mid-responded : mid .haveResponded ≡ a .haveResponded
-    unfolding received
+    unfolding received flagged
     mid-responded = refl
 
     mid-heads : mid .theirHeads ≡ some (heads b)

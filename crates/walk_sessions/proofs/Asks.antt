@@ -51,11 +51,10 @@ use Rattle.table.specs.Table.{Row, held}
 use Rattle.waiting.specs.Waiting.{Waiting}
 use Rattle.walk.specs.Round.{Covers}
 use Rattle.walk.specs.Walk.{heardIn}
-use Rattle.walk_sessions.specs.Talk.{Host, messageFor}
-use Rattle.walk_sessions.proofs.Message.{heardHave, heardHaves, heardSaid}
 use Rattle.walk_sessions.proofs.Sides.{Fixed, Heard, nothing, said, SideB, Going, not-same, heads-apart}
 use Rattle.walk_sessions.proofs.Spoken.{Hears, Spoken, spoken}
 use Rattle.walk_sessions.proofs.Waits.{part-sound, part-few, missing-sound}
+use Rattle.session.specs.Written.{Host, messageFor, heardHave, heardHaves, heardSaid}
 
 -- ---- pieces of a plan
 

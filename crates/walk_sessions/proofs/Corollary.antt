@@ -15,8 +15,9 @@ use Rattle.waiting.specs.Waiting.{Waiting}
 use Rattle.walk.proofs.Theorem1.{theorem-1}
 use Rattle.walk.proofs.Walk01.{walk01-walks}
 use Rattle.walk.specs.Walk.{Demand3, Walk, holdsAll, lacking}
-use Rattle.walk_sessions.specs.Talk.{Host, pairAt, Reached, Granted, Underway, Tables, Ended, Corollary}
+use Rattle.walk_sessions.specs.Talk.{pairAt, Reached, Granted, Underway, Tables, Ended, Corollary}
 use Rattle.walk_sessions.proofs.Talk.{Standing, reached-going, inside-standing, next, statement-2}
+use Rattle.session.specs.Written.{Host}
 
 module _ (bits probes : ℕ) (A : List Row) (B : ℕ → List Row) (W U : ℕ → List Waiting) (hosts : ℕ → Host) (tables : Tables bits probes A B W U hosts)
     (all : (k : ℕ) → Reached bits probes A B W U hosts k → Granted bits probes A B W U hosts k) where

@@ -1,41 +1,35 @@
 -- What is heard of a plan whose message crosses as bytes: all that it says, but a filter over no rows, which is written as no bytes, is heard as the
 -- default. Nobody sees the difference, since such a filter contains nothing. Assumes nothing.
 use Prim.Native.Nat.{ℕ, suc, _≤_, _<_}
-use mathlib.Core.Bool.{Bool, true, false, cond, not, _&&_}
+use mathlib.Core.Bool.{Bool, true, false, not, _&&_}
 use mathlib.Core.List.{List, [], _∷_}
 use mathlib.Core.Path.{_≡_, refl, sym, ap, ap₂, _∙_, fun-ext}
 use native.Mathlib.Omega.{arith}
 use borrow.Author.Tests.{eqb-false, ltb-true, ltb-false}
 use lib.Dec.{eqb, ltb}
-use lib.ListN.{length, length-map}
+use lib.ListN.{length}
 use Rattle.bloom.proofs.Rules.{rules-none}
 use Rattle.bloom.specs.Filter.{Filter, filterOf4, filterBytes, defaultBits, defaultProbes}
 use Rattle.bloom.specs.Have.{Have}
 use Rattle.message_read.proofs.RoundTrip.{message-there-and-back}
 use Rattle.table_graph.specs.Graph.{belowRow}
 use Rattle.session.proofs.ReceiveLaws.{bytes-read}
-use Rattle.session.specs.Receive.{Said, someChunk, saidIn, carries, receive, receiveBytes}
+use Rattle.session.specs.Receive.{saidIn, receive, receiveBytes}
 use Rattle.send_members.specs.Internal.Members.{lastSyncs, filters, candidate, missed, inTheS, theS}
 use Rattle.message.specs.Message.{Message, joined, counted, haveBytes, messageBytes}
-use Rattle.message.specs.Sound.{Each, SoundHave, SoundMessage, SaidFilter, SaidHave}
-use Rattle.message.specs.declared.flags.Section.the-variants.{Present}
-use Rattle.message.specs.declared.version.MessageVersion.the-variants.{V1, V2}
-use Rattle.message.specs.declared.version.MessageVersion.{MessageVersion}
+use Rattle.message.specs.Sound.{Each, SoundHave, SoundMessage, FilterReadsBack, HaveReadsBack}
 use Rattle.hash_order.specs.Order.{member}
 use Rattle.hash_order.specs.Reach.{reach}
 use Rattle.bloom_probe.specs.Contains.{contains, anyContains}
 use Rattle.rules.proofs.Cases.{split}
-use Rattle.rules.specs.Sizes.{sizes}
 use Rattle.send.specs.ToSend.{toSend, toSendLess}
-use Rattle.session.specs.Plan.{Plan, listOf, empty}
+use Rattle.session.specs.Plan.{Plan}
 use Rattle.session_state.specs.Session.{State}
 use Rattle.table.specs.Table.{Row, hashOf, depsOf, rowsWhere}
-use Rattle.walk_sessions.specs.Talk.{Host, listChunks, chunksFor, messageFor}
+use Rattle.session.specs.Written.{Host, messageFor, heardFilter, heardHave, heardHaves, heardSaid}
+use Rattle.session.proofs.WrittenLaws.{chunks-carried}
 
 -- ---- filters over no rows
-
-unfoldable pub heardFilter : Filter → Filter
-heardFilter f = cond (eqb (f .entries) 0) (filterOf4 0 defaultBits defaultProbes []) f
 
 heard-default : (f : Filter) → eqb (f .entries) 0 ≡ true → heardFilter f ≡ filterOf4 0 defaultBits defaultProbes []
 unfolding heardFilter
@@ -44,13 +38,6 @@ heard-default f e = rw e
 heard-same : (f : Filter) → eqb (f .entries) 0 ≡ false → heardFilter f ≡ f
 unfolding heardFilter
 heard-same f e = rw e
-
-abbrev pub heardHave : Have → Have
-heardHave v = record { lastSync = v .lastSync; filter = heardFilter (v .filter) }
-
-unfoldable pub heardHaves : List Have → List Have
-heardHaves [] = []
-heardHaves (v ∷ vs) = heardHave v ∷ heardHaves vs
 
 -- it contains what was in it
 pub heard-contains : (f : Filter) (h : ℕ) → contains (heardFilter f) h ≡ contains f h
@@ -64,11 +51,11 @@ heard-filter-bytes f = split (eqb (f .entries) 0) (λ e. rw (heard-default f e, 
 pub some-entries : (n : ℕ) → eqb n 0 ≡ false → 0 < n
 some-entries n e = let d = eqb-false n 0 e in split (ltb 0 n) (λ a. ltb-true 0 n a) (λ a. absurd (d (omega (arith, ltb-false 0 n a))))
 
-heard-said : (f : Filter) → SaidFilter (heardFilter f)
+heard-said : (f : Filter) → FilterReadsBack (heardFilter f)
 heard-said f =
     split (eqb (f .entries) 0)
-    (λ e. rw (heard-default f e) (SaidFilter.default refl))
-    (λ e. rw (heard-same f e) (SaidFilter.entries (some-entries (f .entries) e)))
+    (λ e. rw (heard-default f e) (FilterReadsBack.default refl))
+    (λ e. rw (heard-same f e) (FilterReadsBack.entries (some-entries (f .entries) e)))
 
 heard-sound : (v : Have) → SoundHave v → SoundHave (heardHave v)
 heard-sound v s =
@@ -106,7 +93,7 @@ pub heard-bytes : (m : Message) → messageBytes (heardMessage m) ≡ messageByt
 unfolding messageBytes counted
 heard-bytes m = rw (length-heard (m .haves), heard-joined (m .haves))
 
-all-said : (vs : List Have) → Each SaidHave (heardHaves vs)
+all-said : (vs : List Have) → Each HaveReadsBack (heardHaves vs)
 unfolding Each heardHaves
 all-said [] = tt
 all-said (v ∷ vs) = (heard-said (v .filter), all-said vs)
@@ -127,53 +114,7 @@ message-sound m s =
       size = rw (heard-bytes m) (s .size);
     }
 
--- ---- chunks
-
--- there are chunks exactly if the body is the document or names a hash, in both versions
-list-chunks : (host : Host) (v : MessageVersion) (l : List ℕ) → someChunk (listChunks host v l) ≡ not (empty l)
-unfolding listChunks
-list-chunks host V1 [] = refl
-list-chunks host V1 (h ∷ hs) = refl
-list-chunks host V2 [] = refl
-list-chunks host V2 (h ∷ hs) = refl
-
-pub chunks-carried : (host : Host) (p : Plan) → someChunk (chunksFor host p) ≡ carries (p .body)
-unfolding chunksFor
-chunks-carried host p = split (p .body .document) (λ e. rw e) (λ e. rw e (list-chunks host (p .version) (p .body .hashes)))
-
-no-list : (host : Host) (v : MessageVersion) → listChunks host v [] ≡ []
-unfolding listChunks
-no-list host V1 = refl
-no-list host V2 = refl
-
--- nothing is carried in no chunk
-pub no-chunks : (host : Host) (p : Plan) → p .body ≡ listOf [] → chunksFor host p ≡ []
-unfolding chunksFor
-no-chunks host p e = rw e (no-list host (p .version))
-
-few-listed : (host : Host) (v : MessageVersion) (l : List ℕ) → length l ≤ sizes .hashesToSend → length (listChunks host v l) ≤ sizes .chunks
-unfolding listChunks
-few-listed host V1 l h = rw (length-map l (host .change)) (omega (arith, h))
-few-listed host V2 [] h = omega arith
-few-listed host V2 (x ∷ xs) h = omega arith
-
--- no more chunks than a message may have
-pub chunks-few : (host : Host) (p : Plan) → length (p .body .hashes) ≤ sizes .hashesToSend → length (chunksFor host p) ≤ sizes .chunks
-unfolding chunksFor
-chunks-few host p h =
-    split (p .body .document) (λ e. rw e (omega arith)) (λ e. rw e (few-listed host (p .version) (p .body .hashes) h))
-
 -- ---- what is heard of a plan
-
-unfoldable pub heardSaid : Plan → Said
-heardSaid p =
-    record {
-      heads = p .heads;
-      need = p .need;
-      haves = heardHaves (p .haves);
-      flags = Present (p .flags);
-      chunks = carries (p .body);
-    }
 
 said-heard : (host : Host) (p : Plan) → saidIn (heardMessage (messageFor host p)) ≡ heardSaid p
 unfolding saidIn messageFor heardSaid

@@ -14,7 +14,7 @@ use Rattle.table_graph.specs.Graph.{heads, below, beyond}
 use Rattle.session.proofs.GoodLaws.{received-good}
 use Rattle.session.proofs.ReceiveLaws.{join-members, join-ascends, advance-members, shared-taken, shared-joined, left-inside, receive-is}
 use Rattle.session.specs.GoodState.{GoodState}
-use Rattle.session.specs.Receive.{Said, Received, sharedLoaded, sharedAfter, sentLeft, join, loads, received, receive}
+use Rattle.session.specs.Receive.{Said, Received, flagged, sharedLoaded, sharedAfter, sentLeft, join, loads, received, receive}
 use Rattle.hash_order.proofs.KeepLaws.{no-members, every-member}
 use Rattle.hash_order.proofs.OrderLaws.{member-none}
 use Rattle.hash_order.specs.Order.{member, every}
@@ -28,10 +28,11 @@ use Rattle.table.specs.Table.{Row, held}
 use Rattle.waiting.specs.Waiting.{Waiting}
 use Rattle.walk.proofs.Parts.{part-itself, below-heads, below-there}
 use Rattle.walk.specs.Round.{Part, Covers}
-use Rattle.walk_sessions.proofs.Message.{heardHave, heardHaves, heard-contains}
+use Rattle.walk_sessions.proofs.Message.{heard-contains}
 use Rattle.walk_sessions.proofs.Sides.{Fixed, said, SideB}
 use Rattle.walk_sessions.proofs.Spoken.{plain-writes, Hears}
 use Rattle.walk_sessions.proofs.Waits.{Waits, rows-few, part-sound}
+use Rattle.session.specs.Written.{heardHave, heardHaves}
 
 -- B's table b and what waits there become b′ and w′; s is its session before the round, and m is what it hears of A
 module _ (A b : List Row) (w : List Waiting) (b′ : List Row) (w′ : List Waiting) (k : ℕ) (s : State) (m : Said) where
@@ -136,7 +137,7 @@ module _ (A b : List Row) (w : List Waiting) (b′ : List Row) (w′ : List Wait
     sent-none = no-members (sentLeft b′ asking m) (λ h e. member-none h (rw asking-sent at (left-inside b′ asking m h e)))
 
     stands : SideB A b′ w′ (suc k) end
-    unfolding received planned
+    unfolding received flagged planned
     stands =
         record {
           part = part′;

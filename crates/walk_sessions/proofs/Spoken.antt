@@ -12,7 +12,7 @@ use Rattle.table_graph.specs.Graph.{heads, beyond}
 use Rattle.session.proofs.GoodLaws.{heads-sound, body-few}
 use Rattle.session.specs.GoodState.{SoundTable, SoundHaves, GoodState, SoundSaid}
 use Rattle.session.specs.Receive.{Said, receive, receiveBytes}
-use Rattle.message.specs.Flags.{syncReset, readOnly, hasFlag}
+use Rattle.message.specs.Flags.{syncReset, readOnlyFlag, hasFlag}
 use Rattle.message.specs.Message.{counted, messageBytes}
 use Rattle.message.specs.Sound.{Each, SoundHashes, SoundHave, SoundMessage}
 use Rattle.message.specs.declared.flags.MessageFlags.{MessageFlags}
@@ -29,16 +29,17 @@ use Rattle.session_state.specs.Session.{State}
 use Rattle.table.specs.Table.{Row}
 use Rattle.waiting.specs.Waiting.{Waiting}
 use Rattle.wire.specs.Item.{prefixedBytes}
-use Rattle.walk_sessions.specs.Talk.{Host, chunksFor, messageFor}
-use Rattle.walk_sessions.proofs.Message.{heardHaves, all-sound, length-heard, chunks-few, no-chunks, heardSaid, crosses}
+use Rattle.walk_sessions.proofs.Message.{all-sound, length-heard, crosses}
 use Rattle.walk_sessions.proofs.Sides.{Fixed}
 use Rattle.walk_sessions.proofs.Small.{mostWords, message-fits, no-chunk-small}
+use Rattle.session.specs.Written.{Host, chunksFor, messageFor, heardHaves, heardSaid}
+use Rattle.session.proofs.WrittenLaws.{chunks-few, no-chunks}
 
 -- Flags that say neither read-only nor reset.
 abbrev pub plainFlags : MessageFlags
 plainFlags = flagsFor false false
 
-pub plain-writes : hasFlag plainFlags readOnly ≡ false
+pub plain-writes : hasFlag plainFlags readOnlyFlag ≡ false
 unfolding flagsFor
 plain-writes = refl
 

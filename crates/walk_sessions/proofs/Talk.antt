@@ -13,7 +13,7 @@ use Rattle.bloom.specs.Have.{Have}
 use Rattle.table_graph.proofs.BelowLaws.{beyond-few}
 use Rattle.table_graph.specs.Graph.{heads, beyond}
 use Rattle.session.proofs.GoodLaws.{fresh-good}
-use Rattle.session.specs.Receive.{Said, Received, sharedAfter, received, receiveBytes}
+use Rattle.session.specs.Receive.{Said, Received, left, sharedAfter, received, receiveBytes}
 use Rattle.message.specs.Message.{counted, messageBytes}
 use Rattle.message.specs.declared.version.MessageVersion.{MessageVersion}
 use Rattle.waiting_missing.specs.Missing.{missing}
@@ -30,36 +30,14 @@ use Rattle.walk.proofs.Walk01.{walk01-walks}
 use Rattle.walk.specs.Round.{Part, Loads, trim}
 use Rattle.walk.specs.Walk.{At, accepted, Walk01, heardIn}
 use Rattle.wire.specs.Item.{prefixedBytes}
-use Rattle.walk_sessions.specs.Talk.{
-  Host,
-  listChunks,
-  chunksFor,
-  messageFor,
-  bytesFor,
-  goes,
-  left,
-  Pair,
-  asked,
-  toA,
-  answered,
-  toB,
-  pairAt,
-  carried,
-  Reached,
-  Granted,
-  Underway,
-  Tables,
-  Agrees,
-  Statement2,
-  Theorem2,
-}
+use Rattle.walk_sessions.specs.Talk.{bytesFor, goes, Pair, asked, toA, answered, toB, pairAt, carried, Reached, Granted, Underway, Tables, Agrees, Statement2, Theorem2, }
 use Rattle.walk_sessions.proofs.Answers.{Answers, answers}
 use Rattle.walk_sessions.proofs.Asks.{Asks, asks}
-use Rattle.walk_sessions.proofs.Message.{heardSaid}
 use Rattle.walk_sessions.proofs.Returns.{Returns, returns}
 use Rattle.walk_sessions.proofs.Sides.{Fixed, nothing, SideA, SideB, Going}
 use Rattle.walk_sessions.proofs.Small.{mostWords}
 use Rattle.walk_sessions.proofs.Waits.{waits-none, loads-longer, loads-waits, part-few}
+use Rattle.session.specs.Written.{Host, listChunks, chunksFor, messageFor, heardSaid}
 
 -- 10 bits and 7 probes may be set
 pub default-setting : (A : List Row) → length A ≤ sizes .rows
@@ -191,7 +169,7 @@ module _ (bits probes : ℕ) (A : List Row) (B : ℕ → List Row) (W U : ℕ �
 
     answered-is : answered bits probes A B W U hosts k (pair k) ≡ Planned.says reply (planned A mid)
     unfolding answered
-    answered-is = ap (λ (r : Received). plan bits probes A (U k) (left r)) toA-is ∙ answering .says
+    answered-is = ap (λ (r : Received). plan bits probes A (U k) (left r a)) toA-is ∙ answering .says
 
     document-is : bodyOf A mid .document ≡ reply .body .document
     document-is = ap (λ (x : Body). x .document) (sym (answering .body-is))
@@ -314,11 +292,11 @@ module _ (bits probes : ℕ) (A : List Row) (B : ℕ → List Row) (W U : ℕ �
 
       a-is : pair (suc k) .atA ≡ planned A mid
       unfolding pairAt
-      a-is = ap (λ (p : Planned). after p (left (toA bits probes A B W U hosts k (pair k)))) answered-is
+      a-is = ap (λ (p : Planned). after p (left (toA bits probes A B W U hosts k (pair k)) a)) answered-is
 
       b-is : pair (suc k) .atB ≡ end
       unfolding pairAt
-      b-is = ap left toB-is
+      b-is = ap (λ (r : Received). left r (after (asked bits probes A B W U hosts k (pair k)) b)) toB-is
 
       asks-none : goes (asked bits probes A B W U hosts k (pair k)) ≡ []
       unfolding goes

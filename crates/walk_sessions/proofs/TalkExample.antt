@@ -33,11 +33,12 @@ use Rattle.walk.proofs.Example.{a, b, c, one, three, cWaits, only, good-three, 
 use Rattle.walk.specs.Round.{Loads, trim}
 use Rattle.walk.specs.Walk.{heardIn, holdsAll, lacking}
 use Rattle.wire.specs.Item.{prefixedBytes}
-use Rattle.walk_sessions.specs.Talk.{Host, listChunks, pairAt, Reached, Granted, Tables, Ended}
+use Rattle.walk_sessions.specs.Talk.{pairAt, Reached, Granted, Tables, Ended}
 use Rattle.walk_sessions.proofs.Corollary.{corollary}
 use Rattle.walk_sessions.proofs.Sides.{Going}
 use Rattle.walk_sessions.proofs.Small.{mostWords}
 use Rattle.walk_sessions.proofs.Talk.{default-setting, Standing, start, start-sent, next, next-sent, next-shared, reply-heads, round-granted}
+use Rattle.session.specs.Written.{Host, listChunks}
 
 -- ---- what the hosts have
 

@@ -2,17 +2,15 @@
 -- haves and replies until B holds A. The steps are those that the calls are proved equal to (session Plan, session Receive), and bytes pass between them:
 -- what is heard is the reading of what was written.
 use Prim.Native.Nat.{ℕ, zero, suc, _≤_, _<_}
-use mathlib.Core.Bool.{true, false, cond, not, _&&_}
-use mathlib.Core.List.{List, [], _∷_, _++_, map}
+use mathlib.Core.Bool.{true, false, not, _&&_}
+use mathlib.Core.List.{List, [], _++_}
 use mathlib.Core.Path.{_≡_}
 use lib.ListN.{length}
 use Rattle.bloom.specs.Filter.{filterRules, fieldSize}
 use Rattle.table_graph.specs.Graph.{heads}
-use Rattle.session.specs.Receive.{Received, receiveBytes}
-use Rattle.message.specs.Message.{Message, messageBytes, joined}
-use Rattle.message.specs.declared.flags.Section.the-variants.{Present}
-use Rattle.message.specs.declared.version.MessageVersion.the-variants.{V1, V2}
-use Rattle.message.specs.declared.version.MessageVersion.{MessageVersion}
+use Rattle.session.specs.Receive.{Received, left, receiveBytes}
+use Rattle.session.specs.Written.{Host, messageFor}
+use Rattle.message.specs.Message.{messageBytes}
 use Rattle.waiting_missing.specs.Missing.{missing}
 use Rattle.hash_order.specs.Order.{member}
 use Rattle.rules.specs.Hash.{AreHashes}
@@ -24,33 +22,6 @@ use Rattle.table.specs.Table.{Row, GoodTable, rows, held}
 use Rattle.waiting.specs.Waiting.{Waiting}
 use Rattle.walk.specs.Round.{Part, Loads, trim}
 use Rattle.walk.specs.Walk.{At, Walk01, heardIn, holdsAll, lacking}
-
--- What the host lends: the bytes of a change by its hash, and those of the whole document.
-pub record Host : Type 0 where
-  pub change : ℕ → List ℕ
-  pub document : List ℕ
-
--- The chunks of a list: in V1 one a change; in V2 all in one, and none for no change.
-unfoldable pub listChunks : Host → MessageVersion → List ℕ → List (List ℕ)
-listChunks host V1 hashes = map (host .change) hashes
-listChunks host V2 [] = []
-listChunks host V2 (h ∷ hs) = joined (host .change) (h ∷ hs) ∷ []
-
--- The chunks of a message: the whole document, or those of a list.
-unfoldable pub chunksFor : Host → Plan → List (List ℕ)
-chunksFor host p = cond (p .body .document) (host .document ∷ []) (listChunks host (p .version) (p .body .hashes))
-
--- The message that is written for a plan.
-unfoldable pub messageFor : Host → Plan → Message
-messageFor host p =
-    record {
-      version = p .version;
-      heads = p .heads;
-      need = p .need;
-      haves = p .haves;
-      chunks = chunksFor host p;
-      flags = Present (p .flags);
-    }
 
 -- The bytes that go across: none where nothing is said.
 unfoldable pub bytesFor : Host → Planned → List ℕ
@@ -65,11 +36,6 @@ goes (Planned.refused r) = []
 goes Planned.silent = []
 goes (Planned.reset p) = []
 goes (Planned.says p s) = p .body .hashes
-
--- The session after a message, or what a refusal left of it.
-abbrev pub left : Received → State
-left (Received.took s) = s
-left (Received.refused r s) = s
 
 -- The hosts: B's tables before each round and what waits beside them, what waits beside A (of no account), and what is lent for each round's messages.
 module _ (bits probes : ℕ) (A : List Row) (B : ℕ → List Row) (W U : ℕ → List Waiting) (hosts : ℕ → Host) where
@@ -87,7 +53,7 @@ module _ (bits probes : ℕ) (A : List Row) (B : ℕ → List Row) (W U : ℕ �
 
   -- A answers.
   unfoldable pub answered : ℕ → Pair → Planned
-  answered k x = plan bits probes A (U k) (left (toA k x))
+  answered k x = plan bits probes A (U k) (left (toA k x) (x .atA))
 
   -- B hears the answer, beside its table after loading.
   unfoldable pub toB : ℕ → Pair → Received
@@ -96,7 +62,11 @@ module _ (bits probes : ℕ) (A : List Row) (B : ℕ → List Row) (W U : ℕ �
   -- Both sessions before round k.
   unfoldable pub pairAt : ℕ → Pair
   pairAt zero = record { atA = fresh; atB = fresh }
-  pairAt (suc k) = record { atA = after (answered k (pairAt k)) (left (toA k (pairAt k))); atB = left (toB k (pairAt k)) }
+  pairAt (suc k) =
+      record {
+        atA = after (answered k (pairAt k)) (left (toA k (pairAt k)) (pairAt k .atA));
+        atB = left (toB k (pairAt k)) (after (asked k (pairAt k)) (pairAt k .atB));
+      }
 
   -- All hashes that the first k rounds' messages carry.
   unfoldable pub carried : ℕ → List ℕ

@@ -41,7 +41,7 @@ pub record NeedRoom (asked room : ℕ) : Type 0 where
   pub there : sizes .hash * asked ≤ room
 
 -- What the call ensures, whatever waits, if this is what is asked for then.
-pub record AskedCalled (bits probes : ℕ) (s : Session) (t : List Row) (l : Lent) (ready : List ℕ) (asked : ℕ) (before after : Buffers) (r : PlanAnswer) : Type 0
+pub record AskedCalled (bits probes : ℕ) (s : Session) (t : List Row) (l l′ : Lent) (ready : List ℕ) (asked : ℕ) (before after : Buffers) (r : PlanAnswer) : Type 0
   where
     pub called : (w : List Waiting) → FoundUpTo (needOf t w (s .«read_only») (heard (stateOf s l .theirHeads))) (sizes .hashes + 1) ready asked
-        → PlanCalled s (plan bits probes t w (stateOf s l)) before after r
+        → PlanCalled (plan bits probes t w (stateOf s l)) l l′ before after r

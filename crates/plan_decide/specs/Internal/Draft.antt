@@ -1,6 +1,6 @@
 -- What internal contracts speak of: numbers of a plan before it is decided, and what stands ready to be put. No rule of 01 stands here.
 use Prim.Native.Nat.{ℕ, _+_, _*_, _≤_}
-use mathlib.Core.Bool.{Bool, false, cond, _&&_, not}
+use mathlib.Core.Bool.{Bool, true, false, cond, _&&_, not}
 use mathlib.Core.List.{List}
 use lib.Dec.{ltb}
 use lib.ListN.{length, take}
@@ -11,16 +11,15 @@ use Rattle.bloom.specs.declared.have.FilterNumbers.{FilterNumbers}
 use Rattle.message.specs.Flags.{flagsOf, supportsSyncReset}
 use Rattle.message.specs.declared.version.MessageVersion.the-variants.{V1}
 use Rattle.leb128.specs.Number.{mostFilter}
-use Rattle.session.specs.PlanCall.{Buffers, messageRoom, sessionRoom, plannedCounts}
+use Rattle.session.specs.PlanCall.{messageRoom, sessionRoom}
+use Rattle.session.specs.Rooms.{ifRoom}
 use Rattle.session.specs.declared.plan_answer.PlanAnswer.{PlanAnswer}
 use Rattle.session.specs.declared.plan_answer.PlanAnswer.the-variants.{Refused, Silent, Reset, Says}
-use Rattle.session.specs.declared.plan_answer.Room.{Room}
-use Rattle.session.specs.declared.plan_answer.Room.the-variants.{Enough, Short}
 use Rattle.session.specs.declared.plan_answer.Rooms.{Rooms}
 use Rattle.session.specs.declared.plan_answer.Stated.{Stated}
 use Rattle.rules.specs.Hash.{hashesAt, hashesBytes}
 use Rattle.rules.specs.Sizes.{sizes}
-use Rattle.rules.specs.declared.refusal.Refusal.the-variants.{PastSize, NoRoom}
+use Rattle.rules.specs.declared.refusal.Refusal.the-variants.{PastSize}
 use Rattle.session.specs.Plan.{versionFor, flagsFor}
 use Rattle.session_state.specs.declared.session.Session.{Session}
 use Rattle.plan_decide.specs.declared.decide.Draft.{Draft}
@@ -90,16 +89,30 @@ resetStated heads =
       hashes = 0;
     }
 
--- An answer where there is room, else 7.
-unfoldable pub ifRoom : Room → PlanAnswer → PlanAnswer
-ifRoom Enough a = a
-ifRoom (Short wanted) a = Refused (NoRoom wanted)
+-- The counts of the session after a message: how many heads were sent last, the unit's own even where the message has none, and how many hashes are sent.
+abbrev pub plannedCounts : Session → ℕ → ℕ → Session
+plannedCounts s lastSent sent =
+    record {
+      «shared_heads» = s .«shared_heads»;
+      «last_sent_heads» = lastSent;
+      «their_heads» = s .«their_heads»;
+      «their_need» = s .«their_need»;
+      «their_have» = s .«their_have»;
+      «sent_hashes» = sent;
+      «in_flight» = true;
+      «have_responded» = true;
+      «supports_v2» = s .«supports_v2»;
+      «supports_reset» = s .«supports_reset»;
+      «read_only» = s .«read_only»;
+      «peer_read_only» = s .«peer_read_only»;
+      «needs_reset» = false;
+    }
 
 -- The message, where there is room.
 unfoldable pub saysWith : Session → Draft → ℕ → ℕ → Rooms → PlanAnswer
 saysWith s d bits probes r =
-    ifRoom (messageRoom (drafted s d bits probes) r)
-    (ifRoom (sessionRoom (d .heads) (d .sent) r) (Says (drafted s d bits probes) (plannedCounts s (d .heads) (d .sent))))
+    ifRoom Refused (messageRoom (drafted s d bits probes) r)
+    (ifRoom Refused (sessionRoom (d .heads) (d .sent) r) (Says (drafted s d bits probes) (plannedCounts s (d .heads) (d .sent))))
 
 -- What is decided from the numbers, in the order of the refusals.
 unfoldable pub decided : Session → Draft → ℕ → ℕ → Rooms → PlanAnswer
@@ -107,7 +120,7 @@ decided s d bits probes r =
     cond (ltb (sizes .hashes) (d .need))
     (Refused (PastSize 0))
     (cond (d .unknown)
-    (ifRoom (messageRoom (resetStated (d .heads)) r) (Reset (resetStated (d .heads))))
+    (ifRoom Refused (messageRoom (resetStated (d .heads)) r) (Reset (resetStated (d .heads))))
     (cond (d .silent)
     Silent
     (cond (ltb (sizes .sentHashes) (d .sent)) (Refused (PastSize 0)) (saysWith s d bits probes r))))
@@ -127,6 +140,32 @@ pub record PlanParts : Type 0 where
 abbrev pub planParts : List ℕ → List ℕ → List ℕ → List ℕ → List ℕ → List ℕ → PlanParts
 planParts heads need shared field list sent =
     record { heads = heads; need = need; shared = shared; field = field; list = list; sent = sent }
+
+-- The lent lists, in the order in which room is asked for.
+pub record PutLists : Type 0 where
+  pub heads : List ℕ
+  pub need : List ℕ
+  pub have : List ℕ
+  pub list : List ℕ
+  pub lastSent : List ℕ
+  pub sent : List ℕ
+
+-- The lent lists, in the order in which they are lent.
+abbrev pub putLists : List ℕ → List ℕ → List ℕ → List ℕ → List ℕ → List ℕ → PutLists
+putLists heads need have list lastSent sent =
+    record { heads = heads; need = need; have = have; list = list; lastSent = lastSent; sent = sent }
+
+-- How long they are.
+abbrev pub putRooms : PutLists → Rooms
+putRooms b =
+    record {
+      heads = length (b .heads);
+      need = length (b .need);
+      have = length (b .have);
+      list = length (b .list);
+      «last_sent» = length (b .lastSent);
+      sent = length (b .sent);
+    }
 
 -- Nothing put.
 abbrev pub noPuts : Puts
@@ -164,7 +203,7 @@ pub record HaveFits (n : ℕ) (shared : List ℕ) (size : ℕ) (field buffer : L
   pub room : sizes .hash * n + size ≤ length buffer
 
 -- All that is put is there, and has room.
-pub record Fits (p : Puts) (ready : PlanParts) (b : Buffers) : Type 0 where
+pub record Fits (p : Puts) (ready : PlanParts) (b : PutLists) : Type 0 where
   pub heads : HashesFit (p .heads) (ready .heads) (b .heads)
   pub need : HashesFit (p .need) (ready .need) (b .need)
   pub have : HaveFits (p .syncs) (ready .shared) (p .field) (ready .field) (b .have)
@@ -181,7 +220,7 @@ abbrev pub havePut : ℕ → List ℕ → ℕ → List ℕ → List ℕ → List
 havePut n shared size field buffer = sets (startPut n shared buffer) (sizes .hash * n) (take size field)
 
 -- All of it put.
-abbrev pub allPut : Puts → PlanParts → Buffers → Buffers
+abbrev pub allPut : Puts → PlanParts → PutLists → PutLists
 allPut p ready b =
     record {
       heads = startPut (p .heads) (ready .heads) (b .heads);

@@ -7,7 +7,7 @@ use mathlib.Core.Path.{_≡_}
 use lib.Dec.{eqb}
 use lib.ListN.{length}
 use Rattle.bloom.specs.Filter.{fieldSize}
-use Rattle.plan_decide.specs.Internal.Draft.{PlanParts, decided, putsOf, allPut}
+use Rattle.plan_decide.specs.Internal.Draft.{PutLists, putRooms, PlanParts, decided, putsOf, allPut}
 use Rattle.plan_decide.specs.declared.decide.Draft.{Draft}
 use Rattle.table_graph.specs.Graph.{needed, heads, beyond}
 use Rattle.table_graph.specs.Internal.Marks.{Marks, Blank, marked}
@@ -15,7 +15,6 @@ use Rattle.table_index.specs.Index.{Indexed}
 use Rattle.session_check.specs.SessionGood.{heardGood, havesGood, lentOf}
 use Rattle.hash_lists.specs.Internal.Lists.{same}
 use Rattle.hash_order.specs.Order.{member, every, ascend, ascends}
-use Rattle.session.specs.PlanCall.{Buffers, plannedRooms}
 use Rattle.session.specs.declared.plan_answer.PlanAnswer.{PlanAnswer}
 use Rattle.plan_parts.specs.Internal.PlanParts.{FieldMade, BlankBody, BodyChosen}
 use Rattle.plan_parts.specs.declared.body.BodyCount.{BodyCount}
@@ -156,6 +155,6 @@ pub record Long (s : Session) (d : Draft) (bits : ℕ) (ready : PlanParts) : Typ
   pub sent : sizes .hash * d .sent ≤ length (ready .sent)
 
 -- What was decided, and all buffers with it put.
-pub record Finished (s : Session) (d : Draft) (bits probes : ℕ) (ready : PlanParts) (before after : Buffers) (a : PlanAnswer) : Type 0 where
-  pub answer : a ≡ decided s d bits probes (plannedRooms before)
+pub record Finished (s : Session) (d : Draft) (bits probes : ℕ) (ready : PlanParts) (before after : PutLists) (a : PlanAnswer) : Type 0 where
+  pub answer : a ≡ decided s d bits probes (putRooms before)
   pub buffers : after ≡ allPut (putsOf a) ready before

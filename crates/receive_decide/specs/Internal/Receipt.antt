@@ -8,8 +8,11 @@ use lib.ListN.{length, take}
 use lib.Seq.{sets, slice}
 use Rattle.bloom.specs.Have.{haveWords, havesOf}
 use Rattle.rules.specs.Sizes.{sizes}
-use Rattle.rules.specs.declared.refusal.Refusal.the-variants.{PastSize, NoRoom}
+use Rattle.rules.specs.declared.refusal.Refusal.the-variants.{PastSize}
 use Rattle.session.specs.Laid.{laidBytes, laidWords}
+use Rattle.session.specs.Rooms.{orShort, ifRoom}
+use Rattle.session.specs.declared.room.Room.{Room}
+use Rattle.session.specs.declared.room.Room.the-variants.{Enough}
 use Rattle.session_state.specs.Value.{Lent, keptHaves}
 use Rattle.session_state.specs.declared.session.Heard.the-variants.{Count}
 use Rattle.session_state.specs.declared.session.Session.{Session}
@@ -48,19 +51,15 @@ receivedCounts s d =
       «needs_reset» = s .«needs_reset»;
     }
 
--- The length that the first too short list wants, or 0.
-abbrev pub orWanted : ℕ → ℕ → ℕ → ℕ
-orWanted room wanted rest = cond (ltb room wanted) wanted rest
-
--- The lists in the order in which they are tested.
-unfoldable pub shortWith : Receipt → SessionRooms → ℕ
-shortWith d r =
-    orWanted (r .shared) (sizes .hash * d .shared)
-    (orWanted (r .«last_sent») (sizes .hash * d .«last_sent»)
-    (orWanted (r .«their_heads») (sizes .hash * d .heads)
-    (orWanted (r .«their_need») (sizes .hash * d .need)
-    (orWanted (r .haves) (haveWords * d .haves)
-    (orWanted (r .bytes) (d .bytes) 0)))))
+-- Whether the lists have room, in the order in which they are tested.
+unfoldable pub receiptRoom : Receipt → SessionRooms → Room
+receiptRoom d r =
+    orShort (r .shared) (sizes .hash * d .shared)
+    (orShort (r .«last_sent») (sizes .hash * d .«last_sent»)
+    (orShort (r .«their_heads») (sizes .hash * d .heads)
+    (orShort (r .«their_need») (sizes .hash * d .need)
+    (orShort (r .haves) (haveWords * d .haves)
+    (orShort (r .bytes) (d .bytes) Enough)))))
 
 -- What is decided from the numbers, in the order of the refusals.
 unfoldable pub receiptDecided : Session → Bool → Receipt → SessionRooms → ReceiveAnswer
@@ -69,7 +68,7 @@ receiptDecided flagged failed d r =
     (Failed flagged)
     (cond (ltb (sizes .hashes) (d .shared))
     (Refused (PastSize 0))
-    (cond (ltb 0 (shortWith d r)) (Refused (NoRoom (shortWith d r))) (Took (receivedCounts flagged d))))
+    (ifRoom Refused (receiptRoom d r) (Took (receivedCounts flagged d))))
 
 -- ---- what is put
 

@@ -6,9 +6,9 @@ use mathlib.Core.Path.{_≡_}
 use lib.ListN.{length, getD}
 use Rattle.table_graph.specs.Graph.{belowRow}
 use Rattle.table_graph.specs.Internal.Marks.{Marks}
-use Rattle.session.specs.Receive.{told}
+use Rattle.session.specs.Receive.{flagTaken}
 use Rattle.hash_lists.specs.Internal.Lists.{UpTo}
-use Rattle.message.specs.Flags.{syncReset, readOnly, supportsSyncReset, hasFlag}
+use Rattle.message.specs.Flags.{syncReset, readOnlyFlag, supportsSyncReset, hasFlag}
 use Rattle.message.specs.declared.flags.Section.{Section}
 use Rattle.hash_order.specs.Order.{every}
 use Rattle.rules.specs.Hash.{hashesAt}
@@ -26,13 +26,13 @@ flaggedCounts flags s =
       «their_heads» = s .«their_heads»;
       «their_need» = s .«their_need»;
       «their_have» = s .«their_have»;
-      «sent_hashes» = cond (told (λ f. hasFlag f syncReset) flags false) 0 (s .«sent_hashes»);
+      «sent_hashes» = cond (flagTaken (λ f. hasFlag f syncReset) flags false) 0 (s .«sent_hashes»);
       «in_flight» = false;
       «have_responded» = s .«have_responded»;
-      «supports_v2» = told (λ f. true) flags (s .«supports_v2»);
-      «supports_reset» = told (λ f. hasFlag f supportsSyncReset) flags (s .«supports_reset»);
+      «supports_v2» = flagTaken (λ f. true) flags (s .«supports_v2»);
+      «supports_reset» = flagTaken (λ f. hasFlag f supportsSyncReset) flags (s .«supports_reset»);
       «read_only» = s .«read_only»;
-      «peer_read_only» = told (λ f. hasFlag f readOnly) flags (s .«peer_read_only»);
+      «peer_read_only» = flagTaken (λ f. hasFlag f readOnlyFlag) flags (s .«peer_read_only»);
       «needs_reset» = s .«needs_reset»;
     }
 
