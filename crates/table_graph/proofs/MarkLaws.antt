@@ -25,7 +25,7 @@ use Rattle.table.proofs.TableLaws.{entry-at-index, index-first, length-rows, le
 use Rattle.table.specs.TableBytes.{depCount, usedAt, rowsAt, GoodRows}
 use Rattle.table.specs.Table.{Row, rows, hashOf, depsOf, indexIn}
 use Rattle.table_graph.specs.Graph.{needed}
-use Rattle.table_graph.specs.Internal.Marks.{Marks, Blank, markAll, markRow, markHash}
+use Rattle.table_graph.specs.Internal.Marks.{Marks, Blank, markAll, markRow, markDown, markHash}
 
 -- ---- Booleans
 
@@ -77,34 +77,27 @@ mark-all m (k ∷ ks) i h =
 -- ---- passes over the rows before n, whose numbers are given
 
 module _ (deps : ℕ → List ℕ) where
-  pub length-mark-row : (i : ℕ) (m : List Bool) → length (markRow deps i m) ≡ length m
+  pub length-mark-row : (i : ℕ) (m : List Bool) → length (markRow false deps i m) ≡ length m
   unfolding markRow
   length-mark-row i m = split (getD m i false) (λ e. rw e (length-mark-all m (deps i))) (λ e. rw e)
 
-  mark-row : (j : ℕ) (m : List Bool) (i : ℕ) → i < length m → getD (markRow deps j m) i false ≡ (getD m i false || (getD m j false && member i (deps j)))
+  mark-row : (j : ℕ) (m : List Bool) (i : ℕ) → i < length m
+      → getD (markRow false deps j m) i false ≡ (getD m i false || (getD m j false && member i (deps j)))
   unfolding markRow
   mark-row j m i h = split (getD m j false) (λ e. rw e (mark-all m (deps j) i h)) (λ e. rw e (sym (or-false (getD m i false))))
 
-  pub row-unmarked : (i : ℕ) (m : List Bool) → getD m i false ≡ false → m ≡ markRow deps i m
-  unfolding markRow
-  row-unmarked i m e = rw e
+  module _ (every : Bool) (i : ℕ) (m : List Bool) (counts : Bool) (is : counts ≡ (every || getD m i false)) where
+    pub row-left : counts ≡ false → m ≡ markRow every deps i m
+    unfolding markRow
+    row-left e = rw (← is, e)
 
-  pub row-marked : (i : ℕ) (m r : List Bool) → getD m i false ≡ true → r ≡ markAll m (deps i) → r ≡ markRow deps i m
-  unfolding markRow
-  row-marked i m r e q = rw e q
-
-  -- from the last row to the first
-  pub markDown : ℕ → List Bool → List Bool
-  markDown zero m = m
-  markDown (suc i) m = markDown i (markRow deps i m)
-
-  pub markNeeded : ℕ → List Bool → List Bool
-  markNeeded zero m = m
-  markNeeded (suc i) m = markNeeded i (markAll m (deps i))
+    pub row-marked : (r : List Bool) → counts ≡ true → r ≡ markAll m (deps i) → r ≡ markRow every deps i m
+    unfolding markRow
+    row-marked r e q = rw (← is, e) q
 
   pub mark-needed : (n : ℕ) (m : List Bool) (i : ℕ) → i < length m
-      → getD (markNeeded n m) i false ≡ (getD m i false || someBelow n (λ k. member i (deps k)))
-  unfolding markNeeded someBelow
+      → getD (markDown true deps n m) i false ≡ (getD m i false || someBelow n (λ k. member i (deps k)))
+  unfolding markDown markRow someBelow
   mark-needed zero m i h = sym (or-false (getD m i false))
   mark-needed (suc n) m i h =
       let l : i < length (markAll m (deps n)) = rw length-mark-all h in
@@ -121,16 +114,16 @@ module _ (deps : ℕ → List ℕ) where
         (λ e. e)
 
     mark-down : (n : ℕ) (m : List Bool) → n ≤ all → n ≤ length m → (i : ℕ) → i < length m
-        → getD (markDown n m) i false ≡ (getD m i false || someBelow n (λ k. getD (markDown n m) k false && member i (deps k)))
+        → getD (markDown false deps n m) i false ≡ (getD m i false || someBelow n (λ k. getD (markDown false deps n m) k false && member i (deps k)))
     unfolding markDown someBelow
     mark-down zero m a f i h = sym (or-false (getD m i false))
     mark-down (suc n) m a f i h =
-        let next = markRow deps n m in
+        let next = markRow false deps n m in
         let l : length next ≡ length m = length-mark-row n m in
         let rest = mark-down n next (omega arith) (omega arith) in
-        let same : getD (markDown n next) n false ≡ getD m n false =
+        let same : getD (markDown false deps n next) n false ≡ getD m n false =
         rest n (omega arith)
-        ∙ ap (λ (b : Bool). getD next n false || b) (none-later (λ k. getD (markDown n next) k false) n (omega arith))
+        ∙ ap (λ (b : Bool). getD next n false || b) (none-later (λ k. getD (markDown false deps n next) k false) n (omega arith))
         ∙ or-false (getD next n false)
         ∙ mark-row n m n (omega arith)
         ∙ or-again (getD m n false) (member n (deps n)) in
@@ -138,9 +131,9 @@ module _ (deps : ℕ → List ℕ) where
 
     -- the marks that were, and what is reached from them
     pub marks-reach : (m : List Bool) → all ≤ length m → (i : ℕ) → i < all
-        → getD (markDown all m) i false ≡ reach all (λ k. getD m k false) (λ k j. member j (deps k)) i
+        → getD (markDown false deps all m) i false ≡ reach all (λ k. getD m k false) (λ k j. member j (deps k)) i
     marks-reach m f i h =
-        reach-unique all (λ k. getD m k false) (λ k j. member j (deps k)) down (λ k. getD (markDown all m) k false)
+        reach-unique all (λ k. getD m k false) (λ k j. member j (deps k)) down (λ k. getD (markDown false deps all m) k false)
         (λ j l. mark-down all m (omega arith) f j (omega arith))
         i h
 
@@ -179,33 +172,19 @@ module _ (s : List ℕ) (n : ℕ) where
   abbrev t : List Row
   t = rowsAt s 0 n
 
-  pub down-on : (i : ℕ) (m r : List Bool) → 0 < i → i ≤ n → r ≡ markRow (usedAt s) (i - 1) m → markDown (depsOf t) i m ≡ markDown (depsOf t) (i - 1) r
+  pub down-on : (every : Bool) (i : ℕ) (m r : List Bool) → 0 < i → i ≤ n → r ≡ markRow every (usedAt s) (i - 1) m
+      → markDown every (depsOf t) i m ≡ markDown every (depsOf t) (i - 1) r
   unfolding markDown markRow
-  down-on i m r h l e =
+  down-on every i m r h l e =
       let last : i ≡ suc (i - 1) = omega arith in
-      ap (λ (k : ℕ). markDown (depsOf t) k m) last ∙ down-row (i - 1) (omega arith) ∙ ap (markDown (depsOf t) (i - 1)) (sym e)
+      ap (λ (k : ℕ). markDown every (depsOf t) k m) last ∙ down-row (i - 1) (omega arith) ∙ ap (markDown every (depsOf t) (i - 1)) (sym e)
     where
-      down-row : (k : ℕ) → k < n → markDown (depsOf t) (suc k) m ≡ markDown (depsOf t) k (markRow (usedAt s) k m)
-      down-row k f = ap (markDown (depsOf t) k) (rw (deps-of-row s n k f))
+      down-row : (k : ℕ) → k < n → markDown every (depsOf t) (suc k) m ≡ markDown every (depsOf t) k (markRow every (usedAt s) k m)
+      down-row k f = ap (markDown every (depsOf t) k) (rw (deps-of-row s n k f))
 
-  pub down-done : (i : ℕ) (m : List Bool) → i ≤ 0 → markDown (depsOf t) i m ≡ m
+  pub down-done : (every : Bool) (i : ℕ) (m : List Bool) → i ≤ 0 → markDown every (depsOf t) i m ≡ m
   unfolding markDown
-  down-done i m h =
-      let e : i ≡ 0 = omega arith in
-      rw e
-
-  pub needed-on : (i : ℕ) (m r : List Bool) → 0 < i → i ≤ n → r ≡ markAll m (usedAt s (i - 1)) → markNeeded (depsOf t) i m ≡ markNeeded (depsOf t) (i - 1) r
-  unfolding markNeeded
-  needed-on i m r h l e =
-      let last : i ≡ suc (i - 1) = omega arith in
-      ap (λ (k : ℕ). markNeeded (depsOf t) k m) last ∙ needed-row (i - 1) (omega arith) ∙ ap (markNeeded (depsOf t) (i - 1)) (sym e)
-    where
-      needed-row : (k : ℕ) → k < n → markNeeded (depsOf t) (suc k) m ≡ markNeeded (depsOf t) k (markAll m (usedAt s k))
-      needed-row k f = ap (markNeeded (depsOf t) k) (rw (deps-of-row s n k f))
-
-  pub needed-done : (i : ℕ) (m : List Bool) → i ≤ 0 → markNeeded (depsOf t) i m ≡ m
-  unfolding markNeeded
-  needed-done i m h =
+  down-done every i m h =
       let e : i ≡ 0 = omega arith in
       rw e
 
@@ -213,11 +192,11 @@ module _ (s : List ℕ) (n : ℕ) where
     down-rows : (k i : ℕ) → k < n → member i (depsOf t k) ≡ true → i < k
     down-rows k i h e = good-down s n g k i h (rw (deps-of-row s n k h) at e)
 
-    pub below-marked : (m r : List Bool) → n ≤ length m → r ≡ markDown (depsOf t) n m
+    pub below-marked : (m r : List Bool) → n ≤ length m → r ≡ markDown false (depsOf t) n m
         → Marks n r (reach n (λ k. getD m k false) (λ k j. member j (depsOf t k)))
     below-marked m r f e = record { each = λ i h. rw e (marks-reach (depsOf t) n down-rows m f i h) }
 
-  pub needed-marked : (m r : List Bool) → n ≤ length m → r ≡ markNeeded (depsOf t) n m → Marks n r (λ i. getD m i false || needed t i)
+  pub needed-marked : (m r : List Bool) → n ≤ length m → r ≡ markDown true (depsOf t) n m → Marks n r (λ i. getD m i false || needed t i)
   unfolding needed
   needed-marked m r f e = record { each = λ i h. rw (e, length-rows-at s 0 n) (mark-needed (depsOf t) n m i (omega arith)) }
 

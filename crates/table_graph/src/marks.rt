@@ -17,7 +17,7 @@ ghost use Rattle.rules.specs.Sizes.{sizes};
 ghost use Rattle.table.specs.TableBytes.{usedAt, rowsAt, GoodRows};
 ghost use Rattle.table.specs.Table.{rows, hashOf, depsOf};
 ghost use Rattle.table_graph.specs.Graph.{needed};
-ghost use Rattle.table_graph.specs.Internal.Marks.{Marks, markAll, markRow, markHash};
+ghost use Rattle.table_graph.specs.Internal.Marks.{Marks, markAll, markRow, markDown, markHash};
 
 // Marks the rows that row i depends on.
 fn mark_deps(table: &[u8], i: usize, marks: &mut [bool])
@@ -33,28 +33,46 @@ fn mark_deps(table: &[u8], i: usize, marks: &mut [bool])
     }
 }
 
-// Marks what row i depends on if row i is marked itself.
-fn mark_row(table: &[u8], i: usize, marks: &mut [bool])
-    requires { ⌜ GoodRows (now table) (i + 1) × (i + 1 ≤ length (now marks)) ⌝ }
-    ensures { λ _. ⌜ now (marks .exit) ≡ markRow (usedAt (now (table .entry))) i (now (marks .entry)) ⌝ }
+// Whether a row counts: where every row does, or it is marked.
+fn counts(every: bool, mark: bool) -> bool
+    ensures { λ r. ⌜ r ≡ (every || mark) ⌝ }
 {
-    if !marks[i] {
+    if every {
+        return true;
+    }
+    mark
+}
+
+// Marks what row i depends on if row i is marked itself, or if every row counts.
+fn mark_row(table: &[u8], every: bool, i: usize, marks: &mut [bool])
+    requires { ⌜ GoodRows (now table) (i + 1) × (i + 1 ≤ length (now marks)) ⌝ }
+    ensures { λ _. ⌜ now (marks .exit) ≡ markRow every (usedAt (now (table .entry))) i (now (marks .entry)) ⌝ }
+{
+    if !counts(every, marks[i]) {
         return;
     }
     mark_deps(table, i, marks);
 }
 
-// Marks all that lies below the marked rows. From the last row to the first, so that a row's mark is final when its turn comes.
+// Marks what the marked rows depend on, or what every row does. From the last row to the first, so that a row's mark is final when its turn comes.
+fn mark_down(table: &[u8], n: usize, every: bool, marks: &mut [bool])
+    requires { ⌜ GoodRows (now table) n × (n ≤ length (now marks)) ⌝ }
+    ensures { λ _. ⌜ now (marks .exit) ≡ markDown every (depsOf (rowsAt (now (table .entry)) 0 n)) n (now (marks .entry)) ⌝ }
+{
+    let mut i = n;
+    while 0 < i {
+        i -= 1;
+        mark_row(table, every, i, marks);
+    }
+}
+
+// Marks all that lies below the marked rows.
 pub fn mark_below(table: &[u8], n: usize, marks: &mut [bool])
     requires { ⌜ GoodRows (now table) n × (n ≤ length (now marks)) ⌝ }
     ensures { λ _. ⌜ Marks n (now (marks .exit))
         (reach n (λ k. getD (now (marks .entry)) k false) (λ k j. member j (depsOf (rowsAt (now (table .entry)) 0 n) k))) ⌝ }
 {
-    let mut i = n;
-    while 0 < i {
-        i -= 1;
-        mark_row(table, i, marks);
-    }
+    mark_down(table, n, false, marks);
 }
 
 // Marks each row that a row depends on.
@@ -62,11 +80,7 @@ pub fn mark_needed(table: &[u8], n: usize, marks: &mut [bool])
     requires { ⌜ GoodRows (now table) n × (n ≤ length (now marks)) ⌝ }
     ensures { λ _. ⌜ Marks n (now (marks .exit)) (λ i. getD (now (marks .entry)) i false || needed (rowsAt (now (table .entry)) 0 n) i) ⌝ }
 {
-    let mut i = n;
-    while 0 < i {
-        i -= 1;
-        mark_deps(table, i, marks);
-    }
+    mark_down(table, n, true, marks);
 }
 
 // Marks the row of the hash at a place, if there is one.

@@ -1,6 +1,6 @@
 -- What internal contracts speak of: marks, one for each row of a change table or for each hash of a list. No rule of 01 stands here.
 use Prim.Native.Nat.{ℕ, zero, suc, _<_}
-use mathlib.Core.Bool.{Bool, true, false, cond}
+use mathlib.Core.Bool.{Bool, true, false, cond, _||_}
 use mathlib.Core.List.{List, [], _∷_}
 use mathlib.Core.Path.{_≡_}
 use lib.Dec.{ltb}
@@ -41,9 +41,14 @@ unfoldable pub markAll : List Bool → List ℕ → List Bool
 markAll m [] = m
 markAll m (k ∷ ks) = markAll (set m k true) ks
 
--- Marks set along a row's dependencies if the row is itself marked.
-unfoldable pub markRow : (ℕ → List ℕ) → ℕ → List Bool → List Bool
-markRow deps i m = cond (getD m i false) (markAll m (deps i)) m
+-- Marks set along a row's dependencies if the row is itself marked, or every row counts.
+unfoldable pub markRow : Bool → (ℕ → List ℕ) → ℕ → List Bool → List Bool
+markRow every deps i m = cond (every || getD m i false) (markAll m (deps i)) m
+
+-- Marks set so along the dependencies of the first rows, from the last row to the first.
+unfoldable pub markDown : Bool → (ℕ → List ℕ) → ℕ → List Bool → List Bool
+markDown every deps zero m = m
+markDown every deps (suc i) m = markDown every deps i (markRow every deps i m)
 
 -- The mark of a hash's place in a list set, if it has one.
 unfoldable pub markHash : List ℕ → List Bool → ℕ → List Bool

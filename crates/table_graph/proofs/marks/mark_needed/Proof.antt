@@ -1,75 +1,20 @@
--- `graph::marks::mark_needed` meets its contract: the rows that are left, after those that were, are all rows; and all of them mark each row that
--- some row depends on (MarkLaws). Assumes nothing.
-use Prim.Native.Nat.{_≤_}
-use mathlib.Core.Path.{_≡_, refl, sym, _∙_}
-use native.Mathlib.Omega.{arith}
-use lib.ListN.{length}
-use Rattle.table.proofs.GoodLaws.{good-part}
-use Rattle.table.specs.TableBytes.{rowsAt}
-use Rattle.table.specs.Table.{depsOf}
-use Rattle.table_graph.proofs.MarkLaws.{markNeeded, needed-on, needed-done, needed-marked}
+-- `table_graph::marks::mark_needed` meets its contract: the pass over every row marks each row that some row depends on (MarkLaws). Assumes nothing.
+use Rattle.table_graph.proofs.MarkLaws.{needed-marked}
 use borrow.Author.Needs.{needs}
 use Rattle.table_graph.proofs.marks.mark_needed.Statement.{statement}
 use Rattle.table_graph.proofs.marks.mark_needed.Tie as tie
 
-abbrev Inv-loop : tie.InvT-loop
-Inv-loop table n marks₀ i₀ marks i =
-    record {
-      upto : i ≤ n;
-      long : length marks ≡ length marks₀;
-      rest : markNeeded (depsOf (rowsAt table 0 n)) i marks ≡ markNeeded (depsOf (rowsAt table 0 n)) n marks₀;
-    }
+mark-down-requires : tie.Need-mark-down-requires
+mark-down-requires c κs = search needs
 
-abbrev μ-loop : tie.MeasureT-loop
-μ-loop table n marks₀ i₀ marks i = i
-
-loop-holds : tie.Need-loop-holds Inv-loop μ-loop
-loop-holds c = record { upto = omega arith; long = refl; rest = refl }
-
-sub-i : tie.Need-sub-i Inv-loop μ-loop
-sub-i c = search needs
-
-mark-deps-requires : tie.Need-mark-deps-requires Inv-loop μ-loop
-mark-deps-requires c κs =
-    let l = c .before in
-    let b = l .before in
-    let start = b .before .before .before in (
-      good-part _ _ _ (start .pre .0) (omega (arith, b .loop .inv .upto, l .loop-test .taken)),
-      omega (arith, b .loop .inv .upto, l .loop-test .taken, b .loop .inv .long, start .pre .1),
-    )
-
-loop-less : tie.Need-loop-less Inv-loop μ-loop
-loop-less c = search needs
-
-loop-again : tie.Need-loop-again Inv-loop μ-loop
-loop-again c =
-    let m = c .before .before in
-    let l = m .before .before in
-    let b = l .before in
-    record {
-      upto = omega (arith, b .loop .inv .upto);
-      long = m .mark-deps .kept .1 .1 .0 ∙ b .loop .inv .long;
-      rest = sym (needed-on _ _ _ _ _ (l .loop-test .taken) (b .loop .inv .upto) (m .mark-deps .ensures)) ∙ b .loop .inv .rest;
-    }
-
-same-length : tie.Need-same-length Inv-loop μ-loop
+same-length : tie.Need-same-length
 same-length c = search needs
 
-returns : tie.Need-returns Inv-loop μ-loop
+returns : tie.Need-returns
 returns c =
-    let start = c .before .before .before .before in
-    needed-marked _ _ _ _ (start .pre .1) (sym (needed-done _ _ _ _ (c .loop-test .left)) ∙ c .before .loop .inv .rest)
+    let d = c .before .before in
+    let s = d .before .before .before .before in
+    needed-marked _ _ _ _ (s .pre .1) (d .mark-down .ensures)
 
 pub mark-needed-spec : {M : Type 1} → statement M
-mark-needed-spec =
-    tie.close
-    (tie.spec
-    Inv-loop
-    μ-loop
-    loop-holds
-    sub-i
-    mark-deps-requires
-    loop-less
-    loop-again
-    same-length
-    returns)
+mark-needed-spec = tie.close (tie.spec mark-down-requires same-length returns)
