@@ -34,8 +34,8 @@ use Rattle.state_calls.proofs.calls.bt_check_session as of-bt-check-session
 use Rattle.state_calls.proofs.calls.bt_write_state as of-bt-write-state
 use Rattle.state_calls.proofs.calls.bt_read_state as of-bt-read-state
 use Rattle.state_calls.proofs.answer.good_words as of-good-words
-use Rattle.state_calls.proofs.answer.loaded_words as of-loaded-words
-use Rattle.state_calls.proofs.answer.loaded_session as of-loaded-session
+use Rattle.state_calls.proofs.answer.saved_words as of-saved-words
+use Rattle.state_calls.proofs.answer.saved_session as of-saved-session
 use Rattle.session_calls.proofs.calls.bt_plan as of-bt-plan
 use Rattle.session_calls.proofs.calls.bt_receive as of-bt-receive
 use Rattle.session_calls.proofs.answer.planned_words as of-planned-words
@@ -96,8 +96,8 @@ pub record ExportedBind : Type 0 where
   pub bt-write-state : Binds of-bt-write-state.ended of-bt-write-state.Reads.Post
   pub bt-read-state : Binds of-bt-read-state.ended of-bt-read-state.Reads.Post
   pub good-words : Binds of-good-words.ended of-good-words.Reads.Post
-  pub loaded-words : Binds of-loaded-words.ended of-loaded-words.Reads.Post
-  pub loaded-session : Binds of-loaded-session.ended of-loaded-session.Reads.Post
+  pub saved-words : Binds of-saved-words.ended of-saved-words.Reads.Post
+  pub saved-session : Binds of-saved-session.ended of-saved-session.Reads.Post
   -- the crate session_calls
   pub bt-plan : Binds of-bt-plan.ended of-bt-plan.Reads.Post
   pub bt-receive : Binds of-bt-receive.ended of-bt-receive.Reads.Post

@@ -39,9 +39,9 @@ use Rattle.session_state.specs.Session.{restored}
 use Rattle.session_state.specs.Value.{Lent, stateOf}
 use Rattle.session_state.specs.declared.session.Session.{Session as Counts}
 use Rattle.session_state.proofs.ValueLaws.{restored-value}
-use Rattle.session_saved.specs.Saved.{stateType, stateOutput, stateAt, loadedWith, loadedInto, Restored}
-use Rattle.session_saved.specs.declared.saved.Loaded.{Loaded}
-use Rattle.session_saved.specs.declared.saved.Loaded.the-variants.{Session, Refused}
+use Rattle.session_saved.specs.Saved.{stateType, stateOutput, stateAt, savedWith, loadedInto, Restored}
+use Rattle.session_saved.specs.declared.saved.SavedRead.{SavedRead}
+use Rattle.session_saved.specs.declared.saved.SavedRead.the-variants.{Session, Refused}
 
 -- ---- writing
 
@@ -113,12 +113,12 @@ module _ (s : List ℕ) where
 
 module _ (s before : List ℕ) where
   pub load-refused : (r : Refusal) → stateAt s ≡ NotListed r → Restored s before before (Refused r)
-  unfolding loadedWith loadedInto
+  unfolding savedWith loadedInto
   load-refused r e = record { answer = rw e; content = rw e }
 
   module _ (start count next : ℕ) (is : stateAt s ≡ Items (run start count) next) where
     pub load-short : length before < sizes .hash * count → Restored s before before (Refused (NoRoom (sizes .hash * count)))
-    unfolding loadedWith loadedInto
+    unfolding savedWith loadedInto
     load-short h = record { answer = rw (is, lt-ltb _ _ h); content = rw (is, lt-ltb _ _ h) }
 
     pub part-is : take (next - start) (drop start s) ≡ slice start next s
@@ -136,23 +136,23 @@ module _ (s before : List ℕ) where
         → (session : Counts)
         → session ≡ restoredCounts count
         → Restored s before after (Session session)
-    unfolding loadedWith loadedInto
+    unfolding savedWith loadedInto
     load-session after h q session e = record { answer = rw (is, le-ltb _ _ h) (ap Session e); content = rw (is, le-ltb _ _ h, ← part-is) q }
 
 state-out : (s : List ℕ) (count : ℕ) → listGood s count ≡ true → stateOutput s count ≡ bytes (stateType ∷ hashListBytes (hashesAt s 0 count))
 unfolding stateOutput
 state-out s count e = rw e
 
-loaded : (before s after : List ℕ) (start count next : ℕ) (r : Loaded) → sizes .hash * count ≤ length before → stateAt s ≡ Items (run start count) next
+loaded : (before s after : List ℕ) (start count next : ℕ) (r : SavedRead) → sizes .hash * count ≤ length before → stateAt s ≡ Items (run start count) next
     → Restored s before after r
     → (r ≡ Session (restoredCounts count)) × (after ≡ sets before 0 (slice start next s))
-unfolding loadedWith loadedInto
+unfolding savedWith loadedInto
 loaded before s after start count next r h e l = (rw (e, le-ltb _ _ h) at (l .answer), rw (e, le-ltb _ _ h) at (l .content))
 
 -- ---- the laws
 
 -- A saved state is read in one way.
-pub restored-once : {s before a₁ a₂ : List ℕ} {r₁ r₂ : Loaded} → Restored s before a₁ r₁ → Restored s before a₂ r₂ → (r₁ ≡ r₂) × (a₁ ≡ a₂)
+pub restored-once : {s before a₁ a₂ : List ℕ} {r₁ r₂ : SavedRead} → Restored s before a₁ r₁ → Restored s before a₂ r₂ → (r₁ ≡ r₂) × (a₁ ≡ a₂)
 restored-once w v = (w .answer ∙ sym (v .answer), w .content ∙ sym (v .content))
 
 -- Reading what was written, whatever follows it, gives the shared heads back: as many, and the same.
@@ -201,13 +201,13 @@ saved-bytes s before saved count w good room v =
 
 -- A session with these shared heads: their number, the hashes in the buffer that was lent for them, and the session as a value, which is fresh
 -- but for them whatever else is lent with it.
-pub record Loads (r : Loaded) (after : List ℕ) (count : ℕ) (hs : List ℕ) : Type 0 where
+pub record Loads (r : SavedRead) (after : List ℕ) (count : ℕ) (hs : List ℕ) : Type 0 where
   pub session : r ≡ Session (restoredCounts count)
   pub heads : hashesAt after 0 count ≡ hs
   pub value : (l : Lent) → l .shared ≡ after → stateOf (restoredCounts count) l ≡ restored hs
 
 -- hashes that are copied to the start of a buffer are the list that it starts with
-loads : (before s after : List ℕ) (start count next : ℕ) (r : Loaded) → sizes .hash * count ≤ length before → stateAt s ≡ Items (run start count) next
+loads : (before s after : List ℕ) (start count next : ℕ) (r : SavedRead) → sizes .hash * count ≤ length before → stateAt s ≡ Items (run start count) next
     → Restored s before after r
     → (hs : List ℕ)
     → AreHashes hs
@@ -231,7 +231,7 @@ loads before s after start count next r wide is l hs are many part =
     }
 
 -- Reading a saved state loads its hashes.
-pub read-loads : (s before after : List ℕ) (start count next : ℕ) (r : Loaded) → Bytes s → sizes .hash * count ≤ length before
+pub read-loads : (s before after : List ℕ) (start count next : ℕ) (r : SavedRead) → Bytes s → sizes .hash * count ≤ length before
     → stateAt s ≡ Items (run start count) next
     → Restored s before after r
     → Loads r after count (hashesAt s start count)
@@ -243,7 +243,7 @@ read-loads s before after start count next r all wide is l =
     (ap (λ (k : ℕ). slice start k s) e ∙ sym (hashes-at-bytes s start count all fits))
 
 -- Saving and then loading, with room for both, loads the shared heads that were saved.
-pub saved-and-loaded : (s before saved shared after : List ℕ) (count : ℕ) (w : Write) (r : Loaded)
+pub saved-and-loaded : (s before saved shared after : List ℕ) (count : ℕ) (w : Write) (r : SavedRead)
     → listGood s count ≡ true
     → AreHashes (hashesAt s 0 count)
     → 1 + length (hashListBytes (hashesAt s 0 count)) ≤ length before

@@ -16,8 +16,8 @@ use Rattle.wire.specs.Item.{hashListBytes, hashListAt}
 use Rattle.wire.specs.declared.parse.Listed.{Listed}
 use Rattle.wire.specs.declared.parse.Listed.the-variants.{Items, Refused as NotListed}
 use Rattle.session_state.specs.Counts.{restoredCounts}
-use Rattle.session_saved.specs.declared.saved.Loaded.{Loaded}
-use Rattle.session_saved.specs.declared.saved.Loaded.the-variants.{Session, Refused}
+use Rattle.session_saved.specs.declared.saved.SavedRead.{SavedRead}
+use Rattle.session_saved.specs.declared.saved.SavedRead.the-variants.{Session, Refused}
 
 -- The first byte, hexadecimal 43.
 abbrev pub stateType : ℕ
@@ -36,9 +36,9 @@ stateAt s =
     (cond (not (eqb (getD s 0 0) stateType)) (NotListed (WrongType (getD s 0 0))) (hashListAt s 1 (length s)))
 
 -- The session that is read, with 7 where the buffer for its shared heads is too short.
-unfoldable pub loadedWith : Listed → ℕ → Loaded
-loadedWith (NotListed r) room = Refused r
-loadedWith (Items heads next) room =
+unfoldable pub savedWith : Listed → ℕ → SavedRead
+savedWith (NotListed r) room = Refused r
+savedWith (Items heads next) room =
     cond (ltb room (sizes .hash * heads .count)) (Refused (NoRoom (sizes .hash * heads .count))) (Session (restoredCounts (heads .count)))
 
 -- The buffer for shared heads at exit: they stand at its start where there is room.
@@ -48,6 +48,6 @@ loadedInto (Items heads next) s before =
     cond (ltb (length before) (sizes .hash * heads .count)) before (sets before 0 (slice (heads .start) next s))
 
 -- Answer and buffer together.
-pub record Restored (s before after : List ℕ) (r : Loaded) : Type 0 where
-  pub answer : r ≡ loadedWith (stateAt s) (length before)
+pub record Restored (s before after : List ℕ) (r : SavedRead) : Type 0 where
+  pub answer : r ≡ savedWith (stateAt s) (length before)
   pub content : after ≡ loadedInto (stateAt s) s before

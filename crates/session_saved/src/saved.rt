@@ -34,7 +34,7 @@ pub fn encode(out: &mut [u8], shared: &[u8], count: usize) -> Write
 }
 
 // A session read from a saved state.
-pub enum Loaded {
+pub enum SavedRead {
     Session(Session),
     Refused(Refusal),
 }
@@ -54,7 +54,7 @@ pub fn parse(bytes: &[u8]) -> Listed
 }
 
 // Reads a saved state: a fresh session with the shared heads, which are copied to the start of the buffer that is lent for them.
-pub fn decode(bytes: &[u8], shared: &mut [u8]) -> Loaded
+pub fn decode(bytes: &[u8], shared: &mut [u8]) -> SavedRead
     ensures { λ r. ⌜ Restored (now (bytes .entry)) (now (shared .entry)) (now (shared .exit)) r ⌝ }
 {
     let list = parse(bytes);
@@ -64,12 +64,12 @@ pub fn decode(bytes: &[u8], shared: &mut [u8]) -> Loaded
             let count = run.count;
             let size = HASH_SIZE * count;
             if shared.len() < size {
-                return Loaded::Refused(Refusal::NoRoom(size));
+                return SavedRead::Refused(Refusal::NoRoom(size));
             }
             copy_into(shared, 0, &bytes[start..next]);
             let session = Session::restored(count);
-            Loaded::Session(session)
+            SavedRead::Session(session)
         }
-        Listed::Refused(r) => Loaded::Refused(r),
+        Listed::Refused(r) => SavedRead::Refused(r),
     }
 }

@@ -6,9 +6,9 @@ use mathlib.Core.Path.{_≡_}
 use lib.ListN.{length}
 use Rattle.call_words.specs.Answer.{refusalWords}
 use Rattle.rules.specs.declared.refusal.Refusal.the-variants.{BadNumbers}
-use Rattle.session_saved.specs.Saved.{stateAt, loadedWith, loadedInto}
-use Rattle.session_saved.specs.declared.saved.Loaded.{Loaded}
-use Rattle.session_saved.specs.declared.saved.Loaded.the-variants.{Session as Read, Refused as NotRead}
+use Rattle.session_saved.specs.Saved.{stateAt, savedWith, loadedInto}
+use Rattle.session_saved.specs.declared.saved.SavedRead.{SavedRead}
+use Rattle.session_saved.specs.declared.saved.SavedRead.the-variants.{Session as Read, Refused as NotRead}
 use Rattle.call_words.specs.SessionWords.{sessionWords}
 
 -- The words of a checked session: 0, or refusal 10.
@@ -17,17 +17,17 @@ goodWords true = 0 ∷ 0 ∷ 0 ∷ 0 ∷ []
 goodWords false = refusalWords BadNumbers
 
 -- A session that is read from a saved state: the answer's words.
-abbrev pub loadedWords : Loaded → List ℕ
-loadedWords (Read s) = 0 ∷ s .«shared_heads» ∷ 0 ∷ 0 ∷ []
-loadedWords (NotRead r) = refusalWords r
+abbrev pub savedWords : SavedRead → List ℕ
+savedWords (Read s) = 0 ∷ s .«shared_heads» ∷ 0 ∷ 0 ∷ []
+savedWords (NotRead r) = refusalWords r
 
 -- The session's words at exit: after a refusal as they were.
-abbrev pub loadedSession : Loaded → List ℕ → List ℕ
-loadedSession (Read s) before = sessionWords s
-loadedSession (NotRead r) before = before
+abbrev pub savedSession : SavedRead → List ℕ → List ℕ
+savedSession (Read s) before = sessionWords s
+savedSession (NotRead r) before = before
 
 -- The call that reads a saved state s: its words, the buffer of the shared heads and the session's words at exit.
 pub record StateRead (s sharedIn sharedOut sessionIn sessionOut words : List ℕ) : Type 0 where
-  pub answer : words ≡ loadedWords (loadedWith (stateAt s) (length sharedIn))
+  pub answer : words ≡ savedWords (savedWith (stateAt s) (length sharedIn))
   pub shared : sharedOut ≡ loadedInto (stateAt s) s sharedIn
-  pub session : sessionOut ≡ loadedSession (loadedWith (stateAt s) (length sharedIn)) sessionIn
+  pub session : sessionOut ≡ savedSession (savedWith (stateAt s) (length sharedIn)) sessionIn

@@ -2,9 +2,9 @@
 use call_words::answer::refusal_words;
 use call_words::words::session_words;
 use rules::refusal::Refusal;
-use session_saved::saved::Loaded;
+use session_saved::saved::SavedRead;
 ghost use mathlib.Core.Path.{_≡_};
-ghost use Rattle.state_calls.specs.StateCalls.{goodWords, loadedWords, loadedSession};
+ghost use Rattle.state_calls.specs.StateCalls.{goodWords, savedWords, savedSession};
 
 pub fn good_words(good: bool) -> [u64; 4]
     ensures { λ w. ⌜ w ≡ goodWords good ⌝ }
@@ -15,21 +15,21 @@ pub fn good_words(good: bool) -> [u64; 4]
     refusal_words(Refusal::BadNumbers)
 }
 
-pub fn loaded_words(l: Loaded) -> [u64; 4]
-    ensures { λ w. ⌜ w ≡ loadedWords l ⌝ }
+pub fn saved_words(l: SavedRead) -> [u64; 4]
+    ensures { λ w. ⌜ w ≡ savedWords l ⌝ }
 {
     match l {
-        Loaded::Session(session) => [0, session.shared_heads as u64, 0, 0],
-        Loaded::Refused(r) => refusal_words(r),
+        SavedRead::Session(session) => [0, session.shared_heads as u64, 0, 0],
+        SavedRead::Refused(r) => refusal_words(r),
     }
 }
 
 // The session that was read, else the one that was lent.
-pub fn loaded_session(loaded: Loaded, before: [u64; 16]) -> [u64; 16]
-    ensures { λ w. ⌜ w ≡ loadedSession loaded before ⌝ }
+pub fn saved_session(loaded: SavedRead, before: [u64; 16]) -> [u64; 16]
+    ensures { λ w. ⌜ w ≡ savedSession loaded before ⌝ }
 {
     match loaded {
-        Loaded::Session(session) => session_words(session),
-        Loaded::Refused(_) => before,
+        SavedRead::Session(session) => session_words(session),
+        SavedRead::Refused(_) => before,
     }
 }

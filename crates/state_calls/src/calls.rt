@@ -1,7 +1,7 @@
 // Calls of the crates `session_state`, `session_check` and `session_saved`.
 use crate::answer::good_words;
-use crate::answer::loaded_session;
-use crate::answer::loaded_words;
+use crate::answer::saved_session;
+use crate::answer::saved_words;
 use call_words::answer::write_words;
 use call_words::words::session_of;
 use call_words::words::session_words;
@@ -87,6 +87,6 @@ pub extern "C" fn bt_read_state(
         (now (session .exit)) (now (answer .exit)) ⌝ }
 {
     let loaded = session_saved::saved::decode(bytes, shared);
-    *session = loaded_session(loaded, *session);
-    *answer = loaded_words(loaded);
+    *session = saved_session(loaded, *session);
+    *answer = saved_words(loaded);
 }

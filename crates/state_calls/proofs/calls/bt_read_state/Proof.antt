@@ -7,19 +7,19 @@ use Rattle.state_calls.proofs.calls.bt_read_state.Tie as tie
 decode-requires : tie.Need-decode-requires
 decode-requires c κs = search needs
 
-loaded-session-requires : tie.Need-loaded-session-requires
-loaded-session-requires c κs = search needs
+saved-session-requires : tie.Need-saved-session-requires
+saved-session-requires c κs = search needs
 
-loaded-words-requires : tie.Need-loaded-words-requires
-loaded-words-requires c κs = search needs
+saved-words-requires : tie.Need-saved-words-requires
+saved-words-requires c κs = search needs
 
 same-length : tie.Need-same-length
 same-length c = search needs
 
 returns : tie.Need-returns
-returns c = state-read _ _ _ _ _ _ _ (c .before .before .before .before .before .decode .ensures) (c .before .loaded-session .ensures) (c .loaded-words .ensures)
+returns c = state-read _ _ _ _ _ _ _ (c .before .before .before .before .before .decode .ensures) (c .before .saved-session .ensures) (c .saved-words .ensures)
 
 pub bt-read-state-spec : {M : Type 1} → statement M
 bt-read-state-spec =
     tie.close
-    (tie.spec decode-requires loaded-session-requires loaded-words-requires same-length returns)
+    (tie.spec decode-requires saved-session-requires saved-words-requires same-length returns)

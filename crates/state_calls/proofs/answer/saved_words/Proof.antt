@@ -1,7 +1,7 @@
--- `state_calls::answer::loaded_words` meets its contract: one case for each variant. Assumes nothing.
+-- `state_calls::answer::saved_words` meets its contract: one case for each variant. Assumes nothing.
 use borrow.Author.Needs.{needs}
-use Rattle.state_calls.proofs.answer.loaded_words.Statement.{statement}
-use Rattle.state_calls.proofs.answer.loaded_words.Tie as tie
+use Rattle.state_calls.proofs.answer.saved_words.Statement.{statement}
+use Rattle.state_calls.proofs.answer.saved_words.Tie as tie
 
 enum-known-l : tie.Need-enum-known-l
 enum-known-l c = search needs
@@ -18,6 +18,6 @@ returns c = rw (c .before .l .given .1)
 returns-2 : tie.Need-returns-2
 returns-2 c = rw (c .before .before .l2 .given .1) (c .refusal-words .ensures)
 
-pub loaded-words-spec : {M : Type 1} → statement M
-loaded-words-spec =
+pub saved-words-spec : {M : Type 1} → statement M
+saved-words-spec =
     tie.close (tie.spec enum-known-l enum-known-l-2 refusal-words-requires returns returns-2)
