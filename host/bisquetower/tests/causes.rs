@@ -255,6 +255,37 @@ fn a_filter_that_cant_be_read() {
     says(refusal, &sentence, 0..10);
 }
 
+/// A filter that isn't read stands at no place.
+#[test]
+fn a_filter_that_cant_be_made() {
+    let built = |bits: usize, probes: usize| Filter::with(bits as u32, probes as u32, hashes(8));
+    assert!(built(FIELD_SIZE, PROBES).is_ok());
+    let probes = PROBES + 1;
+    let many = format!("the filter has {probes} probes; at most {PROBES}");
+    says(refused(built(10, probes), 10, 0), &many, None);
+    let no_bits = "the filter has entries and 0 bits per entry";
+    says(refused(built(0, 7), 10, 0), no_bits, None);
+    let [bytes, most] = [FIELD_SIZE + 1, FIELD_SIZE].map(shown);
+    let large = format!("the filter has a field of {bytes} bytes; at most {most}");
+    says(refused(built(FIELD_SIZE + 1, 7), 10, 0), &large, None);
+    let [count, most] = [HASHES + 1, HASHES].map(shown);
+    let entries = format!("the filter has {count} entries; at most {most}");
+    let refusal = refused(Filter::from_hashes(hashes(HASHES + 1)), 4, 0);
+    says(refusal, &entries, None);
+
+    let of_parts = |probes: usize, field: &[u8]| Filter::from_parts(1, 10, probes as u64, field);
+    assert!(of_parts(7, &[0; 2]).is_ok());
+    says(refused(of_parts(probes, &[0; 2]), 10, 0), &many, None);
+    let long = "the filter has a field of length 3; its entries and bits ask for 2";
+    says(refused(of_parts(7, &[0; 3]), 10, 0), long, None);
+    let none = "the filter has a field of length 1; its entries and bits ask for 0";
+    let refusal = refused(Filter::from_parts(0, 10, 7, &[0]), 10, 0);
+    says(refusal, none, None);
+    // Numbers that no filter of bytes can have.
+    let huge = refused(Filter::from_parts(0, u64::MAX, 7, &[]), 10, 0);
+    assert_eq!(huge.cause(), None);
+}
+
 /// A table of 20 rows; row 18 depends on rows 3, 5 and 17.
 fn rows() -> Vec<u8> {
     let on = |row: usize| match row {

@@ -1,10 +1,11 @@
-//! Values that were to be written: which part of one passes its limit.
+//! Values that were to be written, and filters that were to be made: which part of one
+//! passes its limit.
 
-use super::{BAD_NUMBERS, LIMIT};
+use super::{wrong_numbers, BAD_NUMBERS, LIMIT};
 use crate::cause::{Cause, List, Rule};
 use crate::hash::HASH;
 use crate::refusal::Refusal;
-use crate::{Limits, Message};
+use crate::{Filter, Limits, Message};
 
 /// Bytes of a message's first byte, and of its flags section.
 const FIRST: u64 = 1;
@@ -41,6 +42,41 @@ pub(crate) fn saved(heads: usize, refusal: Refusal) -> Refusal {
     }
     let long = items(List::SharedHeads, heads, Limits::told().hashes);
     long.map_or(refusal, |cause| refusal.because(cause))
+}
+
+/// The refusal of a filter that was to be built of so many hashes.
+pub(crate) fn building(entries: usize, bits: u64, probes: u64, refusal: Refusal) -> Refusal {
+    let cause = match refusal.number {
+        BAD_NUMBERS => numbers(entries as u64, bits, probes),
+        LIMIT => items(List::Entries, entries, Limits::told().hashes),
+        _ => None,
+    };
+    cause.map_or(refusal, |cause| refusal.because(cause))
+}
+
+/// The refusal of a filter that is numbers and a field.
+pub(crate) fn parts(filter: &Filter, refusal: Refusal) -> Refusal {
+    if refusal.number != BAD_NUMBERS {
+        return refusal;
+    }
+    let Filter {
+        entries,
+        bits,
+        probes,
+        field,
+    } = filter;
+    let cause = numbers(*entries, *bits, *probes).or_else(|| {
+        let (bytes, asked) = (field.len() as u64, entries.checked_mul(*bits)?.div_ceil(8));
+        let rule = Rule::FieldSize { bytes, asked };
+        (bytes != asked).then(|| Cause::new(rule, None))
+    });
+    cause.map_or(refusal, |cause| refusal.because(cause))
+}
+
+/// What is wrong with the numbers of a filter that wasn't read.
+fn numbers(entries: u64, bits: u64, probes: u64) -> Option<Cause> {
+    let rule = wrong_numbers(entries, bits, probes)?;
+    Some(Cause::new(Rule::Filter { place: None, rule }, None))
 }
 
 fn items(list: List, count: usize, most: u64) -> Option<Cause> {
@@ -85,7 +121,7 @@ fn counted(n: usize) -> u64 {
 mod tests {
     use super::*;
     use crate::limits::HASHES;
-    use crate::{ChangeHash, Filter, Have, MessageFlags};
+    use crate::{ChangeHash, Have, MessageFlags};
 
     #[test]
     fn the_size_is_what_is_written() {
