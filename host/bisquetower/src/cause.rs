@@ -57,6 +57,8 @@ pub(crate) enum Rule {
     FieldSize { bytes: u64, asked: u64 },
     /// A row keeps to what rows are.
     Row { table: Rows, row: usize, rule: Row },
+    /// The sent hashes of a session ascend: the one at an index doesn't.
+    SentOrder(usize),
 }
 
 /// Whose items are counted.
@@ -71,6 +73,10 @@ pub(crate) enum List {
     SharedHeads,
     /// Of the filter that is to be built.
     Entries,
+    /// Of a session, by the name of its items.
+    OfSession(&'static str),
+    /// Passed to a call, by the name of its items.
+    Passed(&'static str),
 }
 
 /// What is wrong with a filter's numbers.
@@ -148,6 +154,10 @@ impl fmt::Display for Cause {
                 write!(f, "{has}; its entries and bits ask for {asked}")
             }
             Rule::Row { table, row, rule } => write!(f, "row {} of the {table} {rule}", shown(row)),
+            Rule::SentOrder(k) => {
+                let above = "isn't above the one before it; sent hashes ascend";
+                write!(f, "the sent hash at index {} {above}", shown(k))
+            }
         }
     }
 }
@@ -167,6 +177,8 @@ impl List {
             List::Chunks => format!("the message has {count} chunks"),
             List::SharedHeads => format!("the saved state has {count} shared heads"),
             List::Entries => format!("the filter has {count} entries"),
+            List::OfSession(items) => format!("the session has {count} {items}"),
+            List::Passed(items) => format!("{count} {items} are passed"),
         }
     }
 }

@@ -4,10 +4,12 @@
 //! at the place or in the row that it names. What is read is walked with the library's own
 //! readers. Where nothing is found the refusal keeps its general sentence.
 
+mod lent;
 mod read;
 mod rows;
 mod written;
 
+pub(crate) use lent::{passed, selecting, session};
 pub(crate) use read::{filter, message, state};
 pub(crate) use rows::{table, tables};
 pub(crate) use written::{building, parts, saved, writing};

@@ -5,7 +5,7 @@ use super::{wrong_numbers, BAD_NUMBERS, LIMIT};
 use crate::cause::{Cause, List, Rule};
 use crate::hash::HASH;
 use crate::refusal::Refusal;
-use crate::{Filter, Limits, Message};
+use crate::{Filter, Have, Limits, Message};
 
 /// Bytes of a message's first byte, and of its flags section.
 const FIRST: u64 = 1;
@@ -17,18 +17,13 @@ pub(crate) fn writing(message: &Message, refusal: Refusal) -> Refusal {
         return refusal;
     }
     let limits = Limits::told();
-    let haves = message.have.iter().enumerate();
-    let synced = haves.map(|(k, have)| (List::LastSync(k), have.last_sync.len(), limits.hashes));
     let lists = [
         (List::Heads, message.heads.len(), limits.hashes),
         (List::Need, message.need.len(), limits.hashes),
         (List::Haves, message.have.len(), limits.haves),
         (List::Chunks, message.changes.len(), limits.chunks),
     ];
-    let lists = lists.into_iter().chain(synced);
-    let long = lists
-        .into_iter()
-        .find_map(|(list, count, most)| items(list, count, most));
+    let long = first_long(lists.into_iter().chain(synced(&message.have)));
     match long.or_else(|| large(message, limits.message)) {
         Some(cause) => refusal.because(cause),
         None => refusal,
@@ -79,7 +74,22 @@ fn numbers(entries: u64, bits: u64, probes: u64) -> Option<Cause> {
     Some(Cause::new(Rule::Filter { place: None, rule }, None))
 }
 
-fn items(list: List, count: usize, most: u64) -> Option<Cause> {
+/// A list, how many items it has, and how many it may have.
+pub(super) type Counted = (List, usize, u64);
+
+/// The last-sync hashes of each have.
+pub(super) fn synced(haves: &[Have]) -> impl Iterator<Item = Counted> + '_ {
+    let most = Limits::told().hashes;
+    let haves = haves.iter().enumerate();
+    haves.map(move |(k, have)| (List::LastSync(k), have.last_sync.len(), most))
+}
+
+/// The first list with more items than it may have.
+pub(super) fn first_long(mut lists: impl Iterator<Item = Counted>) -> Option<Cause> {
+    lists.find_map(|(list, count, most)| items(list, count, most))
+}
+
+pub(super) fn items(list: List, count: usize, most: u64) -> Option<Cause> {
     let count = count as u64;
     let rule = Rule::Items { list, count, most };
     (count > most).then(|| Cause::new(rule, None))
@@ -121,7 +131,7 @@ fn counted(n: usize) -> u64 {
 mod tests {
     use super::*;
     use crate::limits::HASHES;
-    use crate::{ChangeHash, Have, MessageFlags};
+    use crate::{ChangeHash, MessageFlags};
 
     #[test]
     fn the_size_is_what_is_written() {
