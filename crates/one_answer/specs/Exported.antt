@@ -2,6 +2,8 @@
 use Rattle.one_answer.specs.Binds.{Binds}
 use Rattle.call_words.proofs.answer.refusal_words as of-refusal-words
 use Rattle.call_words.proofs.answer.write_words as of-write-words
+use Rattle.call_words.proofs.words.session_words as of-session-words
+use Rattle.call_words.proofs.words.session_of as of-session-of
 use Rattle.wire_calls.proofs.calls.bt_read_number as of-bt-read-number
 use Rattle.wire_calls.proofs.calls.bt_read_filter_number as of-bt-read-filter-number
 use Rattle.wire_calls.proofs.calls.bt_read_prefixed as of-bt-read-prefixed
@@ -52,14 +54,14 @@ use Rattle.message_calls.proofs.message_words.section_word as of-section-word
 use Rattle.message_calls.proofs.message_words.section_of as of-section-of
 use Rattle.message_calls.proofs.message_words.decoded_words as of-decoded-words
 use Rattle.message_calls.proofs.message_words.peeked_words as of-peeked-words
-use Rattle.call_words.proofs.words.session_words as of-session-words
-use Rattle.call_words.proofs.words.session_of as of-session-of
 
 -- The exported calls, and the functions that turn answers into words.
 pub record ExportedBind : Type 0 where
-  -- the crate answers
+  -- the crate call_words
   pub refusal-words : Binds of-refusal-words.ended of-refusal-words.Reads.Post
   pub write-words : Binds of-write-words.ended of-write-words.Reads.Post
+  pub session-words : Binds of-session-words.ended of-session-words.Reads.Post
+  pub session-of : Binds of-session-of.ended of-session-of.Reads.Post
   -- the crate wire_calls
   pub bt-read-number : Binds of-bt-read-number.ended of-bt-read-number.Reads.Post
   pub bt-read-filter-number : Binds of-bt-read-filter-number.ended of-bt-read-filter-number.Reads.Post
@@ -105,7 +107,7 @@ pub record ExportedBind : Type 0 where
   pub planned-session : Binds of-planned-session.ended of-planned-session.Reads.Post
   pub received-words : Binds of-received-words.ended of-received-words.Reads.Post
   pub received-session : Binds of-received-session.ended of-received-session.Reads.Post
-  -- the crate selection_calls
+  -- the crate send_calls
   pub bt-hashes-to-send : Binds of-bt-hashes-to-send.ended of-bt-hashes-to-send.Reads.Post
   -- the crate message_calls
   pub bt-read-message : Binds of-bt-read-message.ended of-bt-read-message.Reads.Post
@@ -117,6 +119,3 @@ pub record ExportedBind : Type 0 where
   pub section-of : Binds of-section-of.ended of-section-of.Reads.Post
   pub decoded-words : Binds of-decoded-words.ended of-decoded-words.Reads.Post
   pub peeked-words : Binds of-peeked-words.ended of-peeked-words.Reads.Post
-  -- the crate session_words
-  pub session-words : Binds of-session-words.ended of-session-words.Reads.Post
-  pub session-of : Binds of-session-of.ended of-session-of.Reads.Post

@@ -26,19 +26,19 @@ use Rattle.receive_make.proofs.make.load_failed as of-load-failed
 
 -- Sessions: their struct, saved states, and the parts of planning and receiving that require nothing.
 pub record SessionsBind : Type 0 where
-  -- the crate state
+  -- the crate session_state
   pub new : Binds of-new.ended of-new.Reads.Post
   pub new-read-only : Binds of-new-read-only.ended of-new-read-only.Reads.Post
   pub restored : Binds of-restored.ended of-restored.Reads.Post
   pub set-read-only : Binds of-set-read-only.ended of-set-read-only.Reads.Post
   pub heard-count : Binds of-heard-count.ended of-heard-count.Reads.Post
-  -- the crate lent
+  -- the crate session_check
   pub haves-good : Binds of-haves-good.ended of-haves-good.Reads.Post
   pub session-good : Binds of-session-good.ended of-session-good.Reads.Post
   pub list-good : Binds of-list-good.ended of-list-good.Reads.Post
   pub heard-good : Binds of-heard-good.ended of-heard-good.Reads.Post
   pub sent-good : Binds of-sent-good.ended of-sent-good.Reads.Post
-  -- the crate saved
+  -- the crate session_saved
   pub saved-encode : Binds of-saved-encode.ended of-saved-encode.Reads.Post
   pub saved-parse : Binds of-saved-parse.ended of-saved-parse.Reads.Post
   pub saved-decode : Binds of-saved-decode.ended of-saved-decode.Reads.Post
@@ -47,15 +47,15 @@ pub record SessionsBind : Type 0 where
   pub check-plan : Binds of-check-plan.ended of-check-plan.Reads.Post
   -- the crate receive
   pub receive-sync-message : Binds of-receive-sync-message.ended of-receive-sync-message.Reads.Post
-  -- the crate planning
+  -- the crate plan_parts
   pub is-silent : Binds of-is-silent.ended of-is-silent.Reads.Post
-  -- the crate decide
+  -- the crate plan_decide
   pub decide-puts-of : Binds of-decide-puts-of.ended of-decide-puts-of.Reads.Post
-  -- the crate receiving
+  -- the crate receive_parts
   pub take-flags : Binds of-take-flags.ended of-take-flags.Reads.Post
-  -- the crate taking
+  -- the crate receive_decide
   pub taking-receipt-puts : Binds of-taking-receipt-puts.ended of-taking-receipt-puts.Reads.Post
-  -- the crate drafting
+  -- the crate receive_make
   pub check-receive : Binds of-check-receive.ended of-check-receive.Reads.Post
   pub loads-changes : Binds of-loads-changes.ended of-loads-changes.Reads.Post
   pub load-failed : Binds of-load-failed.ended of-load-failed.Reads.Post

@@ -51,10 +51,14 @@ pub(crate) enum Rule {
     MessageBytes { bytes: Option<u64>, most: u64 },
     /// A table has at most so many rows.
     Rows { table: Rows, most: u64 },
-    /// The filter at a place keeps to what filters are.
-    Filter { place: usize, rule: Numbers },
+    /// A filter keeps to what filters are; where it stands, if it was read.
+    Filter { place: Option<usize>, rule: Numbers },
+    /// A filter's field has the size that its entries and bits ask for.
+    FieldSize { bytes: u64, asked: u64 },
     /// A row keeps to what rows are.
     Row { table: Rows, row: usize, rule: Row },
+    /// The sent hashes of a session ascend: the one at an index doesn't.
+    SentOrder(usize),
 }
 
 /// Whose items are counted.
@@ -67,6 +71,12 @@ pub(crate) enum List {
     LastSync(usize),
     Chunks,
     SharedHeads,
+    /// Of the filter that is to be built.
+    Entries,
+    /// Of a session, by the name of its items.
+    OfSession(&'static str),
+    /// Passed to a call, by the name of its items.
+    Passed(&'static str),
 }
 
 /// What is wrong with a filter's numbers.
@@ -135,9 +145,19 @@ impl fmt::Display for Cause {
                 write!(f, "the {table} has more than {} rows", grouped(most))
             }
             Rule::Filter { place, rule } => {
-                write!(f, "the filter at place {} {rule}", shown(place))
+                let at = place.map_or(String::new(), |place| format!(" at place {}", shown(place)));
+                write!(f, "the filter{at} {rule}")
+            }
+            Rule::FieldSize { bytes, asked } => {
+                let (bytes, asked) = (grouped(bytes), grouped(asked));
+                let has = format!("the filter has a field of length {bytes}");
+                write!(f, "{has}; its entries and bits ask for {asked}")
             }
             Rule::Row { table, row, rule } => write!(f, "row {} of the {table} {rule}", shown(row)),
+            Rule::SentOrder(k) => {
+                let above = "isn't above the one before it; sent hashes ascend";
+                write!(f, "the sent hash at index {} {above}", shown(k))
+            }
         }
     }
 }
@@ -156,6 +176,9 @@ impl List {
             List::LastSync(k) => format!("the have at index {k} has {count} last-sync hashes"),
             List::Chunks => format!("the message has {count} chunks"),
             List::SharedHeads => format!("the saved state has {count} shared heads"),
+            List::Entries => format!("the filter has {count} entries"),
+            List::OfSession(items) => format!("the session has {count} {items}"),
+            List::Passed(items) => format!("{count} {items} are passed"),
         }
     }
 }

@@ -4,15 +4,19 @@
 //! at the place or in the row that it names. What is read is walked with the library's own
 //! readers. Where nothing is found the refusal keeps its general sentence.
 
+mod lent;
 mod read;
 mod rows;
 mod written;
 
+pub(crate) use lent::{passed, selecting, session};
 pub(crate) use read::{filter, message, state};
 pub(crate) use rows::{table, tables};
-pub(crate) use written::{saved, writing};
+pub(crate) use written::{building, parts, saved, writing};
 
+use crate::cause::Numbers;
 use crate::refusal::Refusal;
+use crate::Limits;
 
 /// The refusals that are looked into: a limit, a filter without bits, a bad change table, a
 /// bad waiting table, bad numbers.
@@ -29,5 +33,25 @@ pub(crate) fn receiving(change_table: &[u8], bytes: &[u8], refusal: Refusal) -> 
     match told.cause() {
         Some(_) => told,
         None => message(bytes, refusal),
+    }
+}
+
+/// What is wrong with a filter's numbers, in the order in which 01 tests them. Without
+/// entries the others may be any.
+fn wrong_numbers(entries: u64, bits: u64, probes: u64) -> Option<Numbers> {
+    if entries == 0 {
+        return None;
+    }
+    let limits = Limits::told();
+    let (most, most_bytes) = (limits.probes, limits.field);
+    let bytes = entries.checked_mul(bits)?.div_ceil(8);
+    match bits {
+        0 => Some(Numbers::NoBits),
+        _ if probes > most => Some(Numbers::Probes { probes, most }),
+        _ if bytes > most_bytes => {
+            let most = most_bytes;
+            Some(Numbers::Field { bytes, most })
+        }
+        _ => None,
     }
 }

@@ -2,7 +2,7 @@
 
 use crate::hash::{bytes_of, ChangeHash, HASH};
 use crate::refusal::{answer, Refusal};
-use crate::{raw, room};
+use crate::{explain, raw, room};
 use std::borrow::Borrow;
 
 /// Bits per entry and probes of the filters that are made here.
@@ -66,10 +66,11 @@ impl Filter {
     ) -> Result<Filter, Refusal> {
         let (bits, probes) = (bits.into(), probes.into());
         let lent = bytes_of(hashes);
-        let room = lent.len();
-        let field = room::written(room, |field| raw::build_filter(bits, probes, &lent, field))?;
+        let (room, entries) = (lent.len(), lent.len() / HASH);
+        let field = room::written(room, |field| raw::build_filter(bits, probes, &lent, field));
+        let field = field.map_err(|why| explain::building(entries, bits, probes, why))?;
         Ok(Filter {
-            entries: (lent.len() / HASH) as u64,
+            entries: entries as u64,
             bits,
             probes,
             field,
@@ -84,18 +85,17 @@ impl Filter {
         probes: u64,
         field: &[u8],
     ) -> Result<Filter, Refusal> {
-        // Writing it is what tests the numbers.
-        let room = field.len() + NUMBERS;
-        room::written(room, |out| {
-            raw::write_filter(entries, bits, probes, field, out)
-        })?;
-        let field = field.to_vec();
-        Ok(Filter {
+        let filter = Filter {
             entries,
             bits,
             probes,
-            field,
-        })
+            field: field.to_vec(),
+        };
+        // Writing it is what tests the numbers.
+        match filter.written() {
+            Ok(_) => Ok(filter),
+            Err(refusal) => Err(explain::parts(&filter, refusal)),
+        }
     }
 
     /// Reads a filter; what stands after its field is ignored.
@@ -123,7 +123,7 @@ impl Filter {
     pub fn parse_counted(bytes: &[u8]) -> Result<(Filter, usize), Refusal> {
         let read = answer(raw::read_filter(bytes, 0, bytes.len()));
         let [entries, bits, probes, place, length, _, ignored] =
-            read.map_err(|refusal| crate::explain::filter(bytes, refusal))?;
+            read.map_err(|refusal| explain::filter(bytes, refusal))?;
         let filter = Filter {
             entries,
             bits,
@@ -135,6 +135,11 @@ impl Filter {
 
     /// Its bytes; none if it has no entries.
     pub fn to_bytes(&self) -> Vec<u8> {
+        self.written()
+            .expect("a filter that was built or read is good")
+    }
+
+    fn written(&self) -> Result<Vec<u8>, Refusal> {
         let Filter {
             entries,
             bits,
@@ -142,10 +147,9 @@ impl Filter {
             field,
         } = self;
         let room = field.len() + NUMBERS;
-        let written = room::written(room, |out| {
+        room::written(room, |out| {
             raw::write_filter(*entries, *bits, *probes, field, out)
-        });
-        written.expect("a filter that was built or read is good")
+        })
     }
 
     /// Whether it says yes to a hash.

@@ -75,7 +75,7 @@ impl Refusal {
     }
 
     /// What broke in particular, where it was looked for and found: in messages, saved
-    /// states, filters and tables that are values of this crate.
+    /// states, filters, tables and sessions that are values of this crate.
     pub fn cause(&self) -> Option<Cause> {
         self.cause
     }

@@ -3,7 +3,7 @@
 use crate::hash::{bytes_of, hashes_in, ChangeHash, HASH};
 use crate::have::{self, Have};
 use crate::refusal::Refusal;
-use crate::{raw, room, Table};
+use crate::{explain, raw, room, Table};
 
 /// The hashes to send to a peer that has this and asks for that: the held needs, as
 /// they were asked for, and, where the peer has said what it has, every row beyond it
@@ -27,10 +27,11 @@ pub fn hashes_to_send(
     need: &[ChangeHash],
 ) -> Result<Vec<ChangeHash>, Refusal> {
     let (haves, bytes) = have::lend(have);
-    let need = bytes_of(need);
-    let room = HASH * table.rows() + need.len();
+    let lent = bytes_of(need);
+    let room = HASH * table.rows() + lent.len();
     let list = room::written(room, |out| {
-        raw::hashes_to_send(table.as_bytes(), table.index(), &bytes, &haves, &need, out)
+        raw::hashes_to_send(table.as_bytes(), table.index(), &bytes, &haves, &lent, out)
     });
-    list.map(|bytes| hashes_in(&bytes))
+    let list = list.map_err(|refusal| explain::selecting(have, need.len(), refusal))?;
+    Ok(hashes_in(&list))
 }

@@ -160,7 +160,8 @@ impl Table {
         let beyond = room::written(room, |out| {
             raw::beyond(&self.bytes, self.index(), &lent, out)
         });
-        beyond.map(|bytes| hashes_in(&bytes))
+        let beyond = beyond.map_err(|refusal| explain::passed(hashes.len(), refusal))?;
+        Ok(hashes_in(&beyond))
     }
 
     /// What is missing of these hashes and of all that waiting changes ask for them,
@@ -174,7 +175,8 @@ impl Table {
         let missing = room::written(lent.len(), |out| {
             raw::missing(&self.bytes, self.index(), &waiting.0, &lent, out)
         });
-        missing.map(|bytes| hashes_in(&bytes))
+        let missing = missing.map_err(|refusal| explain::passed(hashes.len(), refusal))?;
+        Ok(hashes_in(&missing))
     }
 }
 

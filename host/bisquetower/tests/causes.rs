@@ -2,13 +2,13 @@
 
 use bisquetower::limits::{
     CHUNKS, DEPENDENCIES, FIELD_SIZE, HASHES, HAVES, HAVES_WORDS, MESSAGE_SIZE, PROBES, ROWS,
-    TABLE_SIZE, WAITING_ROWS,
+    SENT_HASHES, TABLE_SIZE, WAITING_ROWS,
 };
 use bisquetower::message::{View, CHUNK_WORDS};
 use bisquetower::refusal::{answer, grouped};
 use bisquetower::{
-    raw, ChangeHash, Filter, Have, Host, MemoryError, Message, Refusal, SavedState, Session, Table,
-    Waiting,
+    hashes_to_send, raw, ChangeHash, Filter, Have, Host, MemoryError, Message, Refusal, SavedState,
+    Session, SessionParts, Table, Waiting,
 };
 use std::borrow::Cow;
 use std::fmt::Debug;
@@ -253,6 +253,154 @@ fn a_filter_that_cant_be_read() {
     let field = "the filter at place 0 has a field of 2,305,843,008,139,952,129 bytes";
     let sentence = format!("{field}; at most {}", shown(FIELD_SIZE));
     says(refusal, &sentence, 0..10);
+}
+
+/// A filter that isn't read stands at no place.
+#[test]
+fn a_filter_that_cant_be_made() {
+    let built = |bits: usize, probes: usize| Filter::with(bits as u32, probes as u32, hashes(8));
+    assert!(built(FIELD_SIZE, PROBES).is_ok());
+    let probes = PROBES + 1;
+    let many = format!("the filter has {probes} probes; at most {PROBES}");
+    says(refused(built(10, probes), 10, 0), &many, None);
+    let no_bits = "the filter has entries and 0 bits per entry";
+    says(refused(built(0, 7), 10, 0), no_bits, None);
+    let [bytes, most] = [FIELD_SIZE + 1, FIELD_SIZE].map(shown);
+    let large = format!("the filter has a field of {bytes} bytes; at most {most}");
+    says(refused(built(FIELD_SIZE + 1, 7), 10, 0), &large, None);
+    let [count, most] = [HASHES + 1, HASHES].map(shown);
+    let entries = format!("the filter has {count} entries; at most {most}");
+    let refusal = refused(Filter::from_hashes(hashes(HASHES + 1)), 4, 0);
+    says(refusal, &entries, None);
+
+    let of_parts = |probes: usize, field: &[u8]| Filter::from_parts(1, 10, probes as u64, field);
+    assert!(of_parts(7, &[0; 2]).is_ok());
+    says(refused(of_parts(probes, &[0; 2]), 10, 0), &many, None);
+    let long = "the filter has a field of length 3; its entries and bits ask for 2";
+    says(refused(of_parts(7, &[0; 3]), 10, 0), long, None);
+    let none = "the filter has a field of length 1; its entries and bits ask for 0";
+    let refusal = refused(Filter::from_parts(0, 10, 7, &[0]), 10, 0);
+    says(refusal, none, None);
+    // Numbers that no filter of bytes can have.
+    let huge = refused(Filter::from_parts(0, u64::MAX, 7, &[]), 10, 0);
+    assert_eq!(huge.cause(), None);
+}
+
+/// The parts of a session, each as long as it may be but for one, which has one more.
+#[test]
+fn a_session_of_bad_parts() {
+    let have = |count| Have {
+        last_sync: hashes(count),
+        ..Have::default()
+    };
+    let good = SessionParts {
+        shared_heads: hashes(HASHES),
+        last_sent_heads: hashes(HASHES),
+        their_heads: Some(hashes(HASHES)),
+        their_need: Some(hashes(HASHES)),
+        their_have: Some(vec![have(HASHES); HAVES]),
+        ..SessionParts::default()
+    };
+    assert!(Session::from_parts(&good).is_ok());
+    let [count, most] = [HASHES + 1, HASHES].map(shown);
+    let of_hashes = |items: &str| format!("the session has {count} {items}; at most {most}");
+    let many = || Some(hashes(HASHES + 1));
+    let [have_count, most_haves] = [HAVES + 1, HAVES].map(shown);
+    let [sent_count, most_sent] = [SENT_HASHES + 1, SENT_HASHES].map(shown);
+    let mut sent = hashes(SENT_HASHES + 1);
+    sent.sort();
+    let cases = [
+        (
+            SessionParts {
+                shared_heads: hashes(HASHES + 1),
+                ..good.clone()
+            },
+            of_hashes("shared heads"),
+        ),
+        (
+            SessionParts {
+                last_sent_heads: hashes(HASHES + 1),
+                ..good.clone()
+            },
+            of_hashes("last-sent heads"),
+        ),
+        (
+            SessionParts {
+                their_heads: many(),
+                ..good.clone()
+            },
+            of_hashes("heads of the peer's"),
+        ),
+        (
+            SessionParts {
+                their_need: many(),
+                ..good.clone()
+            },
+            of_hashes("needs of the peer's"),
+        ),
+        (
+            SessionParts {
+                their_have: Some(vec![have(1); HAVES + 1]),
+                ..good.clone()
+            },
+            format!("the session has {have_count} haves of the peer's; at most {most_haves}"),
+        ),
+        (
+            SessionParts {
+                their_have: Some(vec![have(1), have(HASHES + 1)]),
+                ..good.clone()
+            },
+            format!("the have at index 1 has {count} last-sync hashes; at most {most}"),
+        ),
+        (
+            SessionParts {
+                sent_hashes: sent,
+                ..good.clone()
+            },
+            format!("the session has {sent_count} sent hashes; at most {most_sent}"),
+        ),
+        (
+            SessionParts {
+                sent_hashes: vec![hash(1), hash(2), hash(2)],
+                ..good
+            },
+            "the sent hash at index 2 isn't above the one before it; sent hashes ascend".into(),
+        ),
+    ];
+    for (parts, sentence) in cases {
+        says(refused(Session::from_parts(&parts), 10, 0), &sentence, None);
+    }
+}
+
+#[test]
+fn too_many_hashes_that_are_passed() {
+    let table = Table::new(rows()).unwrap();
+    let [count, most] = [HASHES + 1, HASHES].map(shown);
+    let passed = format!("{count} hashes are passed; at most {most}");
+    let many = hashes(HASHES + 1);
+    says(refused(table.beyond(&many), 4, 0), &passed, None);
+    let missing = table.missing(&Waiting::default(), &many);
+    says(refused(missing, 4, 0), &passed, None);
+    says(
+        refused(hashes_to_send(&table, &[], &many), 4, 0),
+        &passed,
+        None,
+    );
+    let [have_count, most_haves] = [HAVES + 1, HAVES].map(shown);
+    let haves = format!("{have_count} haves are passed; at most {most_haves}");
+    let refusal = refused(
+        hashes_to_send(&table, &vec![Have::default(); HAVES + 1], &[]),
+        4,
+        0,
+    );
+    says(refusal, &haves, None);
+    let synced = Have {
+        last_sync: many,
+        ..Have::default()
+    };
+    let refusal = refused(hashes_to_send(&table, &[synced], &[]), 4, 0);
+    let sentence = format!("the have at index 0 has {count} last-sync hashes; at most {most}");
+    says(refusal, &sentence, None);
 }
 
 /// A table of 20 rows; row 18 depends on rows 3, 5 and 17.

@@ -67,8 +67,12 @@ pub fn make_folder(path: &Path) -> Result<(), Failure> {
 }
 
 fn unwritten(path: &Path, error: &std::io::Error) -> Failure {
+    let next = match error.kind() {
+        ErrorKind::StorageFull => "make room where it stands: what was written isn't whole.",
+        _ => "name a folder that is there and that you may write to.",
+    };
     Failure::file(
         format!("{} can't be written: {error}", path.display()),
-        "name a folder that is there and that you may write to.",
+        next,
     )
 }

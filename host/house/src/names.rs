@@ -32,7 +32,7 @@ pub fn names(text: &str) -> BTreeSet<&str> {
         .collect()
 }
 
-/// `use Rattle.graph.specs.Graph.{heads, below as under}` and the same of the own
+/// `use Rattle.table_graph.specs.Graph.{heads, below as under}` and the same of the own
 /// crate's specs: what is imported from definitions, of an antt file or, after
 /// `ghost`, of code.
 pub fn spec_imports(text: &str) -> Imports {
@@ -58,7 +58,7 @@ pub fn spec_imports(text: &str) -> Imports {
     imports
 }
 
-/// `use graph::heads::collect_heads;` of code; `crate` is this one.
+/// `use table_graph::heads::collect_heads;` of code; `crate` is this one.
 pub fn code_imports(krate: &str, text: &str) -> Imports {
     let lines = text
         .lines()

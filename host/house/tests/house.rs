@@ -1,6 +1,6 @@
 //! What the crates and the documents must keep to.
 
-use house::citations::{of_text, stands};
+use house::citations::{of_text, stands, Citation};
 use house::edits::{self, Edit};
 use house::functions::{self, Function};
 use house::names::{home, names, Home};
@@ -339,5 +339,41 @@ fn every_edit_is_told() {
     for (krate, name) in named.filter(|(krate, _)| crates.iter().any(|one| one == krate)) {
         let is = |edit: &Edit| edit.krate == krate && edit.name == name;
         assert!(edits.iter().any(is), "{krate}/{name}");
+    }
+}
+
+/// Whether a crate has what docs/EDITS.md says that an edit breaks there: "`FACT` of
+/// `FILE::FUNCTION`", where a method has its type for a file, or "`LAW` (FILE)".
+fn broken_stands(krate: &str, told: &str, functions: &[Function]) -> bool {
+    let quoted: Vec<&str> = told.split('`').skip(1).step_by(2).collect();
+    if let [_, path] = quoted[..] {
+        let (file, names) = path.split_once("::").expect("a file and a function");
+        let holds = |f: &Function, name: &str| {
+            let of_type = f.method && f.source.contains(&format!("impl {file}"));
+            f.home.krate == krate && f.home.name == name && (f.home.file == file || of_type)
+        };
+        let mut names = names.split(", ");
+        return names.all(|name| functions.iter().any(|f| holds(f, name)));
+    }
+    let file = told.split(['(', ')']).nth(1).expect("a file");
+    stands(&Citation {
+        name: quoted[0].into(),
+        krate: krate.into(),
+        file: file.into(),
+    })
+}
+
+/// What no longer holds after an edit is a function's or a law of the edit's own crate.
+#[test]
+fn every_edit_breaks_something_of_its_crate() {
+    let functions = functions::all();
+    let page = document("EDITS.md");
+    for section in page.split("\n## ").skip(1) {
+        let (krate, rows) = section.split_once('\n').expect("a crate's rows");
+        for row in rows.lines().filter(|line| line.starts_with("| `")) {
+            let told = row.trim_end_matches(" |").rsplit(" | ").next();
+            let told = told.expect("a last column");
+            assert!(broken_stands(krate, told, &functions), "{krate}: {row}");
+        }
     }
 }

@@ -1,7 +1,7 @@
 //! Bytes that were read: which count passes its limit, or which number of a filter isn't
 //! what it may be.
 
-use super::{LIMIT, NO_BITS};
+use super::{wrong_numbers, LIMIT, NO_BITS};
 use crate::cause::{Cause, List, Numbers, Rule};
 use crate::refusal::{answer, Refusal};
 use crate::{raw, Limits};
@@ -102,7 +102,7 @@ impl Walk<'_> {
         read.map(|_| ()).map_err(|_| self.filter_numbers(string))
     }
 
-    /// Which of a filter's numbers is wrong, in the order in which 01 tests them.
+    /// Which of a filter's numbers is wrong.
     fn filter_numbers(&self, string: Range<usize>) -> End {
         let start = string.start;
         let number = |at: usize| {
@@ -113,18 +113,14 @@ impl Walk<'_> {
         let (entries, bits_at) = number(start)?;
         let (bits, probes_at) = number(bits_at)?;
         let (probes, end) = number(probes_at)?;
-        let bytes = entries.checked_mul(bits)?.div_ceil(8);
-        let (most, most_bytes) = (self.limits.probes, self.limits.field);
-        let (rule, field) = match bits {
-            0 => (Numbers::NoBits, bits_at..probes_at),
-            _ if probes > most => (Numbers::Probes { probes, most }, probes_at..end),
-            _ if bytes > most_bytes => {
-                let most = most_bytes;
-                (Numbers::Field { bytes, most }, start..probes_at)
-            }
-            _ => return None,
+        let rule = wrong_numbers(entries, bits, probes)?;
+        let field = match rule {
+            Numbers::NoBits => bits_at..probes_at,
+            Numbers::Probes { .. } => probes_at..end,
+            Numbers::Field { .. } => start..probes_at,
         };
-        let rule = Rule::Filter { place: start, rule };
+        let place = Some(start);
+        let rule = Rule::Filter { place, rule };
         Some((start, Cause::new(rule, Some(field))))
     }
 }

@@ -1,10 +1,11 @@
-//! Values that were to be written: which part of one passes its limit.
+//! Values that were to be written, and filters that were to be made: which part of one
+//! passes its limit.
 
-use super::{BAD_NUMBERS, LIMIT};
+use super::{wrong_numbers, BAD_NUMBERS, LIMIT};
 use crate::cause::{Cause, List, Rule};
 use crate::hash::HASH;
 use crate::refusal::Refusal;
-use crate::{Limits, Message};
+use crate::{Filter, Have, Limits, Message};
 
 /// Bytes of a message's first byte, and of its flags section.
 const FIRST: u64 = 1;
@@ -16,18 +17,13 @@ pub(crate) fn writing(message: &Message, refusal: Refusal) -> Refusal {
         return refusal;
     }
     let limits = Limits::told();
-    let haves = message.have.iter().enumerate();
-    let synced = haves.map(|(k, have)| (List::LastSync(k), have.last_sync.len(), limits.hashes));
     let lists = [
         (List::Heads, message.heads.len(), limits.hashes),
         (List::Need, message.need.len(), limits.hashes),
         (List::Haves, message.have.len(), limits.haves),
         (List::Chunks, message.changes.len(), limits.chunks),
     ];
-    let lists = lists.into_iter().chain(synced);
-    let long = lists
-        .into_iter()
-        .find_map(|(list, count, most)| items(list, count, most));
+    let long = first_long(lists.into_iter().chain(synced(&message.have)));
     match long.or_else(|| large(message, limits.message)) {
         Some(cause) => refusal.because(cause),
         None => refusal,
@@ -43,7 +39,57 @@ pub(crate) fn saved(heads: usize, refusal: Refusal) -> Refusal {
     long.map_or(refusal, |cause| refusal.because(cause))
 }
 
-fn items(list: List, count: usize, most: u64) -> Option<Cause> {
+/// The refusal of a filter that was to be built of so many hashes.
+pub(crate) fn building(entries: usize, bits: u64, probes: u64, refusal: Refusal) -> Refusal {
+    let cause = match refusal.number {
+        BAD_NUMBERS => numbers(entries as u64, bits, probes),
+        LIMIT => items(List::Entries, entries, Limits::told().hashes),
+        _ => None,
+    };
+    cause.map_or(refusal, |cause| refusal.because(cause))
+}
+
+/// The refusal of a filter that is numbers and a field.
+pub(crate) fn parts(filter: &Filter, refusal: Refusal) -> Refusal {
+    if refusal.number != BAD_NUMBERS {
+        return refusal;
+    }
+    let Filter {
+        entries,
+        bits,
+        probes,
+        field,
+    } = filter;
+    let cause = numbers(*entries, *bits, *probes).or_else(|| {
+        let (bytes, asked) = (field.len() as u64, entries.checked_mul(*bits)?.div_ceil(8));
+        let rule = Rule::FieldSize { bytes, asked };
+        (bytes != asked).then(|| Cause::new(rule, None))
+    });
+    cause.map_or(refusal, |cause| refusal.because(cause))
+}
+
+/// What is wrong with the numbers of a filter that wasn't read.
+fn numbers(entries: u64, bits: u64, probes: u64) -> Option<Cause> {
+    let rule = wrong_numbers(entries, bits, probes)?;
+    Some(Cause::new(Rule::Filter { place: None, rule }, None))
+}
+
+/// A list, how many items it has, and how many it may have.
+pub(super) type Counted = (List, usize, u64);
+
+/// The last-sync hashes of each have.
+pub(super) fn synced(haves: &[Have]) -> impl Iterator<Item = Counted> + '_ {
+    let most = Limits::told().hashes;
+    let haves = haves.iter().enumerate();
+    haves.map(move |(k, have)| (List::LastSync(k), have.last_sync.len(), most))
+}
+
+/// The first list with more items than it may have.
+pub(super) fn first_long(mut lists: impl Iterator<Item = Counted>) -> Option<Cause> {
+    lists.find_map(|(list, count, most)| items(list, count, most))
+}
+
+pub(super) fn items(list: List, count: usize, most: u64) -> Option<Cause> {
     let count = count as u64;
     let rule = Rule::Items { list, count, most };
     (count > most).then(|| Cause::new(rule, None))
@@ -85,7 +131,7 @@ fn counted(n: usize) -> u64 {
 mod tests {
     use super::*;
     use crate::limits::HASHES;
-    use crate::{ChangeHash, Filter, Have, MessageFlags};
+    use crate::{ChangeHash, MessageFlags};
 
     #[test]
     fn the_size_is_what_is_written() {

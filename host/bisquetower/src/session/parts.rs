@@ -3,8 +3,8 @@
 use super::{Lists, Session, WORDS};
 use crate::hash::{bytes_of, ChangeHash};
 use crate::have::{self, Have};
-use crate::raw;
 use crate::refusal::{answer, Refusal};
+use crate::{explain, raw};
 
 /// Everything that a session knows, for programs that look at sessions or keep them
 /// whole. Between connections [`SavedState`](crate::SavedState) is enough.
@@ -88,7 +88,7 @@ impl Session {
             sent: bytes_of(&parts.sent_hashes),
         };
         let words = words_of(parts);
-        answer(raw::check_session(
+        let checked = answer(raw::check_session(
             &words,
             &lists.shared,
             &lists.last_sent,
@@ -97,7 +97,8 @@ impl Session {
             &lists.haves,
             &lists.bytes,
             &lists.sent,
-        ))?;
+        ));
+        checked.map_err(|refusal| explain::session(parts, refusal))?;
         Ok(Session::of(words, lists))
     }
 }

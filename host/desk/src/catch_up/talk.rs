@@ -41,6 +41,8 @@ pub struct Talk {
     pub differs: Option<Difference>,
     /// The rounds until both held the rows of both tables.
     pub rounds: Vec<Round>,
+    /// Whether a reply was the whole document, in those rounds or in what closed the talk.
+    pub document: bool,
     /// Whether both fell silent, and after how many rounds.
     pub silent: bool,
     pub talked: usize,
@@ -86,9 +88,10 @@ impl Talk {
         self.differs.is_none().then_some(self.missing + 1)
     }
 
-    /// Whether every reply was a list of changes, as the bound wants it.
+    /// Whether every reply was a list of changes, as the bound wants it. A validator without
+    /// rows is sent the document even by a station without any.
     pub fn by_list(&self) -> bool {
-        self.rounds.iter().all(|round| !round.document)
+        !self.document
     }
 
     /// Whether it is a talk of which the bound is proved.
@@ -176,6 +179,7 @@ impl Talk {
         let reply = say(station, validator)?;
         if let Some((plan, bytes)) = &reply {
             (round.sent, round.document) = (plan.hashes.len(), plan.document);
+            self.document |= plan.document;
             round.reply_bytes = bytes.len();
             self.said(true, bytes);
         }

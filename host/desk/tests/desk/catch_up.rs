@@ -312,6 +312,17 @@ round  held  asked  false yes        sent  waiting  to station  to validator
         shown.contains("m + 1 is 5, promised for replies by list"),
         "{shown}"
     );
+
+    // A station without any sends its document too, so this isn't what is proved.
+    let none = table(&folder, "none.table", vec![]);
+    let shown = run_with(&["catch-up", &none, "-"], b"").ended(0).out;
+    let told = "After 0 rounds the validator holds the station's table; m + 1 is 1, promised";
+    assert!(shown.contains(told), "{shown}");
+    let json = run_with(&["catch-up", &none, "-", "--json"], b"");
+    let json = json.ended(0).out;
+    for (name, is) in [("by_list", "false"), ("holds", "true"), ("proved", "false")] {
+        assert_eq!(value(&json, name), is, "{name}: {json}");
+    }
 }
 
 /// Where both lack rows, both get them, and no bound is told.

@@ -148,6 +148,23 @@ fn output_that_cant_be_written() {
     }
 }
 
+/// A full disk is told of a file too, and its folder isn't blamed.
+#[cfg(target_os = "linux")]
+#[test]
+fn a_file_that_cant_be_written() {
+    let none = folder("command-full").join("none.table");
+    fs::write(&none, b"").unwrap();
+    let none = text(&none);
+    let words = ["catch-up", none, none, "--svg", "/dev/full", "--force"];
+    let full = run(&words).ended(2);
+    let told = "/dev/full can't be written";
+    let next = "next: make room where it stands";
+    assert!(
+        full.err.contains(told) && full.err.contains(next),
+        "{full:?}"
+    );
+}
+
 /// A reader that has gone away is no failure.
 #[test]
 fn a_reader_that_stops_reading() {

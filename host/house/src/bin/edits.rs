@@ -109,6 +109,7 @@ const READ: &[(&str, &str)] = &[
         "waiting/waiting_unasked",
         "`returns-5` of `check::waiting_good`",
     ),
+    ("walk_hosts/fresh_never", "`zeroed-fresh` (Zeroed)"),
     (
         "wire_calls/limits_alike",
         "`returns` of `limits::bt_limits`",
