@@ -5,7 +5,7 @@ use house::edits::{self, Edit};
 use house::functions::{self, Function};
 use house::names::{home, names, Home};
 use house::reach::House;
-use house::{crates, document, files, read, root};
+use house::{costs, crates, document, files, read, root};
 use std::collections::{BTreeMap, BTreeSet};
 use std::path::PathBuf;
 
@@ -179,6 +179,41 @@ fn every_definition_is_told() {
         .map(|d| d.home)
         .collect();
     assert!(untold.is_empty(), "{untold:#?}");
+}
+
+/// The table of what crates cost has a row for each, in their order, with as many functions
+/// and edits as it has. `make costs` writes it.
+#[test]
+fn every_crate_has_its_costs() {
+    let (crates, functions, edits) = (crates(), functions::all(), edits::all());
+    let page = document("WORKING.md");
+    let today = costs::today(&crates, &functions, &edits, None, &page);
+    assert_eq!(costs::rows(&page), today);
+    assert_eq!(costs::written(&page, &today), page);
+}
+
+/// What a log of the gate says of crates and edits is what the table then has.
+#[test]
+fn costs_are_read_from_the_gate() {
+    let log = "rt: rules proved (7 s)\n\
+        rt: wire proved (unchanged since it was last proved)\n\
+        rt: must-fail rules/one: refused, as it must be (first at src/a.rt:1:2; 12 s)\n\
+        rt: must-fail rules/two: refused, as it must be (first at src/a.rt:3:4; 5 s)\n\
+        rt: must-fail wire/three: NOT REFUSED (6 s)\n";
+    let names = ["rules", "wire"].map(String::from);
+    let edit = |krate, name| edits::parse(krate, name, "");
+    let edits = [
+        edit("rules", "one"),
+        edit("rules", "two"),
+        edit("wire", "three"),
+    ];
+    let page = format!("Above.\n\n{}| all | 0 | 0 | 0 | 0 |\n", costs::HEAD);
+    let rows = costs::today(&names, &[], &edits, Some(log), &page);
+    let table =
+        "| `rules` | 0 | 7 | 2 | 17 |\n| `wire` | 0 | – | 1 | – |\n| all | 0 | – | 3 | – |\n";
+    let expected = format!("Above.\n\n{}{table}", costs::HEAD);
+    assert_eq!(costs::written(&page, &rows), expected);
+    assert_eq!(costs::rows(&expected), rows);
 }
 
 /// README.md and every page of docs/.
