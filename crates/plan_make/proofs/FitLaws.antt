@@ -136,7 +136,7 @@ pub puts-fit : (s : Session) (d : Draft) (bits probes : ℕ) (ready : PlanParts)
     → a ≡ decided s d bits probes (plannedRooms b) → p ≡ putsOf a → Fits p ready b
 puts-fit s d bits probes ready b a p m long e q = rw (q, e) (decided-fits s d bits probes ready b m long)
 
--- And once it is put, the plan is finished.
+-- A plan whose parts are put is finished.
 pub put-finished : (s : Session) (d : Draft) (bits probes : ℕ) (ready : PlanParts) (before after : Buffers) (a : PlanAnswer) (p : Puts)
     → a ≡ decided s d bits probes (plannedRooms before) → p ≡ putsOf a → after ≡ allPut p ready before → Finished s d bits probes ready before after a
 put-finished s d bits probes ready before after a p e q f = record { answer = e; buffers = rw q at f }

@@ -161,7 +161,7 @@ module _ (bits probes : ℕ) (t : List Row) (w : List Waiting) (s : Session) (l 
       (λ e. refused-starts _ ready)
       (λ e. reset-starts (few-asked (ltb-false _ _ e)))
 
-  -- So a plan that is finished is what the call promises.
+  -- A plan that is finished is what the call promises.
   pub plan-called : (before after : Buffers) (a : PlanAnswer) → Finished s d bits probes ready before after a
       → PlanCalled s (plan bits probes t w (stateOf s l)) before after a
   plan-called before after a fin =

@@ -84,7 +84,7 @@ still-roomy s l r =
     }
 
 -- What is said stands at the start of the buffers.
-pub record Put (q : Plan) (o o′ : Out) : Type 0 where
+pub record PlanPut (q : Plan) (o o′ : Out) : Type 0 where
   pub heads : o′ .heads ≡ sets (o .heads) 0 (hashesBytes (q .heads))
   pub need : o′ .need ≡ sets (o .need) 0 (hashesBytes (q .need))
   pub have : o′ .have ≡ sets (o .have) 0 (laidBytes (q .haves))
@@ -274,7 +274,7 @@ module _ (table waiting : List ℕ) (tabled : Tabled table) (beside : Beside (ta
       plan-holds = after-call p refl
 
       -- and what the step says stands in the buffers
-      pub plan-put : Put (said p) o o′
+      pub plan-put : PlanPut (said p) o o′
       unfolding putInto
       plan-put =
           record {

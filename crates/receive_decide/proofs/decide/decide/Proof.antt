@@ -1,4 +1,4 @@
--- `taking::decide::decide` meets its contract: one way out for each refusal, in their order. Assumes nothing.
+-- `receive_decide::decide::decide` meets its contract: one way out for each refusal, in their order. Assumes nothing.
 use borrow.Author.Needs.{needs}
 use Rattle.receive_decide.proofs.DecideLaws.{is-failed, is-past, is-short, is-taken}
 use Rattle.receive_decide.proofs.decide.decide.Statement.{statement}

@@ -1,4 +1,4 @@
--- `taking::decide::short_for` meets its contract: one way out for each list. Assumes nothing.
+-- `receive_decide::decide::short_for` meets its contract: one way out for each list. Assumes nothing.
 use borrow.Author.Needs.{needs}
 use Rattle.receive_decide.proofs.DecideLaws.{shared-short, last-short, heads-short, need-short, haves-short, bytes-short, enough}
 use Rattle.receive_decide.proofs.decide.short_for.Statement.{statement}

@@ -1,4 +1,4 @@
--- `graph::marks::mark_below` meets its contract: the rows that are left, passed downward after those that were, are the whole pass; and the whole
+-- `table_graph::marks::mark_below` meets its contract: the rows that are left, passed downward after those that were, are the whole pass; and the whole
 -- pass marks what is reached, since a row's mark is final when its turn comes (MarkLaws). Assumes nothing.
 use Prim.Native.Nat.{_≤_}
 use mathlib.Core.Path.{_≡_, refl, sym, _∙_}

@@ -1,4 +1,4 @@
--- `graph::marks::mark_needed` meets its contract: the rows that are left, after those that were, are all rows; and all of them mark each row that
+-- `table_graph::marks::mark_needed` meets its contract: the rows that are left, after those that were, are all rows; and all of them mark each row that
 -- some row depends on (MarkLaws). Assumes nothing.
 use Prim.Native.Nat.{_≤_}
 use mathlib.Core.Path.{_≡_, refl, sym, _∙_}

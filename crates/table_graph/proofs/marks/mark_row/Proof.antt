@@ -1,4 +1,4 @@
--- `graph::marks::mark_row` meets its contract: it is `markRow`'s test. Assumes nothing.
+-- `table_graph::marks::mark_row` meets its contract: it is `markRow`'s test. Assumes nothing.
 use borrow.Author.Tests.{not-true, not-false}
 use Rattle.table_graph.proofs.MarkLaws.{row-unmarked, row-marked}
 use borrow.Author.Needs.{needs}
