@@ -57,7 +57,7 @@ use Rattle.call_words.proofs.words.session_of as of-session-of
 
 -- The exported calls, and the functions that turn answers into words.
 pub record ExportedBind : Type 0 where
-  -- the crate answers
+  -- the crate call_words
   pub refusal-words : Binds of-refusal-words.ended of-refusal-words.Reads.Post
   pub write-words : Binds of-write-words.ended of-write-words.Reads.Post
   -- the crate wire_calls
@@ -105,7 +105,7 @@ pub record ExportedBind : Type 0 where
   pub planned-session : Binds of-planned-session.ended of-planned-session.Reads.Post
   pub received-words : Binds of-received-words.ended of-received-words.Reads.Post
   pub received-session : Binds of-received-session.ended of-received-session.Reads.Post
-  -- the crate selection_calls
+  -- the crate send_calls
   pub bt-hashes-to-send : Binds of-bt-hashes-to-send.ended of-bt-hashes-to-send.Reads.Post
   -- the crate message_calls
   pub bt-read-message : Binds of-bt-read-message.ended of-bt-read-message.Reads.Post
@@ -117,6 +117,6 @@ pub record ExportedBind : Type 0 where
   pub section-of : Binds of-section-of.ended of-section-of.Reads.Post
   pub decoded-words : Binds of-decoded-words.ended of-decoded-words.Reads.Post
   pub peeked-words : Binds of-peeked-words.ended of-peeked-words.Reads.Post
-  -- the crate session_words
+  -- the crate call_words
   pub session-words : Binds of-session-words.ended of-session-words.Reads.Post
   pub session-of : Binds of-session-of.ended of-session-of.Reads.Post

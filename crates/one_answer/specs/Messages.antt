@@ -30,21 +30,21 @@ pub record MessagesBind : Type 0 where
   pub supports-reset : Binds of-supports-reset.ended of-supports-reset.Reads.Post
   pub set : Binds of-set.ended of-set.Reads.Post
   pub version-encode : Binds of-version-encode.ended of-version-encode.Reads.Post
-  -- the crate items
+  -- the crate message_items
   pub parse-chunks : Binds of-parse-chunks.ended of-parse-chunks.Reads.Post
   pub parse-have : Binds of-parse-have.ended of-parse-have.Reads.Post
   pub parse-haves : Binds of-parse-haves.ended of-parse-haves.Reads.Post
-  -- the crate decode
+  -- the crate message_read
   pub decode : Binds of-decode.ended of-decode.Reads.Post
   pub parse-opening : Binds of-parse-opening.ended of-parse-opening.Reads.Post
   pub parse-section : Binds of-parse-section.ended of-parse-section.Reads.Post
   pub parse : Binds of-parse.ended of-parse.Reads.Post
-  -- the crate peek
+  -- the crate message_peek
   pub peek-heads : Binds of-peek-heads.ended of-peek-heads.Reads.Post
-  -- the crate size
+  -- the crate message_size
   pub message-size : Binds of-message-size.ended of-message-size.Reads.Post
-  -- the crate encode
+  -- the crate message_write
   pub encode : Binds of-encode.ended of-encode.Reads.Post
-  -- the crate reader
+  -- the crate message_reader
   pub reader-hashes-at : Binds of-reader-hashes-at.ended of-reader-hashes-at.Reads.Post
   pub first-list : Binds of-first-list.ended of-first-list.Reads.Post

@@ -17,28 +17,28 @@ use Rattle.plan.proofs.plan.generate_sync_message as of-generate-sync-message
 use Rattle.plan.proofs.check.check_plan as of-check-plan
 use Rattle.receive.proofs.receive.receive_sync_message as of-receive-sync-message
 use Rattle.plan_parts.proofs.silence.is_silent as of-is-silent
-use Rattle.plan_decide.proofs.put.puts_of as of-decide-puts-of
+use Rattle.plan_decide.proofs.put.puts_of as of-puts-of
 use Rattle.receive_parts.proofs.flags.take_flags as of-take-flags
-use Rattle.receive_decide.proofs.put.receipt_puts as of-taking-receipt-puts
+use Rattle.receive_decide.proofs.put.receipt_puts as of-receipt-puts
 use Rattle.receive_make.proofs.check.check_receive as of-check-receive
 use Rattle.receive_make.proofs.make.loads_changes as of-loads-changes
 use Rattle.receive_make.proofs.make.load_failed as of-load-failed
 
 -- Sessions: their struct, saved states, and the parts of planning and receiving that require nothing.
 pub record SessionsBind : Type 0 where
-  -- the crate state
+  -- the crate session_state
   pub new : Binds of-new.ended of-new.Reads.Post
   pub new-read-only : Binds of-new-read-only.ended of-new-read-only.Reads.Post
   pub restored : Binds of-restored.ended of-restored.Reads.Post
   pub set-read-only : Binds of-set-read-only.ended of-set-read-only.Reads.Post
   pub heard-count : Binds of-heard-count.ended of-heard-count.Reads.Post
-  -- the crate lent
+  -- the crate session_check
   pub haves-good : Binds of-haves-good.ended of-haves-good.Reads.Post
   pub session-good : Binds of-session-good.ended of-session-good.Reads.Post
   pub list-good : Binds of-list-good.ended of-list-good.Reads.Post
   pub heard-good : Binds of-heard-good.ended of-heard-good.Reads.Post
   pub sent-good : Binds of-sent-good.ended of-sent-good.Reads.Post
-  -- the crate saved
+  -- the crate session_saved
   pub saved-encode : Binds of-saved-encode.ended of-saved-encode.Reads.Post
   pub saved-parse : Binds of-saved-parse.ended of-saved-parse.Reads.Post
   pub saved-decode : Binds of-saved-decode.ended of-saved-decode.Reads.Post
@@ -47,15 +47,15 @@ pub record SessionsBind : Type 0 where
   pub check-plan : Binds of-check-plan.ended of-check-plan.Reads.Post
   -- the crate receive
   pub receive-sync-message : Binds of-receive-sync-message.ended of-receive-sync-message.Reads.Post
-  -- the crate planning
+  -- the crate plan_parts
   pub is-silent : Binds of-is-silent.ended of-is-silent.Reads.Post
-  -- the crate decide
-  pub decide-puts-of : Binds of-decide-puts-of.ended of-decide-puts-of.Reads.Post
-  -- the crate receiving
+  -- the crate plan_decide
+  pub puts-of : Binds of-puts-of.ended of-puts-of.Reads.Post
+  -- the crate receive_parts
   pub take-flags : Binds of-take-flags.ended of-take-flags.Reads.Post
-  -- the crate taking
-  pub taking-receipt-puts : Binds of-taking-receipt-puts.ended of-taking-receipt-puts.Reads.Post
-  -- the crate drafting
+  -- the crate receive_decide
+  pub receipt-puts : Binds of-receipt-puts.ended of-receipt-puts.Reads.Post
+  -- the crate receive_make
   pub check-receive : Binds of-check-receive.ended of-check-receive.Reads.Post
   pub loads-changes : Binds of-loads-changes.ended of-loads-changes.Reads.Post
   pub load-failed : Binds of-load-failed.ended of-load-failed.Reads.Post

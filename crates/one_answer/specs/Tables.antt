@@ -16,24 +16,24 @@ use Rattle.send_records.proofs.summary.summary_in as of-summary-in
 
 -- Tables, their index, what waits, and what is computed over them.
 pub record TablesBind : Type 0 where
-  -- the crate tables
+  -- the crate table
   pub check-table : Binds of-check-table.ended of-check-table.Reads.Post
-  -- the crate index
+  -- the crate table_index
   pub check-indexed : Binds of-check-indexed.ended of-check-indexed.Reads.Post
   pub check-sound : Binds of-check-sound.ended of-check-sound.Reads.Post
   pub check-unfit : Binds of-check-unfit.ended of-check-unfit.Reads.Post
-  -- the crate indexing
+  -- the crate table_index_build
   pub check-alone : Binds of-check-alone.ended of-check-alone.Reads.Post
   pub build-index : Binds of-build-index.ended of-build-index.Reads.Post
   pub extend-index : Binds of-extend-index.ended of-extend-index.Reads.Post
   -- the crate waiting
   pub check-tables : Binds of-check-tables.ended of-check-tables.Reads.Post
-  -- the crate graph
+  -- the crate table_graph
   pub beyond : Binds of-beyond.ended of-beyond.Reads.Post
   pub heads : Binds of-heads.ended of-heads.Reads.Post
-  -- the crate missing
+  -- the crate waiting_missing
   pub missing : Binds of-missing.ended of-missing.Reads.Post
-  -- the crate selection
+  -- the crate send
   pub get-hashes-to-send : Binds of-get-hashes-to-send.ended of-get-hashes-to-send.Reads.Post
-  -- the crate summaries
+  -- the crate send_records
   pub summary-in : Binds of-summary-in.ended of-summary-in.Reads.Post

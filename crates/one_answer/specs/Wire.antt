@@ -36,16 +36,15 @@ pub record WireBind : Type 0 where
   pub number : Binds of-number.ended of-number.Reads.Post
   pub value : Binds of-value.ended of-value.Reads.Post
   pub limits : Binds of-limits.ended of-limits.Reads.Post
-  -- the crate numbers
+  -- the crate leb128
   pub within : Binds of-within.ended of-within.Reads.Post
   pub leb128-u64 : Binds of-leb128-u64.ended of-leb128-u64.Reads.Post
   pub leb128-u32 : Binds of-leb128-u32.ended of-leb128-u32.Reads.Post
   pub unsigned-size : Binds of-unsigned-size.ended of-unsigned-size.Reads.Post
   pub write-unsigned : Binds of-write-unsigned.ended of-write-unsigned.Reads.Post
-  -- the crate writing
+  -- the crate wire
   pub encode-bytes : Binds of-encode-bytes.ended of-encode-bytes.Reads.Post
   pub encode-hashes : Binds of-encode-hashes.ended of-encode-hashes.Reads.Post
-  -- the crate wire
   pub left : Binds of-left.ended of-left.Reads.Post
   pub length-prefix : Binds of-length-prefix.ended of-length-prefix.Reads.Post
   pub length-prefixed-bytes : Binds of-length-prefixed-bytes.ended of-length-prefixed-bytes.Reads.Post
@@ -60,7 +59,7 @@ pub record WireBind : Type 0 where
   pub build-rules : Binds of-build-rules.ended of-build-rules.Reads.Post
   pub filter-size : Binds of-filter-size.ended of-filter-size.Reads.Post
   pub to-bytes : Binds of-to-bytes.ended of-to-bytes.Reads.Post
-  -- the crate probe
+  -- the crate bloom_probe
   pub clear : Binds of-clear.ended of-clear.Reads.Post
   pub from-hashes : Binds of-from-hashes.ended of-from-hashes.Reads.Post
   pub filters-contain : Binds of-filters-contain.ended of-filters-contain.Reads.Post
