@@ -1,7 +1,7 @@
 # `make run` shows a validator that catches up; `make test` proves and tests all of it; `make bench` measures; `make install`
 # puts the command, the archive and its C header below PREFIX. Each does its own set-up. docs/WORKING.md has what is useful
 # while something is changed.
-.PHONY: run test lib bench compare fuzz install check edit edits samples stack tools
+.PHONY: run test lib bench compare fuzz install check edit edits costs samples stack tools
 
 PREFIX ?= /usr/local
 
@@ -53,3 +53,7 @@ edit:
 # docs/EDITS.md anew, from what the gate's last run left in target/.
 edits: tools
 	@cd host && cargo run --offline --release --package house --bin edits
+
+# The table of costs in docs/WORKING.md anew: make costs LOG=FILE, with the output of `make test`; without LOG its seconds stay.
+costs: tools
+	@cd host && cargo run --offline --release --package house --bin costs -- $(if $(LOG),'$(abspath $(LOG))')

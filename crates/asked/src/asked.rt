@@ -14,7 +14,7 @@ use rules::sizes::ROWS;
 use rules::sizes::SENT_HASHES;
 use session::plan_answer::PlanAnswer;
 use session_state::session::Session;
-use table_graph::heads::LIST_SIZE;
+use table_graph::heads::ROWS_SIZE;
 ghost use mathlib.Core.Bool.{true};
 ghost use mathlib.Core.Path.{_≡_};
 ghost use Prim.Native.Nat.{_≤_};
@@ -32,12 +32,12 @@ ghost use Rattle.table.specs.TableBytes.{rowsAt};
 ghost use Rattle.waiting.specs.WaitingBytes.{waitingOf};
 ghost use Rattle.asked.specs.Internal.Asked.{PlanChecked, asksFew, NeedRoom, AskedCalled};
 
-// Room for one hash more than are few, or than a list may have, so that too many show.
-const FEW_SIZE: usize = HASH_SIZE * (FEW + 1);
-
-const NEED_SIZE: usize = HASH_SIZE * (HASHES + 1);
-
-const SENT_SIZE: usize = HASH_SIZE * (SENT_HASHES + 1);
+// Room for one hash more than are few, so that too many show.
+const PAST_FEW_SIZE: usize = HASH_SIZE * (FEW + 1);
+// Room for one hash more than a need may have, so that too many show.
+const PAST_NEED_SIZE: usize = HASH_SIZE * (HASHES + 1);
+// Room for one hash more than a session may remember as sent, so that too many show.
+const PAST_SENT_SIZE: usize = HASH_SIZE * (SENT_HASHES + 1);
 // Room for any hashes to send.
 const SEND_SIZE: usize = HASH_SIZE * HASHES_TO_SEND;
 
@@ -208,10 +208,10 @@ fn plan_asked(
     );
     let size = bits_capacity(n as u64, bits) as usize;
     if asks_few(counts, session.sent_hashes, size) {
-        let mut few_heads = [0u8; FEW_SIZE];
+        let mut few_heads = [0u8; PAST_FEW_SIZE];
         let mut few_field = [0u8; FEW_FIELD];
-        let mut few_list = [0u8; FEW_SIZE];
-        let mut few_sent = [0u8; FEW_SIZE];
+        let mut few_list = [0u8; PAST_FEW_SIZE];
+        let mut few_sent = [0u8; PAST_FEW_SIZE];
         return plan_in(
             bits,
             probes,
@@ -242,10 +242,10 @@ fn plan_asked(
             list,
         );
     }
-    let mut ready_heads = [0u8; LIST_SIZE];
+    let mut ready_heads = [0u8; ROWS_SIZE];
     let mut field = [0u8; FIELD_SIZE];
     let mut ready_list = [0u8; SEND_SIZE];
-    let mut ready_sent = [0u8; SENT_SIZE];
+    let mut ready_sent = [0u8; PAST_SENT_SIZE];
     plan_in(
         bits,
         probes,
@@ -315,7 +315,7 @@ pub fn plan_checked(
         (buffersOf (now (heads .exit)) (now (need .exit)) (now (have .exit)) (now (list .exit))) r ⌝ }
 {
     let heard = session.their_heads;
-    let mut few_need = [0u8; FEW_SIZE];
+    let mut few_need = [0u8; PAST_FEW_SIZE];
     let few = make_need(
         table,
         index,
@@ -350,7 +350,7 @@ pub fn plan_checked(
             list,
         );
     }
-    let mut ready_need = [0u8; NEED_SIZE];
+    let mut ready_need = [0u8; PAST_NEED_SIZE];
     let asked = make_need(
         table,
         index,

@@ -20,7 +20,7 @@ use Rattle.leb128.specs.Number.{shortest, numberAt, mostFilter, Put}
 use Rattle.leb128.specs.declared.leb128.Number.{Number}
 use Rattle.leb128.specs.declared.leb128.Number.the-variants.{Value, Refused as NoValue}
 use Rattle.wire.proofs.Item.{left-is}
-use Rattle.leb128.proofs.Meaning.{Inside, number-inside, number-most, number-written, written-number}
+use Rattle.leb128.proofs.Meaning.{EndsInside, number-inside, number-most, number-written, written-number}
 use Rattle.leb128.proofs.Number.{slice-past, put-joined}
 use Rattle.bloom.specs.Filter.{Filter, filterOf4, fieldSize, filterRules, filterBytes, defaultBits, defaultProbes}
 use Rattle.bloom.specs.Have.{numbersOf, filterWith}
@@ -232,8 +232,8 @@ pub record FilterInside (s : List ℕ) (at end : ℕ) (f : FilterNumbers) (next 
   pub onward : at ≤ f .place
   pub upTo : at ≤ end → next ≤ end
   pub there : at ≤ length s → next ≤ length s
-  pub read : 0 < leftAt s at end → Inside s at end next
-  pub filled : 0 < f .size → Inside s at end next
+  pub read : 0 < leftAt s at end → EndsInside s at end next
+  pub filled : 0 < f .size → EndsInside s at end next
 
 module _ (s : List ℕ) (at end : ℕ) (f : FilterNumbers) (next : ℕ) (e : filterAt s at end ≡ Read f next) where
   pub filter-inside : FilterInside s at end f next
@@ -258,7 +258,7 @@ module _ (s : List ℕ) (at end : ℕ) (f : FilterNumbers) (next : ℕ) (e : fil
       let l = left-is s (f .place) end in
       let w : next ≡ f .place + f .size = omega (arith, r .field .whole, r .sized) in
       let t : f .size ≤ leftAt s (f .place) end = omega (arith, r .field .there, r .sized) in
-      let inside : Inside s at end next = record { after = omega arith; upTo = omega arith; there = omega arith } in
+      let inside : EndsInside s at end next = record { after = omega arith; upTo = omega arith; there = omega arith } in
       record {
         whole = w;
         onward = omega arith;

@@ -50,8 +50,8 @@ pub extern "C" fn bt_build_filter(
     *answer = write_words(bloom_probe::build::from_hashes(field, bits, probes, hashes));
 }
 
-// Asks whether the filter of some have contains the hash in `hash`. The haves are records of seven words over `bytes`. Answer: 0, then 1 for yes or
-// 0 for no.
+// Asks whether the filter of some have contains the hash in `hash`, 32 bytes. The haves are records of seven words in `haves` over `bytes`.
+// Answer: 0, then 1 for yes or 0 for no.
 #[no_mangle]
 pub extern "C" fn bt_filters_contain(
     bytes: &[u8],

@@ -177,13 +177,13 @@ added-contained b p hs h bits d =
     let same : 8 * length (addHashes p field hs) ≡ 8 * length field = ap (λ (n : ℕ). 8 * n) (length-add-hashes p field hs) in
     rw (some-entries hs h d) (hash-added p _ field hs h same (omega (arith, member-long h hs d)) d)
 
--- So in a filter that keeps the rules.
+-- A hash that was added is contained in a filter that keeps the rules.
 pub accepted-contained : (b p : ℕ) (hs : List ℕ) (h : ℕ) → filterRules (length hs) b p (fieldSize (length hs) b) ≡ true → member h hs ≡ true
     → contains (filterOf b p hs) h ≡ true
 accepted-contained b p hs h rules d =
     added-contained b p hs h (ruled (length hs) b p (fieldSize (length hs) b) rules .full (member-long h hs d) .someBits) d
 
--- And in a list of filters that begins with theirs.
+-- A hash that was added is contained in a list of filters that begins with its own.
 pub added-any : (b p : ℕ) (hs : List ℕ) (fs : List Filter) (h : ℕ) → 0 < b → member h hs ≡ true → anyContains (filterOf b p hs ∷ fs) h ≡ true
 unfolding anyContains
 added-any b p hs fs h bits d = or-left (contains (filterOf b p hs) h) (anyContains fs h) (added-contained b p hs h bits d)

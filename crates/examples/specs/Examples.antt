@@ -118,7 +118,7 @@ pub record Examples : Type 0 where
       × ((g : ℕ) → Words g 2 0 0 → contains (filterOf defaultBits defaultProbes (h ∷ [])) g ≡ false)
   -- wherever the bytes stand; the value is the filter's place
   pub p8 : (s : List ℕ) (at end : ℕ) → slice at end s ≡ 0x01 ∷ 0x00 ∷ 0x07 ∷ [] → RefusedWith (filterAt s at end) 5 at
-  -- the same, for any two bytes x and y
+  -- wherever the bytes stand, and for any two bytes x and y; the value is the filter's place
   pub p9 : (s : List ℕ) (at end x y : ℕ)
       → (slice at end s ≡ 0x01 ∷ 0x0a ∷ 0x41 ∷ x ∷ y ∷ [] → RefusedWith (filterAt s at end) 4 at)
       × (slice at end s ≡ 0x01 ∷ 0x0a ∷ 0x40 ∷ x ∷ y ∷ [] → ReadAs s at end (at + 5) 1 10 64 (x ∷ y ∷ []))
@@ -126,7 +126,7 @@ pub record Examples : Type 0 where
   pub p10 : (m h : ℕ) → probesOf m 0 h ≡ u32At (hashBytes h) 0 % m ∷ []
   -- the head is d
   pub p11 : (a b c d : ℕ) → Once (a ∷ b ∷ c ∷ d ∷ []) → (beyond (four a b c d) (b ∷ []) ≡ c ∷ d ∷ []) × (heads (four a b c d) ≡ d ∷ [])
-  -- and with no have the held needs are all
+  -- the order of the hashes to send; with no have they are the held needs alone
   pub p12 : (a b c d : ℕ) (v : Have) (vs : List Have) → Once (a ∷ b ∷ c ∷ d ∷ []) → OnlyMissed (v ∷ vs) a b c d
       → (toSend (four a b c d) (v ∷ vs) (c ∷ []) ≡ c ∷ b ∷ d ∷ [])
       × (toSend (four a b c d) (v ∷ vs) (d ∷ []) ≡ b ∷ d ∷ [])

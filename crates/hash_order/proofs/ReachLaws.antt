@@ -193,7 +193,7 @@ module _ (n : ℕ) (from : ℕ → Bool) (to : ℕ → ℕ → Bool) where
           (λ q. rw q (and-false (x k) ∙ sym (and-false (reach n from to k))))))
           ∙ sym (reach-equation i l)
 
--- the same base and the same steps below n reach the same
+-- two bases and two kinds of steps that agree below n reach the same numbers
 module _ (n : ℕ) (f g : ℕ → Bool) (to tow : ℕ → ℕ → Bool)
     (base : (k : ℕ) → k < n → f k ≡ g k)
     (step : (k i : ℕ) → k < n → i < n → to k i ≡ tow k i) where

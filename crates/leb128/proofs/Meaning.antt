@@ -52,7 +52,7 @@ shortest-on b n h g l =
 
 -- ---- what `find` makes of a shortest form
 
--- Its first byte, where others follow.
+-- What `find` makes of a shortest form's first byte, where others follow.
 find-on : (least most n : ℕ) (bs : List ℕ) → least ≤ 1 → n ≤ most → 128 ≤ n
     → find least most ((n % 128 + 128) ∷ bs) ≡ goOn (n % 128) (find 1 ((most - n % 128) / 128) bs)
 find-on least most n bs low to h =
@@ -113,22 +113,22 @@ one-byte P least most b bs none last more =
     (λ c. let l : 128 ≤ b = ltb-false _ _ c in rw (find-more least most b bs h g l) (more h g l))))
 
 -- At least one byte is taken, and no more than there are.
-abbrev Within : List ℕ → Found → Type 0
-Within bytes (ends n size) = (0 < size) × (size ≤ length bytes)
-Within bytes cut = Unit {0}
-Within bytes bad = Unit {0}
+abbrev TakenWithin : List ℕ → Found → Type 0
+TakenWithin bytes (ends n size) = (0 < size) × (size ≤ length bytes)
+TakenWithin bytes cut = Unit {0}
+TakenWithin bytes bad = Unit {0}
 
-within-more : (low b : ℕ) (bs : List ℕ) (f : Found) → Within bs f → Within (b ∷ bs) (goOn low f)
+within-more : (low b : ℕ) (bs : List ℕ) (f : Found) → TakenWithin bs f → TakenWithin (b ∷ bs) (goOn low f)
 unfolding goOn
 within-more low b bs (ends n size) h = omega arith
 within-more low b bs cut h = tt
 within-more low b bs bad h = tt
 
-within : (bytes : List ℕ) (least most : ℕ) → Within bytes (find least most bytes)
+within : (bytes : List ℕ) (least most : ℕ) → TakenWithin bytes (find least most bytes)
 unfolding find
 within [] least most = tt
 within (b ∷ bs) least most =
-    one-byte (Within (b ∷ bs)) least most b bs tt
+    one-byte (TakenWithin (b ∷ bs)) least most b bs tt
     (λ h g l. omega arith)
     (λ h g l. within-more (b - 128) b bs (find 1 ((most - (b - 128)) / 128) bs) (within bs 1 ((most - (b - 128)) / 128)))
 
@@ -228,7 +228,7 @@ module _ (most : ℕ) (bytes : List ℕ) where
 -- ---- numbers at a place
 
 -- A number ends after its place, in the part and in the bytes.
-pub record Inside (s : List ℕ) (at end next : ℕ) : Type 0 where
+pub record EndsInside (s : List ℕ) (at end next : ℕ) : Type 0 where
   pub after : at < next
   pub upTo : next ≤ end
   pub there : next ≤ length s
@@ -249,7 +249,7 @@ module _ (most : ℕ) (s : List ℕ) (at end n : ℕ) where
         go cut e r = absurd (let z : _≡_ {A = ℕ} 0 1 = cc in omega arith)
         go bad e r = absurd (let z : _≡_ {A = ℕ} 0 1 = cc in omega arith)
 
-    pub number-inside : Inside s at end next
+    pub number-inside : EndsInside s at end next
     number-inside =
         let w = rw (number-found .1) at (within (slice at end s) 0 most) in
         let l = simp (length-drop, length-take) at (w .1) in

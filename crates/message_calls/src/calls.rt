@@ -35,9 +35,9 @@ pub extern "C" fn bt_peek_heads(bytes: &[u8], out: &mut [u8], answer: &mut [u64;
     *answer = peeked_words(message_peek::peek::peek_heads(bytes, out));
 }
 
-// Writes a message at the start of `out`: `version` 2 is version 2 and any other number version 1; the hashes in `heads` and in `need`; haves as
-// records of seven words over `bytes`; chunks that stand one after the other in `chunks`, with their lengths in `lengths`; `flags` below 256, or
-// any other number for no section. Answer: 0, the bytes written.
+// Writes a message at the start of `out`: `version` 2 is version 2 and any other number version 1; the hashes in `heads` and in `need`, 32 bytes
+// each; haves as records of seven words in `haves` over `bytes`; chunks that stand one after the other in `chunks`, with their lengths in
+// `lengths`; `flags` below 256, or any other number for no section. Answer: 0, the bytes written.
 #[no_mangle]
 pub extern "C" fn bt_write_message(
     version: u64,

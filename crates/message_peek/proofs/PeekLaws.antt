@@ -77,7 +77,7 @@ unfolding peekedOf headsInto
 copied s before after version heads next r is h p = (rw (is, le-ltb _ _ h) at (p .answer), rw (is, le-ltb _ _ h) at (p .content))
 
 -- The answer is a message's version and heads: the heads stand at the buffer's start, and what stands behind them is as it was.
-pub record Agrees (m : Message) (before after : List ℕ) (r : Peeked) : Type 0 where
+pub record PeekAgrees (m : Message) (before after : List ℕ) (r : Peeked) : Type 0 where
   pub answer : r ≡ Heads (m .version) (length (m .heads))
   pub heads : hashesAt after 0 (length (m .heads)) ≡ m .heads
   pub rest : drop (sizes .hash * length (m .heads)) after ≡ drop (sizes .hash * length (m .heads)) before
@@ -87,7 +87,7 @@ pub peek-agrees : (s : List ℕ) → Bytes s → (p : Places) (haves chunks : Li
     → (before after : List ℕ) (r : Peeked)
     → sizes .hash * p .heads .count ≤ length before
     → PeekedInto s before after r
-    → Agrees (messageIn s p haves chunks) before after r
+    → PeekAgrees (messageIn s p haves chunks) before after r
 unfolding messageIn
 peek-agrees s all p haves chunks e before after r room q =
     let b = message-behind s p haves chunks e in

@@ -172,7 +172,7 @@ module _ (s : List ℕ) (version : MessageVersion) (heads : Run) (at : ℕ) wher
   unfolding needAt afterListed
   need-read need next e = rw e
 
-  -- the same in places alone
+  -- a refused need refuses the reading in places alone too
   pub need-gone : (r : Refusal) → hashListAt s at (length s) ≡ NotListed r → decodedOf (needAt s version heads at) ≡ Refused r
   unfolding decodedOf
   need-gone r e = rw (need-refused r e)

@@ -98,7 +98,7 @@ needAt s version heads at =
 unfoldable pub messageAt : List ℕ → Reading
 messageAt s = afterOpening (openingAt s) (λ version heads next. needAt s version heads next)
 
--- Its places alone.
+-- What reading a message gives in places alone.
 unfoldable pub decodedOf : Reading → Decoded
 decodedOf (read places haves chunks) = Placed places
 decodedOf (refused r) = Refused r

@@ -21,7 +21,7 @@ pub opening-heads : (s : List ℕ) (version : MessageVersion) (heads : Run) (nex
 unfolding firstList
 opening-heads s version heads next e = opening-behind s version heads next e .list
 
--- So they are where all of it is read.
+-- Where a whole message is read, the list behind its first byte is its heads.
 pub message-heads : (s : List ℕ) (p : Places) (haves chunks : List ℕ) → messageAt s ≡ read p haves chunks
     → record { next : ℕ; is : firstList s ≡ Items (p .heads) next }
 message-heads s p haves chunks e =

@@ -109,7 +109,7 @@ unfolding haveBytes haveIn filterWith
 have-is s haves i f e = rw (e, part-is)
 
 -- what stands behind a good have
-pub record HaveFits (s haves : List ℕ) (i : ℕ) (f : FilterNumbers) : Type 0 where
+pub record BehindHave (s haves : List ℕ) (i : ℕ) (f : FilterNumbers) : Type 0 where
   pub sync : syncPlace haves i + sizes .hash * syncCount haves i ≤ length s
   pub few : syncCount haves i ≤ sizes .hashes
   pub rules : filterRules (f .entries) (f .bits) (f .probes) (f .size) ≡ true
@@ -119,7 +119,7 @@ pub record HaveFits (s haves : List ℕ) (i : ℕ) (f : FilterNumbers) : Type 0 
   pub bits : f .bits ≤ mostFilter
   pub probes : f .probes ≤ mostFilter
 
-have-fits-in : (s haves : List ℕ) (i : ℕ) → GoodHaves s haves → i < haveCount haves → HaveFits s haves i (numbersIn haves i)
+have-fits-in : (s haves : List ℕ) (i : ℕ) → GoodHaves s haves → i < haveCount haves → BehindHave s haves i (numbersIn haves i)
 unfolding filterGood
 have-fits-in s haves i g h =
     let f = numbersIn haves i in
@@ -146,7 +146,7 @@ have-fits-in s haves i g h =
       probes = r .probes;
     }
 
-pub have-fits : (s haves : List ℕ) (i : ℕ) (f : FilterNumbers) → f ≡ numbersIn haves i → GoodHaves s haves → i < haveCount haves → HaveFits s haves i f
+pub have-fits : (s haves : List ℕ) (i : ℕ) (f : FilterNumbers) → f ≡ numbersIn haves i → GoodHaves s haves → i < haveCount haves → BehindHave s haves i f
 have-fits s haves i f e g h = rw e (have-fits-in s haves i g h)
 
 pub have-long : (s haves : List ℕ) (i x y : ℕ) (f : FilterNumbers) → f ≡ numbersIn haves i

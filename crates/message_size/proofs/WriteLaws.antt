@@ -313,7 +313,7 @@ module _ (chunks lengths : List ℕ) where
   abbrev pub cutOutput : Output
   cutOutput = testChunks chunks 0 lengths (withinSize chunksBytes)
 
-  -- the chunks before the i-th are whole and end at `end`; their lengths and the count have so many bytes; cutting the rest is cutting all of them
+  -- the chunks before the i-th are whole and end at `end`; their lengths and the count take `numbers` bytes; cutting the rest is cutting all of them
   pub record Cutting (end numbers i : ℕ) : Type 0 where
     pub upto : i ≤ length lengths
     pub inside : end ≤ length chunks
@@ -516,7 +516,7 @@ module _ (heads need s haves chunks lengths : List ℕ) (flags : Section) where
 -- ---- what was written
 
 -- Parts that pass every test but that of the message's size.
-pub record Accepted (p : Parts) : Type 0 where
+pub record PartsAccepted (p : Parts) : Type 0 where
   pub haves : GoodHaves (p .bytes) (p .haves)
   pub heads : passedHashes (p .heads) ≡ Hashes (length (p .heads) / sizes .hash)
   pub need : passedHashes (p .need) ≡ Hashes (length (p .need) / sizes .hash)
@@ -525,7 +525,7 @@ pub record Accepted (p : Parts) : Type 0 where
 
 -- The message that the parts are, within its size, from parts that passed every test.
 pub record WrittenMessage (p : Parts) (l : List ℕ) : Type 0 where
-  pub accepted : Accepted p
+  pub accepted : PartsAccepted p
   pub is : l ≡ messageBytes (messageOf p)
   pub small : length l ≤ sizes .message
 
@@ -552,7 +552,7 @@ message-written p l e =
     }
 
 -- The way back: parts that pass every test and whose message is within its size are written.
-pub accepted-written : (p : Parts) → Accepted p → length (messageBytes (messageOf p)) ≤ sizes .message → messageOutput p ≡ bytes (messageBytes (messageOf p))
+pub accepted-written : (p : Parts) → PartsAccepted p → length (messageBytes (messageOf p)) ≤ sizes .message → messageOutput p ≡ bytes (messageBytes (messageOf p))
 accepted-written p a small =
     message-within p (a .haves .good) _ _ (a .heads) (a .need) (a .haves .few) (a .few) (a .whole) ∙ within _ small
 

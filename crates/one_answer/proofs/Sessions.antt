@@ -47,10 +47,10 @@ sessions-bind =
           );
       heard-count = λ κs a x y u v p q. (once p q, refl);
       is-silent = λ κs a x y u v p q. (once p q, refl);
-      decide-puts-of = λ κs a x y u v p q. (once p q, refl);
+      puts-of = λ κs a x y u v p q. (once p q, refl);
       check-plan = λ κs a x y u v p q. (once p q, refl);
       take-flags = λ κs a x y u v p q. (once p q, refl);
-      taking-receipt-puts = λ κs a x y u v p q. (once p q, refl);
+      receipt-puts = λ κs a x y u v p q. (once p q, refl);
       check-receive = λ κs a x y u v p q. (once p q, refl);
       loads-changes = λ κs a x y u v p q. (once p q, refl);
       load-failed = λ κs a x y u v p q. (once p q, refl);

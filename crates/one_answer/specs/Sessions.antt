@@ -17,9 +17,9 @@ use Rattle.plan.proofs.plan.generate_sync_message as of-generate-sync-message
 use Rattle.plan.proofs.check.check_plan as of-check-plan
 use Rattle.receive.proofs.receive.receive_sync_message as of-receive-sync-message
 use Rattle.plan_parts.proofs.silence.is_silent as of-is-silent
-use Rattle.plan_decide.proofs.put.puts_of as of-decide-puts-of
+use Rattle.plan_decide.proofs.put.puts_of as of-puts-of
 use Rattle.receive_parts.proofs.flags.take_flags as of-take-flags
-use Rattle.receive_decide.proofs.put.receipt_puts as of-taking-receipt-puts
+use Rattle.receive_decide.proofs.put.receipt_puts as of-receipt-puts
 use Rattle.receive_make.proofs.check.check_receive as of-check-receive
 use Rattle.receive_make.proofs.make.loads_changes as of-loads-changes
 use Rattle.receive_make.proofs.make.load_failed as of-load-failed
@@ -50,11 +50,11 @@ pub record SessionsBind : Type 0 where
   -- the crate plan_parts
   pub is-silent : Binds of-is-silent.ended of-is-silent.Reads.Post
   -- the crate plan_decide
-  pub decide-puts-of : Binds of-decide-puts-of.ended of-decide-puts-of.Reads.Post
+  pub puts-of : Binds of-puts-of.ended of-puts-of.Reads.Post
   -- the crate receive_parts
   pub take-flags : Binds of-take-flags.ended of-take-flags.Reads.Post
   -- the crate receive_decide
-  pub taking-receipt-puts : Binds of-taking-receipt-puts.ended of-taking-receipt-puts.Reads.Post
+  pub receipt-puts : Binds of-receipt-puts.ended of-receipt-puts.Reads.Post
   -- the crate receive_make
   pub check-receive : Binds of-check-receive.ended of-check-receive.Reads.Post
   pub loads-changes : Binds of-loads-changes.ended of-loads-changes.Reads.Post

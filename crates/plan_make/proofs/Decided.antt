@@ -77,8 +77,8 @@ module _ {l after : List ℕ} {most count : ℕ} (f : FoundUpTo l (most + 1) aft
 
 -- ---- the counts of a message
 
-abbrev counted : MessageVersion → MessageFlags → Bool → ℕ → ℕ → ℕ → ℕ → FilterNumbers → ℕ → Stated
-counted version flags document heads need haves syncs filter hashes =
+abbrev statedCounts : MessageVersion → MessageFlags → Bool → ℕ → ℕ → ℕ → ℕ → FilterNumbers → ℕ → Stated
+statedCounts version flags document heads need haves syncs filter hashes =
     record {
       version = version;
       flags = flags;
@@ -93,7 +93,7 @@ counted version flags document heads need haves syncs filter hashes =
 
 counted-same : {version : MessageVersion} {flags : MessageFlags} {b b′ : Bool} {h h′ n n′ v v′ s s′ : ℕ} {f f′ : FilterNumbers} {k k′ : ℕ}
     → b ≡ b′ → h ≡ h′ → n ≡ n′ → v ≡ v′ → s ≡ s′ → f ≡ f′ → k ≡ k′
-    → counted version flags b h n v s f k ≡ counted version flags b′ h′ n′ v′ s′ f′ k′
+    → statedCounts version flags b h n v s f k ≡ statedCounts version flags b′ h′ n′ v′ s′ f′ k′
 counted-same b h n v s f k = rw (b, h, n, v, s, f, k)
 
 numbers-same : {bits probes e e′ p p′ z z′ : ℕ} → e ≡ e′ → p ≡ p′ → z ≡ z′ → numbersOf e bits probes p z ≡ numbersOf e′ bits probes p′ z′

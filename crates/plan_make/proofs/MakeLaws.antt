@@ -41,7 +41,7 @@ use Rattle.table.proofs.GoodLaws.{rows-hashes}
 use Rattle.table.proofs.TableLaws.{length-rows-at}
 use Rattle.table.specs.TableBytes.{rowsAt}
 use Rattle.table.specs.Table.{Row, rows as hashes}
-use Rattle.plan_make.specs.Internal.PlanMake.{CountReady, carriedBody, PlanCounted, ReadyRooms, GivenMade, HaveMade, CarryReady, AtMost, CarriedMade, QuietReady, quiet, DraftMade}
+use Rattle.plan_make.specs.Internal.PlanMake.{CountReady, carriedBody, PlanCounted, ReadyRooms, GivenMade, HaveMade, CarryReady, AtMost, CarriedMade, QuietReady, quietWith, DraftMade}
 use Rattle.plan_make.specs.declared.make.PlanCounts.{PlanCounts}
 use Rattle.plan_make.specs.declared.make.Given.{Given}
 
@@ -174,8 +174,8 @@ pub quiet-is : (s : Session) (lastSent theirHeads ours : List ℕ) (hashes : ℕ
     → told ≡ (same (hashesAt lastSent 0 (s .«last_sent_heads»)) ours && s .«have_responded»)
     → equal ≡ heardAs ours (heardHashes theirHeads (s .«their_heads»))
     → r ≡ (told && (((equal || s .«read_only») && eqb hashes 0) || s .«in_flight»))
-    → r ≡ quiet s lastSent theirHeads ours hashes
-unfolding quiet
+    → r ≡ quietWith s lastSent theirHeads ours hashes
+unfolding quietWith
 quiet-is s lastSent theirHeads ours hashes told equal r t e q = rw (t, e) at q
 
 -- none is an empty list
@@ -252,9 +252,9 @@ module _ (bits probes : ℕ) (t : List Row) (s : Session) (l : Lent) (ready : Pl
       → unknown ≡ unknownSync t (heardHaves (l .bytes) (l .haves) (s .«their_have»))
       → BodyChosen (carriedBody t s (l .theirHeads) (l .theirNeed) (l .haves) (l .bytes) (l .sent)) t marks need needs b
       → CarriedMade t marks need needs b (hashesAt (l .sent) 0 (s .«sent_hashes»)) (ready .list) (ready .sent) sent
-      → silent ≡ quiet s (l .lastSent) (l .theirHeads) (hashesAt (ready .heads) 0 count) (b .hashes)
+      → silent ≡ quietWith s (l .lastSent) (l .theirHeads) (hashesAt (ready .heads) 0 count) (b .hashes)
       → DraftMade bits probes t (stateOf s l) asked ready drawn
-  unfolding bodyOf silence quiet
+  unfolding bodyOf silence quietWith
   draft-made {marks} {needs} {need} h q u k c e =
       let is : chosenBy t marks need needs ≡ bodyOf t (stateOf s l) .hashes = k .hashes .list in
       let nothing : eqb (b .hashes) 0 ≡ empty (bodyOf t (stateOf s l) .hashes) = none-empty _ (bodyOf t (stateOf s l) .hashes) (k .hashes .many) in

@@ -42,7 +42,7 @@ ghost use Rattle.plan_make.specs.Internal.PlanMake.{
   CarryReady,
   CarriedMade,
   QuietReady,
-  quiet,
+  quietWith,
   DraftMade,
   Long,
 };
@@ -204,7 +204,7 @@ fn is_quiet(
     hashes: usize,
 ) -> bool
     requires { ⌜ QuietReady session (now «last_sent») (now «their_heads») (now «ready_heads») heads ⌝ }
-    ensures { λ r. ⌜ r ≡ quiet session (now («last_sent» .entry)) (now («their_heads» .entry)) (hashesAt (now («ready_heads» .entry)) 0 heads) hashes ⌝ }
+    ensures { λ r. ⌜ r ≡ quietWith session (now («last_sent» .entry)) (now («their_heads» .entry)) (hashesAt (now («ready_heads» .entry)) 0 heads) hashes ⌝ }
 {
     let heard = session.their_heads;
     let told = is_told(

@@ -98,7 +98,7 @@ not-short room wanted rest e =
     (λ t. let f : rest ≡ Enough = rw t at e in (omega (arith, ltb-false room wanted t), f))
 
 -- Room for every list.
-pub record Roomy (d : Receipt) (r : SessionRooms) : Type 0 where
+pub record RoomForEach (d : Receipt) (r : SessionRooms) : Type 0 where
   pub shared : sizes .hash * d .shared ≤ r .shared
   pub lastSent : sizes .hash * d .«last_sent» ≤ r .«last_sent»
   pub heads : sizes .hash * d .heads ≤ r .«their_heads»
@@ -106,7 +106,7 @@ pub record Roomy (d : Receipt) (r : SessionRooms) : Type 0 where
   pub haves : haveWords * d .haves ≤ r .haves
   pub bytes : d .bytes ≤ r .bytes
 
-roomy : (d : Receipt) (r : SessionRooms) → receiptRoom d r ≡ Enough → Roomy d r
+roomy : (d : Receipt) (r : SessionRooms) → receiptRoom d r ≡ Enough → RoomForEach d r
 unfolding receiptRoom
 roomy d r e =
     let a = not-short _ _ _ e in

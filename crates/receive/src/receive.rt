@@ -27,13 +27,13 @@ ghost use Rattle.receive_make.specs.Internal.ReceiveMake.{Prepared};
 ghost use Rattle.session.specs.ReceiveCall.{receiveWith, ReceiveCalled};
 ghost use Rattle.receive.specs.Internal.Few.{hearsFew};
 
-// Room for one hash more than a list may have, so that too many show.
-const SHARED_SIZE: usize = HASH_SIZE * (HASHES + 1);
-
+// Room for one hash more than the shared heads may be, so that too many show.
+const PAST_SHARED_SIZE: usize = HASH_SIZE * (HASHES + 1);
+// Room for the hashes that a session remembers as sent.
 const SENT_SIZE: usize = HASH_SIZE * SENT_HASHES;
 // Room for the records of any haves.
 const RECORDS: usize = HAVE_WORDS * HAVES;
-
+// Room for hashes that are few.
 const FEW_SIZE: usize = HASH_SIZE * FEW;
 
 // Whether few hashes have to be put: all heads of the message are held, so that they become the shared ones, and they and the hashes sent are few.
@@ -200,7 +200,7 @@ fn receive_sized(
             sent,
         );
     }
-    let mut ready_shared = [0u8; SHARED_SIZE];
+    let mut ready_shared = [0u8; PAST_SHARED_SIZE];
     let mut ready_sent = [0u8; SENT_SIZE];
     receive_checked(
         session,

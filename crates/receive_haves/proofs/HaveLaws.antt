@@ -50,14 +50,14 @@ record-put out words at i count f many is k =
 -- ---- one have
 
 -- What stands behind record i.
-pub record Fits (s words : List ℕ) (i : ℕ) (f : FilterNumbers) : Type 0 where
+pub record BehindRecord (s words : List ℕ) (i : ℕ) (f : FilterNumbers) : Type 0 where
   pub sync : syncPlace words i + sizes .hash * syncCount words i ≤ length s
   pub few : syncCount words i ≤ sizes .hashes
   pub field : f .place + f .size ≤ length s
   pub small : f .size ≤ sizes .field
 
 module _ (s words : List ℕ) (g : Layable s words) (i : ℕ) (h : i < haveCount words) where
-  fits-in : Fits s words i (numbersIn words i)
+  fits-in : BehindRecord s words i (numbersIn words i)
   unfolding filterGood
   fits-in =
       let f = numbersIn words i in
@@ -79,7 +79,7 @@ module _ (s words : List ℕ) (g : Layable s words) (i : ℕ) (h : i < haveCount
             r .full (omega arith) .small);
       }
 
-  pub have-fits : (f : FilterNumbers) → f ≡ numbersIn words i → Fits s words i f
+  pub have-fits : (f : FilterNumbers) → f ≡ numbersIn words i → BehindRecord s words i f
   have-fits f e = rw e fits-in
 
   -- its hashes and its field, by the numbers of its record

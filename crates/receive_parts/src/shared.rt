@@ -6,7 +6,7 @@ use hash_lists::join::join_new;
 use rules::put::copy_into;
 use rules::sizes::HASH_SIZE;
 use rules::sizes::ROWS;
-use table_graph::heads::LIST_SIZE;
+use table_graph::heads::ROWS_SIZE;
 use table_graph::heads::collect_heads;
 ghost use mathlib.Core.Bool.{cond};
 ghost use Prim.Native.Nat.{_+_, _*_, _≤_};
@@ -38,9 +38,9 @@ fn advance_heads(
     ensures { λ r. ⌜ Gathered (advance (heads (take before (rowsAt (now (table .entry)) 0 n))) (heads (rowsAt (now (table .entry)) 0 n))
         (hashesAt (now (shared .entry)) 0 count)) (now (list .exit)) r ⌝ }
 {
-    let mut old = [0u8; LIST_SIZE];
+    let mut old = [0u8; ROWS_SIZE];
     let olds = collect_heads(table, index, n, before, &mut old);
-    let mut new = [0u8; LIST_SIZE];
+    let mut new = [0u8; ROWS_SIZE];
     let news = collect_heads(table, index, n, n, &mut new);
     let common = join_common(list, 0, shared, 0, count, &new, 0, news);
     join_new(list, common, &new, 0, news, &old, 0, olds)

@@ -136,7 +136,7 @@ counted l kind x j h =
 
 -- ---- the loop's invariant
 
-pub record Going (s : List ℕ) (at : ℕ) (c : Counts) : Type 0 where
+pub record Replaying (s : List ℕ) (at : ℕ) (c : Counts) : Type 0 where
   pub left : ℕ
   pub enough : length s ≤ at + left
   pub upto : at ≤ length s
@@ -152,7 +152,7 @@ zeros zero k = refl
 zeros (suc m) zero = refl
 zeros (suc m) (suc k) = zeros m k
 
-pub starts : (s : List ℕ) → Going s 0 noneCounted
+pub starts : (s : List ℕ) → Replaying s 0 noneCounted
 unfolding walkOf
 starts s =
     record {
@@ -167,7 +167,7 @@ starts s =
       stop = refl;
     }
 
-module _ (s : List ℕ) (at : ℕ) (c : Counts) (g : Going s at c) where
+module _ (s : List ℕ) (at : ℕ) (c : Counts) (g : Replaying s at c) where
   -- where the walk stops, nothing is left to count
   stopped : walkFrom (g .left) s at ≡ stops at → SampleCounted (walkOf s) c
   unfolding recordsIn agreeIn stopOf
@@ -218,7 +218,7 @@ module _ (s : List ℕ) (at : ℕ) (c : Counts) (g : Going s at c) where
           agree = omega (arith, agree-steps kind (walkOf s), walk-steps (length s) s 0);
         }
 
-    pub goes-on : Going s next (added c kind same next)
+    pub goes-on : Replaying s next (added c kind same next)
     unfolding rest
     goes-on =
         let w : Whole s at kind next = whole s at kind same next here e in

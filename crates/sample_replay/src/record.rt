@@ -14,11 +14,11 @@ ghost use lib.ListN.{length};
 ghost use Rattle.sample_replay.specs.Record.{compare, verdictOf, recordAt};
 
 // The place of the size within a record, whose first byte is its kind.
-const SIZE: usize = 1;
+const SIZE_PLACE: usize = 1;
 // The place of the stored answer.
-const ANSWER: usize = 3;
+const ANSWER_PLACE: usize = 3;
 // The place of the input.
-const INPUT: usize = 35;
+const INPUT_PLACE: usize = 35;
 
 // Whether the answer found is the stored one, where the kind is one that is read here.
 pub enum Verdict {
@@ -81,17 +81,21 @@ pub fn record_at(bytes: &[u8], at: usize) -> Record
     requires { ⌜ at ≤ length (now bytes) ⌝ }
     ensures { λ r. ⌜ r ≡ recordAt (now (bytes .entry)) at ⌝ }
 {
-    if bytes.len() - at < INPUT {
+    if bytes.len() - at < INPUT_PLACE {
         return Record::Bad;
     }
-    let start = at + INPUT;
-    let size = u16_at(bytes, at + SIZE);
+    let start = at + INPUT_PLACE;
+    let size = u16_at(bytes, at + SIZE_PLACE);
     if bytes.len() - start < size {
         return Record::Bad;
     }
     let next = start + size;
     let kind = bytes[at] as usize;
-    let verdict = replayed(kind, &bytes[start..next], words_at(bytes, at + ANSWER));
+    let verdict = replayed(
+        kind,
+        &bytes[start..next],
+        words_at(bytes, at + ANSWER_PLACE),
+    );
     match verdict {
         Verdict::Same => Record::Read {
             kind,

@@ -96,7 +96,7 @@ send-few t [] need = rw send-none (omega (arith, keep-most (held t) need))
 send-few t (x ∷ xs) need =
     rw (send-order, length-append) (omega (arith, keep-most (λ y. held t y && not (member y (theS t (x ∷ xs)))) need, s-few t (x ∷ xs)))
 
--- so no more than may be sent at once
+-- needs and rows within their limits are no more hashes than may be sent at once
 fit : (a b c most : ℕ) → a ≤ b + c → b ≤ sizes .hashes → c ≤ sizes .rows → sizes .hashes + sizes .rows ≤ most → a ≤ most
 fit a b c most h k l m = omega arith
 

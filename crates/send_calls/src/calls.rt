@@ -3,8 +3,9 @@ use call_words::answer::write_words;
 ghost use Rattle.send.specs.ToSend.{toSendOutput};
 ghost use Rattle.call_words.specs.Answer.{Answered};
 
-// Writes the hashes to send to a peer that asks for the hashes in `need` and has the haves, records of seven words over `bytes`, at the start of
-// `out`: held needs outside S in their order, then S in table order. Answer: 0, the bytes written.
+// Writes the hashes of the changes to send to a peer at the start of `out`, 32 bytes each. `table` is the change table and `index` its index; the
+// peer asks for the hashes in `need` and has the haves in `haves`, records of seven words over `bytes`. S is every row that, by the haves, the
+// peer lacks: needs that are held and aren't in S come first, in their order, then S in table order. Answer: 0, the bytes written.
 #[no_mangle]
 pub extern "C" fn bt_hashes_to_send(
     table: &[u8],

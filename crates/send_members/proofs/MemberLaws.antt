@@ -24,7 +24,7 @@ use Rattle.rules.proofs.Cases.{both, true-false, same-truth, either, or-left, o
 use Rattle.rules.specs.Hash.{hashAt, hashesAt}
 use Rattle.rules.specs.LittleEndian.{u16At}
 use Rattle.table.proofs.GoodLaws.{good-down}
-use Rattle.table.proofs.TableLaws.{length-rows-at, deps-of-row, hash-of-row, numberAt}
+use Rattle.table.proofs.TableLaws.{length-rows-at, deps-of-row, hash-of-row, numberPlace}
 use Rattle.table.specs.TableBytes.{rowSize, depCount, usedAt, rowsAt, GoodRows}
 use Rattle.table.specs.Table.{Row, hashOf, depsOf}
 use Rattle.send_members.specs.Internal.Members.{lastSyncs, filters, candidate, missed, inTheS, someOf}
@@ -64,7 +64,7 @@ module _ (s : List ℕ) (i count : ℕ) (p : ℕ → Bool) (c : count ≡ depCou
   unfolding numbersFrom
   numbers-start = refl
 
-  module _ (j k : ℕ) (inside : j < count) (read : k ≡ u16At s (numberAt i j)) where
+  module _ (j k : ℕ) (inside : j < count) (read : k ≡ u16At s (numberPlace i j)) where
     pub numbers-found : p k ≡ true → numbersFrom s i p j ≡ true
     unfolding numbersFrom someOf
     numbers-found e = rw (numbers-more s i count c j k inside read, e)

@@ -42,7 +42,7 @@ module _ (l : Laid) (total : ℕ) (h : HaveSummary) where
       unfolding withNext
       next-laid = rw (lt-leb _ _ more, lt-leb _ _ room)
 
-      -- the same, store by store
+      -- the next have laid, store by store
       pub next-stored : record {
         words =
             set (set (set (set (set (set (set (l .words) (l .count * haveWords) (h .place)) (l .count * haveWords + 1) (h .count))
@@ -84,19 +84,19 @@ one-more hs k h =
 
 -- ---- what is laid are the words of the first haves
 
-pub record Stands (hs : List HaveSummary) (l : Laid) : Type 0 where
+pub record LaidStands (hs : List HaveSummary) (l : Laid) : Type 0 where
   pub room : l .count ≤ laidHaves
   pub there : l .count ≤ length hs
   pub long : length (l .words) ≡ laidHaves * haveWords
   pub are : take (l .count * haveWords) (l .words) ≡ summaryWords (take (l .count) hs)
 
-nothing-stands : (hs : List HaveSummary) → Stands hs nothingLaid
+nothing-stands : (hs : List HaveSummary) → LaidStands hs nothingLaid
 unfolding nothingLaid summaryWords
 nothing-stands hs = record { room = omega arith; there = omega arith; long = refl; are = refl }
 
-module _ (hs : List HaveSummary) (l : Laid) (s : Stands hs l) where
+module _ (hs : List HaveSummary) (l : Laid) (s : LaidStands hs l) where
   laid-stands : l .count < length hs → l .count < laidHaves
-      → Stands hs (record { words = sets (l .words) (l .count * haveWords) (recordWords (getD hs (l .count) noHave)); count = l .count + 1 })
+      → LaidStands hs (record { words = sets (l .words) (l .count * haveWords) (recordWords (getD hs (l .count) noHave)); count = l .count + 1 })
   laid-stands more room =
       let h = getD hs (l .count) noHave in
       let at = l .count * haveWords in
@@ -117,7 +117,7 @@ module _ (hs : List HaveSummary) (l : Laid) (s : Stands hs l) where
 
 -- One step keeps it, and lays one more or finds that all is laid.
 pub record Steps (hs : List HaveSummary) (l : Laid) (k : ℕ) : Type 0 where
-  pub stands : Stands hs l
+  pub stands : LaidStands hs l
   pub left : min (length hs) laidHaves ≤ l .count + k
 
 one-step : (hs : List HaveSummary) (l : Laid) (k : ℕ) → Steps hs l (suc k) → Steps hs (laidOne hs l) k

@@ -9,11 +9,12 @@ ghost use Rattle.session.specs.PlanCall.{buffersOf};
 ghost use Rattle.call_words.specs.SessionWords.{flagOf};
 ghost use Rattle.session_calls.specs.SessionCalls.{PlanAnswered, ReceiveAnswered};
 
-// Plans what a unit says next, and changes its session: the words, and the lists `last_sent` and `sent`. `table`, `index` and `waiting` are the
-// unit's tables. The message's heads, its need, its have and the hashes of its body go to the start of `heads`, `need`, `have` and `list`. Answer:
-// word 0 is 0; word 1 is 0 for nothing to say, 1 for a reset, 2 for a message; words 2 to 4 are its version, its flags, and whether its body is the
-// document; words 5 to 7 how many heads, needs and haves it has; words 8 to 14 the have over `have`; word 15 how many hashes the body has. Only a
-// message changes the session.
+// Plans what a unit says next. `session` and its seven lists, `shared` to `sent`, are lent as to bt_check_session; a message that is planned
+// changes the words, `last_sent` and `sent`, and nothing else changes any of them. `table`, `index` and `waiting` are the unit's change table, its
+// index and its waiting table. The message's heads, its need, what its have stands over and the hashes of its body go to the start of `heads`,
+// `need`, `have` and `list`. Answer: word 0 is 0; word 1 is 0 for nothing to say, 1 for a reset, 2 for a message; words 2 to 4 are its version,
+// its flags, and whether its body is the document (0 or 1); words 5 to 7 how many heads, needs and haves it has; words 8 to 14 the seven words of
+// its have over `have`; word 15 how many hashes the body has.
 #[no_mangle]
 pub extern "C" fn bt_plan(
     session: &mut [u64; 16],
@@ -64,10 +65,10 @@ pub extern "C" fn bt_plan(
     *answer = planned_words(planned);
 }
 
-// Takes the message in `message` and changes the session: the words and the seven lists. The host has loaded the message's changes before: `table`
-// and `index` are those after loading, `before` is how many rows the table had before it, and `loaded` is 0 where loading failed, else any other
-// number. Answer: four zeros. After refusal 8, for a failed load, the words have the message's flags and nothing in flight; any other refusal
-// leaves all as it was.
+// Takes the message in `message`. `session` and its seven lists, `shared` to `sent`, are lent as to bt_check_session, and the message changes
+// them. The host has loaded the message's changes before: `table` and `index` are the change table and its index after loading, `before` is how
+// many rows the table had before it, and `loaded` is 0 where loading failed, else any other number. Answer: four zeros. After refusal 8, for a
+// failed load, the words have the message's flags and nothing in flight; any other refusal leaves all as it was.
 #[no_mangle]
 pub extern "C" fn bt_receive(
     session: &mut [u64; 16],

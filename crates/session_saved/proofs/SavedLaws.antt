@@ -201,7 +201,7 @@ saved-bytes s before saved count w good room v =
 
 -- A session with these shared heads: their number, the hashes in the buffer that was lent for them, and the session as a value, which is fresh
 -- but for them whatever else is lent with it.
-pub record Loads (r : SavedRead) (after : List ℕ) (count : ℕ) (hs : List ℕ) : Type 0 where
+pub record LoadsBack (r : SavedRead) (after : List ℕ) (count : ℕ) (hs : List ℕ) : Type 0 where
   pub session : r ≡ Session (restoredCounts count)
   pub heads : hashesAt after 0 count ≡ hs
   pub value : (l : Lent) → l .shared ≡ after → stateOf (restoredCounts count) l ≡ restored hs
@@ -213,7 +213,7 @@ loads : (before s after : List ℕ) (start count next : ℕ) (r : SavedRead) →
     → AreHashes hs
     → length hs ≡ count
     → slice start next s ≡ hashesBytes hs
-    → Loads r after count hs
+    → LoadsBack r after count hs
 loads before s after start count next r wide is l hs are many part =
     let got = loaded before s after start count next r wide is l in
     let put : after ≡ sets before 0 (hashesBytes hs) = got .1 ∙ ap (sets before 0) part in
@@ -234,7 +234,7 @@ loads before s after start count next r wide is l hs are many part =
 pub read-loads : (s before after : List ℕ) (start count next : ℕ) (r : SavedRead) → Bytes s → sizes .hash * count ≤ length before
     → stateAt s ≡ Items (run start count) next
     → Restored s before after r
-    → Loads r after count (hashesAt s start count)
+    → LoadsBack r after count (hashesAt s start count)
 read-loads s before after start count next r all wide is l =
     let w = state-inside s start count next is in
     let e : next ≡ start + sizes .hash * count = w .whole in
@@ -250,7 +250,7 @@ pub saved-and-loaded : (s before saved shared after : List ℕ) (count : ℕ) (w
     → sizes .hash * count ≤ length shared
     → Written (stateOutput s count) before saved w
     → Restored saved shared after r
-    → Loads r after count (hashesAt s 0 count)
+    → LoadsBack r after count (hashesAt s 0 count)
 saved-and-loaded s before saved shared after count w r good are room wide v l =
     let hs : List ℕ = hashesAt s 0 count in
     let rest : List ℕ = drop (1 + length (hashListBytes hs)) before in

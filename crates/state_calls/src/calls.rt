@@ -38,7 +38,9 @@ pub extern "C" fn bt_set_read_only(session: &mut [u64; 16], on: u64)
     *session = session_words(session_of(*session).set_read_only(on != 0));
 }
 
-// Checks the sixteen words of a session and the seven lists that are lent beside them. Answer: four zeros, or refusal 10.
+// Checks the sixteen words of a session in `session` and its seven lists: hashes, 32 bytes each, in `shared` (shared heads), `last_sent` (heads
+// that were sent last), `their_heads`, `their_need` and `sent` (hashes that were sent); the peer's haves, records of seven words in `haves` over
+// `bytes`. Answer: four zeros, or refusal 10.
 #[no_mangle]
 pub extern "C" fn bt_check_session(
     session: &[u64; 16],

@@ -73,7 +73,7 @@ module _ (good : ℕ → Bool) where
 -- ---- a table
 
 -- what an accepted table of records has: n whole records, not too many bytes, and good rows
-pub record Accepted (good : ℕ → Bool) (size most bytes n : ℕ) : Type 0 where
+pub record RecordsAccepted (good : ℕ → Bool) (size most bytes n : ℕ) : Type 0 where
   pub count : n ≡ bytes / size
   pub whole : bytes ≡ n * size
   pub few : bytes ≤ most * size
@@ -107,7 +107,7 @@ module _ (bad : ℕ → Checked) (good : ℕ → Bool) (size most bytes : ℕ) w
       let all : firstBad good 0 (bytes / size) ≡ 0 + bytes / size = all-first-bad good 0 (bytes / size) (λ j l b. each j (omega arith)) in
       check-good few (0 + bytes / size) (sym all) (omega arith) rest
 
-  pub accepted : ((i n : ℕ) → bad i ≡ Good n → ⊥) → (n : ℕ) → checkedWith bad good size most bytes ≡ Good n → Accepted good size most bytes n
+  pub accepted : ((i n : ℕ) → bad i ≡ Good n → ⊥) → (n : ℕ) → checkedWith bad good size most bytes ≡ Good n → RecordsAccepted good size most bytes n
   unfolding checkedWith
   accepted never n a =
       let q : ℕ = bytes / size in

@@ -19,7 +19,7 @@ use Rattle.rules.specs.Sizes.{sizes}
 use Rattle.table.specs.TableBytes.{u16sAt, usedOf, unusedOf, rowGoodOf, rowSize, depCount, usedAt, rowsAt, numbersGood, zeros}
 use Rattle.table.specs.Table.{rows, indexIn}
 use Rattle.table.proofs.Today.{unusedAt, rowGood}
-use Rattle.table.proofs.TableLaws.{numberAt, length-rows, length-rows-at, index-tells}
+use Rattle.table.proofs.TableLaws.{numberPlace, length-rows, length-rows-at, index-tells}
 
 -- ---- numbers that climb
 
@@ -70,22 +70,22 @@ climbs-good i l =
 
 -- ---- a row's numbers
 
-number-next : (i j : ℕ) → numberAt i j + 2 ≡ numberAt i (j + 1)
+number-next : (i j : ℕ) → numberPlace i j + 2 ≡ numberPlace i (j + 1)
 number-next i j = omega arith
 
 module _ (s : List ℕ) (i count : ℕ) where
   -- what the numbers from the j-th on say, of those in use
   pub climbing : ℕ → ℕ → Bool
-  climbing least j = climbs least i (u16sAt s (numberAt i j) (count - j))
+  climbing least j = climbs least i (u16sAt s (numberPlace i j) (count - j))
 
   pub climb-starts : count ≡ depCount s i → climbing 0 0 ≡ numbersGood i (usedAt s i)
   unfolding climbing usedOf
   climb-starts e =
       let d : count - 0 ≡ depCount s i = omega arith in
-      let p : numberAt i 0 ≡ i * rowSize + sizes .hash + 2 = omega arith in
+      let p : numberPlace i 0 ≡ i * rowSize + sizes .hash + 2 = omega arith in
       rw (d, p) (climbs-good i (usedAt s i))
 
-  module _ (least j d : ℕ) (inside : j < count) (read : d ≡ u16At s (numberAt i j)) where
+  module _ (least j d : ℕ) (inside : j < count) (read : d ≡ u16At s (numberPlace i j)) where
     left : count - j ≡ suc (count - (j + 1))
     left = omega arith
 
@@ -108,15 +108,15 @@ module _ (s : List ℕ) (i count : ℕ) where
       rw d
 
 module _ (s : List ℕ) (i : ℕ) where
-  -- the same of those not in use
+  -- whether the numbers from the j-th on, which aren't in use, are zeros
   pub zeroing : ℕ → Bool
-  zeroing j = zeros (u16sAt s (numberAt i j) (sizes .dependencies - j))
+  zeroing j = zeros (u16sAt s (numberPlace i j) (sizes .dependencies - j))
 
   pub zero-starts : (count : ℕ) → count ≡ depCount s i → zeroing count ≡ zeros (unusedAt s i)
   unfolding zeroing unusedOf
   zero-starts count e = rw e
 
-  module _ (j d : ℕ) (inside : j < sizes .dependencies) (read : d ≡ u16At s (numberAt i j)) where
+  module _ (j d : ℕ) (inside : j < sizes .dependencies) (read : d ≡ u16At s (numberPlace i j)) where
     remain : sizes .dependencies - j ≡ suc (sizes .dependencies - (j + 1))
     remain = omega arith
 
@@ -134,7 +134,7 @@ module _ (s : List ℕ) (i : ℕ) where
       let d : sizes .dependencies - j ≡ 0 = omega arith in
       rw d
 
-  pub zeroing-is : (j : ℕ) → zeroing j ≡ zeros (u16sAt s (numberAt i j) (sizes .dependencies - j))
+  pub zeroing-is : (j : ℕ) → zeroing j ≡ zeros (u16sAt s (numberPlace i j) (sizes .dependencies - j))
   unfolding zeroing
   zeroing-is j = refl
 
@@ -152,17 +152,17 @@ zeros-parts s at (suc n) rest =
     rw (suc-add n rest, e, zeros-parts s (at + 2) n rest) (and-parts (eqb (u16At s at) 0) (zeros (u16sAt s (at + 2) n)) (zeros (u16sAt s (at + 2 + 2 * n) rest)))
 
 module _ (s : List ℕ) (i j : ℕ) (inside : j + 4 ≤ sizes .dependencies) where
-  four-parts : zeroing s i j ≡ (zeros (u16sAt s (numberAt i j) 4) && zeroing s i (j + 4))
+  four-parts : zeroing s i j ≡ (zeros (u16sAt s (numberPlace i j) 4) && zeroing s i (j + 4))
   unfolding zeroing
   four-parts =
       let long : sizes .dependencies - j ≡ 4 + (sizes .dependencies - (j + 4)) = omega arith in
-      let next : numberAt i (j + 4) ≡ numberAt i j + 2 * 4 = omega arith in
-      rw (long, next) (zeros-parts s (numberAt i j) 4 (sizes .dependencies - (j + 4)))
+      let next : numberPlace i (j + 4) ≡ numberPlace i j + 2 * 4 = omega arith in
+      rw (long, next) (zeros-parts s (numberPlace i j) 4 (sizes .dependencies - (j + 4)))
 
-  pub four-fail : zeros (u16sAt s (numberAt i j) 4) ≡ false → zeroing s i j ≡ false
+  pub four-fail : zeros (u16sAt s (numberPlace i j) 4) ≡ false → zeroing s i j ≡ false
   four-fail e = four-parts ∙ rw e refl
 
-  pub four-on : zeros (u16sAt s (numberAt i j) 4) ≡ true → zeroing s i j ≡ zeroing s i (j + 4)
+  pub four-on : zeros (u16sAt s (numberPlace i j) 4) ≡ true → zeroing s i j ≡ zeroing s i (j + 4)
   four-on e = four-parts ∙ rw e refl
 
 four-sum : (a b c d : ℕ) → eqb (a + b + c + d) 0 ≡ (eqb a 0 && (eqb b 0 && (eqb c 0 && (eqb d 0 && true))))
@@ -180,12 +180,12 @@ four-sum a b c d =
     (λ eb. rw (ea, eb) (ne-eqb (a + b + c + d) 0 (λ z. eqb-false b 0 eb (omega arith)))))
     (λ ea. rw ea (ne-eqb (a + b + c + d) 0 (λ z. eqb-false a 0 ea (omega arith))))
 
-pub sum-zeros : (s : List ℕ) (i j a b c d : ℕ) → a ≡ u16At s (numberAt i j) → b ≡ u16At s (numberAt i (j + 1)) → c ≡ u16At s (numberAt i (j + 2))
-    → d ≡ u16At s (numberAt i (j + 3))
-    → eqb (a + b + c + d) 0 ≡ zeros (u16sAt s (numberAt i j) 4)
+pub sum-zeros : (s : List ℕ) (i j a b c d : ℕ) → a ≡ u16At s (numberPlace i j) → b ≡ u16At s (numberPlace i (j + 1)) → c ≡ u16At s (numberPlace i (j + 2))
+    → d ≡ u16At s (numberPlace i (j + 3))
+    → eqb (a + b + c + d) 0 ≡ zeros (u16sAt s (numberPlace i j) 4)
 unfolding zeros u16sAt
 sum-zeros s i j a b c d ea eb ec ed =
-    let p : ℕ = numberAt i j in
+    let p : ℕ = numberPlace i j in
     let fb : u16At s (p + 2) ≡ b = rw eb (ap (u16At s) (omega arith)) in
     let fc : u16At s (p + 2 + 2) ≡ c = rw ec (ap (u16At s) (omega arith)) in
     let fd : u16At s (p + 2 + 2 + 2) ≡ d = rw ed (ap (u16At s) (omega arith)) in

@@ -58,7 +58,7 @@ pub unknown-of-index : (l : List ℕ) (h : ℕ) → indexIn l h ≡ length l →
 unknown-of-index l h p =
     split (member h l) (λ e. absurd (omega (arith, index-of-member l h e))) (λ e. e)
 
--- so the place tells whether a number is a member
+-- the place in a list tells whether a number is a member
 pub index-tells : (l : List ℕ) (h : ℕ) → not (member h l) ≡ eqb (indexIn l h) (length l)
 index-tells l h =
     split (member h l)
@@ -172,7 +172,7 @@ module _ (s : List ℕ) where
   pub hash-of-row : (n i : ℕ) → i < n → hashOf (rowsAt s 0 n) i ≡ hashAt s (i * rowSize)
   hash-of-row = row-hash-of (sizes .dependencies) s
 
-  -- the same of all whole rows
+  -- a table's whole rows are as many as fit in its bytes
   pub length-table : length (tableOf s) ≡ length s / rowSize
   unfolding wholeRowsOf
   length-table = length-rows-at 0 (length s / rowSize)
@@ -195,8 +195,8 @@ module _ (s : List ℕ) where
 abbrev pub numberPlaceOf : ℕ → ℕ → ℕ → ℕ
 numberPlaceOf d i j = i * rowSizeOf d + sizes .hash + 2 + 2 * j
 
-abbrev pub numberAt : ℕ → ℕ → ℕ
-numberAt i j = numberPlaceOf (sizes .dependencies) i j
+abbrev pub numberPlace : ℕ → ℕ → ℕ
+numberPlace i j = numberPlaceOf (sizes .dependencies) i j
 
 length-twos-at : (s : List ℕ) (at count : ℕ) → length (u16sAt s at count) ≡ count
 unfolding u16sAt
@@ -222,7 +222,7 @@ used-of-index d s i j b = twos-index s (i * rowSizeOf d + sizes .hash + 2) (coun
 pub length-used : (s : List ℕ) (i : ℕ) → length (usedAt s i) ≡ depCount s i
 length-used = length-used-of (sizes .dependencies)
 
-pub used-index : (s : List ℕ) (i j : ℕ) → j < depCount s i → getD (usedAt s i) j 0 ≡ u16At s (numberAt i j)
+pub used-index : (s : List ℕ) (i j : ℕ) → j < depCount s i → getD (usedAt s i) j 0 ≡ u16At s (numberPlace i j)
 used-index = used-of-index (sizes .dependencies)
 
 -- ---- good rows
@@ -340,11 +340,11 @@ pub good-accepted-of : (d most : ℕ) (s : List ℕ)
 unfolding tableCheckedOf
 good-accepted-of d most s rest few each = good-is-accepted (λ i. Refused (BadRow i)) (rowGoodOf d s) (rowSizeOf d) most (length s) few rest each
 
--- the same of today's tables
-abbrev pub Decoded : List ℕ → ℕ → Type 0
-Decoded s n = DecodedOf (sizes .dependencies) (sizes .rows) s n
+-- what an accepted table of today's size decodes to
+abbrev pub DecodedTable : List ℕ → ℕ → Type 0
+DecodedTable s n = DecodedOf (sizes .dependencies) (sizes .rows) s n
 
-pub table-good : (s : List ℕ) (n : ℕ) → tableChecked s ≡ Good n → Decoded s n
+pub table-good : (s : List ℕ) (n : ℕ) → tableChecked s ≡ Good n → DecodedTable s n
 table-good = good-table-of (sizes .dependencies) (sizes .rows)
 
 pub good-accepted : (s : List ℕ)
@@ -355,7 +355,7 @@ pub good-accepted : (s : List ℕ)
 good-accepted = good-accepted-of (sizes .dependencies) (sizes .rows)
 
 -- the bytes of an accepted table and its rows
-module _ (s : List ℕ) (n : ℕ) (d : Decoded s n) where
+module _ (s : List ℕ) (n : ℕ) (d : DecodedTable s n) where
   pub decoded-hash : (i : ℕ) → i < n → hashOf (tableOf s) i ≡ hashAt s (i * rowSize)
   decoded-hash i b = rw (d .is) (hash-of-row s n i b)
 
@@ -366,14 +366,14 @@ module _ (s : List ℕ) (n : ℕ) (d : Decoded s n) where
   decoded-count i b = row-has s i (d .each i b) .count
 
   -- the j-th number in use is a dependency, and below its row
-  pub decoded-dep : (i j : ℕ) → i < n → j < depCount s i → getD (depsOf (tableOf s) i) j 0 ≡ u16At s (numberAt i j)
+  pub decoded-dep : (i j : ℕ) → i < n → j < depCount s i → getD (depsOf (tableOf s) i) j 0 ≡ u16At s (numberPlace i j)
   decoded-dep i j b l = rw (decoded-deps i b) (used-index s i j l)
 
-  pub decoded-below : (i j : ℕ) → i < n → j < depCount s i → u16At s (numberAt i j) < i
+  pub decoded-below : (i j : ℕ) → i < n → j < depCount s i → u16At s (numberPlace i j) < i
   decoded-below i j b l =
       let long : j < length (usedAt s i) = rw length-used l in
-      row-has s i (d .each i b) .below (u16At s (numberAt i j))
-      (member-is (usedAt s i) (u16At s (numberAt i j)) j long (used-index s i j l))
+      row-has s i (d .each i b) .below (u16At s (numberPlace i j))
+      (member-is (usedAt s i) (u16At s (numberPlace i j)) j long (used-index s i j l))
 
   -- its first rows are a good table too
   pub decoded-take : (k : ℕ) → k ≤ n → take k (tableOf s) ≡ rowsAt s 0 k

@@ -10,7 +10,7 @@ ghost use Rattle.waiting.specs.WaitingCalls.{tablesChecked};
 ghost use Rattle.table_graph.specs.GraphCalls.{headsOutput, beyondOutput};
 ghost use Rattle.waiting_missing.specs.MissingCalls.{missingOutput};
 
-// Checks the change table in `table`. Answer: 0, its rows.
+// Checks the change table in `table`. Answer: 0, how many rows it has.
 #[no_mangle]
 pub extern "C" fn bt_check_table(table: &[u8], answer: &mut [u64; 4])
     ensures { λ _. ⌜ now (answer .exit) ≡ checkedWords (tableChecked (now (table .entry))) ⌝ }
@@ -18,7 +18,8 @@ pub extern "C" fn bt_check_table(table: &[u8], answer: &mut [u64; 4])
     *answer = checked_words(table_index_build::check::check_alone(table));
 }
 
-// Checks the change table in `table` beside its index in `index`, and the waiting table in `waiting` beside both. Answer: 0, the waiting rows.
+// Checks the change table in `table` beside its index in `index`, and the waiting table in `waiting` beside both. Answer: 0, how many rows the
+// waiting table has.
 #[no_mangle]
 pub extern "C" fn bt_check_tables(table: &[u8], index: &[u8], waiting: &[u8], answer: &mut [u64; 4])
     ensures { λ _. ⌜ now (answer .exit) ≡ checkedWords (tablesChecked (now (table .entry)) (now (index .entry)) (now (waiting .entry))) ⌝ }
@@ -44,8 +45,8 @@ pub extern "C" fn bt_extend_index(table: &[u8], index: &[u8], out: &mut [u8], an
     *answer = write_words(table_index_build::build::extend_index(table, index, out));
 }
 
-// Writes the heads of the table's first `before` rows at the start of `out`, ascending, 32 bytes each. `index` is the index of the whole table.
-// Answer: 0, the bytes written.
+// Writes the heads of the first `before` rows of the change table in `table` at the start of `out`, ascending, 32 bytes each. `index` is the index
+// of the whole table. Answer: 0, the bytes written.
 #[no_mangle]
 pub extern "C" fn bt_heads(
     table: &[u8],
@@ -59,8 +60,9 @@ pub extern "C" fn bt_heads(
     *answer = write_words(table_graph::heads::heads(table, index, before, out));
 }
 
-// Writes the rows that are neither in the list nor ancestors of it at the start of `out`, in table order, 32 bytes each. The list is the hashes in
-// `hashes`; those that aren't held are ignored. Answer: 0, the bytes written.
+// Writes the hashes of the rows of the change table in `table` that are neither in a list nor ancestors of it at the start of `out`, in table
+// order, 32 bytes each. `index` is the table's index. The list is the hashes in `hashes`; those that aren't held are ignored. Answer: 0, the bytes
+// written.
 #[no_mangle]
 pub extern "C" fn bt_beyond(
     table: &[u8],
@@ -75,8 +77,9 @@ pub extern "C" fn bt_beyond(
     *answer = write_words(table_graph::beyond::beyond(table, index, hashes, out));
 }
 
-// Writes what is missing from the hashes in `hashes` at the start of `out`, each hash once, ascending, 32 bytes each: the unknown ones, and what
-// waiting changes that are asked for lack. Answer: 0, the bytes written.
+// Writes what is missing from the hashes in `hashes` at the start of `out`, each hash once, ascending, 32 bytes each: those of them that are
+// unknown, and what waiting changes that are asked for lack. `table` is the change table, `index` its index and `waiting` the waiting table beside
+// it. Answer: 0, the bytes written.
 #[no_mangle]
 pub extern "C" fn bt_missing(
     table: &[u8],

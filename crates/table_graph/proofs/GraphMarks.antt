@@ -55,7 +55,7 @@ module _ (s : List ℕ) (n : ℕ) where
             i h);
       }
 
-  -- the same, the list's rows being marked where none was
+  -- where the list's rows are marked and none was before, what is reached from the marks is what lies at or below the list
   pub below-blank : (l : List ℕ) (m listed r : List Bool) → Blank n m → Marks n listed (λ i. getD m i false || member (hashOf t i) l)
       → Marks n r (reach n (λ k. getD listed k false) (λ k j. member j (depsOf t k)))
       → Marks n r (belowRow t l)

@@ -21,7 +21,7 @@ use Rattle.rules.specs.Hash.{hashAt, hashesAt}
 use Rattle.rules.specs.LittleEndian.{u16At}
 use Rattle.rules.specs.Sizes.{sizes}
 use Rattle.table.proofs.GoodLaws.{good-down}
-use Rattle.table.proofs.TableLaws.{entry-at-index, index-first, length-rows, length-rows-at, deps-of-row, numberAt, length-used, used-index}
+use Rattle.table.proofs.TableLaws.{entry-at-index, index-first, length-rows, length-rows-at, deps-of-row, numberPlace, length-used, used-index}
 use Rattle.table.specs.TableBytes.{depCount, usedAt, rowsAt, GoodRows}
 use Rattle.table.specs.Table.{Row, rows, hashOf, depsOf, indexIn}
 use Rattle.table_graph.specs.Graph.{needed}
@@ -143,7 +143,7 @@ module _ (s : List ℕ) (i count : ℕ) (c : count ≡ depCount s i) where
   numbers-many : length (usedAt s i) ≡ count
   numbers-many = length-used s i ∙ sym c
 
-  module _ (j k : ℕ) (inside : j < count) (read : k ≡ u16At s (numberAt i j)) where
+  module _ (j k : ℕ) (inside : j < count) (read : k ≡ u16At s (numberPlace i j)) where
     pub number-is : getD (usedAt s i) j 0 ≡ k
     number-is = used-index s i j (omega arith) ∙ sym read
 
@@ -157,7 +157,7 @@ module _ (s : List ℕ) (i count : ℕ) (c : count ≡ depCount s i) where
   pub numbers-none : (j : ℕ) → count ≤ j → drop j (usedAt s i) ≡ []
   numbers-none j h = drop-of-length-le (usedAt s i) {i = j} (omega (arith, numbers-many))
 
-  pub numbers-on : (m : List Bool) (j k : ℕ) → j < count → k ≡ u16At s (numberAt i j)
+  pub numbers-on : (m : List Bool) (j k : ℕ) → j < count → k ≡ u16At s (numberPlace i j)
       → markAll m (drop j (usedAt s i)) ≡ markAll (set m k true) (drop (j + 1) (usedAt s i))
   unfolding markAll
   numbers-on m j k h e = rw (numbers-more j k h e)

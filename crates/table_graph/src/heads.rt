@@ -22,7 +22,7 @@ ghost use Rattle.table_graph.specs.Graph.{needed, heads};
 ghost use Rattle.table_graph.specs.Internal.Marks.{Marks, Blank};
 
 // Room for the hash of every row.
-pub const LIST_SIZE: usize = HASH_SIZE * ROWS;
+pub const ROWS_SIZE: usize = HASH_SIZE * ROWS;
 
 // Marks the heads of the first rows, where none is marked.
 pub fn mark_heads(table: &[u8], before: usize, marks: &mut [bool])

@@ -19,7 +19,7 @@ use Rattle.table.specs.TableBytes.{rowSizeOf, rowOf, rowsOf, u16sAt, rowSize, r
 use Rattle.table.specs.Table.{rows, hashOf, indexIn}
 use Rattle.table_index.specs.Index.{Ordered, fits, fitsBy, hashesFrom, recordHash}
 use Rattle.table_index.proofs.ByteLaws.{length-u16s, entry}
-use Rattle.table_index.proofs.IndexLaws.{Fits, fits-has, has-fits, each-named, hashes-once}
+use Rattle.table_index.proofs.IndexLaws.{FittingNumbers, fits-has, has-fits, each-named, hashes-once}
 use Rattle.table_index.proofs.ListLaws.{map-index, map-member, map-same, below-each, below-index, ascends-rises, place-low, place-high, place-unknown}
 
 -- a record's hash stands inside
@@ -34,7 +34,7 @@ record-inside r n size long h all wide =
 pub last-inside : (n size long : ℕ) → (n + 1) * size ≤ long → sizes .hash ≤ size → n * size + sizes .hash ≤ long
 last-inside n size long all wide = record-inside n (n + 1) size long (omega arith) all wide
 
--- so do as many records as there are, and fewer
+-- a record below the n-th ends within the n records
 pub records-inside : (i n size long : ℕ) → i < n → n * size ≤ long → (i + 1) * size ≤ long
 records-inside i n size long h all =
     let more : (i + 1) * size ≤ n * size = mul-le-mul (omega arith) (omega arith) in
@@ -66,7 +66,7 @@ module _ (f : ℕ → ℕ) where
       let e : 0 + k ≡ k = omega arith in
       rw e at (hashes-from-index 0 n k b)
 
--- those of change rows
+-- the hashes of change rows are those of records that begin with them
 rows-from : (d : ℕ) (s : List ℕ) (i n : ℕ) → rows (rowsOf d s i n) ≡ hashesFrom (recordHash s (rowSizeOf d)) i n
 unfolding rows rowsOf rowOf hashesFrom
 rows-from d s i zero = refl
@@ -110,7 +110,7 @@ module _ (f : ℕ → ℕ) (x : List ℕ) (n : ℕ) where
   -- ---- looked up
 
   module _ (ok : fitsBy f n (u16sAt x 0 n) ≡ true) where
-    has : Fits f n (u16sAt x 0 n)
+    has : FittingNumbers f n (u16sAt x 0 n)
     has = fits-has f n (u16sAt x 0 n) ok
 
     pub look-ordered : Ordered f n (u16sAt x 0 n)
@@ -170,7 +170,7 @@ pub fit-records : (s x : List ℕ) (n : ℕ) → fits (rowsAt s 0 n) (u16sAt x 0
 unfolding fits
 fit-records s x n ok =
     let g = hashOf (rowsAt s 0 n) in
-    let w : Fits (hashOf (rowsAt s 0 n)) n (u16sAt x 0 n) = fits-has (hashOf (rowsAt s 0 n)) n (u16sAt x 0 n) (rw (length-rows-at s 0 n) at ok) in
+    let w : FittingNumbers (hashOf (rowsAt s 0 n)) n (u16sAt x 0 n) = fits-has (hashOf (rowsAt s 0 n)) n (u16sAt x 0 n) (rw (length-rows-at s 0 n) at ok) in
     let same : map (hashOf (rowsAt s 0 n)) (u16sAt x 0 n) ≡ map (recordHash s rowSize) (u16sAt x 0 n) =
     map-same (hashOf (rowsAt s 0 n)) (recordHash s rowSize) n (u16sAt x 0 n) (λ i b. hash-of-row s n i b) (w .below)
     in

@@ -18,7 +18,7 @@ use Rattle.table_index.proofs.ListLaws.{compared, each-below, below-eac
 
 -- ---- what fits
 
-pub record Fits (f : ℕ → ℕ) (n : ℕ) (l : List ℕ) : Type 0 where
+pub record FittingNumbers (f : ℕ → ℕ) (n : ℕ) (l : List ℕ) : Type 0 where
   pub long : length l ≡ n
   pub below : (x : ℕ) → member x l ≡ true → x < n
   pub order : ascends (map f l) ≡ true
@@ -28,18 +28,18 @@ abbrev pub Apart : (ℕ → ℕ) → ℕ → Type 0
 Apart f n = (i j : ℕ) → i < n → j < n → f i ≡ f j → i ≡ j
 
 module _ (f : ℕ → ℕ) (n : ℕ) (l : List ℕ) where
-  pub fits-has : fitsBy f n l ≡ true → Fits f n l
+  pub fits-has : fitsBy f n l ≡ true → FittingNumbers f n l
   unfolding fitsBy
   fits-has e =
       let p = both (eqb (length l) n && every (λ i. ltb i n) l) (ascends (map f l)) e in
       let q = both (eqb (length l) n) (every (λ i. ltb i n) l) (p .0) in
       record { long = eqb-true (length l) n (q .0); below = each-below n l (q .1); order = p .1 }
 
-  pub has-fits : Fits f n l → fitsBy f n l ≡ true
+  pub has-fits : FittingNumbers f n l → fitsBy f n l ≡ true
   unfolding fitsBy
   has-fits w = rw (eq-eqb (length l) n (w .long), below-each n l (w .below)) (w .order)
 
-  module _ (w : Fits f n l) where
+  module _ (w : FittingNumbers f n l) where
     -- n entries, all different, below n: each number below n is one
     pub each-named : (i : ℕ) → i < n → member i l ≡ true
     unfolding ascend

@@ -15,7 +15,7 @@ use Rattle.table.proofs.TableLaws.{length-rows, index-of-entry, index-of-unknow
 use Rattle.table.specs.Table.{Row, rows, hashOf, indexIn, GoodTable}
 use Rattle.table_index.specs.Index.{indexOf, fits}
 use Rattle.table_index.proofs.ListLaws.{map-index, map-member, sorted-once, place-unknown}
-use Rattle.table_index.proofs.IndexLaws.{Fits, Apart, fits-has, each-named, hashes-once, index-fits, fits-is}
+use Rattle.table_index.proofs.IndexLaws.{FittingNumbers, Apart, fits-has, each-named, hashes-once, index-fits, fits-is}
 
 module _ (t : List Row) where
   -- a table with no hash twice has an index that fits
@@ -29,7 +29,7 @@ module _ (t : List Row) where
       apart-fits (λ i j b c e. once-index (rows t) (g .once) i j (omega (arith, length-rows t)) (omega (arith, length-rows t)) e)
 
 module _ (t : List Row) (l : List ℕ) (ok : fits t l ≡ true) where
-  pub has : Fits (hashOf t) (length t) l
+  pub has : FittingNumbers (hashOf t) (length t) l
   unfolding fits
   has = fits-has (hashOf t) (length t) l ok
 

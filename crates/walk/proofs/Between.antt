@@ -20,7 +20,7 @@ use Rattle.rules.proofs.Cases.{split, true-false, and-true}
 use Rattle.table.specs.Table.{Row, GoodTable, rows, held, deps}
 use Rattle.waiting.specs.Waiting.{Waiting, waiting, asks}
 use Rattle.walk.specs.Round.{Part}
-use Rattle.walk.proofs.Loaded.{Beside}
+use Rattle.walk.proofs.Loaded.{WaitsBeside}
 use Rattle.walk.proofs.Parts.{heads-all}
 
 -- Scrutinee first.
@@ -31,7 +31,7 @@ cases (inr b) f g = g b
 -- B with W beside it, and T, in a whole J; J is A, or the joint table where both ends lack something.
 pub record Between (J b : List Row) (w : List Waiting) (sent : List ℕ) : Type 0 where
   -- B is a part of the whole, and W has rows of the whole with their dependencies, each once, none of them held
-  pub beside : Beside J b w
+  pub beside : WaitsBeside J b w
   -- a row waits because something that it asks for isn't held
   pub stuck : (h : ℕ) → member h (waiting w) ≡ true → every (held b) (asks w h) ≡ false
   -- of what B doesn't hold, T has just what waits
@@ -42,8 +42,8 @@ abbrev pub unsent : List Row → List Waiting → ℕ → Bool
 unsent b w h = not (member h (waiting w) || held b h)
 
 -- How many rows of the whole are so.
-abbrev pub left : List Row → List Row → List Waiting → ℕ
-left J b w = length (keep (unsent b w) (rows J))
+abbrev pub unsentCount : List Row → List Row → List Waiting → ℕ
+unsentCount J b w = length (keep (unsent b w) (rows J))
 
 module _ {J b : List Row} {w : List Waiting} {sent : List ℕ} (inv : Between J b w sent) where
   -- a dependency of a waiting row that isn't held
@@ -54,7 +54,7 @@ module _ {J b : List Row} {w : List Waiting} {sent : List ℕ} (inv : Between J 
       record { d = d; asked = k; dep = sym (inv .beside .ask h d m) ∙ k; out = n }
 
   -- where nothing is left, all is held: no row can be the first that waits
-  pub none-left : GoodTable J → left J b w ≡ 0 → (h : ℕ) → held J h ≡ true → held b h ≡ true
+  pub none-left : GoodTable J → unsentCount J b w ≡ 0 → (h : ℕ) → held J h ≡ true → held b h ≡ true
   unfolding held
   none-left good e =
       row-induction J good (λ h. held b h ≡ true)

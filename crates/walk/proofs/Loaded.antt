@@ -13,12 +13,12 @@ use Rattle.table.proofs.ExtendLaws.{good-append, deps-stay}
 use Rattle.table.specs.Table.{Row, GoodTable, held, deps}
 use Rattle.waiting.specs.Waiting.{Waiting, waiting, asks}
 use Rattle.walk.specs.Round.{Part, Moves, Settles, done, step, Loads}
-use Rattle.walk.proofs.Loading.{Asked, move-held, move-fewer, move-other, move-asked}
+use Rattle.walk.proofs.Loading.{AsksDeps, move-held, move-fewer, move-other, move-asked}
 use Rattle.walk.proofs.Loading.{settles-more, settles-fewer, settles-stuck, settles-moved, settles-least}
 use Rattle.walk.proofs.Tables.{held-added, added-deps}
 
 -- A part, and rows of the whole that wait beside it.
-pub record Beside (J b : List Row) (w : List Waiting) : Type 0 where
+pub record WaitsBeside (J b : List Row) (w : List Waiting) : Type 0 where
   -- what is held is a dependency-closed part
   pub part : Part J b
   -- what waits are rows of the whole
@@ -28,9 +28,9 @@ pub record Beside (J b : List Row) (w : List Waiting) : Type 0 where
   -- none waits twice
   pub once : Once (waiting w)
   -- and each asks for what it depends on
-  pub ask : Asked J w
+  pub ask : AsksDeps J w
 
-module _ {J b : List Row} {w : List Waiting} (inv : Beside J b w) where
+module _ {J b : List Row} {w : List Waiting} (inv : WaitsBeside J b w) where
   -- ---- one move
 
   module _ {b′ : List Row} {w′ : List Waiting} (m : Moves b w b′ w′) where
@@ -60,7 +60,7 @@ module _ {J b : List Row} {w : List Waiting} (inv : Beside J b w) where
           same = same-after;
         }
 
-    move-beside : Beside J b′ w′
+    move-beside : WaitsBeside J b′ w′
     move-beside =
         record {
           part = rw (m .grown) part-after;
@@ -72,16 +72,16 @@ module _ {J b : List Row} {w : List Waiting} (inv : Beside J b w) where
 
 -- ---- all moves
 
-settles-beside : {J b : List Row} {w : List Waiting} {b′ : List Row} {w′ : List Waiting} → Beside J b w → Settles b w b′ w′ → Beside J b′ w′
+settles-beside : {J b : List Row} {w : List Waiting} {b′ : List Row} {w′ : List Waiting} → WaitsBeside J b w → Settles b w b′ w′ → WaitsBeside J b′ w′
 settles-beside inv (done f) = inv
 settles-beside inv (step m s) = settles-beside (move-beside inv m) s
 
 -- ---- loading rows of the whole that aren't held
 
-module _ {J b : List Row} {w : List Waiting} (inv : Beside J b w) {reply : List ℕ}
+module _ {J b : List Row} {w : List Waiting} (inv : WaitsBeside J b w) {reply : List ℕ}
     (new : (h : ℕ) → member h reply ≡ true → (held J h ≡ true) × (held b h ≡ false))
     {b′ : List Row} {w′ : List Waiting} (l : Loads J b w reply b′ w′) where
-  joined-beside : Beside J b (l .joined)
+  joined-beside : WaitsBeside J b (l .joined)
   joined-beside =
       record {
         part = inv .part;
@@ -91,7 +91,7 @@ module _ {J b : List Row} {w : List Waiting} (inv : Beside J b w) {reply : List 
         ask = l .joins .ask;
       }
 
-  pub loads-beside : Beside J b′ w′
+  pub loads-beside : WaitsBeside J b′ w′
   loads-beside = settles-beside joined-beside (l .settles)
 
 -- what was held stays so, and each row that still waits lacks something

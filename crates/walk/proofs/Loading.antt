@@ -21,8 +21,8 @@ use Rattle.walk.specs.Round.{Joins, Moves, Settles, done, step, Loads}
 use Rattle.walk.proofs.Tables.{held-added, waitingFor, waiting-for, asks-for}
 
 -- The waiting rows ask for what their rows depend on in A.
-abbrev pub Asked : List Row → List Waiting → Type 0
-Asked A w = (h d : ℕ) → member h (waiting w) ≡ true → member d (asks w h) ≡ member d (deps A h)
+abbrev pub AsksDeps : List Row → List Waiting → Type 0
+AsksDeps A w = (h d : ℕ) → member h (waiting w) ≡ true → member d (asks w h) ≡ member d (deps A h)
 
 -- ---- one move
 
@@ -46,7 +46,7 @@ module _ {b : List Row} {w : List Waiting} {b′ : List Row} {w′ : List Waitin
   pub move-stays : (h : ℕ) → member h (waiting w) ≡ true → eqb h (m .hash) ≡ false → member h (waiting w′) ≡ true
   move-stays h e f = m .rest h ∙ rw (e, f)
 
-  pub move-asked : (A : List Row) → Asked A w → Asked A w′
+  pub move-asked : (A : List Row) → AsksDeps A w → AsksDeps A w′
   move-asked A q h d e = ap (member d) (m .ask h e) ∙ q h d (move-fewer h e)
 
 -- ---- moves until none can
@@ -68,12 +68,12 @@ settles-stuck (done f) h e = f h e
 settles-stuck (step m s) h e = settles-stuck s h e
 
 module _ (A : List Row) where
-  pub settles-asked : {b : List Row} {w : List Waiting} {b′ : List Row} {w′ : List Waiting} → Settles b w b′ w′ → Asked A w → Asked A w′
+  pub settles-asked : {b : List Row} {w : List Waiting} {b′ : List Row} {w′ : List Waiting} → Settles b w b′ w′ → AsksDeps A w → AsksDeps A w′
   settles-asked (done f) q = q
   settles-asked (step m s) q = settles-asked s (move-asked m A q)
 
   -- what waits no more is held, with its dependencies
-  pub settles-moved : {b : List Row} {w : List Waiting} {b′ : List Row} {w′ : List Waiting} → Settles b w b′ w′ → Asked A w
+  pub settles-moved : {b : List Row} {w : List Waiting} {b′ : List Row} {w′ : List Waiting} → Settles b w b′ w′ → AsksDeps A w
       → (h : ℕ) → member h (waiting w) ≡ true → member h (waiting w′) ≡ false
       → (held b′ h ≡ true) × ((d : ℕ) → member d (deps A h) ≡ true → held b′ d ≡ true)
   settles-moved (done {b} {w} f) q h e n = absurd (true-false (member h (waiting w)) e n)
@@ -89,7 +89,7 @@ module _ (A : List Row) where
       (λ i. settles-moved s (move-asked m A q) h (move-stays m h e i) n)
 
   -- what holds of what was held, and of a row that waited if it holds of its dependencies, holds of all that is held
-  pub settles-least : {b : List Row} {w : List Waiting} {b′ : List Row} {w′ : List Waiting} → Settles b w b′ w′ → Asked A w
+  pub settles-least : {b : List Row} {w : List Waiting} {b′ : List Row} {w′ : List Waiting} → Settles b w b′ w′ → AsksDeps A w
       → (P : ℕ → Type 0)
       → ((h : ℕ) → held b h ≡ true → P h)
       → ((h : ℕ) → member h (waiting w) ≡ true → ((d : ℕ) → member d (deps A h) ≡ true → P d) → P h)
@@ -173,7 +173,7 @@ module _ (b : List Row) (w : List Waiting) (h : ℕ) (waits : member h (waiting 
         member-long h (keep (λ g. eqb g h) (waiting w)) (keep-member (λ g. eqb g h) (waiting w) h ∙ rw (eq-eqb h h refl) waits),
       ))
 
--- so moves end: each leaves one row fewer
+-- moves end, since each leaves one waiting row fewer
 settle : (n : ℕ) (b : List Row) (w : List Waiting) → length (waiting w) < n → (b′ : List Row) × (w′ : List Waiting) × Settles b w b′ w′
 settle zero b w h = absurd (omega arith)
 settle (suc n) b w h =

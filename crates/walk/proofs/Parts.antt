@@ -20,7 +20,7 @@ pub part-closed : (j b : List Row) → Part j b → (h d : ℕ) → held b h ≡
 part-closed j b part h d e m = deps-held b (part .good) h d (part .same h d e ∙ m)
 
 module _ (j x b : List Row) (partX : Part j x) (partB : Part j b) where
-  -- the same over another part's dependencies
+  -- a part has what its rows depend on by another part's dependencies too
   pub parts-closed : (h d : ℕ) → held b h ≡ true → member d (deps x h) ≡ true → held b d ≡ true
   parts-closed h d e m = part-closed j b partB h d e (sym (partX .same h d (only-rows x (partX .good) h d m)) ∙ m)
 

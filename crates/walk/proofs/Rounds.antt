@@ -22,7 +22,7 @@ use Rattle.table.specs.Table.{Row, GoodTable, rows, held}
 use Rattle.waiting.specs.Waiting.{Waiting, waiting}
 use Rattle.walk.specs.Round.{Part, Gives, trim, Picks, Loads}
 use Rattle.walk.specs.Walk.{At, starting, offerTo, lacking}
-use Rattle.walk.proofs.Between.{cases, Between, unsent, left, none-left, some-missing}
+use Rattle.walk.proofs.Between.{cases, Between, unsent, unsentCount, none-left, some-missing}
 use Rattle.walk.proofs.Loaded.{loads-beside, loads-more, loads-stuck, loads-all}
 use Rattle.walk.proofs.Offers.{trim-kept, reply-held, reply-out, reply-new, reply-once, missing-answered}
 
@@ -40,7 +40,7 @@ pub record Step (J X : List Row) (heard : List ℕ) (s : At) (haves : List Have)
   pub names : s′ .named ≡ s .named ++ reply
 
 -- What was heard are the heads of a part that has all that B lacked at first.
-pub record Hears (J B : List Row) (heard : List ℕ) : Type 0 where
+pub record HeardPart (J B : List Row) (heard : List ℕ) : Type 0 where
   pub said : List Row
   pub part : Part J said
   pub are : heard ≡ heads said
@@ -51,7 +51,7 @@ pub data Runs (J B : List Row) (q : ℕ) : ℕ → At → Type 0 where
   start : Runs J B q 0 (starting B)
   round : {k : ℕ} {s s′ : At} (X : List Row) (heard : List ℕ) (haves : List Have) (reply : List ℕ) → Runs J B q k s
       → Step J X heard s haves reply s′
-      → (q ≤ k → Hears J B heard)
+      → (q ≤ k → HeardPart J B heard)
       → Runs J B q (suc k) s′
 
 -- ---- tests
@@ -125,7 +125,7 @@ module _ {J : List Row} (good : GoodTable J) {X : List Row} {heard : List ℕ} {
   unsent-after h = ap not (loads-all (r .loads) h) ∙ rest-left (member h (waiting (s .waits))) (member h reply) (held (s .table) h)
 
   -- what is left falls by the reply's length
-  pub step-left : length reply + left J (s′ .table) (s′ .waits) ≡ left J (s .table) (s .waits)
+  pub step-left : length reply + unsentCount J (s′ .table) (s′ .waits) ≡ unsentCount J (s .table) (s .waits)
   unfolding held
   step-left =
       let was : List ℕ = keep (unsent (s .table) (s .waits)) (rows J) in
@@ -148,8 +148,8 @@ module _ {J : List Row} (good : GoodTable J) {X : List Row} {heard : List ℕ} {
       omega (arith, keep-parts (λ h. member h reply) was, came, ap length rest)
 
   -- and falls where heads were heard and something is lacking
-  pub step-less : (B : List Row) → Hears J B heard → ((h : ℕ) → held B h ≡ true → held (s .table) h ≡ true)
-      → ((h : ℕ) → held J h ≡ true → held (s .table) h ≡ true) ⊎ (left J (s′ .table) (s′ .waits) < left J (s .table) (s .waits))
+  pub step-less : (B : List Row) → HeardPart J B heard → ((h : ℕ) → held B h ≡ true → held (s .table) h ≡ true)
+      → ((h : ℕ) → held J h ≡ true → held (s .table) h ≡ true) ⊎ (unsentCount J (s′ .table) (s′ .waits) < unsentCount J (s .table) (s .waits))
   step-less B hears since =
       cases (some-missing inv (hears .said) (hears .part))
       (λ f. inl (λ h e. either (held B h) (held (hears .said) h) (hears .rich h e) (since h) (f h)))
@@ -159,14 +159,14 @@ module _ {J : List Row} (good : GoodTable J) {X : List Row} {heard : List ℕ} {
       inr (omega (arith, step-left, member-long (a .0) reply (a .1))))
 
 -- where all is held, nothing is left
-pub held-none-left : (J b : List Row) (w : List Waiting) → ((h : ℕ) → held J h ≡ true → held b h ≡ true) → left J b w ≡ 0
+pub held-none-left : (J b : List Row) (w : List Waiting) → ((h : ℕ) → held J h ≡ true → held b h ≡ true) → unsentCount J b w ≡ 0
 unfolding held
 held-none-left J b w f = ap length (keep-none (unsent b w) (rows J) (λ h m. ap not (or-right (member h (waiting w)) (held b h) (f h m))))
 
 -- ---- rounds
 
 -- Where a run from B stands.
-pub record Stands (J B : List Row) (q k : ℕ) (s : At) : Type 0 where
+pub record RunStands (J B : List Row) (q k : ℕ) (s : At) : Type 0 where
   -- B, W and T stand as they do between two rounds
   pub between : Between J (s .table) (s .waits) (s .sent)
   -- what B held is held
@@ -176,9 +176,9 @@ pub record Stands (J B : List Row) (q k : ℕ) (s : At) : Type 0 where
   -- those were named that came since: held or waiting, not held at first
   pub are : (h : ℕ) → member h (s .named) ≡ ((member h (waiting (s .waits)) || held (s .table) h) && not (held B h))
   -- what was named and what is left are what was lacking
-  pub count : length (s .named) + left J (s .table) (s .waits) ≡ lacking J B
+  pub count : length (s .named) + unsentCount J (s .table) (s .waits) ≡ lacking J B
   -- since heads are heard, each round leaves one less, until nothing is left
-  pub falls : (left J (s .table) (s .waits) ≡ 0) ⊎ (left J (s .table) (s .waits) + k ≤ lacking J B + q)
+  pub falls : (unsentCount J (s .table) (s .waits) ≡ 0) ⊎ (unsentCount J (s .table) (s .waits) + k ≤ lacking J B + q)
 
 early : (q k : ℕ) → (q ≤ k) ⊎ (k < q)
 early zero k = inl (omega arith)
@@ -186,7 +186,7 @@ early (suc q) zero = inr (omega arith)
 early (suc q) (suc k) = cases (early q k) (λ e. inl (omega arith)) (λ e. inr (omega arith))
 
 module _ {J : List Row} (good : GoodTable J) {B : List Row} (part : Part J B) (q : ℕ) where
-  start-left : left J B [] ≡ lacking J B
+  start-left : unsentCount J B [] ≡ lacking J B
   unfolding waiting member
   start-left = refl
 
@@ -210,7 +210,7 @@ module _ {J : List Row} (good : GoodTable J) {B : List Row} (part : Part J B) (q
         pending = λ h e. refl;
       }
 
-  start-stands : Stands J B q 0 (starting B)
+  start-stands : RunStands J B q 0 (starting B)
   unfolding member
   start-stands =
       record {
@@ -226,10 +226,10 @@ module _ {J : List Row} (good : GoodTable J) {B : List Row} (part : Part J B) (q
       never true = refl
       never false = refl
 
-  next-stands : {k : ℕ} {s s′ : At} {X : List Row} {heard : List ℕ} {haves : List Have} {reply : List ℕ} → Stands J B q k s
+  next-stands : {k : ℕ} {s s′ : At} {X : List Row} {heard : List ℕ} {haves : List Have} {reply : List ℕ} → RunStands J B q k s
       → Step J X heard s haves reply s′
-      → (q ≤ k → Hears J B heard)
-      → Stands J B q (suc k) s′
+      → (q ≤ k → HeardPart J B heard)
+      → RunStands J B q (suc k) s′
   next-stands {k} {s} {s′} {X} {heard} {haves} {reply} st r hears =
       record {
         between = step-between good r (st .between);
@@ -240,7 +240,7 @@ module _ {J : List Row} (good : GoodTable J) {B : List Row} (part : Part J B) (q
         falls = falls-after;
       }
     where
-      fewer : length reply + left J (s′ .table) (s′ .waits) ≡ left J (s .table) (s .waits)
+      fewer : length reply + unsentCount J (s′ .table) (s′ .waits) ≡ unsentCount J (s .table) (s .waits)
       fewer = step-left good r (st .between)
 
       lacked : (h : ℕ) → member h reply ≡ true → held B h ≡ false
@@ -264,7 +264,7 @@ module _ {J : List Row} (good : GoodTable J) {B : List Row} (part : Part J B) (q
           ∙ more-named (member h (waiting (s .waits))) (member h reply) (held (s .table) h) (held B h) (lacked h)
           ∙ ap (λ (x : Bool). x && not (held B h)) (sym (loads-all (r .loads) h))
 
-      falls-after : (left J (s′ .table) (s′ .waits) ≡ 0) ⊎ (left J (s′ .table) (s′ .waits) + suc k ≤ lacking J B + q)
+      falls-after : (unsentCount J (s′ .table) (s′ .waits) ≡ 0) ⊎ (unsentCount J (s′ .table) (s′ .waits) + suc k ≤ lacking J B + q)
       falls-after =
           cases (st .falls) (λ e. inl (omega (arith, fewer)))
           (λ e.
@@ -275,7 +275,7 @@ module _ {J : List Row} (good : GoodTable J) {B : List Row} (part : Part J B) (q
           (λ f. inr (omega arith)))
           (λ a. inr (omega (arith, fewer, st .count))))
 
-  pub stands : {k : ℕ} {s : At} → Runs J B q k s → Stands J B q k s
+  pub stands : {k : ℕ} {s : At} → Runs J B q k s → RunStands J B q k s
   stands start = start-stands
   stands (round X heard haves reply runs r hears) = next-stands (stands runs) r hears
 

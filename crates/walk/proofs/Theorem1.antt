@@ -22,7 +22,7 @@ use Rattle.walk.specs.Walk.{At, Walk, Round, heardIn, offerTo, holdsAll,
 use Rattle.walk.proofs.Loading.{loads-outcome}
 use Rattle.walk.proofs.Offers.{picks-whole}
 use Rattle.walk.proofs.Parts.{part-itself}
-use Rattle.walk.proofs.Rounds.{Step, Hears, Runs, Stands, stands, all-held, step-out, held-none-left}
+use Rattle.walk.proofs.Rounds.{Step, HeardPart, Runs, RunStands, stands, all-held, step-out, held-none-left}
 
 -- last-sync hashes of a have that may be given are held
 gives-holds : {t : List Row} {w : List Waiting} {heard : List ℕ} {haves : List Have} → Gives t w heard haves
@@ -46,7 +46,7 @@ module _ (A B : List Row) (good : GoodTable A) (part : Part A B) where
   heard-held zero h m = absurd (member-none h m)
   heard-held (suc k) h m = head-held A good h m
 
-  hears : (k : ℕ) → 1 ≤ k → Hears A B (heardIn k A)
+  hears : (k : ℕ) → 1 ≤ k → HeardPart A B (heardIn k A)
   unfolding heardIn
   hears zero e = absurd (omega arith)
   hears (suc k) e = record { said = A; part = part-itself A good; are = refl; rich = λ h m. or-right (held B h) (held A h) m }
@@ -72,11 +72,11 @@ module _ (A B : List Row) (good : GoodTable A) (part : Part A B) where
       let runs = walk-runs walk in
       Runs.round A (heardIn k A) haves reply runs (round-step k (stands good part 1 runs .between .beside .part) r) (hears k)
 
-  pub walk-stands : {k : ℕ} {s : At} → Walk A B k s → Stands A B 1 k s
+  pub walk-stands : {k : ℕ} {s : At} → Walk A B k s → RunStands A B 1 k s
   walk-stands walk = stands good part 1 (walk-runs walk)
 
   module _ {k : ℕ} {s : At} (walk : Walk A B k s) where
-    abbrev st : Stands A B 1 k s
+    abbrev st : RunStands A B 1 k s
     st = walk-stands walk
 
     part-now : Part A (s .table)

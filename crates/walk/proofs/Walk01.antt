@@ -51,7 +51,7 @@ walks (Walk01.round haves reply walk r) = Walk.round haves reply (walks walk) (r
 pub walk01-walks : Walk01Walks
 walk01-walks bits probes L A B good part k s walk = walks walk
 
--- So it ends: after m + 1 rounds B holds A, and the replies have named m rows.
+-- 01's walk ends: after m + 1 rounds B holds A, and the replies have named m rows.
 pub walk01-ends : (bits probes : ℕ → ℕ) (L : ℕ → List ℕ) (A B : List Row) → GoodTable A → Part A B → (k : ℕ) (s : At) → Walk01 bits probes L A B k s
     → suc (lacking A B) ≤ k
     → (holdsAll A (s .table) ≡ true) × (length (s .named) ≡ lacking A B)
@@ -65,7 +65,7 @@ pub walk01-new : Walk01New
 walk01-new bits probes L A B good part k s s′ haves reply walk r =
     theorem-1 A B good part .new k s s′ haves reply (walks walk) (round01-rounds _ _ _ _ _ _ _ _ _ r)
 
--- And it can always go on: the have and the reply are there, and what was replied loads in some order.
+-- 01's walk can always go on: the have and the reply are there, and what was replied loads in some order.
 pub walk01-goes : Walk01Goes
 walk01-goes bits probes L A B k s walk rules holds =
     let haves : List Have = havesFor (bits k) (probes k) (s .table) (walkNeed (heardIn k A) s) (heardIn k A) (L k) in

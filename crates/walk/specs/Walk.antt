@@ -75,11 +75,11 @@ pub data Walk01 (bits probes : ℕ → ℕ) (L : ℕ → List ℕ) (A B : List R
       → Round01 (bits k) (probes k) A (heardIn k A) (L k) s haves reply s′
       → Walk01 bits probes L A B (suc k) s′
 
--- It is a walk.
+-- 01's walk is a walk.
 abbrev pub Walk01Walks : Type 0
 Walk01Walks = (bits probes : ℕ → ℕ) (L : ℕ → List ℕ) (A B : List Row) → GoodTable A → Part A B → (k : ℕ) (s : At) → Walk01 bits probes L A B k s → Walk A B k s
 
--- Each of its rounds is a round.
+-- Each round of 01's walk is a round.
 abbrev pub Round01Rounds : Type 0
 Round01Rounds = (bits probes : ℕ) (A : List Row) (heard l : List ℕ) (s : At) (haves : List Have) (reply : List ℕ) (s′ : At)
     → Round01 bits probes A heard l s haves reply s′
@@ -94,7 +94,7 @@ Walk01New = (bits probes : ℕ → ℕ) (L : ℕ → List ℕ) (A B : List Row) 
     → member h reply ≡ true
     → held (s .table) h ≡ false
 
--- It can always go on, with any last-sync hashes that B holds and any bits and probes that are accepted.
+-- 01's walk can always go on, with any last-sync hashes that B holds and any bits and probes that are accepted.
 abbrev pub Walk01Goes : Type 0
 Walk01Goes = (bits probes : ℕ → ℕ) (L : ℕ → List ℕ) (A B : List Row) (k : ℕ) (s : At) → Walk01 bits probes L A B k s
     → accepted (bits k) (probes k) (s .table) (L k) ≡ true

@@ -186,15 +186,15 @@ lends =
 
 -- ---- all is granted
 
-abbrev Grants : List Row → (ℕ → List Row) → (ℕ → List Waiting) → (ℕ → List Waiting) → Type 0
-Grants A B W U = (k : ℕ) → Reached defaultBits defaultProbes A B W U lent k → Granted defaultBits defaultProbes A B W U lent k
+abbrev ReachedGrants : List Row → (ℕ → List Row) → (ℕ → List Waiting) → (ℕ → List Waiting) → Type 0
+ReachedGrants A B W U = (k : ℕ) → Reached defaultBits defaultProbes A B W U lent k → Granted defaultBits defaultProbes A B W U lent k
 
 granted : AllGranted all-rows at-b waits-b waits-a lent
 granted =
-    subst (λ (A : List Row). Grants A (λ k. tableOf (at-b k)) (λ k. waitingOf (waits-b k)) (λ k. waitingOf (waits-a k))) (sym (computed .2))
-    (subst (λ (U : ℕ → List Waiting). Grants three (λ k. tableOf (at-b k)) (λ k. waitingOf (waits-b k)) U) (fun-ext (λ k. sym (none-waits [] .0)))
-    (subst (λ (W : ℕ → List Waiting). Grants three (λ k. tableOf (at-b k)) W waiting-at-a) (fun-ext waits-are)
-    (subst (λ (B : ℕ → List Row). Grants three B waiting-at-b waiting-at-a) (fun-ext tables-are) all-granted)))
+    subst (λ (A : List Row). ReachedGrants A (λ k. tableOf (at-b k)) (λ k. waitingOf (waits-b k)) (λ k. waitingOf (waits-a k))) (sym (computed .2))
+    (subst (λ (U : ℕ → List Waiting). ReachedGrants three (λ k. tableOf (at-b k)) (λ k. waitingOf (waits-b k)) U) (fun-ext (λ k. sym (none-waits [] .0)))
+    (subst (λ (W : ℕ → List Waiting). ReachedGrants three (λ k. tableOf (at-b k)) W waiting-at-a) (fun-ext waits-are)
+    (subst (λ (B : ℕ → List Row). ReachedGrants three B waiting-at-b waiting-at-a) (fun-ext tables-are) all-granted)))
 
 part : Part (tableOf all-rows) (tableOf a-row)
 part =

@@ -83,7 +83,7 @@ still-roomy s l r =
     }
 
 -- What is said stands at the start of the buffers.
-pub record Put (q : Plan) (o o′ : Buffers) : Type 0 where
+pub record PlanPut (q : Plan) (o o′ : Buffers) : Type 0 where
   pub heads : o′ .heads ≡ sets (o .heads) 0 (hashesBytes (q .heads))
   pub need : o′ .need ≡ sets (o .need) 0 (hashesBytes (q .need))
   pub have : o′ .have ≡ sets (o .have) 0 (laidBytes (q .haves))
@@ -254,7 +254,7 @@ module _ (table waiting : List ℕ) (tabled : Tabled table) (beside : Beside (ta
       plan-holds = after-call p refl
 
       -- and what the step says stands in the buffers
-      pub plan-put : (q : Plan) → putInto p o ≡ messagePut q o → Put q o o′
+      pub plan-put : (q : Plan) → putInto p o ≡ messagePut q o → PlanPut q o o′
       plan-put q e =
           let is : o′ ≡ messagePut q o = plan-buffers ∙ e in
           record {

@@ -25,7 +25,7 @@ use Rattle.table.specs.Table.{Row}
 use Rattle.walk_sessions.specs.Talk.{bytesFor}
 use Rattle.waiting.specs.WaitingBytes.{waitingOf}
 use Rattle.walk_hosts.specs.Calls.{Speaks, speaks, planIn}
-use Rattle.walk_hosts.proofs.Planning.{Put, held-good, reset-is, reset-fine, says-fine, plan-answer, plan-holds, plan-put}
+use Rattle.walk_hosts.proofs.Planning.{PlanPut, held-good, reset-is, reset-fine, says-fine, plan-answer, plan-holds, plan-put}
 use Rattle.walk_hosts.proofs.Receiving.{unread-leaves}
 use Rattle.walk_hosts.proofs.Writing.{number-some, plan-read, write-small, write-long}
 use Rattle.session.specs.Written.{Host, messageFor}
@@ -55,7 +55,7 @@ module _ (host : Host) (table waiting : List ℕ) (tabled : Tabled table) (besid
   -- what is stated is written
   module _ (q : Plan) (fine : Fine q) (says : putInto p (speech .out) ≡ messagePut q (speech .out)) (what : ℕ) (is : speech .answer ≡ statedWords what (statedOf q))
       (told : speaks (speech .answer) ≡ true) where
-    there : Put q (speech .out) (speech .out′)
+    there : PlanPut q (speech .out) (speech .out′)
     there = plan-put table waiting tabled beside x good m m′ (speech .out) (speech .out′) (speech .answer) h (speech .room) (speech .plans) q says
 
     pub stated-read : planIn (speech .answer) (speech .out′) ≡ q

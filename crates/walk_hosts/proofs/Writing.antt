@@ -53,11 +53,11 @@ use Rattle.session.specs.Plan.{Plan}
 use Rattle.session.proofs.LaidLaws.{laid-length-words}
 use Rattle.session_calls.specs.SessionCalls.{versionNumber, statedWords}
 use Rattle.call_words.specs.SessionWords.{flagWord, flagOf}
-use Rattle.message_size.proofs.WriteLaws.{Accepted, message-written, accepted-written}
+use Rattle.message_size.proofs.WriteLaws.{PartsAccepted, message-written, accepted-written}
 use Rattle.message_size.proofs.SizeLaws.{chunks-long}
 use Rattle.session_state.specs.Value.{keptHaves}
 use Rattle.walk_hosts.specs.Calls.{haveWordsIn, planIn, WriteMade}
-use Rattle.walk_hosts.proofs.Planning.{Put}
+use Rattle.walk_hosts.proofs.Planning.{PlanPut}
 use Rattle.session.specs.Written.{Host, chunksFor, messageFor}
 use Rattle.session.proofs.WrittenLaws.{chunks-few}
 
@@ -116,7 +116,7 @@ bytes-passed : (hs : List ℕ) → length hs ≤ sizes .hashes → passedHashes 
 bytes-passed hs few =
     passed-whole (hashesBytes hs) (rw (length-hashes-bytes hs) (omega arith)) (rw (length-hashes-bytes hs) (omega arith))
 
-module _ (q : Plan) (fine : Fine q) (o o′ : Buffers) (wide : RoomyOut o) (put : Put q o o′) (what : ℕ) (answer : List ℕ)
+module _ (q : Plan) (fine : Fine q) (o o′ : Buffers) (wide : RoomyOut o) (put : PlanPut q o o′) (what : ℕ) (answer : List ℕ)
     (is : answer ≡ statedWords what (statedOf q)) where
   haves-stand : StandHaves (q .haves) (sets (laidWords (q .haves)) 0 (laidWords (q .haves))) (o′ .have)
   haves-stand =
@@ -187,7 +187,7 @@ module _ (q : Plan) (fine : Fine q) (o o′ : Buffers) (wide : RoomyOut o) (put 
     unfolding messageFor
     message-of = rw (bytes-hashes (q .heads) (fine .heads .are), bytes-hashes (q .need) (fine .need .are), haves-are, chunks-are)
 
-    accepted : Accepted parts
+    accepted : PartsAccepted parts
     accepted =
         let few : length (chunksFrom (made .chunks) 0 (made .lengths)) ≤ sizes .chunks = rw chunks-are (chunks-few host q (fine .few)) in
         record {

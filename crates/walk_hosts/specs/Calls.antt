@@ -197,7 +197,7 @@ CallsAreSteps = (a : List ℕ) (b w u : ℕ → List ℕ) (hosts : ℕ → Host)
     → (k : ℕ) → k ≤ n
     → AreSessions a b w u hosts k (talk .at k)
 
--- So theorem 2 is about the calls, and so is its corollary: B's table a part of A's, nothing waiting, and all of it granted.
+-- Theorem 2 and its corollary are about the calls too: B's table a part of A's, nothing waiting, and all of it granted.
 abbrev pub CallsCorollary : Type 0
 CallsCorollary = (a : List ℕ) (b w u : ℕ → List ℕ) (hosts : ℕ → Host) (n : ℕ) (talk : TalkOfCalls a b w u hosts n)
     → Tabled a
@@ -206,7 +206,7 @@ CallsCorollary = (a : List ℕ) (b w u : ℕ → List ℕ) (hosts : ℕ → Host
     → AllGranted a b w u hosts
     → CallsEnd a b w u hosts n talk
 
--- And a talk of calls can always be made, so that neither is about nothing.
+-- A talk of calls can always be made, so that no statement about such talks is empty.
 abbrev pub CallsGo : Type 0
 CallsGo = (a : List ℕ) (b w u : ℕ → List ℕ) (hosts : ℕ → Host) → Lends a b w u hosts
     → (s : Both) → Fresh (s .atA) → Fresh (s .atB)

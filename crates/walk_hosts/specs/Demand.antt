@@ -21,20 +21,20 @@ pub record Demand : Type 0 where
   -- 01's own walk is such a walk, each round of it such a round
   pub walk : Walk01Walks
   pub rounds : Round01Rounds
-  -- so no row that B held is in a reply of 01's walk, and that walk can always go on
+  -- no row that B held is in a reply of 01's walk, and 01's walk can always go on
   pub new : Walk01New
   pub walks : Walk01Goes
-  -- two fresh sessions state that walk's heads, needs, haves and replies, through bytes
+  -- two fresh sessions, speaking through bytes, state the heads, needs, haves and replies of 01's walk
   pub sessions : Theorem2
-  -- so after at most 2 (m + 1) messages, none a reset and none refused, the validator holds the station's table
+  -- after at most 2 (m + 1) messages, none a reset and none refused, the validator holds the station's table
   pub caughtUp : Corollary
   -- two hosts that make the exported calls in turn hold just these sessions
   pub calls : CallsAreSteps
-  -- what their plan calls put is what the walk states: heads, needs, haves and replies
+  -- what the hosts' plan calls put is what 01's walk states: heads, needs, haves and replies
   pub states : CallsState
-  -- so the same is so of the calls, and each answers 0
+  -- through the exported calls too the validator holds the station's table after as many messages, and each call answers 0
   pub called : CallsCorollary
-  -- such a talk of calls can always be made
+  -- a talk in which two hosts make the exported calls in turn can always be made
   pub goes : CallsGo
-  -- and what is said of the calls here is what the exported functions' own contracts say
+  -- what is said of the calls here is what the exported functions' own contracts say
   pub contracts : Contracts

@@ -67,7 +67,7 @@ use Rattle.walk_sessions.proofs.Asks.{body-heard}
 use Rattle.walk_sessions.proofs.Message.{heard-selects}
 use Rattle.walk_sessions.proofs.Sides.{Fixed, SideA, Going, not-same, heads-apart}
 use Rattle.walk_sessions.proofs.Small.{mostWords}
-use Rattle.walk_sessions.proofs.Spoken.{plain-writes, plain-keeps, Hears, hears-as, Spoken, spoken}
+use Rattle.walk_sessions.proofs.Spoken.{plain-writes, plain-keeps, HeardWords, hears-as, Spoken, spoken}
 use Rattle.walk_sessions.proofs.Waits.{rows-few}
 use Rattle.session.specs.Written.{Host, chunksFor, messageFor, heardHaves, heardSaid}
 
@@ -121,7 +121,7 @@ module _ (bits probes : ℕ) (A b : List Row) (u : List Waiting) (k : ℕ) (T : 
     pub says : plan bits probes A u mid ≡ Planned.says q (planned A mid)
     pub body-is : q .body ≡ bodyOf A mid
     -- what is heard of the answer, from its bytes
-    pub hears : Hears (heads A) [] (haveOf bits probes A (heads b) ∷ []) (heardSaid q)
+    pub hears : HeardWords (heads A) [] (haveOf bits probes A (heads b) ∷ []) (heardSaid q)
     pub crosses : (host : Host) → length (messageBytes (messageFor host q)) ≤ sizes .message
         → (before : ℕ) (t : List Row) (r : State)
         → before ≤ length t
@@ -137,7 +137,7 @@ module _ (bits probes : ℕ) (A b : List Row) (u : List Waiting) (k : ℕ) (T : 
     pub next : bodyOf A mid .document ≡ false → SideA A (suc k) (trimmed ++ bodyOf A mid .hashes) (planned A mid)
 
   module _ (fixed : Fixed bits probes A) (part : Part A b) (going : Going A b k) (inv : SideA A k T a)
-      (known : unknownSync A (some (heardHaves haves)) ≡ false) (hm : Hears (heads b) need haves m) where
+      (known : unknownSync A (some (heardHaves haves)) ≡ false) (hm : HeardWords (heads b) need haves m) where
     b-heads : (h : ℕ) → member h (heads b) ≡ true → held b h ≡ true
     b-heads = head-held b (part .good)
 
@@ -228,7 +228,7 @@ module _ (bits probes : ℕ) (A b : List Row) (u : List Waiting) (k : ℕ) (T : 
     speech : Spoken bits probes A u mid
     speech = spoken bits probes A u mid A fixed (fixed .sound) (omega arith) mid-good mid-writes mid-keeps need-sound
 
-    back : Hears (heads A) [] (haveOf bits probes A (heads b) ∷ []) (heardSaid q)
+    back : HeardWords (heads A) [] (haveOf bits probes A (heads b) ∷ []) (heardSaid q)
     unfolding every
     back =
         let l : List ℕ = heard (mid .theirHeads) in

@@ -51,8 +51,8 @@ use Rattle.table.specs.Table.{Row, held}
 use Rattle.waiting.specs.Waiting.{Waiting}
 use Rattle.walk.specs.Round.{Covers}
 use Rattle.walk.specs.Walk.{heardIn}
-use Rattle.walk_sessions.proofs.Sides.{Fixed, Heard, nothing, said, SideB, Going, not-same, heads-apart}
-use Rattle.walk_sessions.proofs.Spoken.{Hears, Spoken, spoken}
+use Rattle.walk_sessions.proofs.Sides.{Fixed, HeardBefore, nothing, said, SideB, Going, not-same, heads-apart}
+use Rattle.walk_sessions.proofs.Spoken.{HeardWords, Spoken, spoken}
 use Rattle.walk_sessions.proofs.Waits.{part-sound, part-few, missing-sound}
 use Rattle.session.specs.Written.{Host, messageFor, heardHave, heardHaves, heardSaid}
 
@@ -102,14 +102,14 @@ module _ (bits probes : ℕ) (A b : List Row) (w : List Waiting) (k : ℕ) (s : 
     pub sent : sentAfter b s ≡ []
     pub good : GoodState (planned b s)
     -- what is heard of it, from its bytes
-    pub hears : Hears (heads b) need haves (heardSaid q)
+    pub hears : HeardWords (heads b) need haves (heardSaid q)
     pub crosses : (host : Host) (before : ℕ) (t : List Row) (r : State) → before ≤ length t
         → receiveBytes true before t r (messageBytes (messageFor host q)) ≡ receive true before t r (heardSaid q)
     -- A knows its last-sync hashes
     pub known : unknownSync A (some (heardHaves haves)) ≡ false
 
   module _ (fixed : Fixed bits probes A) (going : Going A b k) (inv : SideB A b w k s) where
-    heard-is : (k : ℕ) → Heard A b s k → heard (s .theirHeads) ≡ heardIn k A
+    heard-is : (k : ℕ) → HeardBefore A b s k → heard (s .theirHeads) ≡ heardIn k A
     unfolding heardIn
     heard-is k (nothing e f g) = rw e
     heard-is k (said v e f g c) = rw e
@@ -140,7 +140,7 @@ module _ (bits probes : ℕ) (A b : List Row) (w : List Waiting) (k : ℕ) (s : 
         (or-left (contains (v .filter) h) false
         (c .covers h (not-below-beyond b (inv .part .good) (v .lastSync) h e (rw (last-syncs-one v) at f)))))
 
-    body-none : (k : ℕ) → Going A b k → Heard A b s k → bodyOf b s ≡ listOf []
+    body-none : (k : ℕ) → Going A b k → HeardBefore A b s k → bodyOf b s ≡ listOf []
     body-none k o (nothing e f g) = body-nothing b s (inv .peer) f
     body-none k o (said v e f g c) =
         body-heard b s (v ∷ []) [] (inv .peer) g f
@@ -149,12 +149,12 @@ module _ (bits probes : ℕ) (A b : List Row) (w : List Waiting) (k : ℕ) (s : 
         (not-same (heads A) [] (heads-apart A b (fixed .sound .good) (inv .part) (o (omega arith)) [] (λ h m. absurd (member-none h m)))))
         (rw (inv .sent) (nothing-sent v c))
 
-    no-reset : (k : ℕ) → Heard A b s k → unknownSync b (s .theirHave) ≡ false
+    no-reset : (k : ℕ) → HeardBefore A b s k → unknownSync b (s .theirHave) ≡ false
     unfolding unknownSync
     no-reset k (nothing e f g) = rw f
     no-reset k (said v e f g c) = rw g (sync-known b v (c .holds))
 
-    speaks : (k : ℕ) → Going A b k → Heard A b s k → silence b s ≡ false
+    speaks : (k : ℕ) → Going A b k → HeardBefore A b s k → silence b s ≡ false
     speaks k o (nothing e f g) = speaks-first b s g
     speaks k o (said v e f g c) =
         speaks-apart b s (inv .lands)

@@ -30,7 +30,7 @@ use Rattle.walk.proofs.Parts.{part-itself, below-heads, below-there}
 use Rattle.walk.specs.Round.{Part, Covers}
 use Rattle.walk_sessions.proofs.Message.{heard-contains}
 use Rattle.walk_sessions.proofs.Sides.{Fixed, said, SideB}
-use Rattle.walk_sessions.proofs.Spoken.{plain-writes, Hears}
+use Rattle.walk_sessions.proofs.Spoken.{plain-writes, HeardWords}
 use Rattle.walk_sessions.proofs.Waits.{Waits, rows-few, part-sound}
 use Rattle.session.specs.Written.{heardHave, heardHaves}
 
@@ -49,7 +49,7 @@ module _ (A b : List Row) (w : List Waiting) (b′ : List Row) (w′ : List Wait
 
   module _ (bits probes : ℕ) (fixed : Fixed bits probes A) (inv : SideB A b w k s) (good : GoodState (planned b s)) (none : sentAfter b s ≡ [])
       (part′ : Part A b′) (waits′ : Waits A w′) (more : (h : ℕ) → held b h ≡ true → held b′ h ≡ true)
-      (hm : Hears (heads A) [] (haveOf bits probes A (heads b) ∷ []) m) where
+      (hm : HeardWords (heads A) [] (haveOf bits probes A (heads b) ∷ []) m) where
     abbrev asking : State
     asking = planned b s
 

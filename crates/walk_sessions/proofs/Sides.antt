@@ -28,10 +28,10 @@ pub record Fixed (bits probes : ℕ) (A : List Row) : Type 0 where
   pub setting : (n : ℕ) → n ≤ length A → filterRules n bits probes (fieldSize n bits) ≡ true
 
 -- What B has heard before round k: nothing before the first; afterwards A's heads, a need of nothing, and a have that covers B's rows.
-pub data Heard (A b : List Row) (s : State) : ℕ → Type 0 where
-  nothing : s .theirHeads ≡ none → s .theirHave ≡ none → s .haveResponded ≡ false → Heard A b s 0
+pub data HeardBefore (A b : List Row) (s : State) : ℕ → Type 0 where
+  nothing : s .theirHeads ≡ none → s .theirHave ≡ none → s .haveResponded ≡ false → HeardBefore A b s 0
   said : {k : ℕ} (v : Have) → s .theirHeads ≡ some (heads A) → s .theirNeed ≡ some [] → s .theirHave ≡ some (v ∷ []) → Covers b v
-      → Heard A b s (suc k)
+      → HeardBefore A b s (suc k)
 
 -- B before round k: its table b, what waits there, and its session.
 pub record SideB (A b : List Row) (w : List Waiting) (k : ℕ) (s : State) : Type 0 where
@@ -52,7 +52,7 @@ pub record SideB (A b : List Row) (w : List Waiting) (k : ℕ) (s : State) : Typ
   -- its shared heads, which are its last-sync hashes, are rows of b: nobody resets
   pub shared : (h : ℕ) → member h (s .sharedHeads) ≡ true → held b h ≡ true
   -- what it has heard makes its body empty
-  pub heard-so : Heard A b s k
+  pub heard-so : HeardBefore A b s k
 
 -- A's session before round k of the walk whose T is this.
 pub record SideA (A : List Row) (k : ℕ) (T : List ℕ) (s : State) : Type 0 where

@@ -33,8 +33,8 @@ mostList = mostCount + sizes .hash * sizes .hashes
 abbrev mostFilterBytes : ℕ
 mostFilterBytes = 3 * mostCount + sizes .field
 
-abbrev mostHave : ℕ
-mostHave = mostList + (mostCount + mostFilterBytes)
+abbrev mostHaveBytes : ℕ
+mostHaveBytes = mostList + (mostCount + mostFilterBytes)
 
 list-small : (l : List ℕ) → SoundHashes l → length (hashListBytes l) ≤ mostList
 unfolding hashListBytes
@@ -59,7 +59,7 @@ filter-small f e =
       r .full some .small,
     )))
 
-have-small : (v : Have) → SoundHave v → length (haveBytes v) ≤ mostHave
+have-small : (v : Have) → SoundHave v → length (haveBytes v) ≤ mostHaveBytes
 unfolding haveBytes prefixedBytes
 have-small v s =
     let a = list-small (v .lastSync) (s .lastSync) in
@@ -67,7 +67,7 @@ have-small v s =
     rw (length-append (hashListBytes (v .lastSync)) _, length-append (shortest (length (filterBytes (v .filter)))) _)
     (omega (arith, a, b, shortest-ten (length (filterBytes (v .filter))) (omega (arith, b))))
 
-haves-small : (vs : List Have) → Each SoundHave vs → length (joined haveBytes vs) ≤ mostHave * length vs
+haves-small : (vs : List Have) → Each SoundHave vs → length (joined haveBytes vs) ≤ mostHaveBytes * length vs
 unfolding joined Each
 haves-small [] e = omega arith
 haves-small (v ∷ vs) e =
@@ -75,7 +75,7 @@ haves-small (v ∷ vs) e =
 
 -- bytes of all but the chunks, at the most
 abbrev pub mostWords : ℕ
-mostWords = 1 + 2 * mostList + (mostCount + mostHave) + 3
+mostWords = 1 + 2 * mostList + (mostCount + mostHaveBytes) + 3
 
 pub message-fits : (m : Message) (f : MessageFlags) → SoundHashes (m .heads) → SoundHashes (m .need) → Each SoundHave (m .haves) → length (m .haves) ≤ 1
     → m .flags ≡ Present f

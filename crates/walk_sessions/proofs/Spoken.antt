@@ -48,15 +48,15 @@ unfolding flagsFor
 plain-keeps = refl
 
 -- These words are heard, with plain flags.
-pub record Hears (heads need : List ℕ) (haves : List Have) (m : Said) : Type 0 where
+pub record HeardWords (heads need : List ℕ) (haves : List Have) (m : Said) : Type 0 where
   pub heads-are : m .heads ≡ heads
   pub need-are : m .need ≡ need
   pub haves-are : m .haves ≡ heardHaves haves
   pub flags-are : m .flags ≡ Present plainFlags
   pub sound : SoundSaid m
 
-pub hears-as : {heads need need′ : List ℕ} {haves haves′ : List Have} {m : Said} → Hears heads need haves m → need ≡ need′ → haves ≡ haves′
-    → Hears heads need′ haves′ m
+pub hears-as : {heads need need′ : List ℕ} {haves haves′ : List Have} {m : Said} → HeardWords heads need haves m → need ≡ need′ → haves ≡ haves′
+    → HeardWords heads need′ haves′ m
 hears-as x e f =
     record {
       heads-are = x .heads-are;
@@ -84,7 +84,7 @@ module _ (bits probes : ℕ) (t : List Row) (w : List Waiting) (s : State) where
     pub haves-are : q .haves ≡ given
     pub body-is : q .body ≡ bodyOf t s
     -- what is heard of it
-    pub hears : Hears (heads t) asked given (heardSaid q)
+    pub hears : HeardWords (heads t) asked given (heardSaid q)
     -- a message within its size is heard so
     pub crosses : (host : Host) → length (messageBytes (messageFor host q)) ≤ sizes .message
         → (before : ℕ) (t′ : List Row) (s′ : State)
@@ -168,7 +168,7 @@ module _ (bits probes : ℕ) (t : List Row) (w : List Waiting) (s : State) where
     said-small : bodyOf t s ≡ listOf [] → (host : Host) → length (messageBytes (messageFor host q)) ≤ sizes .message
     said-small none host = said-fits host (rw (no-chunks host q (plan-body ∙ none)) no-chunk-small)
 
-    said-heard : Hears (heads t) asked given (heardSaid q)
+    said-heard : HeardWords (heads t) asked given (heardSaid q)
     unfolding heardSaid
     said-heard =
         record {

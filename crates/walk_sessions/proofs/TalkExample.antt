@@ -77,8 +77,8 @@ tables =
       setting = default-setting three (omega arith);
     }
 
-abbrev Stands : ℕ → Type 0
-Stands = Standing defaultBits defaultProbes three held-by-b waiting-at-b waiting-at-a lent tables
+abbrev TalkStands : ℕ → Type 0
+TalkStands = Standing defaultBits defaultProbes three held-by-b waiting-at-b waiting-at-a lent tables
 
 abbrev Grants : ℕ → Type 0
 Grants = Granted defaultBits defaultProbes three held-by-b waiting-at-b waiting-at-a lent
@@ -123,7 +123,7 @@ sends k T =
     (trim three (heads (held-by-b k)) T)
 
 -- so much is granted in a round of no last-sync hash, with this T and this reply
-grants : (k : ℕ) (st : Stands k) → Going three (held-by-b k) k → (T l : List ℕ) → lastSync k ≡ [] → st .sent ≡ T → sends k T ≡ l → length l ≤ 1
+grants : (k : ℕ) (st : TalkStands k) → Going three (held-by-b k) k → (T l : List ℕ) → lastSync k ≡ [] → st .sent ≡ T → sends k T ≡ l → length l ≤ 1
     → empty (heads (held-by-b k)) ≡ false
     → Loads three (held-by-b k) (waiting-at-b k) l (held-by-b (suc k)) (waiting-at-b (suc k))
     → length (waiting-at-b (suc k)) ≤ sizes .waitingRows
@@ -177,7 +177,7 @@ still-none before t s m none strange old =
     (λ j. un (both (member h (heads t)) (member h (s .sharedHeads)) j .1))))
     (λ g. rw g un)))))
 
-stays-none : (k : ℕ) (st : Stands k) (going : Going three (held-by-b k) k) → Grants k → lastSync k ≡ []
+stays-none : (k : ℕ) (st : TalkStands k) (going : Going three (held-by-b k) k) → Grants k → lastSync k ≡ []
     → held (held-by-b (suc k)) c ≡ false
     → ((h : ℕ) → member h (heads (held-by-b (suc k))) ≡ true → member h (heads (take (length (held-by-b k)) (held-by-b (suc k)))) ≡ true)
     → lastSync (suc k) ≡ []
@@ -214,7 +214,7 @@ a-head = rw one-heads
 going : (k : ℕ) → holdsAll three (held-by-b k) ≡ false → Going three (held-by-b k) k
 going k e h = e
 
-first : Stands 0
+first : TalkStands 0
 first = start defaultBits defaultProbes three held-by-b waiting-at-b waiting-at-a lent tables
 
 first-sent : first .sent ≡ []
@@ -226,7 +226,7 @@ unfolding pairAt
 first-none = refl
 
 -- T after a round of this T and this reply
-sent-after : (k : ℕ) (st : Stands k) (g : Going three (held-by-b k) k) (granted : Grants k) (T l kept : List ℕ) → lastSync k ≡ [] → st .sent ≡ T
+sent-after : (k : ℕ) (st : TalkStands k) (g : Going three (held-by-b k) k) (granted : Grants k) (T l kept : List ℕ) → lastSync k ≡ [] → st .sent ≡ T
     → sends k T ≡ l
     → trim three (heads (held-by-b k)) T ≡ kept
     → next defaultBits defaultProbes three held-by-b waiting-at-b waiting-at-a lent tables k st g granted .sent ≡ kept ++ l
@@ -243,7 +243,7 @@ sent-after k st g granted T l kept none t is keeps =
 grants0 : Grants 0
 grants0 = grants 0 first (going 0 one-lacks) [] [] first-none first-sent (computed .0) (omega arith) a-head load-none (omega arith)
 
-second : Stands 1
+second : TalkStands 1
 second = next defaultBits defaultProbes three held-by-b waiting-at-b waiting-at-a lent tables 0 first (going 0 one-lacks) grants0
 
 second-sent : second .sent ≡ []
@@ -257,7 +257,7 @@ second-none = stays-none 0 first (going 0 one-lacks) grants0 first-none c-unheld
 grants1 : Grants 1
 grants1 = grants 1 second (going 1 one-lacks) [] (c ∷ []) second-none second-sent (computed .1) (omega arith) a-head load-c (omega arith)
 
-third : Stands 2
+third : TalkStands 2
 third = next defaultBits defaultProbes three held-by-b waiting-at-b waiting-at-a lent tables 1 second (going 1 one-lacks) grants1
 
 third-sent : third .sent ≡ c ∷ []

@@ -19,7 +19,7 @@ use Rattle.rules.specs.Sizes.{sizes}
 use Rattle.table.proofs.TableLaws.{length-rows}
 use Rattle.table.specs.Table.{Row, rows, held}
 use Rattle.waiting.specs.Waiting.{Waiting, waiting}
-use Rattle.walk.proofs.Loading.{Asked, settles-asked}
+use Rattle.walk.proofs.Loading.{AsksDeps, settles-asked}
 use Rattle.walk.specs.Round.{Part, Settles, done, step, Loads}
 
 -- ---- loading
@@ -37,7 +37,7 @@ settles-once (step m s) o = settles-once s (λ h. le-trans (m .once h) (o h))
 -- What waits beside a part of A: each row once, with A's dependencies.
 pub record Waits (A : List Row) (w : List Waiting) : Type 0 where
   pub once : Once (waiting w)
-  pub ask : Asked A w
+  pub ask : AsksDeps A w
 
 -- nothing waits so
 pub waits-none : (A : List Row) → Waits A []

@@ -72,8 +72,8 @@ pub fn line(what: Line, mut library: impl FnMut() -> u64, mut published: impl Fn
     measure(what, library, published);
 }
 
-/// The same for a call of the crate that takes away what it is given: each run gets
-/// one of its own, made before the clock starts, so many at a time.
+/// Measures a line whose call of the crate takes away what it is given: each run gets one
+/// of its own, made before the clock starts, `at_a_time` at a time.
 pub fn line_of<T>(
     what: Line,
     mut library: impl FnMut() -> u64,
@@ -101,7 +101,7 @@ pub fn line_of<T>(
     measure(what, library, published);
 }
 
-/// Measures two sides that tell how long so many runs take.
+/// Measures two sides that each tell how long a number of runs takes.
 fn measure(
     what: Line,
     mut library: impl FnMut(usize) -> Duration,

@@ -409,7 +409,7 @@ fn step(pair: &mut Pair, from: usize) -> Step {
     }
 }
 
-/// The same message by the library, heard; its length.
+/// Has the library say a step's message, and the other desk hear it; the message's length.
 fn take(desks: &mut [Desk; 2], step: &Step) -> usize {
     let [station, validator] = desks;
     let (from, to) = match step.from {

@@ -18,7 +18,7 @@ pub fn measure_all() {
     write_hashes();
 }
 
-/// Numbers whose shortest form has so many bytes.
+/// Numbers whose shortest form has `bytes` bytes.
 fn numbers_of(bytes: u32) -> Vec<u64> {
     let least = if bytes == 1 {
         0

@@ -19,7 +19,12 @@ const START: &str = "\
 
    A slice is a pointer, which is never null, and a length in items. No call keeps a
    pointer, and what is written overlaps nothing. The first word of an answer is 0, or
-   the number of a refusal whose value is the second word. */
+   the number of a refusal whose value is the second word; words that aren't named are 0.
+   A place is counted in bytes, from 0.
+
+   A have is a record of seven words over the bytes that are lent beside it: the place of
+   its first last-sync hash, how many of these it has, its filter's entries, bits per
+   entry and probes, and the place and the length of the filter's field. */
 #ifndef BISQUETOWER_H
 #define BISQUETOWER_H
 
@@ -30,7 +35,7 @@ const START: &str = "\
 
 const LIMITS: &str = "
 /* Every limit, in the order in which bt_limits writes them: the most that there may be.
-   A hash has just so many bytes. */
+   BT_HASH_SIZE alone is what each hash has, no more and no less. */
 ";
 
 const CALLS: &str = "

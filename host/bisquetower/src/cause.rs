@@ -45,11 +45,11 @@ impl Cause {
 /// A rule, and what breaks it.
 #[derive(Clone, Copy, Debug, PartialEq, Eq)]
 pub(crate) enum Rule {
-    /// A list has at most so many items.
+    /// A list has at most `most` items, and this one has `count`.
     Items { list: List, count: u64, most: u64 },
-    /// A message has at most so many bytes; how many it would take, where it was written.
+    /// A message has at most `most` bytes; how many it would take, where it was written.
     MessageBytes { bytes: Option<u64>, most: u64 },
-    /// A table has at most so many rows.
+    /// A table has at most `most` rows.
     Rows { table: Rows, most: u64 },
     /// A filter keeps to what filters are; where it stands, if it was read.
     Filter { place: Option<usize>, rule: Numbers },
@@ -167,7 +167,7 @@ fn shown(n: usize) -> String {
 }
 
 impl List {
-    /// Who has so many of what.
+    /// In words, who has this count of what.
     fn with(self, count: &str) -> String {
         match self {
             List::Heads => format!("the message has {count} heads"),

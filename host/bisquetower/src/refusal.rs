@@ -68,7 +68,7 @@ impl Refusal {
         }
     }
 
-    /// The same, with what broke.
+    /// This refusal, with what broke.
     pub(crate) fn because(self, cause: Cause) -> Refusal {
         let cause = Some(cause);
         Refusal { cause, ..self }

@@ -109,7 +109,7 @@ impl Session {
         Session::fresh(raw::fresh)
     }
 
-    /// The same for a unit that sends changes and takes none.
+    /// A session in which nothing was said yet, of a unit that sends changes and takes none.
     pub fn new_read_only() -> Session {
         Session::fresh(raw::fresh_read_only)
     }
@@ -255,7 +255,7 @@ impl Session {
     }
 }
 
-/// Cuts a list to so many items, and gives back the memory behind them.
+/// Cuts a list to `length` items, and gives back the memory behind them.
 fn cut<T>(list: &mut Vec<T>, length: usize) {
     list.truncate(length);
     list.shrink_to_fit();

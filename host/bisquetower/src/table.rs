@@ -246,7 +246,7 @@ impl Waiting {
     }
 }
 
-/// The hash of a row and what stands behind it, in records of so many bytes.
+/// The hash of a row and what stands behind it, in records of `size` bytes.
 #[track_caller]
 fn row_of(records: &[u8], size: usize, row: usize) -> (ChangeHash, &[u8]) {
     // Compared before it is multiplied: the product of a large number would wrap.

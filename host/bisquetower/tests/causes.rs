@@ -171,7 +171,7 @@ fn unread(bytes: &[u8], value: u64, sentence: &str, place: Range<usize>) {
     says(refusal, sentence, place);
 }
 
-/// The same of a message that ends with a number, which is what is marked.
+/// What is told of a message that ends with a number, which is what is marked.
 fn unread_number(before: &[u8], number: usize, sentence: &str) {
     let bytes = [before, &spelt(number)].concat();
     let place = before.len();

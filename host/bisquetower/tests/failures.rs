@@ -109,7 +109,7 @@ fn a_document_past_its_limit_is_refused() {
     assert_eq!(session, before);
 }
 
-/// A chain of 30 changes, the last of them with contents of so many bytes each.
+/// A chain of 30 changes, those from number `light` on with contents of `bytes` bytes each.
 fn heavy(light: u32, bytes: usize) -> Memory {
     let mut memory = chain(light);
     for n in light..30 {

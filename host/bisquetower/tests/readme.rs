@@ -97,7 +97,7 @@ fn held(unit: &Unit) -> Vec<u8> {
     names
 }
 
-/// The same sessions serve day after day, whichever unit has news, and be it both.
+/// One pair of sessions serves day after day, whichever unit has news, and be it both.
 #[test]
 fn days_of_news_on_either_side() {
     let (mut validator, mut station) = (Unit::default(), Unit::default());

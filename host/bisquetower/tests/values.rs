@@ -112,7 +112,7 @@ fn filters_at_their_bounds() {
     assert_eq!(Filter::parse_first(&[0, 3, 100, 9]).unwrap().1, 3);
 }
 
-/// The same filter whichever way its hashes are handed over.
+/// A filter is one and the same whichever way its hashes are handed over.
 #[test]
 fn a_filter_of_any_hashes() {
     let all = hashes(5);

@@ -46,7 +46,7 @@ pub struct Guarded<T> {
 }
 
 impl<T: Item> Guarded<T> {
-    /// A buffer of so many items, which a call has to leave as it is.
+    /// A buffer of `room` items, which a call has to leave as it is.
     pub fn new(room: usize, fill: Fill) -> Self {
         let memory: Vec<T> = (0..room + 2 * GUARD).map(|k| T::filler(k, fill)).collect();
         Guarded {
@@ -55,7 +55,7 @@ impl<T: Item> Guarded<T> {
         }
     }
 
-    /// One of so many items that begins with these, as many of them as fit.
+    /// A buffer of `room` items that begins with these, as many of them as fit.
     pub fn holding(content: &[T], room: usize, fill: Fill) -> Self {
         let mut buffer = Guarded::new(room, fill);
         let fits = content.len().min(room);
@@ -74,7 +74,7 @@ impl<T: Item> Guarded<T> {
         &mut self.memory[GUARD..end]
     }
 
-    /// The same memory, to which a model writes what the call has to leave.
+    /// A copy of the memory, to which a model writes what the call has to leave.
     pub fn expected(&mut self) -> &mut [T] {
         let end = self.expected.len() - GUARD;
         &mut self.expected[GUARD..end]

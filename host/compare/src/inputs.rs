@@ -34,7 +34,7 @@ pub fn overlong(n: u64, extra: usize) -> Vec<u8> {
     bytes
 }
 
-/// Every byte as the last one of a number of so many, over low and high bits.
+/// Every byte as the last one of a number of `size` bytes, over low and high bits.
 pub fn last_bytes(size: usize) -> Vec<Vec<u8>> {
     let mut forms = Vec::new();
     for before in [0x80, 0xff] {
@@ -65,7 +65,7 @@ pub fn number_forms() -> Vec<Vec<u8>> {
     forms
 }
 
-/// The numbered string of so many bytes from this alphabet.
+/// The numbered string of `length` bytes from this alphabet.
 pub fn string(alphabet: &[u8], length: usize, mut number: usize) -> Vec<u8> {
     let mut string = vec![0; length];
     for byte in &mut string {
@@ -75,7 +75,7 @@ pub fn string(alphabet: &[u8], length: usize, mut number: usize) -> Vec<u8> {
     string
 }
 
-/// Every string of so many bytes from this alphabet.
+/// Every string of `length` bytes from this alphabet.
 pub fn strings(alphabet: &[u8], length: usize) -> impl Iterator<Item = Vec<u8>> + '_ {
     let count = alphabet.len().pow(length as u32);
     (0..count).map(move |number| string(alphabet, length, number))
@@ -136,7 +136,7 @@ impl Drop for Seed {
     }
 }
 
-/// The same numbers from the same seed (SplitMix64).
+/// Random numbers, which one seed gives again each time (SplitMix64).
 pub struct Random(pub u64);
 
 impl Random {
@@ -266,7 +266,7 @@ impl Random {
         (bytes, at, end)
     }
 
-    /// A place in or just past so many bytes, or far away.
+    /// A place in or just past `length` bytes, or far away.
     fn place(&mut self, length: usize) -> usize {
         match self.below(8) {
             0 => usize::MAX - self.below(3),

@@ -73,7 +73,7 @@ impl Count {
     }
 }
 
-/// When a run ends: after so many rounds, or so long.
+/// When a run ends: after a number of rounds, or after a time.
 #[derive(Clone, Copy, Debug)]
 pub enum Until {
     Rounds(u64),

@@ -117,8 +117,8 @@ fn chain(pair: &mut Pair, unit: usize, numbers: &[u32]) {
     }
 }
 
-/// Has the units talk until both are silent: that it took so many messages, and that
-/// they hold the same rows.
+/// Has the units talk until both are silent, and holds that they then have the same rows;
+/// how many messages it took.
 fn talk(pair: &mut Pair, first: usize) -> usize {
     let messages = pair.talk(first);
     assert!(messages < TOO_LONG);

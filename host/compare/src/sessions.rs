@@ -22,7 +22,7 @@ use crate_under_test::facade::{Message, State, SyncDoc};
 /// Past a limit, which the crate hasn't.
 pub const APART: &str = "apart";
 
-/// What was planned over so many rows, by kind.
+/// Counts what was planned over a table of `rows` rows, by kind.
 fn count_plan(tally: &mut Tally, planned: &Planned, rows: usize) {
     let plan = match planned {
         Planned::Nothing => return tally.count("nothing"),

@@ -41,7 +41,7 @@ const MOST_PROBES: u64 = PROBES as u64;
 const FIELD: u64 = FIELD_SIZE as u64;
 const ENTRIES: u64 = 8 * FIELD;
 
-/// A have of so many last-sync hashes, which stand at a place, and of the largest filter,
+/// A have of `count` last-sync hashes, which stand at a place, and of the largest filter,
 /// whose field stands first.
 fn largest(place: u64, count: u64) -> [u64; HAVE_WORDS] {
     [place, count, ENTRIES, 1, MOST_PROBES, 0, FIELD]
@@ -275,8 +275,8 @@ fn states(random: &mut Random) -> Vec<Deep> {
     ]
 }
 
-/// A message in which every list is as long as it may be, with these hashes; so many of
-/// its haves are of all of them as half of the largest message has room for.
+/// A message in which every list is as long as it may be, with these hashes. As
+/// many of its haves are of all of them as half of the largest message has room for.
 fn message(hashes: Vec<Hash>) -> Vec<u8> {
     let large = (hashes.clone(), filter_string(ENTRIES, 1, MOST_PROBES));
     let mut haves = vec![large; HAVES.min(MESSAGE_SIZE / 2 / HAVE_SIZE)];

@@ -136,7 +136,7 @@ impl<'a> Call<'a> {
         self.kind() >= 2
     }
 
-    /// The same call with another index, if it has one.
+    /// This call with another index, if it has one.
     pub fn beside(mut self, other: &'a [u8]) -> Call<'a> {
         match &mut self {
             Call::CheckTable { .. } | Call::BuildIndex { .. } => {}

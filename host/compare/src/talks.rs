@@ -106,7 +106,7 @@ impl Pair {
         rows.iter().map(|change| change.hash().0).collect()
     }
 
-    /// The same in ascending order.
+    /// The hashes of the rows that a unit holds, in ascending order.
     pub fn held(&mut self, unit: usize) -> BTreeSet<Hash> {
         self.rows(unit).into_iter().collect()
     }
@@ -149,7 +149,7 @@ pub enum Sessions {
 pub const SESSIONS: [Sessions; 3] = [Sessions::Fresh, Sessions::Saved, Sessions::Any];
 
 impl Random {
-    /// Two units over parts of one graph of less than so many rows.
+    /// Two units over parts of one graph of less than `rows` rows.
     pub fn starts(&mut self, rows: usize, sessions: Sessions) -> [Start; 2] {
         let graph = self.graph(0..rows);
         let common = self.part(&graph.rows);
@@ -264,7 +264,7 @@ pub fn at_odds(random: &mut Random, pair: &mut Pair, events: usize) {
     }
 }
 
-/// Has so many random pairs talk until both are silent, with units of a kind beside
+/// Has `count` random pairs talk until both are silent, with units of a kind beside
 /// the crate's, and counts the steps that were compared. Those whose sessions aren't
 /// odd come to hold the same rows.
 pub fn talks(make: Make, random: &mut Random, count: usize, rows: usize) -> usize {
@@ -287,7 +287,7 @@ pub fn talks(make: Make, random: &mut Random, count: usize, rows: usize) -> usiz
     compared
 }
 
-/// Has so many random pairs at odds, with units of a kind beside the crate's, and
+/// Has `count` random pairs at odds, with units of a kind beside the crate's, and
 /// counts the steps that were compared.
 pub fn scripts(make: Make, random: &mut Random, count: usize, rows: usize) -> usize {
     let mut compared = 0;

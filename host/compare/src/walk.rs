@@ -53,7 +53,7 @@ impl Apart {
 const WORDS: [usize; 6] = [1, 1, 2, 3, 4, 1 << 32];
 
 impl Random {
-    /// A station with so many rows, and a validator that lacks few of them and what
+    /// A station with a number of rows in this range, and a validator that lacks few of them and what
     /// depends on those, or none, but never all.
     pub fn apart(&mut self, rows: Range<usize>) -> Apart {
         let count = rows.start + self.below(rows.len());
@@ -190,7 +190,7 @@ fn speak(pair: &mut Pair, unit: usize) -> (Vec<u8>, Plan) {
     (message, plan)
 }
 
-/// The same, heard by the other.
+/// Has a unit say its next message, and the other one hear it.
 fn send(pair: &mut Pair, unit: usize) -> (Vec<u8>, Plan) {
     let (message, plan) = speak(pair, unit);
     assert_eq!(pair.hear(1 - unit, &message), Heard::Taken);

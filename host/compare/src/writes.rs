@@ -96,7 +96,7 @@ pub fn compare_write(write: Write, room: usize) -> Result<[u64; 4], String> {
     Ok(compare_rooms(write, [room])?[0])
 }
 
-/// The same for buffers of several sizes.
+/// Compares a write into buffers of several sizes.
 pub fn compare_rooms(
     write: Write,
     rooms: impl IntoIterator<Item = usize>,

@@ -36,7 +36,7 @@ fn every(wanted: usize) -> impl Iterator<Item = usize> {
 /// How many hashes the lists of the tests have.
 const COUNTS: [usize; 10] = [0, 1, 2, 15, 16, 17, 255, 256, HASHES - 1, HASHES];
 
-/// Hashes of several kinds for a field of so many entries: random ones, one hash
+/// Hashes of several kinds for a field of `count` entries: random ones, one hash
 /// again and again, and ones that probe at the field's edges.
 fn lists(count: usize, bits: u64, random: &mut Random) -> [Vec<u8>; 3] {
     let m = 8 * field_size(count as u64, bits) as u32;

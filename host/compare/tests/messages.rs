@@ -31,7 +31,7 @@ fn agree<S: AsRef<[u8]>>(messages: &[S]) -> Tally {
     compare(messages).unwrap_or_else(|disagreement| panic!("{disagreement}"))
 }
 
-/// The same for messages that are made one after the other.
+/// Compares messages that are made one after the other.
 fn agree_all(messages: impl Iterator<Item = Vec<u8>>) -> Tally {
     let mut tally = Tally::default();
     let mut messages = messages.peekable();

@@ -108,7 +108,7 @@ fn child(test: &str, name: &str, size: usize) -> Output {
         .expect("it starts")
 }
 
-/// The same where the library is linked: this program makes the call as a child of itself,
+/// Where the library is linked, this program makes the call as a child of itself,
 /// and Rust says of a fault in the guard below a thread's stack, and of no other, that the
 /// stack has overflowed.
 #[test]

@@ -39,13 +39,13 @@ fn one(s: &[u8], room: usize) -> Tally {
     compare(&[Reading { s, room }])
 }
 
-/// So many hashes, each other than the rest.
+/// As many hashes as `count`, each other than the rest.
 fn hashes(count: usize) -> Vec<u8> {
     let hash = |k: usize| (0..32).map(move |at| ((k >> (8 * (at % 2))) + at) as u8);
     (0..count).flat_map(hash).collect()
 }
 
-/// A state of so many hashes, and a few bytes that are ignored.
+/// A state of `count` hashes, and a few bytes that are ignored.
 fn state(count: usize, after: &[u8]) -> Vec<u8> {
     let number = number_bytes(count as u64);
     [&[TYPE][..], &number, &hashes(count), after].concat()

@@ -8,9 +8,9 @@ use std::collections::BTreeSet;
 
 /// Rows that both hold; each has rows of its own on top of them.
 const COMMON: u32 = 25;
-/// So few own rows are less than a third of the document and go by list.
+/// Own rows that are less than a third of the document and go by list.
 const FEW: u32 = 5;
-/// So many go as the whole document, where V2 is known.
+/// Own rows that are more than that and go as the whole document, where V2 is known.
 const MANY: u32 = 15;
 /// More messages than any of these runs takes; a run that reaches it hangs.
 const TOO_LONG: usize = 60;

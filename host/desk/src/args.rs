@@ -62,7 +62,7 @@ impl Options {
         })
     }
 
-    /// Just so many names, as the command wants them.
+    /// The names, if they are `N`, as the command wants them.
     pub fn names<const N: usize>(&self, args: &Args, what: &str) -> Result<[OsString; N], Failure> {
         let names = args.names.clone().try_into();
         names.map_err(|names: Vec<OsString>| {

@@ -109,7 +109,7 @@ stand apart, and differences, the smallest of which is shown.
 
   KIND         a name of the table's first column, in quotes; all if none
   --seconds N  how long it takes, 1 at least; 120 if not told
-  --rounds N   so many rounds of each kind instead, 1 at least
+  --rounds N   N rounds of each kind instead, 1 at least
   --seed N     the inputs of this seed; others each time if not told
 ";
 

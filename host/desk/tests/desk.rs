@@ -42,7 +42,8 @@ fn run_with(words: &[&str], input: &[u8]) -> Run {
     run_into(words, input, Stdio::piped())
 }
 
-/// The same, with its standard output going there, of words that needn't be text.
+/// What the command does with these words, which needn't be text, its standard output
+/// going to `out`.
 fn run_into<W: AsRef<OsStr>>(words: &[W], input: &[u8], out: Stdio) -> Run {
     let mut child = Command::new(env!("CARGO_BIN_EXE_bisquetower"))
         .args(words)

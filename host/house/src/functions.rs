@@ -30,7 +30,8 @@ impl Function {
 }
 
 /// The functions of one file: each starts with `fn` at its own indentation and has a
-/// body between lines `{` and `}` of just that indentation.
+/// body between lines `{` and `}` of just that indentation; without a contract the body
+/// opens on the line of its name.
 pub fn of_source(krate: &str, file: &str, source: &str) -> Vec<Function> {
     let mut found = Vec::new();
     let mut lines = source.lines().enumerate();
@@ -50,7 +51,10 @@ pub fn of_source(krate: &str, file: &str, source: &str) -> Vec<Function> {
                 .take_while(|line| *line != end)
                 .fold(String::new(), |all, line| all + line + "\n")
         };
-        let contract = format!("{signature}\n{}", part(&open));
+        let contract = match signature.ends_with('{') {
+            true => signature.to_string(),
+            false => format!("{signature}\n{}", part(&open)),
+        };
         let body = part(&close);
         let name = signature.split(['(', '<']).next().expect("a name");
         found.push(Function {

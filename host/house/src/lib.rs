@@ -3,6 +3,7 @@
 //! against docs/.
 
 pub mod citations;
+pub mod costs;
 pub mod edits;
 pub mod facts;
 pub mod functions;

@@ -5,7 +5,7 @@ use house::edits::{self, Edit};
 use house::functions::{self, Function};
 use house::names::{home, names, Home};
 use house::reach::House;
-use house::{crates, document, files, read, root};
+use house::{costs, crates, document, files, read, root};
 use std::collections::{BTreeMap, BTreeSet};
 use std::path::PathBuf;
 
@@ -118,24 +118,86 @@ fn two_edits_reach_each_exported_call() {
     assert!(few.is_empty(), "{few:#?}");
 }
 
-/// The structs and enums of the crates' code.
-fn types() -> Vec<Home> {
+/// The structs, enums and constants of the crates' code.
+fn declared_in_code() -> Vec<Home> {
     let mut found = Vec::new();
     for krate in crates() {
         for path in files(&root().join("crates").join(&krate).join("src"), ".rt") {
             let file = path.file_stem().expect("a file's name").to_string_lossy();
             for line in read(&path).lines() {
                 let line = line.strip_prefix("pub ").unwrap_or(line);
-                let kinds = ["struct ", "enum "].iter();
+                let kinds = ["struct ", "enum ", "const "].iter();
                 let Some(rest) = kinds.filter_map(|kind| line.strip_prefix(kind)).next() else {
                     continue;
                 };
-                let name = rest.split([' ', '(', ';']).next().expect("a name");
+                let name = rest.split([' ', '(', ';', ':']).next().expect("a name");
                 found.push(home(&krate, &file, name));
             }
         }
     }
     found
+}
+
+/// The definitions that stand beside laws, in the files of proofs/. What stands further in
+/// belongs to a part of its file, and a function's own folder has the forms of its proof.
+fn definitions_of_proofs() -> Vec<Home> {
+    let mut found = Vec::new();
+    for krate in crates() {
+        let folder = root().join("crates").join(&krate).join("proofs");
+        let own = |path: &PathBuf| path.parent() == Some(&folder);
+        for path in files(&folder, ".antt").into_iter().filter(own) {
+            let file = path.file_stem().expect("a file's name").to_string_lossy();
+            for line in read(&path).lines() {
+                let plain = line.strip_prefix("pub ").unwrap_or(line);
+                let kinds = ["abbrev ", "unfoldable ", "record ", "data "].iter();
+                let Some(rest) = kinds.filter_map(|kind| plain.strip_prefix(kind)).next() else {
+                    continue;
+                };
+                let rest = rest.strip_prefix("pub ").unwrap_or(rest);
+                let name = rest.split([' ', ':']).next().expect("a name");
+                found.push(home(&krate, &file, name));
+            }
+        }
+    }
+    found
+}
+
+/// docs/ARCHITECTURE.md tells of every crate what lives there, and its picture has every
+/// crate, with arrows to crates that it names.
+#[test]
+fn the_picture_is_drawn_from_the_list() {
+    let list = read(&root().join("crates.txt"));
+    let lines = list.lines().filter(|line| !line.starts_with('#'));
+    let named: BTreeMap<&str, BTreeSet<&str>> = lines
+        .filter_map(|line| line.split_once(':'))
+        .map(|(krate, rest)| (krate, rest.split_whitespace().collect()))
+        .collect();
+    let page = document("ARCHITECTURE.md");
+    let picture = page.lines().filter(|line| line.starts_with("    "));
+    let (mut drawn, mut arrows) = (BTreeSet::new(), 0);
+    for chain in picture.flat_map(|line| line.split(';')) {
+        let steps: Vec<Vec<&str>> = chain
+            .split("─→")
+            .map(|step| names(step).into_iter().collect())
+            .map(|step: Vec<&str>| step.into_iter().filter(|n| named.contains_key(n)).collect())
+            .collect();
+        for (from, to) in steps.iter().zip(&steps[1..]) {
+            for (from, to) in from.iter().flat_map(|f| to.iter().map(move |t| (f, t))) {
+                assert!(named[from].contains(to), "{from} doesn't name {to}");
+                arrows += 1;
+            }
+        }
+        drawn.extend(steps.concat());
+    }
+    let told = |krate: &&&str| {
+        let mut rows = page.lines().filter(|line| line.starts_with("| "));
+        rows.any(|row| names(row.split(" | ").next().unwrap_or_default()).contains(**krate))
+    };
+    let left: Vec<&&str> = named
+        .keys()
+        .filter(|krate| !drawn.contains(**krate) || !told(krate))
+        .collect();
+    assert!(left.is_empty() && arrows > 40, "{left:?}, {arrows}");
 }
 
 /// A page of definitions has a name that no other has, in whichever crate.
@@ -156,15 +218,23 @@ fn every_page_of_definitions_is_named_once() {
     assert!(twice.is_empty() && pages.len() > 60, "{twice:?}");
 }
 
-/// A definition or a type has a name that no other has, in whichever crate.
+/// A definition, of specs/ or beside laws, a type or a constant has a name that no other has,
+/// in whichever crate.
 #[test]
 fn every_name_means_one_thing() {
     let mut meanings: BTreeMap<String, Vec<Home>> = BTreeMap::new();
     let definitions = House::read().definitions.into_iter().map(|d| d.home);
-    for home in definitions.chain(types()) {
+    let (aids, code) = (definitions_of_proofs(), declared_in_code());
+    assert!(
+        aids.len() > 200 && code.len() > 50,
+        "{} {}",
+        aids.len(),
+        code.len()
+    );
+    for home in definitions.chain(aids).chain(code) {
         meanings.entry(home.name.clone()).or_default().push(home);
     }
-    assert!(meanings.len() > 500, "{}", meanings.len());
+    assert!(meanings.len() > 900, "{}", meanings.len());
     meanings.retain(|_, homes| homes.len() > 1);
     assert!(meanings.is_empty(), "{meanings:#?}");
 }
@@ -179,6 +249,41 @@ fn every_definition_is_told() {
         .map(|d| d.home)
         .collect();
     assert!(untold.is_empty(), "{untold:#?}");
+}
+
+/// The table of what crates cost has a row for each, in their order, with as many functions
+/// and edits as it has. `make costs` writes it.
+#[test]
+fn every_crate_has_its_costs() {
+    let (crates, functions, edits) = (crates(), functions::all(), edits::all());
+    let page = document("WORKING.md");
+    let today = costs::today(&crates, &functions, &edits, None, &page);
+    assert_eq!(costs::rows(&page), today);
+    assert_eq!(costs::written(&page, &today), page);
+}
+
+/// What a log of the gate says of crates and edits is what the table then has.
+#[test]
+fn costs_are_read_from_the_gate() {
+    let log = "rt: rules proved (7 s)\n\
+        rt: wire proved (unchanged since it was last proved)\n\
+        rt: must-fail rules/one: refused, as it must be (first at src/a.rt:1:2; 12 s)\n\
+        rt: must-fail rules/two: refused, as it must be (first at src/a.rt:3:4; 5 s)\n\
+        rt: must-fail wire/three: NOT REFUSED (6 s)\n";
+    let names = ["rules", "wire"].map(String::from);
+    let edit = |krate, name| edits::parse(krate, name, "");
+    let edits = [
+        edit("rules", "one"),
+        edit("rules", "two"),
+        edit("wire", "three"),
+    ];
+    let page = format!("Above.\n\n{}| all | 0 | 0 | 0 | 0 |\n", costs::HEAD);
+    let rows = costs::today(&names, &[], &edits, Some(log), &page);
+    let table =
+        "| `rules` | 0 | 7 | 2 | 17 |\n| `wire` | 0 | – | 1 | – |\n| all | 0 | – | 3 | – |\n";
+    let expected = format!("Above.\n\n{}{table}", costs::HEAD);
+    assert_eq!(costs::written(&page, &rows), expected);
+    assert_eq!(costs::rows(&expected), rows);
 }
 
 /// README.md and every page of docs/.
@@ -241,6 +346,26 @@ fn every_path_into_the_crates_exists() {
         }
     }
     assert!(count > 30, "{count}");
+}
+
+/// The lines that docs/PROVING.md shows stand in the file that is named above them. A line
+/// `..` stands for lines that are left out.
+#[test]
+fn every_excerpt_stands() {
+    let page = document("PROVING.md");
+    let pieces: Vec<&str> = page.split("```").collect();
+    assert!(pieces.len() > 20, "{}", pieces.len());
+    for two in pieces.chunks_exact(2) {
+        let above = two[0].trim_end().lines().last();
+        let path = above
+            .and_then(|line| line.strip_suffix(':'))
+            .expect("a path");
+        let text = read(&root().join(path));
+        let shown = two[1].strip_prefix("text\n").expect("a block of text");
+        for part in shown.split("..\n") {
+            assert!(text.contains(part), "{path}:\n{part}");
+        }
+    }
 }
 
 /// The edits that docs/RULES.md names, in tables with a column of them, are edits.

@@ -122,8 +122,8 @@ pub record QuietReady (s : Session) (lastSent theirHeads heads : List ℕ) (n : 
   pub ours : sizes .hash * n ≤ length heads
 
 -- Nothing is to be said with these heads and this number of hashes to send.
-unfoldable pub quiet : Session → List ℕ → List ℕ → List ℕ → ℕ → Bool
-quiet s lastSent theirHeads ours hashes =
+unfoldable pub quietWith : Session → List ℕ → List ℕ → List ℕ → ℕ → Bool
+quietWith s lastSent theirHeads ours hashes =
     (same (hashesAt lastSent 0 (s .«last_sent_heads»)) ours && s .«have_responded»)
     && (((heardAs ours (heardHashes theirHeads (s .«their_heads»)) || s .«read_only») && eqb hashes 0) || s .«in_flight»)
 

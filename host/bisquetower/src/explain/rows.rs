@@ -125,7 +125,7 @@ fn hashes(own: &[u8]) -> Option<Wrong> {
     unused.map(|(k, _)| (Row::UnusedHash(k), HASH * (k + 2)..HASH * (k + 3)))
 }
 
-/// The first of so many rows of a table that has the hash of this one.
+/// Of the first `rows` rows of a table the first that has the hash of this one.
 fn row_of(own: &[u8], table: &[u8], size: usize, rows: usize) -> Option<usize> {
     let mut rows = table.chunks_exact(size).take(rows);
     rows.position(|row| row[..HASH] == own[..HASH])

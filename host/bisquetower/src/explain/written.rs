@@ -30,7 +30,7 @@ pub(crate) fn writing(message: &Message, refusal: Refusal) -> Refusal {
     }
 }
 
-/// The refusal of the bytes of a saved state with so many heads.
+/// The refusal of writing a saved state with this number of heads.
 pub(crate) fn saved(heads: usize, refusal: Refusal) -> Refusal {
     if refusal.number != BAD_NUMBERS {
         return refusal;

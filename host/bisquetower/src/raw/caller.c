@@ -135,7 +135,7 @@ void call(function *f, const u64 *a, u64 count) {
       a[16], a[17], a[18], a[19], a[20], a[21], a[22], a[23], a[24], a[25], a[26], a[27], a[28], a[29], a[30], a[31]);
 }
 
-// A stack for calls that are to have so many bytes and no more: below them is memory that can't be touched, so that one
+// A stack for calls that are to have a number of bytes and no more: below them is memory that can't be touched, so that one
 // byte too many ends the program. The guard is as long as a page of any machine that emulates this one.
 enum { STACK_ROOM = 4 << 20, STACK_GUARD = 64 << 10, STACK_ALIGNMENT = 16 };
 
@@ -160,7 +160,7 @@ static void guard_stack(void) {
     if (system_call(10, (long)stack, STACK_GUARD, 0) != 0) finish(BAD_STACK);
 }
 
-// Makes the call on a stack of so many bytes, painted before; returns how many of them it used.
+// Makes the call on a stack of `bytes` bytes, painted before; returns how many of them it used.
 static u64 call_on(u64 bytes, function *f, const u64 *arguments, u64 count) {
     if (STACK_ROOM < bytes || bytes % STACK_ALIGNMENT != 0) finish(BAD_STACK);
     u64 *low = (u64 *)(stack + STACK_GUARD), *top = low + bytes / WORD, *at = low;

@@ -85,7 +85,7 @@ struct Stack {
     used: usize,
 }
 
-/// Has each call that `calls` makes on this thread run on a stack of just so many
+/// Has each call that `calls` makes on this thread run on a stack of just `bytes`
 /// bytes, up to 4 MiB. Tells, where that can be known, how many were used.
 pub fn on_stack<T: Send>(bytes: usize, calls: impl FnOnce() -> T + Send) -> (T, Option<usize>) {
     /// The stack that was there before, even after a panic.

@@ -23,7 +23,7 @@ impl Batch<'_> {
 /// What a thread takes of its stack before and beside the calls that it makes.
 const THREAD: usize = 16 << 10;
 
-/// Makes calls on a thread that has a stack of so many bytes for each of them. Tells,
+/// Makes calls on a thread that has a stack of `bytes` bytes for each of them. Tells,
 /// where that can be known, how many were used.
 pub fn on_stack<T: Send>(bytes: usize, calls: impl FnOnce() -> T + Send) -> (T, Option<usize>) {
     std::thread::scope(|scope| {

@@ -31,7 +31,7 @@ fn most() -> Vec<Have> {
     vec![largest(); HAVES.min(room)]
 }
 
-/// A message that carries so many bytes beside these haves.
+/// A message that carries these changes beside these haves.
 fn message(have: &[Have], changes: Vec<u8>) -> Vec<u8> {
     let message = Message {
         have: have.to_vec(),

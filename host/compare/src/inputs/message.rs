@@ -261,7 +261,7 @@ impl Random {
         }
     }
 
-    /// Less than so many, none of them in a third of the cases.
+    /// A number below `limit`, 0 in a third of the cases.
     fn few(&mut self, limit: usize) -> usize {
         match self.one_in(3) {
             true => 0,
@@ -300,7 +300,7 @@ impl Random {
     }
 }
 
-/// A filter's string of so many entries, bits and probes, its field of one byte
+/// The string of a filter of these entries, bits and probes, its field of one byte
 /// again and again.
 pub fn filter_string(entries: u64, bits: u64, probes: u64) -> Vec<u8> {
     let size = (entries * bits).div_ceil(8) as usize;
@@ -308,7 +308,7 @@ pub fn filter_string(entries: u64, bits: u64, probes: u64) -> Vec<u8> {
     [numbers, vec![0x5a; size]].concat()
 }
 
-/// A message whose one chunk makes it so many bytes long, of at least 1,000.
+/// A message whose one chunk makes it `size` bytes long, of at least 1,000.
 pub fn message_of_size(size: usize) -> Vec<u8> {
     let bare = Draft::new().bytes();
     // The count of chunks stands last in it.

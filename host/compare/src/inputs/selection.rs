@@ -85,7 +85,7 @@ impl Random {
         (0..count).map(|_| one()).collect()
     }
 
-    /// A graph of so many rows, and hashes of changes that aren't held.
+    /// A graph with a number of rows in this range, and hashes of changes that aren't held.
     pub fn graph(&mut self, rows: Range<usize>) -> Graph {
         let count = rows.start + self.below(rows.len());
         let all = count + STRANGERS;
@@ -102,7 +102,7 @@ impl Random {
         Graph { rows, hashes }
     }
 
-    /// A graph of so many rows with haves and a need.
+    /// A graph with a number of rows in this range, with haves and a need.
     pub fn case(&mut self, rows: Range<usize>, haves: Range<usize>) -> Case {
         let graph = self.graph(rows);
         let Graph { rows, hashes } = &graph;

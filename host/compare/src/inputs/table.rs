@@ -114,7 +114,7 @@ pub enum Likeness {
     Spread,
     Ascending,
     Descending,
-    /// The same but for two of their bytes.
+    /// Alike but for two of their bytes.
     Alike,
 }
 
@@ -130,7 +130,7 @@ impl Random {
         self.bytes(HASH).try_into().expect("a hash's bytes")
     }
 
-    /// So many hashes, none of them twice.
+    /// As many hashes as `count`, none of them twice.
     pub fn hashes(&mut self, count: usize, likeness: Likeness) -> Vec<Hash> {
         let base = self.hash();
         let low = self.below(HASH);
@@ -154,7 +154,7 @@ impl Random {
         hashes
     }
 
-    /// Up to so many numbers of these, ascending.
+    /// At most `most` numbers of these, ascending.
     pub fn some_of(&mut self, most: usize, from: std::ops::Range<usize>) -> Vec<usize> {
         let size = from.len();
         if size == 0 {
@@ -273,7 +273,7 @@ fn bad_numbers(row: usize) -> Vec<Vec<usize>> {
     lists
 }
 
-/// The first, the last and one between of so many rows.
+/// The first, the last and one between of `count` rows.
 pub(super) fn places(count: usize) -> BTreeSet<usize> {
     let some = [0, count / 2, count.saturating_sub(1)];
     some.into_iter().filter(|&place| place < count).collect()

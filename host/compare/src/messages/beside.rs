@@ -9,9 +9,9 @@ use crate_under_test::facade::{self, ChangeHash, Message, MessageVersion};
 /// How a reading stands beside the crate's.
 #[derive(Clone, Debug, PartialEq)]
 pub enum Beside {
-    /// The same values: the crate's message.
+    /// Both read the same values: the crate's message.
     Read(Box<Message>),
-    /// The same kind of refusal.
+    /// Both refuse, with the same kind.
     Refused,
     /// 3 here, for a filter number that is cut but whose first five bytes leave no
     /// good ending; too little input there.

@@ -60,7 +60,7 @@ pub fn write(p: &Parts, out: &mut [u8]) -> [u64; 4] {
     )
 }
 
-/// The same as one call of a batch.
+/// Writes these parts by one call of a batch.
 pub fn ask<'m>(p: &Parts, batch: &mut Batch<'m>, out: &'m mut [u8], answer: &'m mut [u64; 4]) {
     batch.write_message(
         p.version, p.heads, p.need, p.s, p.haves, p.chunks, p.lengths, p.flags, out, answer,

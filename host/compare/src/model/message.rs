@@ -48,7 +48,7 @@ pub fn read(
     answer(&parse(s), haves, chunks, ignored)
 }
 
-/// The same for a message that was read before.
+/// What `bt_read_message` answers and writes of a message that was read before.
 pub fn answer(
     message: &Result<Message, Refused>,
     haves: &mut [u64],

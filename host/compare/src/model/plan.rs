@@ -152,7 +152,7 @@ fn body(table: &Table, s: &Value) -> (bool, Vec<Hash>) {
     }
 }
 
-/// The same for what is lent: "10, 6, 9", each table's 4 just before its rows, and 12
+/// The plan over what is lent: "10, 6, 9", each table's 4 just before its rows, and 12
 /// "directly after 6".
 pub fn of_lent(
     words: &[u64; WORDS],

@@ -123,7 +123,7 @@ pub struct Told<'a> {
     pub loaded: bool,
 }
 
-/// The same for what is lent: "10, 6, 11, then the input from its first byte", and 12
+/// The step over what is lent: "10, 6, 11, then the input from its first byte", and 12
 /// "directly after 6".
 pub fn of_lent(words: &[u64; WORDS], lists: &Lists, told: &Told) -> Received {
     let step = || {

@@ -16,6 +16,7 @@ use crate::inputs::{boundary_values, overlong, Random};
 use crate::model::{number_bytes, prefixed_bytes};
 use crate::published;
 use crate::wire::{difference, READERS};
+use bisquetower::limits::HASHES;
 use bisquetower::raw::{Read, Reader};
 use std::collections::HashSet;
 
@@ -109,7 +110,7 @@ fn numbers() -> Vec<Vec<u8>> {
 fn bad_numbers() -> Vec<Vec<u8>> {
     let mut inputs = vec![Vec::new(), vec![0x80], vec![0x80, 0x00], vec![0x81, 0x00]];
     inputs.extend([0, 1, 2, 31, 32, 33, 126, 127, 128, 129, 254, 255].map(|byte| vec![byte]));
-    inputs.extend([127, 128, 1_023, 1_024].map(number_bytes));
+    inputs.extend([127, 128, HASHES as u64 - 1, HASHES as u64].map(number_bytes));
     inputs.extend([1 << 32, 1 << 63, u64::MAX].map(number_bytes));
     inputs.extend([vec![0x80; 9], vec![0x80; 10], vec![0xff; 11]]);
     inputs
@@ -141,7 +142,7 @@ fn hash_lists(random: &mut Random) -> Vec<Vec<u8>> {
         }
         inputs.push(bytes);
     }
-    // The same hash twice, and hashes that descend: order and repeats are kept.
+    // One hash twice, and hashes that descend: order and repeats are kept.
     inputs.push([vec![2], vec![7; 64]].concat());
     inputs.push([vec![2], vec![9; 32], vec![3; 32]].concat());
     inputs.push([vec![40], random.bytes(40 * 32)].concat());

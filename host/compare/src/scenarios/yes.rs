@@ -26,7 +26,7 @@ fn numbers(yes: &[bool]) -> Vec<u32> {
 }
 
 /// The first unit has a chain of changes to which the other's filter says yes or no:
-/// of these so many come with its first reply, and the rest once asked for.
+/// of these `at_once` come with its first reply, and the rest once asked for.
 fn hidden(pair: &mut Pair, yes: &[bool], at_once: &[usize]) {
     talked(pair, &COMMON);
     let own = numbers(yes);

@@ -36,7 +36,7 @@ impl Lent {
         }
     }
 
-    /// The same session in another guise: its haves anywhere, yes as any number, and
+    /// A session in another guise: its haves anywhere, yes as any number, and
     /// a count where there is no list.
     pub fn in_guise(value: &Value, random: &mut Random) -> Lent {
         let mut lent = Lent::laid(value);

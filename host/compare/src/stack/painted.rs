@@ -53,7 +53,7 @@ extern "C" fn start(task: *mut c_void) -> *mut c_void {
     null_mut()
 }
 
-/// Bytes of stack that a call took of so many, with what the Rust around it took.
+/// Of a stack of `bytes` bytes those that a call took, with what the Rust around it took.
 pub fn taken(bytes: usize, call: &(dyn Fn() + Sync)) -> usize {
     let mut stack = vec![Page([PAINT; PAGE / WORD]); bytes / PAGE];
     let (low, size) = (stack.as_mut_ptr(), stack.len() * PAGE);

@@ -35,7 +35,7 @@ fn built(table: &[u8]) -> Vec<u8> {
     written(2 * (table.len() / ROW), |out| raw::build_index(table, out))
 }
 
-/// What a call writes that is to write so many bytes.
+/// What a call writes that is to write `length` bytes.
 fn written(length: usize, call: impl FnOnce(&mut [u8]) -> [u64; 4]) -> Vec<u8> {
     let mut out = vec![0; length];
     assert_eq!(call(&mut out), [0, length as u64, 0, 0]);

@@ -1,7 +1,7 @@
 //! Asking: whether a filter, or one of several, contains a hash.
 
 use crate::{field_of, lists, random_filter, with_field, COUNTS};
-use bisquetower::limits::{FIELD_SIZE, HAVES, PROBES};
+use bisquetower::limits::{FIELD_SIZE, HASHES, HAVES, LIST_SIZE, PROBES};
 use bisquetower::raw;
 use compare::filters::Haves;
 use compare::inputs::filter::{edges, hash_of};
@@ -48,10 +48,10 @@ fn added_hashes_are_contained() {
 #[test]
 fn false_yeses_are_the_crates() {
     let mut random = Random(5);
-    let hashes = random.bytes(32 * 1_024);
+    let hashes = random.bytes(LIST_SIZE);
     let field = field_of(10, 7, &hashes);
     let haves = Haves::one(Filter {
-        entries: 1_024,
+        entries: HASHES as u64,
         bits: 10,
         probes: 7,
         field: &field,

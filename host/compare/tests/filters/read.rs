@@ -34,7 +34,7 @@ fn within(s: &[u8], before: usize, after: usize) -> (Vec<u8>, usize, usize) {
     (slice, before, before + s.len())
 }
 
-/// Compares every string of so many bytes from this alphabet, lent alone and in a
+/// Compares every string of `length` bytes from this alphabet, lent alone and in a
 /// slice of more bytes.
 fn compare_strings(alphabet: &[u8], length: usize) -> Tally {
     let count = alphabet.len().pow(length as u32);

@@ -9,7 +9,7 @@ use compare::inputs::{every_byte, strings, Seed};
 use compare::messages::{compare, Tally};
 use compare::published;
 
-/// Every string of up to so many bytes from this alphabet, after these.
+/// Every string of up to `most` bytes from this alphabet, after these.
 fn every_string(before: &[u8], alphabet: &[u8], most: usize) -> Tally {
     let mut tally = Tally::default();
     for length in 0..=most {

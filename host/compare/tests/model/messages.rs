@@ -14,7 +14,7 @@ fn agree<S: AsRef<[u8]>>(messages: &[S]) -> Tally {
     compare_model(messages).unwrap_or_else(|disagreement| panic!("{disagreement}"))
 }
 
-/// Every string of so many bytes from this alphabet, after these.
+/// Every string of `length` bytes from this alphabet, after these.
 fn every_string(before: &[u8], alphabet: &[u8], length: usize) -> Tally {
     let mut tally = Tally::default();
     for string in strings(alphabet, length) {

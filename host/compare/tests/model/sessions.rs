@@ -6,7 +6,7 @@ use compare::sessions::{compare_plans, compare_receipts};
 use compare::tally::Tally;
 use std::ops::Range;
 
-/// So many steps of each kind.
+/// Makes `count` steps of each kind.
 fn steps(random: &mut Random, count: usize, rows: Range<usize>) -> [Tally; 2] {
     let mut tallies = [Tally::default(), Tally::default()];
     let whole = |tally: Result<Tally, String>| tally.unwrap_or_else(|why| panic!("{why}"));

@@ -34,7 +34,7 @@ fn graphs_of_a_fresh_seed() {
     random_cases(&mut random, 2, 100..ROWS + 1, 1..HAVES + 1);
 }
 
-/// The same with up to as many rows and haves as there may be.
+/// Random choices with up to as many rows and haves as there may be.
 #[test]
 fn large_graphs() {
     let seed = Seed::fixed();

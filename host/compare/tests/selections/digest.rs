@@ -1,6 +1,7 @@
 //! The same bytes in two processes.
 
 use crate::random_cases;
+use bisquetower::limits::{HAVES, ROWS};
 use compare::inputs::Random;
 use std::process::Command;
 
@@ -15,13 +16,13 @@ fn digest(lists: &[Vec<u8>]) -> u64 {
 /// What asks the test below, run in a process of its own, for its digest alone.
 const ALONE: &str = "SELECTION_DIGEST_ALONE";
 
-/// The same selections in this process and in another, each with an emulator of
+/// Selections that are made in this process and again in another, each with an emulator of
 /// its own where there is one, give the same bytes.
 #[test]
 fn the_same_in_two_processes() {
     let mut random = Random(22);
     let mut lists = random_cases(&mut random, 200, 0..40, 0..6).1;
-    lists.extend(random_cases(&mut random, 4, 500..1_025, 8..17).1);
+    lists.extend(random_cases(&mut random, 4, 500..ROWS + 1, 8..HAVES + 1).1);
     assert!(lists.iter().flatten().count() > 10_000);
     let told = format!("digest {:016x}", digest(&lists));
     if std::env::var_os(ALONE).is_some() {

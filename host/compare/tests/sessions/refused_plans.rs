@@ -55,7 +55,7 @@ const FAULTS: [Fault; 12] = [
     ("no room for the hashes", |p| p.rooms[3] = 31, (7, 32)),
 ];
 
-/// So many numbers from this one on.
+/// As many numbers as `count`, from this one on.
 fn some(from: u16, count: usize) -> std::ops::Range<u16> {
     from..from + count as u16
 }

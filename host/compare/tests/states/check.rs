@@ -1,6 +1,7 @@
 //! When a session is bad: counts, buffers, sent hashes, kept haves.
 
 use crate::REFUSED;
+use bisquetower::limits::{HASHES, HAVES, PROBES, SENT_HASHES};
 use compare::model::state::{checked, Lists, WORDS};
 use compare::states::check_many;
 
@@ -49,15 +50,15 @@ fn check(words: &[u64; WORDS], lists: &Lists) -> bool {
 /// The word of each list's count, and its limit: shared, last sent, their heads,
 /// need and have, sent.
 const COUNTS: [(usize, u64); 6] = [
-    (0, 1_024),
-    (1, 1_024),
-    (3, 1_024),
-    (5, 1_024),
-    (7, 16),
-    (8, 1_024),
+    (0, HASHES as u64),
+    (1, HASHES as u64),
+    (3, HASHES as u64),
+    (5, HASHES as u64),
+    (7, HAVES as u64),
+    (8, SENT_HASHES as u64),
 ];
 
-/// A session in which every list is there and has so many.
+/// A session in which every list is there and has `count` items, or as many as it may.
 pub fn all_of(count: u64) -> [u64; WORDS] {
     let mut words = [0; WORDS];
     for k in [2, 4, 6] {
@@ -91,7 +92,7 @@ fn session_counts() {
 #[test]
 fn session_buffers() {
     let buffers = Buffers::new();
-    for count in [1, 2, 16, 1_024] {
+    for count in [1, 2, HAVES as u64, HASHES as u64] {
         let words = all_of(count);
         let long = 32 * count as usize;
         let exact = Lists {
@@ -148,8 +149,8 @@ fn session_buffers() {
 #[test]
 fn sent_hashes() {
     let buffers = Buffers::new();
-    let words = all_of(1_024);
-    for k in [0, 1, 2, 511, 1_021, 1_022] {
+    let words = all_of(SENT_HASHES as u64);
+    for k in [0, 1, 2, 511, SENT_HASHES - 3, SENT_HASHES - 2] {
         for other in [0, 1] {
             // Hash k + 1 becomes hash k itself, or the two change places.
             let mut hashes = buffers.hashes.clone();
@@ -204,15 +205,15 @@ fn kept_haves() {
         (0, u64::MAX, false),
         (1, 3, true),
         (1, 4, false),
-        (1, 1_024, false),
+        (1, HASHES as u64, false),
         (1, 1 << 59, false),
         (2, 0, false),
         (2, 21, false),
         (3, 0, false),
         (3, 9, false),
         (4, 0, true),
-        (4, 64, true),
-        (4, 65, false),
+        (4, PROBES as u64, true),
+        (4, PROBES as u64 + 1, false),
         (5, 74, true),
         (5, 76, false),
         (5, u64::MAX - 24, false),
@@ -240,9 +241,9 @@ fn kept_haves() {
             assert!(check(&words, &lists), "word {word} of {at}");
         }
     }
-    // 1,024 last-sync hashes are as many as may be.
-    let bytes = vec![0xff; 32 * 1_026];
-    for (count, good) in [(1_024, true), (1_025, false)] {
+    // As many last-sync hashes as may be, and one more.
+    let bytes = vec![0xff; 32 * (HASHES + 2)];
+    for (count, good) in [(HASHES as u64, true), (HASHES as u64 + 1, false)] {
         let haves = [0, count, 20, 10, 7, 0, 25];
         let lists = Lists {
             haves: &haves,

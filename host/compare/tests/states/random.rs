@@ -2,18 +2,19 @@
 
 use crate::check::{all_of, Buffers, HAVE};
 use crate::{compare, compare_writes, read, TYPE};
+use bisquetower::limits::HASHES;
 use bisquetower::raw;
 use compare::inputs::{Random, Seed};
 use compare::model::number_bytes;
 use compare::model::state::{checked, Lists, WORDS};
 use compare::states::{check_many, Reading, Tally};
 
-/// Compares the reads of so many random states, some of them damaged.
+/// Compares the reads of `count` random states, some of them damaged.
 fn compare_states(random: &mut Random, count: usize) -> Tally {
     let mut inputs = Vec::new();
     for _ in 0..count {
         let count = if random.one_in(200) {
-            1_024
+            HASHES
         } else {
             random.below(6)
         };

@@ -6,6 +6,7 @@ use crate::{
 };
 use compare::inputs::table::{table_bytes, waiting_bytes, Likeness, Shape, LIKENESSES, SHAPES};
 use compare::inputs::Random;
+use compare::model::table::ROWS;
 use compare::tables::{Rooms, NAMES};
 
 /// Every size of buffer from none to three bytes too many, for small answers of
@@ -42,7 +43,7 @@ fn buffers_of_every_size() {
             assert_eq!(answers, [2 * 4, 2 * 18], "{}, {shape:?}", NAMES[kind]);
         }
     }
-    for count in [64, 256, 1_024] {
+    for count in [64, 256, ROWS] {
         let table = table_bytes(&random.rows(count, Shape::Wide, Likeness::Spread));
         let unknown = random.hashes(count, Likeness::Spread).concat();
         let calls = [

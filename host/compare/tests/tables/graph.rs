@@ -3,7 +3,7 @@
 use crate::{agree, beyond, check, heads, Bytes, BEYOND, CHECK_TABLE, HEADS};
 use compare::inputs::table::{table_bytes, Likeness, Row, Shape, LIKENESSES, SHAPES};
 use compare::inputs::Random;
-use compare::model::table::{Hash, HASH, HASHES};
+use compare::model::table::{Hash, HASH, HASHES, ROWS};
 use compare::tables::{Rooms, ANSWERS};
 
 /// Good tables of every shape and size: their rows, heads and rows beyond lists
@@ -11,7 +11,7 @@ use compare::tables::{Rooms, ANSWERS};
 #[test]
 fn tables_of_all_shapes_and_sizes() {
     let mut random = Random(16);
-    for count in [0, 1, 2, 63, 64, 65, 256, 1_023, 1_024] {
+    for count in [0, 1, 2, 63, 64, 65, 256, ROWS - 1, ROWS] {
         for (k, shape) in SHAPES.into_iter().enumerate() {
             let rows = random.rows(count, shape, LIKENESSES[(k + count) % 4]);
             let table = table_bytes(&rows);
@@ -74,8 +74,8 @@ fn heads_of_every_prefix() {
     }
     every(256, Shape::Recent, Likeness::Spread, 1);
     every(256, Shape::Wide, Likeness::Alike, 5);
-    every(1_024, Shape::Any, Likeness::Spread, 101);
-    every(1_023, Shape::Diamonds, Likeness::Descending, 101);
+    every(ROWS, Shape::Any, Likeness::Spread, 101);
+    every(ROWS - 1, Shape::Diamonds, Likeness::Descending, 101);
 }
 
 /// The rows beyond each row of a table alone, and beyond each pair of some rows.

@@ -5,7 +5,7 @@ use crate::{
     waiting, written, First, ROOM,
 };
 use compare::inputs::table::{set_number, table_bytes, waiting_bytes, Row, WaitingRow};
-use compare::model::table::{DEPENDENCIES, HASH, ROW};
+use compare::model::table::{DEPENDENCIES, HASH, ROW, WAITING_ROW};
 
 /// Document 01's P11, and the same rows asked in other ways.
 #[test]
@@ -39,30 +39,33 @@ fn settled_readings_of_change_tables() {
     let lengths: [(usize, First); 7] = [
         (0, [0, 0]),
         (1, [6, 0]),
-        (63, [6, 0]),
-        (64, [0, 1]),
-        (65, [6, 1]),
-        (128, [0, 2]),
-        (255, [6, 3]),
+        (ROW - 1, [6, 0]),
+        (ROW, [0, 1]),
+        (ROW + 1, [6, 1]),
+        (2 * ROW, [0, 2]),
+        (4 * ROW - 1, [6, 3]),
     ];
     for (length, expected) in lengths {
         assert_eq!(answer(check(&rows[..length]), 0), expected, "{length}");
     }
-    // Fifteen dependencies are good, sixteen a bad row and no passed limit.
-    let mut wide: Vec<Row> = (0..17)
+    // As many dependencies as may be are good, one more is a bad row and no passed limit.
+    let last = DEPENDENCIES + 1;
+    let mut wide: Vec<Row> = (0..=last as u16)
         .map(|n| Row {
             hash: hash(n),
             dependencies: Vec::new(),
         })
         .collect();
-    wide[16].dependencies = (1..16).collect();
-    assert_eq!(answer(check(&table_bytes(&wide)), 0), [0, 17]);
-    assert_eq!(written(heads(&table_bytes(&wide), 17)), hashes(&[0, 16]));
-    wide[16].dependencies = (0..16).collect();
-    assert_eq!(answer(check(&table_bytes(&wide)), 0), [6, 16]);
+    let [number, rows_of_all] = [last, last + 1].map(|n| n as u64);
+    wide[last].dependencies = (1..last).collect();
+    assert_eq!(answer(check(&table_bytes(&wide)), 0), [0, rows_of_all]);
+    let ends = hashes(&[0, last as u16]);
+    assert_eq!(written(heads(&table_bytes(&wide), last + 1)), ends);
+    wide[last].dependencies = (0..last).collect();
+    assert_eq!(answer(check(&table_bytes(&wide)), 0), [6, number]);
     // A bad row behind the first ones is a bad row; "rows before" comes after.
     let mut bad = rows.clone();
-    set_number(&mut bad[3 * ROW..], 0, 16);
+    set_number(&mut bad[3 * ROW..], 0, DEPENDENCIES + 1);
     assert_eq!(answer(heads(&bad, 2), ROOM), [6, 3]);
     assert_eq!(answer(heads(&bad, 5), ROOM), [6, 3]);
     assert_eq!(answer(heads(&rows, 5), ROOM), [11, 0]);
@@ -85,7 +88,8 @@ fn settled_readings_of_change_tables() {
     assert_eq!(answer(beyond(&twice[..ROW], &[0; HASH]), 0), [0, 0]);
 }
 
-/// The same for waiting tables and what is missing.
+/// The smallest waiting tables, and lists that something is missing from, at which two
+/// readings of 01 part, against the answers that are settled.
 #[test]
 fn settled_readings_of_waiting_tables() {
     let rows = diamond();
@@ -93,10 +97,10 @@ fn settled_readings_of_waiting_tables() {
     let lengths: [(usize, First); 6] = [
         (0, [0, 0]),
         (1, [9, 0]),
-        (543, [9, 0]),
-        (544, [0, 1]),
-        (545, [9, 1]),
-        (1_088, [0, 2]),
+        (WAITING_ROW - 1, [9, 0]),
+        (WAITING_ROW, [0, 1]),
+        (WAITING_ROW + 1, [9, 1]),
+        (2 * WAITING_ROW, [0, 2]),
     ];
     for (length, expected) in lengths {
         let call = check_tables(&rows, &good[..length]);

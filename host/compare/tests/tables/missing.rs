@@ -70,8 +70,8 @@ fn both_tables_at_their_largest() {
     }
 }
 
-/// Waiting rows that ask so many different unknown hashes, so many of them each, and each
-/// again and again.
+/// Waiting rows that ask for all of these unknown hashes, `each` of them a row, and for each
+/// hash `repeats` times.
 fn asking(own: &[Hash], unknown: &[Hash], each: usize, repeats: usize) -> Bytes {
     let mut rows: Vec<WaitingRow> = Vec::new();
     let mut asked = unknown.iter().cycle().take(unknown.len() * repeats);

@@ -102,7 +102,7 @@ fn one_fault_names_its_row() {
     }
 }
 
-/// The same in tables of as many rows as there may be, whose first bad row is the last one or an
+/// One fault in a table of as many rows as there may be, whose first bad row is the last one or an
 /// early one, through every call.
 #[test]
 fn one_fault_in_the_largest_table() {

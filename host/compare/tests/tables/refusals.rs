@@ -5,7 +5,7 @@ use crate::{
     waiting, with_record, Bytes, First, ROOM,
 };
 use compare::inputs::index::index_bytes;
-use compare::model::table::{HASH, HASHES, ROW, ROWS, WAITING_ROW, WAITING_ROWS};
+use compare::model::table::{DEPENDENCIES, HASH, HASHES, ROW, ROWS, WAITING_ROW, WAITING_ROWS};
 
 /// Something to lend, and the refusal that it brings, if any.
 type Faulty = (Bytes, Option<First>);
@@ -15,7 +15,7 @@ fn first(faults: &[Option<First>], good: First) -> First {
     faults.iter().flatten().next().copied().unwrap_or(good)
 }
 
-/// Buffers too short for so many bytes, and one that isn't.
+/// Buffers too short for `wanted` bytes, and one that isn't.
 fn rooms_around(wanted: usize) -> [(usize, Option<First>); 3] {
     let short = Some([7, wanted as u64]);
     [(0, short), (wanted - 1, short), (wanted, None)]
@@ -64,19 +64,26 @@ fn faulty_waitings() -> [Faulty; 4] {
     ]
 }
 
-/// The waiting hash and unknown ones after it: how many are missing is one less,
-/// and the fifteen.
+/// The waiting hash and unknown ones after it: how many are missing is one less, and the
+/// hashes that it asks for, as many as it may.
 fn faulty_lists() -> [(Faulty, u64); 7] {
-    let many = list(&(2_000..3_025).collect::<Vec<u16>>());
+    let many = list(&(2_000..2_001 + HASHES as u16).collect::<Vec<u16>>());
     let part = |length: usize, fault| (many[..length].to_vec(), fault);
+    let full = HASHES + 1 - DEPENDENCIES;
     [
-        (part(HASH, None), 15),
+        (part(HASH, None), DEPENDENCIES as u64),
         (part(HASH - 1, Some([1, 0])), 0),
-        (part(HASH * HASHES - 1, Some([1, 32_736])), 0),
+        (
+            part(HASH * HASHES - 1, Some([1, (HASH * (HASHES - 1)) as u64])),
+            0,
+        ),
         (part(HASH * HASHES + 1, Some([4, 0])), 0),
-        (part(HASH * 1_010, None), 1_024),
-        (part(HASH * 1_011, None), 1_025),
-        (part(HASH * HASHES, None), 1_038),
+        (part(HASH * full, None), HASHES as u64),
+        (part(HASH * (full + 1), None), HASHES as u64 + 1),
+        (
+            part(HASH * HASHES, None),
+            (HASHES + DEPENDENCIES - 1) as u64,
+        ),
     ]
 }
 

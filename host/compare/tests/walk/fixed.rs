@@ -35,7 +35,7 @@ fn replies(apart: &Apart, expected: &[Vec<usize>]) {
     assert_eq!(done.replies, expected);
 }
 
-/// So many rows, each on the one before it; the first is held. Round one brings
+/// A chain of `rows` rows, each on the one before it; the first is held. Round one brings
 /// nothing, and each round after it one row, from the head down.
 fn chain(rows: usize) {
     let on = (0..rows).map(|row| (row.saturating_sub(1)..row).collect());

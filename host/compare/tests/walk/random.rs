@@ -5,7 +5,7 @@ use compare::scaled;
 use compare::units::proved;
 use compare::walk::{catch_up, walk_freely, Spread};
 
-/// So many catch-ups of the library's units: those that went by list, and how many
+/// Makes `count` catch-ups of the library's units: those that went by list, and how many
 /// didn't.
 fn catch_ups(random: &mut Random, count: usize) -> (Spread, usize) {
     let (mut spread, mut dropped) = (Spread::default(), 0);

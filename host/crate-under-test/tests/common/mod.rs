@@ -55,7 +55,7 @@ pub fn message(heads: &[u32]) -> Message {
     }
 }
 
-/// The same numbers on every run.
+/// Random numbers that are the same on every run.
 pub struct Random(pub u64);
 
 impl Random {

@@ -16,7 +16,7 @@ const LINES: usize = 8;
 pub const LACKING: usize = BRANCHES * LENGTH;
 pub const ROWS: usize = HELD + LACKING;
 
-/// Every so many rows a row meets others of the lines.
+/// How many rows there are from one row that meets others of the lines to the next.
 const MEETING: usize = 32;
 
 /// How many hashes are tried at a time for one that a filter takes for held.

@@ -34,7 +34,7 @@ fn a_round_of_some_kinds() {
     );
 }
 
-/// The same seed has the same inputs.
+/// One seed has the same inputs each time.
 #[test]
 fn a_seed_tells_the_inputs() {
     let apart = |seed: &str| {

@@ -1,4 +1,4 @@
--- `probe::build::add_hashes` meets its contract: adding the hashes that are left to the field as it is gives what adding all of them to the
+-- `bloom_probe::build::add_hashes` meets its contract: adding the hashes that are left to the field as it is gives what adding all of them to the
 -- field as it was gives, and the start that is held is that of the first of them. Assumes nothing.
 use Prim.Native.Nat.{ℕ, suc, _+_, _-_, _*_, _≤_, _<_}
 use mathlib.Core.List.{List}

@@ -1,4 +1,4 @@
--- `probe::build::build` meets its contract: the filter rules say that the numbers are small and that the field has a bit for each hash.
+-- `bloom_probe::build::build` meets its contract: the filter rules say that the numbers are small and that the field has a bit for each hash.
 -- Assumes nothing.
 use Prim.Native.Nat.{ℕ, _*_, _≤_}
 use mathlib.Core.Bool.{true}

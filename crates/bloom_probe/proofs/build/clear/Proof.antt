@@ -1,4 +1,4 @@
--- `probe::build::clear` meets its contract: after i turns the first i bytes are 0 and the rest as it was. Assumes nothing.
+-- `bloom_probe::build::clear` meets its contract: after i turns the first i bytes are 0 and the rest as it was. Assumes nothing.
 use Prim.Native.Nat.{ℕ, _+_, _-_, _≤_, _<_}
 use mathlib.Core.List.{List, _++_, append-nil}
 use mathlib.Core.Path.{_≡_, refl, _∙_}

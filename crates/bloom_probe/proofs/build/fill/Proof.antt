@@ -1,4 +1,4 @@
--- `probe::build::fill` meets its contract: the field that hashes are added to is the cleared one. Assumes nothing.
+-- `bloom_probe::build::fill` meets its contract: the field that hashes are added to is the cleared one. Assumes nothing.
 use borrow.Author.Needs.{needs}
 use Rattle.bloom_probe.proofs.StartLaws.{added-to}
 use Rattle.bloom_probe.proofs.build.fill.Statement.{statement}

@@ -1,4 +1,4 @@
--- `probe::build::from_hashes` meets its contract: its tests are those of the definition, in its order, and an accepted list has as many hashes
+-- `bloom_probe::build::from_hashes` meets its contract: its tests are those of the definition, in its order, and an accepted list has as many hashes
 -- as the filter rules were asked for. Assumes nothing.
 use Prim.Native.Nat.{_/_}
 use mathlib.Core.Bool.{true}

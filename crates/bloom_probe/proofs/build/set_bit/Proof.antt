@@ -1,4 +1,4 @@
--- `probe::build::set_bit` meets its contract: 1 shifted by less than 8 is a byte. Assumes nothing.
+-- `bloom_probe::build::set_bit` meets its contract: 1 shifted by less than 8 is a byte. Assumes nothing.
 use Prim.Native.Nat.{ℕ, _*_, _/_, _%_, _^_, _<_}
 use mathlib.Core.List.{List}
 use mathlib.Core.Path.{_≡_}

@@ -1,4 +1,4 @@
--- `probe::build::set_probes` meets its contract: setting the bits of the probes that are left, in the field as it is, gives what setting all of
+-- `bloom_probe::build::set_probes` meets its contract: setting the bits of the probes that are left, in the field as it is, gives what setting all of
 -- them in the field as it was gives. Assumes nothing.
 use Prim.Native.Nat.{ℕ, _+_, _-_, _*_, _%_, _≤_, _<_, suc}
 use mathlib.Core.List.{List}

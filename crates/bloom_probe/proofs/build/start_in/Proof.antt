@@ -1,4 +1,4 @@
--- `probe::build::start_in` meets its contract: a hash of the list stands inside it, and there is a bit of the field for it. Assumes nothing.
+-- `bloom_probe::build::start_in` meets its contract: a hash of the list stands inside it, and there is a bit of the field for it. Assumes nothing.
 use native.Mathlib.Omega.{arith}
 use borrow.Author.Needs.{needs}
 use Rattle.bloom_probe.proofs.build.start_in.Statement.{statement}

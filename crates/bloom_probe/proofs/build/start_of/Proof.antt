@@ -1,4 +1,4 @@
--- `probe::build::start_of` meets its contract: each word is the one that the definition reads. Assumes nothing.
+-- `bloom_probe::build::start_of` meets its contract: each word is the one that the definition reads. Assumes nothing.
 use borrow.Author.Needs.{needs}
 use Rattle.bloom_probe.proofs.build.start_of.Statement.{statement}
 use Rattle.bloom_probe.proofs.build.start_of.Tie as tie

@@ -1,4 +1,4 @@
--- `probe::contains::clear_bit` meets its contract: the bit of the byte that the probe is in decides. Assumes nothing.
+-- `bloom_probe::contains::clear_bit` meets its contract: the bit of the byte that the probe is in decides. Assumes nothing.
 use Prim.Native.Nat.{ℕ, _/_, _%_, _^_}
 use mathlib.Core.List.{List}
 use mathlib.Core.Path.{_≡_, refl}

@@ -1,4 +1,4 @@
--- `probe::contains::contains_hash` meets its contract: the filters from record i on decide what all of them do, and in a filter the probes
+-- `bloom_probe::contains::contains_hash` meets its contract: the filters from record i on decide what all of them do, and in a filter the probes
 -- behind one that isn't clear decide what all of them do (Search). A good filter's field isn't empty and stands inside the lent bytes, so each probe does.
 -- Assumes nothing.
 use Prim.Native.Nat.{ℕ, _+_, _-_, _*_, _%_, _≤_, _<_, max}
@@ -85,7 +85,7 @@ decides c =
     (λ i. known .shared-slice-known3 .given i .fits)
     (known .before .before .before .pre .1))
 
--- the same once they are counted
+-- what is known once the probes are counted
 counted : (c : tie.After-count Inv-loop μ-loop Inv-next-filter μ-next-filter)
     → let e = c .before .before .before .before .before .before in
     let w = e .before .before .before in

@@ -1,4 +1,4 @@
--- `probe::contains::filters_contain` meets its contract: one case of `containedIn` for each answer. Assumes nothing.
+-- `bloom_probe::contains::filters_contain` meets its contract: one case of `containedIn` for each answer. Assumes nothing.
 use Prim.Native.Nat.{ℕ, _≤_, _<_}
 use mathlib.Core.Bool.{true, false}
 use mathlib.Core.List.{List}

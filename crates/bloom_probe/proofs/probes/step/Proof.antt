@@ -1,4 +1,4 @@
--- `probe::probes::step` meets its contract: a sum below m is its own remainder, and one that isn't is still below twice m, so m taken off once
+-- `bloom_probe::probes::step` meets its contract: a sum below m is its own remainder, and one that isn't is still below twice m, so m taken off once
 -- leaves the remainder. Assumes nothing.
 use Prim.Native.Nat.{ℕ, _-_, _%_, _≤_, _<_}
 use mathlib.Core.Path.{_≡_, sym, _∙_}

@@ -1,4 +1,4 @@
--- `answers::answer::refusal_words` meets its contract: the number and the value that the refusal's methods ensure. Assumes nothing.
+-- `call_words::answer::refusal_words` meets its contract: the number and the value that the refusal's methods ensure. Assumes nothing.
 use borrow.Author.Needs.{needs}
 use Rattle.call_words.proofs.answer.refusal_words.Statement.{statement}
 use Rattle.call_words.proofs.answer.refusal_words.Tie as tie

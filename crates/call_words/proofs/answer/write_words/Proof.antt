@@ -1,4 +1,4 @@
--- `answers::answer::write_words` meets its contract: one case for each variant. Assumes nothing.
+-- `call_words::answer::write_words` meets its contract: one case for each variant. Assumes nothing.
 use borrow.Author.Needs.{needs}
 use Rattle.call_words.proofs.answer.write_words.Statement.{statement}
 use Rattle.call_words.proofs.answer.write_words.Tie as tie

@@ -1,4 +1,4 @@
--- `session_words::words::heard_of` meets its contract: one law for each way. Assumes nothing.
+-- `call_words::words::heard_of` meets its contract: one law for each way. Assumes nothing.
 use Rattle.call_words.proofs.WordLaws.{heard-absent, heard-there}
 use Rattle.call_words.proofs.words.heard_of.Statement.{statement}
 use Rattle.call_words.proofs.words.heard_of.Tie as tie

@@ -1,4 +1,4 @@
--- `session_words::words::session_of` meets its contract: word for word. Assumes nothing.
+-- `call_words::words::session_of` meets its contract: word for word. Assumes nothing.
 use borrow.Author.Needs.{needs}
 use Rattle.call_words.proofs.words.session_of.Statement.{statement}
 use Rattle.call_words.proofs.words.session_of.Tie as tie

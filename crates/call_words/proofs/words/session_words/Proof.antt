@@ -1,4 +1,4 @@
--- `session_words::words::session_words` meets its contract: word for word. Assumes nothing.
+-- `call_words::words::session_words` meets its contract: word for word. Assumes nothing.
 use borrow.Author.Needs.{needs}
 use Rattle.call_words.proofs.WordLaws.{words-made}
 use Rattle.call_words.proofs.words.session_words.Statement.{statement}

@@ -1,4 +1,4 @@
--- `lists::compare::all_held` meets its contract: what the hashes from number k on decide is what all of them do, and the row of a hash tells
+-- `hash_lists::compare::all_held` meets its contract: what the hashes from number k on decide is what all of them do, and the row of a hash tells
 -- whether it is held. Assumes nothing.
 use Prim.Native.Nat.{_-_, _≤_}
 use mathlib.Core.Path.{_≡_, sym, _∙_}

@@ -1,4 +1,4 @@
--- `lists::compare::all_in` meets its contract: what the hashes from number k on decide is what all of them do. Assumes nothing.
+-- `hash_lists::compare::all_in` meets its contract: what the hashes from number k on decide is what all of them do. Assumes nothing.
 use Prim.Native.Nat.{_-_, _≤_}
 use mathlib.Core.Path.{_≡_, sym, _∙_}
 use native.Mathlib.Omega.{arith}

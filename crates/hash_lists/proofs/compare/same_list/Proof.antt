@@ -1,4 +1,4 @@
--- `lists::compare::same_list` meets its contract: lists of another count differ, and else the hashes from number k on decide. Assumes nothing.
+-- `hash_lists::compare::same_list` meets its contract: lists of another count differ, and else the hashes from number k on decide. Assumes nothing.
 use Prim.Native.Nat.{_-_, _≤_}
 use mathlib.Core.Path.{_≡_, sym, _∙_}
 use native.Mathlib.Omega.{arith}

@@ -1,4 +1,4 @@
--- `lists::join::join_new` meets its contract: at each hash those behind it that don't stand in the other list are joined (JoinLaws). Assumes nothing.
+-- `hash_lists::join::join_new` meets its contract: at each hash those behind it that don't stand in the other list are joined (JoinLaws). Assumes nothing.
 use Prim.Native.Nat.{_≤_}
 use mathlib.Core.Bool.{not}
 use mathlib.Core.Path.{_≡_, refl, _∙_}

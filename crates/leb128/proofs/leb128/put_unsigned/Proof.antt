@@ -1,4 +1,4 @@
--- `numbers::leb128::put_unsigned` meets its contract: putting the shortest form of what is left at `i` gives the buffer that putting all of it
+-- `leb128::leb128::put_unsigned` meets its contract: putting the shortest form of what is left at `i` gives the buffer that putting all of it
 -- at `at` gives. Assumes nothing.
 use Prim.Native.Nat.{_+_, _^_, _<_}
 use mathlib.Core.Path.{_≡_, refl, _∙_}

@@ -1,4 +1,4 @@
--- `numbers::leb128::read` meets its contract: in the loop's state, what is left to read is still the number at `at` (`reading`), and each
+-- `leb128::leb128::read` meets its contract: in the loop's state, what is left to read is still the number at `at` (`reading`), and each
 -- branch is one law of it. Nothing overflows, as value + b * scale is at most `most` once the second test has passed. Assumes nothing.
 use Prim.Native.Nat.{ℕ, _+_, _-_, _*_, _/_, _^_, _≤_, _<_}
 use borrow.Author.Needs.{needs}

@@ -1,4 +1,4 @@
--- `numbers::leb128::unsigned_size` meets its contract: the bytes counted and those of what is left are one more than the number's. Assumes
+-- `leb128::leb128::unsigned_size` meets its contract: the bytes counted and those of what is left are one more than the number's. Assumes
 -- nothing.
 use Prim.Native.Nat.{suc, _+_, _^_, _<_}
 use mathlib.Core.Path.{_≡_}

@@ -1,4 +1,4 @@
--- `numbers::leb128::write_unsigned` meets its contract: the room is tested against the size before anything is put. Assumes nothing.
+-- `leb128::leb128::write_unsigned` meets its contract: the room is tested against the size before anything is put. Assumes nothing.
 use Rattle.rules.proofs.Outputs.{written-bytes, no-room}
 use borrow.Author.Needs.{needs}
 use Rattle.leb128.proofs.leb128.write_unsigned.Statement.{statement}

@@ -1,4 +1,4 @@
--- `items::chunks::parse_chunks` meets its contract: the count is refused, or its items are passed over. Assumes nothing.
+-- `message_items::chunks::parse_chunks` meets its contract: the count is refused, or its items are passed over. Assumes nothing.
 use mathlib.Core.Path.{sym, _∙_}
 use Rattle.message_items.proofs.ItemLaws.{chunks-refused, chunks-listed}
 use borrow.Author.Needs.{needs}

@@ -1,4 +1,4 @@
--- `items::chunks::put_chunks` meets its contract: the words that were put and those of the items still to come make the list that all the words make.
+-- `message_items::chunks::put_chunks` meets its contract: the words that were put and those of the items still to come make the list that all the words make.
 -- The items were read before, so none of them is refused. Assumes nothing.
 use Prim.Native.Nat.{ℕ, suc, _+_, _-_, _*_, _≤_}
 use mathlib.Core.List.{List, [], _∷_}

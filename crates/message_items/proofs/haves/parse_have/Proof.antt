@@ -1,4 +1,4 @@
--- `items::haves::parse_have` meets its contract: one case of `haveAt` for each answer. Assumes nothing.
+-- `message_items::haves::parse_have` meets its contract: one case of `haveAt` for each answer. Assumes nothing.
 use mathlib.Core.Path.{sym, _∙_}
 use Rattle.message_items.proofs.ItemLaws.{have-no-list, have-no-part, have-no-filter, have-read}
 use borrow.Author.Needs.{needs}

@@ -1,4 +1,4 @@
--- `items::haves::parse_haves` meets its contract: the count is refused, or its items are passed over. Assumes nothing.
+-- `message_items::haves::parse_haves` meets its contract: the count is refused, or its items are passed over. Assumes nothing.
 use mathlib.Core.Path.{sym, _∙_}
 use Rattle.message_items.proofs.ItemLaws.{haves-refused, haves-listed}
 use borrow.Author.Needs.{needs}

@@ -1,4 +1,4 @@
--- `items::haves::put_counted` meets its contract: the words and the numbers that were put, and those of the items still to come, make the lists that
+-- `message_items::haves::put_counted` meets its contract: the words and the numbers that were put, and those of the items still to come, make the lists that
 -- all of them make. The items were read before, so none of them is refused. Assumes nothing.
 use Prim.Native.Nat.{_+_, _-_, _*_, _≤_}
 use mathlib.Core.Path.{_≡_, refl, sym, _∙_}

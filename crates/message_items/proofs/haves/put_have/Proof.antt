@@ -1,4 +1,4 @@
--- `items::haves::put_have` meets its contract: seven words one after the other are put at once. Assumes nothing.
+-- `message_items::haves::put_have` meets its contract: seven words one after the other are put at once. Assumes nothing.
 use Prim.Native.Nat.{ℕ, suc, _+_}
 use mathlib.Core.List.{List, [], _∷_}
 use mathlib.Core.Path.{_≡_}

@@ -1,4 +1,4 @@
--- `items::haves::put_haves` meets its contract: the words that were put and those of the items still to come make the list that all the words make.
+-- `message_items::haves::put_haves` meets its contract: the words that were put and those of the items still to come make the list that all the words make.
 -- The items were read before, so none of them is refused. Assumes nothing.
 use Prim.Native.Nat.{_+_, _-_, _*_, _≤_}
 use mathlib.Core.Path.{refl, sym, _∙_}

@@ -1,4 +1,4 @@
--- `peek::peek::peek_heads` meets its contract: the first stage decides, and the heads that it found stand inside the message. Assumes nothing.
+-- `message_peek::peek::peek_heads` meets its contract: the first stage decides, and the heads that it found stand inside the message. Assumes nothing.
 use mathlib.Core.Path.{_≡_, sym, _∙_}
 use native.Mathlib.Omega.{arith}
 use denote.Ref.{now}

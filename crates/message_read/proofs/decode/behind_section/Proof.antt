@@ -1,4 +1,4 @@
--- `decode::decode::behind_section` meets its contract: none without a section, else what is left. Assumes nothing.
+-- `message_read::decode::behind_section` meets its contract: none without a section, else what is left. Assumes nothing.
 use mathlib.Core.Path.{sym, _∙_}
 use Rattle.message_read.proofs.IgnoredLaws.{told-absent, told-present}
 use borrow.Author.Needs.{needs}

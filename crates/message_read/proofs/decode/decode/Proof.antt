@@ -1,4 +1,4 @@
--- `decode::decode::decode` meets its contract: the message was read whole before anything is written, so the words are as many as its counts say,
+-- `message_read::decode::decode` meets its contract: the message was read whole before anything is written, so the words are as many as its counts say,
 -- and putting them can't be refused. Assumes nothing.
 use mathlib.Core.Path.{sym, _∙_}
 use native.Mathlib.Omega.{arith}

@@ -1,4 +1,4 @@
--- `decode::opening::parse_heads` meets its contract: one case of `headsAt` for each answer. Assumes nothing.
+-- `message_read::opening::parse_heads` meets its contract: one case of `headsAt` for each answer. Assumes nothing.
 use mathlib.Core.Path.{sym, _∙_}
 use Rattle.message_read.proofs.ReadLaws.{heads-refused, heads-read}
 use borrow.Author.Needs.{needs}

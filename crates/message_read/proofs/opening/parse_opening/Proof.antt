@@ -1,4 +1,4 @@
--- `decode::opening::parse_opening` meets its contract: one case of `openingAt` for each answer. Assumes nothing.
+-- `message_read::opening::parse_opening` meets its contract: one case of `openingAt` for each answer. Assumes nothing.
 use mathlib.Core.Path.{sym, _∙_}
 use Rattle.message_read.proofs.ReadLaws.{opening-long, opening-empty, opening-first, opening-second, opening-other}
 use borrow.Author.Needs.{needs}

@@ -1,4 +1,4 @@
--- `decode::parse::parse` meets its contract: the first stage is refused, or the need follows it. Assumes nothing.
+-- `message_read::parse::parse` meets its contract: the first stage is refused, or the need follows it. Assumes nothing.
 use mathlib.Core.Path.{sym, _∙_}
 use Rattle.message_read.proofs.ReadLaws.{message-gone, message-need}
 use borrow.Author.Needs.{needs}

@@ -1,4 +1,4 @@
--- `decode::parse::parse_lists` meets its contract: one case of `listsAt` for each answer. Assumes nothing.
+-- `message_read::parse::parse_lists` meets its contract: one case of `listsAt` for each answer. Assumes nothing.
 use mathlib.Core.Path.{sym, _∙_}
 use Rattle.message_read.proofs.ReadLaws.{lists-no-haves, lists-no-chunks, lists-no-section, lists-read}
 use borrow.Author.Needs.{needs}

@@ -1,4 +1,4 @@
--- `decode::parse::parse_need` meets its contract: the need is refused, or the lists follow it. Assumes nothing.
+-- `message_read::parse::parse_need` meets its contract: the need is refused, or the lists follow it. Assumes nothing.
 use mathlib.Core.Path.{sym, _∙_}
 use Rattle.message_read.proofs.ReadLaws.{need-gone, need-lists}
 use borrow.Author.Needs.{needs}

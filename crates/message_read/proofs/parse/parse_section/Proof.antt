@@ -1,4 +1,4 @@
--- `decode::parse::parse_section` meets its contract: one case of `sectionAt` for each answer. A section that was read stands inside the message,
+-- `message_read::parse::parse_section` meets its contract: one case of `sectionAt` for each answer. A section that was read stands inside the message,
 -- which is what its flags ask. Assumes nothing.
 use mathlib.Core.Path.{sym, _∙_}
 use Rattle.wire.proofs.Item.{prefixed-inside}

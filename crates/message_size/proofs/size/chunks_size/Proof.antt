@@ -1,4 +1,4 @@
--- `size::size::chunks_size` meets its contract: one case of `testFew` for each answer. Assumes nothing.
+-- `message_size::size::chunks_size` meets its contract: one case of `testFew` for each answer. Assumes nothing.
 use mathlib.Core.Bool.{true}
 use mathlib.Core.Path.{_≡_, sym, _∙_}
 use denote.Ref.{now}

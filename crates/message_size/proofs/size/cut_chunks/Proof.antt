@@ -1,4 +1,4 @@
--- `size::size::cut_chunks` meets its contract: cutting the rest from where the last chunk ended is cutting all of them. Assumes nothing.
+-- `message_size::size::cut_chunks` meets its contract: cutting the rest from where the last chunk ended is cutting all of them. Assumes nothing.
 use Prim.Native.Nat.{_-_, _≤_}
 use native.Mathlib.Omega.{arith}
 use denote.Ref.{now}

@@ -1,4 +1,4 @@
--- `size::size::hashes_size` meets its contract: a count has at most ten bytes. Assumes nothing.
+-- `message_size::size::hashes_size` meets its contract: a count has at most ten bytes. Assumes nothing.
 use native.Mathlib.Omega.{arith}
 use Rattle.message_size.proofs.SizeLaws.{ten}
 use borrow.Author.Needs.{needs}

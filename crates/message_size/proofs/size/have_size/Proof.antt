@@ -1,4 +1,4 @@
--- `size::size::have_size` meets its contract: the record is good, so its hashes and its field stand in the lent bytes. Assumes nothing.
+-- `message_size::size::have_size` meets its contract: the record is good, so its hashes and its field stand in the lent bytes. Assumes nothing.
 use Prim.Native.Nat.{_+_}
 use mathlib.Core.Path.{_≡_, refl}
 use native.Mathlib.Omega.{arith}
@@ -6,7 +6,7 @@ use denote.Ref.{now}
 use lib.ListN.{length}
 use Rattle.bloom.specs.Have.{haveIn}
 use Rattle.message.specs.Message.{haveBytes}
-use Rattle.message_size.proofs.SizeLaws.{HaveFits, have-fits, have-long, have-small, part-is, part-long}
+use Rattle.message_size.proofs.SizeLaws.{BehindHave, have-fits, have-long, have-small, part-is, part-long}
 use borrow.Author.Needs.{needs}
 use Rattle.message_size.proofs.size.have_size.Statement.{statement}
 use Rattle.message_size.proofs.size.have_size.Tie as tie
@@ -23,7 +23,7 @@ filter-in-requires : tie.Need-filter-in-requires
 filter-in-requires c κs = search needs
 
 -- where the parts of the record stand
-fits : (c : tie.After-filter-in) → let a = c .before .before .before .before .before .args in HaveFits (now (a .bytes)) (now (a .haves)) (a .i) (c .filter-in .result)
+fits : (c : tie.After-filter-in) → let a = c .before .before .before .before .before .args in BehindHave (now (a .bytes)) (now (a .haves)) (a .i) (c .filter-in .result)
 fits c = let s = c .before .before .before .before .before in have-fits _ _ _ _ (c .filter-in .ensures) (s .pre .0) (s .pre .1)
 
 add-end : tie.Need-add-end

@@ -1,4 +1,4 @@
--- `size::size::haves_size` meets its contract: what is counted and the haves from record i on are together all of them. Assumes nothing.
+-- `message_size::size::haves_size` meets its contract: what is counted and the haves from record i on are together all of them. Assumes nothing.
 use Prim.Native.Nat.{ℕ, _+_, _-_, _*_, _≤_}
 use mathlib.Core.Path.{_≡_, refl, ap, _∙_}
 use native.Mathlib.Omega.{arith}

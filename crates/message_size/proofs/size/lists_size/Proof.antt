@@ -1,4 +1,4 @@
--- `size::size::lists_size` meets its contract: one case of `listsOutput` for each answer. Assumes nothing.
+-- `message_size::size::lists_size` meets its contract: one case of `listsOutput` for each answer. Assumes nothing.
 use mathlib.Core.Bool.{true}
 use mathlib.Core.Path.{_≡_, sym, _∙_}
 use native.Mathlib.Omega.{arith}

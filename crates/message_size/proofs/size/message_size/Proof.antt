@@ -1,4 +1,4 @@
--- `size::size::message_size` meets its contract: the tests in their order, and then the sum of all parts. Assumes nothing.
+-- `message_size::size::message_size` meets its contract: the tests in their order, and then the sum of all parts. Assumes nothing.
 use Prim.Native.Nat.{_≤_}
 use mathlib.Core.Path.{_≡_, sym, _∙_}
 use native.Mathlib.Omega.{arith}

@@ -1,4 +1,4 @@
--- `size::size::prefixed_filter_size` meets its contract: a filter that fits its size has no more bytes than its numbers and the largest field. Assumes nothing.
+-- `message_size::size::prefixed_filter_size` meets its contract: a filter that fits its size has no more bytes than its numbers and the largest field. Assumes nothing.
 use Prim.Native.Nat.{_≤_}
 use native.Mathlib.Omega.{arith}
 use Rattle.message_size.proofs.SizeLaws.{most-filter, filter-small, prefixed-sum, ten}

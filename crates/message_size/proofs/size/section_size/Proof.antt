@@ -1,4 +1,4 @@
--- `size::size::section_size` meets its contract: two bytes and the flags, or nothing. Assumes nothing.
+-- `message_size::size::section_size` meets its contract: two bytes and the flags, or nothing. Assumes nothing.
 use Rattle.message.specs.Flags.{sectionBytes}
 use borrow.Author.Needs.{needs}
 use Rattle.message_size.proofs.size.section_size.Statement.{statement}

@@ -1,4 +1,4 @@
--- `encode::encode::encode` meets its contract: every test but that of the room is made with the size, then the room decides, and then all is put.
+-- `message_write::encode::encode` meets its contract: every test but that of the room is made with the size, then the room decides, and then all is put.
 -- Assumes nothing.
 use mathlib.Core.Path.{sym, _∙_}
 use native.Mathlib.Omega.{arith}

@@ -1,4 +1,4 @@
--- `encode::put::put_chunk` meets its contract: the length and the bytes put after it are the prefixed string put at once. Assumes nothing.
+-- `message_write::put::put_chunk` meets its contract: the length and the bytes put after it are the prefixed string put at once. Assumes nothing.
 use mathlib.Core.Path.{refl}
 use native.Mathlib.Omega.{arith}
 use denote.Ref.{now}

@@ -1,4 +1,4 @@
--- `encode::put::put_chunks` meets its contract: what is put and the chunks from length i on are together all of them. Assumes nothing.
+-- `message_write::put::put_chunks` meets its contract: what is put and the chunks from length i on are together all of them. Assumes nothing.
 use Prim.Native.Nat.{_+_, _-_, _≤_}
 use mathlib.Core.Path.{_≡_, _∙_}
 use native.Mathlib.Omega.{arith}

@@ -1,4 +1,4 @@
--- `encode::put::put_hashes` meets its contract: hashes that stand in bytes are just these bytes. Assumes nothing.
+-- `message_write::put::put_hashes` meets its contract: hashes that stand in bytes are just these bytes. Assumes nothing.
 use native.Mathlib.Omega.{arith}
 use denote.Ref.{now}
 use Rattle.message_size.proofs.SizeLaws.{hash-list-long, hash-list-room}

@@ -1,4 +1,4 @@
--- `encode::put::put_have` meets its contract: the record is good, so its hashes and its field stand in the lent bytes, and the two parts put one
+-- `message_write::put::put_have` meets its contract: the record is good, so its hashes and its field stand in the lent bytes, and the two parts put one
 -- after the other are the have put at once. Assumes nothing.
 use native.Mathlib.Omega.{arith}
 use denote.Ref.{now}
@@ -7,7 +7,7 @@ use Rattle.bloom.specs.Have.{syncPlace, syncCount}
 use Rattle.rules.specs.Hash.{hashesAt}
 use Rattle.wire.specs.Item.{hashListBytes}
 use Rattle.leb128.specs.Number.{Put}
-use Rattle.message_size.proofs.SizeLaws.{HaveFits, have-fits, have-room}
+use Rattle.message_size.proofs.SizeLaws.{BehindHave, have-fits, have-room}
 use Rattle.message_write.proofs.PutLaws.{syncs-fit, syncs-put, put-have-parts}
 use borrow.Author.Needs.{needs}
 use Rattle.message_write.proofs.put.put_have.Statement.{statement}
@@ -25,7 +25,7 @@ filter-in-requires c κs = search needs
 -- where the parts of the record stand
 fits : (c : tie.After-filter-in)
     → let a = c .before .before .before .before .before .before .args in
-    HaveFits (now (a .bytes)) (now (a .haves)) (a .i) (c .filter-in .result)
+    BehindHave (now (a .bytes)) (now (a .haves)) (a .i) (c .filter-in .result)
 fits c = let s = c .before .before .before .before .before .before in have-fits _ _ _ _ (c .filter-in .ensures) (s .pre .0 .0) (s .pre .0 .1)
 
 add-end : tie.Need-add-end

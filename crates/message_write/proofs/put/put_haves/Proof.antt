@@ -1,4 +1,4 @@
--- `encode::put::put_haves` meets its contract: what is put and the haves from record i on are together all of them. Assumes nothing.
+-- `message_write::put::put_haves` meets its contract: what is put and the haves from record i on are together all of them. Assumes nothing.
 use Prim.Native.Nat.{_+_, _-_, _≤_}
 use mathlib.Core.Path.{refl, _∙_}
 use native.Mathlib.Omega.{arith}

@@ -1,4 +1,4 @@
--- `encode::put::put_message` meets its contract: after each part, what is put and what is still to be put are together the message. Assumes nothing.
+-- `message_write::put::put_message` meets its contract: after each part, what is put and what is still to be put are together the message. Assumes nothing.
 use native.Mathlib.Omega.{arith}
 use denote.Ref.{now}
 use lib.ListN.{set}

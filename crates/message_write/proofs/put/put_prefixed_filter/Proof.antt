@@ -1,4 +1,4 @@
--- `encode::put::put_prefixed_filter` meets its contract: the size and the filter put after it are the prefixed filter put at once. Assumes nothing.
+-- `message_write::put::put_prefixed_filter` meets its contract: the size and the filter put after it are the prefixed filter put at once. Assumes nothing.
 use native.Mathlib.Omega.{arith}
 use Rattle.message_size.proofs.SizeLaws.{prefixed-room}
 use Rattle.message_write.proofs.PutLaws.{put-prefixed}

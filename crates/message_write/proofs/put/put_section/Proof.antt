@@ -1,4 +1,4 @@
--- `encode::put::put_section` meets its contract: three bytes, or none. Assumes nothing.
+-- `message_write::put::put_section` meets its contract: three bytes, or none. Assumes nothing.
 use Prim.Native.Nat.{_+_, _≤_}
 use native.Mathlib.Omega.{arith}
 use denote.Ref.{now}

@@ -1,4 +1,4 @@
--- `decide::decide::count_if` meets its contract, case by case. Assumes nothing.
+-- `plan_decide::decide::count_if` meets its contract, case by case. Assumes nothing.
 use Rattle.plan_decide.proofs.DecideLaws.{count-some, count-none}
 use Rattle.plan_decide.proofs.decide.count_if.Statement.{statement}
 use Rattle.plan_decide.proofs.decide.count_if.Tie as tie

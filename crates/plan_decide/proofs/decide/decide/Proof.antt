@@ -1,4 +1,4 @@
--- `decide::decide::decide` meets its contract: each test decides where those before it didn't. Assumes nothing.
+-- `plan_decide::decide::decide` meets its contract: each test decides where those before it didn't. Assumes nothing.
 use Rattle.plan_decide.proofs.DecideLaws.{needs-many, is-unknown, is-silent, sent-many, is-said}
 use borrow.Author.Needs.{needs}
 use Rattle.plan_decide.proofs.decide.decide.Statement.{statement}

@@ -1,4 +1,4 @@
--- `decide::decide::filter_for` meets its contract: zeros where nothing is given, else the numbers with the size that the field has. Assumes nothing.
+-- `plan_decide::decide::filter_for` meets its contract: zeros where nothing is given, else the numbers with the size that the field has. Assumes nothing.
 use borrow.Author.Tests.{not-true, not-false}
 use Rattle.plan_decide.proofs.DecideLaws.{filter-some, filter-none}
 use borrow.Author.Needs.{needs}

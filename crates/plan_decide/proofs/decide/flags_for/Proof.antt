@@ -1,4 +1,4 @@
--- `decide::decide::flags_for` meets its contract: flags that are added one after the other are their sum. Assumes nothing.
+-- `plan_decide::decide::flags_for` meets its contract: flags that are added one after the other are their sum. Assumes nothing.
 use Rattle.plan_decide.proofs.DecideLaws.{understands, flags-said}
 use borrow.Author.Needs.{needs}
 use Rattle.plan_decide.proofs.decide.flags_for.Statement.{statement}

@@ -1,4 +1,4 @@
--- `decide::decide::heads_for` meets its contract, case by case. Assumes nothing.
+-- `plan_decide::decide::heads_for` meets its contract, case by case. Assumes nothing.
 use borrow.Author.Tests.{not-true, not-false}
 use Rattle.plan_decide.proofs.DecideLaws.{no-reset, reset-told, reset-shown}
 use Rattle.plan_decide.proofs.decide.heads_for.Statement.{statement}

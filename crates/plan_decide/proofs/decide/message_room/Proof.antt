@@ -1,4 +1,4 @@
--- `decide::decide::message_room` meets its contract: the first buffer that is too short decides. Assumes nothing.
+-- `plan_decide::decide::message_room` meets its contract: the first buffer that is too short decides. Assumes nothing.
 use Rattle.plan_decide.proofs.DecideLaws.{heads-short, need-short, have-short, list-short, message-enough}
 use borrow.Author.Needs.{needs}
 use Rattle.plan_decide.proofs.decide.message_room.Statement.{statement}

@@ -1,4 +1,4 @@
--- `decide::decide::planned_session` meets its contract, field by field. Assumes nothing.
+-- `plan_decide::decide::planned_session` meets its contract, field by field. Assumes nothing.
 use mathlib.Core.Path.{refl}
 use Rattle.plan_decide.proofs.decide.planned_session.Statement.{statement}
 use Rattle.plan_decide.proofs.decide.planned_session.Tie as tie

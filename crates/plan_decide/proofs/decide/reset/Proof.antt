@@ -1,4 +1,4 @@
--- `decide::decide::reset` meets its contract: the reset, or the first buffer that is too short. Assumes nothing.
+-- `plan_decide::decide::reset` meets its contract: the reset, or the first buffer that is too short. Assumes nothing.
 use Rattle.plan_decide.proofs.DecideLaws.{small-reset, reset-short, reset-enough}
 use borrow.Author.Needs.{needs}
 use Rattle.plan_decide.proofs.decide.reset.Statement.{statement}

@@ -1,4 +1,4 @@
--- `decide::decide::reset_stated` meets its contract: its one flag is that resets are understood. Assumes nothing.
+-- `plan_decide::decide::reset_stated` meets its contract: its one flag is that resets are understood. Assumes nothing.
 use Rattle.plan_decide.proofs.DecideLaws.{understands, reset-is}
 use borrow.Author.Needs.{needs}
 use Rattle.plan_decide.proofs.decide.reset_stated.Statement.{statement}

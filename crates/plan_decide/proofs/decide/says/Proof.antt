@@ -1,4 +1,4 @@
--- `decide::decide::says` meets its contract: the message's room comes first, then the session's lists. Assumes nothing.
+-- `plan_decide::decide::says` meets its contract: the message's room comes first, then the session's lists. Assumes nothing.
 use Rattle.plan_decide.proofs.DecideLaws.{small-drafted, message-short, lists-short, all-enough}
 use borrow.Author.Needs.{needs}
 use Rattle.plan_decide.proofs.decide.says.Statement.{statement}

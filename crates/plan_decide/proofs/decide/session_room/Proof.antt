@@ -1,4 +1,4 @@
--- `decide::decide::session_room` meets its contract: the first buffer that is too short decides. Assumes nothing.
+-- `plan_decide::decide::session_room` meets its contract: the first buffer that is too short decides. Assumes nothing.
 use Rattle.plan_decide.proofs.DecideLaws.{last-short, sent-short, session-enough}
 use borrow.Author.Needs.{needs}
 use Rattle.plan_decide.proofs.decide.session_room.Statement.{statement}

@@ -1,4 +1,4 @@
--- `decide::decide::stated` meets its contract, part by part. Assumes nothing.
+-- `plan_decide::decide::stated` meets its contract, part by part. Assumes nothing.
 use Rattle.plan_decide.proofs.DecideLaws.{drafted-is}
 use borrow.Author.Needs.{needs}
 use Rattle.plan_decide.proofs.decide.stated.Statement.{statement}

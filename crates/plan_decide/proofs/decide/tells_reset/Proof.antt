@@ -1,4 +1,4 @@
--- `decide::decide::tells_reset` meets its contract, case by case. Assumes nothing.
+-- `plan_decide::decide::tells_reset` meets its contract, case by case. Assumes nothing.
 use borrow.Author.Tests.{not-true, not-false}
 use Rattle.plan_parts.proofs.TestLaws.{first-fails, second-decides}
 use Rattle.plan_decide.proofs.decide.tells_reset.Statement.{statement}

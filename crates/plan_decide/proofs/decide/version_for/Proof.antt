@@ -1,4 +1,4 @@
--- `decide::decide::version_for` meets its contract, case by case. Assumes nothing.
+-- `plan_decide::decide::version_for` meets its contract, case by case. Assumes nothing.
 use borrow.Author.Needs.{needs}
 use Rattle.session.specs.Plan.{versionFor}
 use Rattle.plan_decide.proofs.decide.version_for.Statement.{statement}

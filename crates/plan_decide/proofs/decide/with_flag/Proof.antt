@@ -1,4 +1,4 @@
--- `decide::decide::with_flag` meets its contract, case by case. Assumes nothing.
+-- `plan_decide::decide::with_flag` meets its contract, case by case. Assumes nothing.
 use Rattle.plan_decide.proofs.DecideLaws.{flag-on}
 use borrow.Author.Needs.{needs}
 use Rattle.plan_decide.proofs.decide.with_flag.Statement.{statement}

@@ -1,4 +1,4 @@
--- `decide::put::put` meets its contract: each buffer is written by one call. Assumes nothing.
+-- `plan_decide::put::put` meets its contract: each buffer is written by one call. Assumes nothing.
 use Rattle.plan_decide.proofs.PutLaws.{buffers-same}
 use borrow.Author.Needs.{needs}
 use Rattle.plan_decide.proofs.put.put.Statement.{statement}

@@ -1,4 +1,4 @@
--- `decide::put::put_hashes` meets its contract: the bytes of the first hashes are the first bytes. Assumes nothing.
+-- `plan_decide::put::put_hashes` meets its contract: the bytes of the first hashes are the first bytes. Assumes nothing.
 use Rattle.plan_decide.proofs.PutLaws.{first-put}
 use native.Mathlib.Omega.{arith}
 use lib.ListN.{length-take}

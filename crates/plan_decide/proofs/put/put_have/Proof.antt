@@ -1,4 +1,4 @@
--- `decide::put::put_have` meets its contract: the field goes behind the hashes. Assumes nothing.
+-- `plan_decide::put::put_have` meets its contract: the field goes behind the hashes. Assumes nothing.
 use native.Mathlib.Omega.{arith}
 use lib.ListN.{length-take}
 use borrow.Author.Needs.{needs}

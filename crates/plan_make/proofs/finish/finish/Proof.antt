@@ -1,4 +1,4 @@
--- `draft::finish::finish` meets its contract: what is decided fits, so all of it is put. Assumes nothing.
+-- `plan_make::finish::finish` meets its contract: what is decided fits, so all of it is put. Assumes nothing.
 use Rattle.plan_make.proofs.FitLaws.{puts-fit, put-finished}
 use borrow.Author.Needs.{needs}
 use Rattle.plan_make.proofs.finish.finish.Statement.{statement}

@@ -1,4 +1,4 @@
--- `draft::make::count_plan` meets its contract: the heads are marked and counted, and the body is what was chosen. Assumes nothing.
+-- `plan_make::make::count_plan` meets its contract: the heads are marked and counted, and the body is what was chosen. Assumes nothing.
 use native.Mathlib.Omega.{arith}
 use Rattle.plan_make.proofs.MakeLaws.{counted-made}
 use borrow.Author.Needs.{needs}

@@ -1,4 +1,4 @@
--- `draft::make::is_quiet` meets its contract, part by part. Assumes nothing.
+-- `plan_make::make::is_quiet` meets its contract, part by part. Assumes nothing.
 use Rattle.plan_make.proofs.MakeLaws.{quiet-is}
 use borrow.Author.Needs.{needs}
 use Rattle.plan_make.proofs.make.is_quiet.Statement.{statement}

@@ -1,4 +1,4 @@
--- `draft::make::make_carried` meets its contract: what was chosen fits, and it joins the hashes that were sent. Assumes nothing.
+-- `plan_make::make::make_carried` meets its contract: what was chosen fits, and it joins the hashes that were sent. Assumes nothing.
 use mathlib.Core.Path.{refl}
 use native.Mathlib.Omega.{arith}
 use Rattle.plan_parts.proofs.HeardLaws.{heard-there}

@@ -1,4 +1,4 @@
--- `draft::make::make_have` meets its contract: no entries where no have is given, else the field that is made. Assumes nothing.
+-- `plan_make::make::make_have` meets its contract: no entries where no have is given, else the field that is made. Assumes nothing.
 use borrow.Author.Tests.{not-true, not-false}
 use Rattle.plan_make.proofs.MakeLaws.{nothing-given, field-given}
 use borrow.Author.Needs.{needs}

@@ -1,4 +1,4 @@
--- `draft::make::make_plan` meets its contract: what each part asks for was tested or counted, and the parts together are the plan. Assumes nothing.
+-- `plan_make::make::make_plan` meets its contract: what each part asks for was tested or counted, and the parts together are the plan. Assumes nothing.
 use mathlib.Core.Path.{refl}
 use native.Mathlib.Omega.{arith}
 use Rattle.plan_make.proofs.MakeLaws.{given-room, have-good, heads-good, shared-there, carry-ready, heads-made, heads-room, quiet-ready, draft-made}

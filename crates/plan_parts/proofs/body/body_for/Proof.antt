@@ -1,4 +1,4 @@
--- `planning::body::body_for` meets its contract: one law for each answer (BodyLaws). Assumes nothing.
+-- `plan_parts::body::body_for` meets its contract: one law for each answer (BodyLaws). Assumes nothing.
 use mathlib.Core.Path.{sym, _∙_}
 use Rattle.table.proofs.TableLaws.{length-rows-at}
 use Rattle.plan_parts.proofs.BodyLaws.{document-chosen, body-headless, body-long, body-list}

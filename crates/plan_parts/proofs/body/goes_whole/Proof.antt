@@ -1,4 +1,4 @@
--- `planning::body::goes_whole` meets its contract. Assumes nothing.
+-- `plan_parts::body::goes_whole` meets its contract. Assumes nothing.
 use borrow.Author.Tests.{not-true, not-false}
 use Rattle.plan_parts.proofs.TestLaws.{first-fails, second-decides}
 use Rattle.plan_parts.proofs.body.goes_whole.Statement.{statement}

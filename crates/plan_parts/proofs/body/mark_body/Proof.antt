@@ -1,4 +1,4 @@
--- `planning::body::mark_body` meets its contract: one law for each answer, and what was heard is what can be chosen from. Assumes nothing.
+-- `plan_parts::body::mark_body` meets its contract: one law for each answer, and what was heard is what can be chosen from. Assumes nothing.
 use mathlib.Core.Path.{sym}
 use native.Mathlib.Omega.{arith}
 use lib.Seq.{length-take-le}

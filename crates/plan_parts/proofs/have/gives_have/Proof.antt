@@ -1,4 +1,4 @@
--- `planning::have::gives_have` meets its contract: as many hashes as were heard are the heads that were heard. Assumes nothing.
+-- `plan_parts::have::gives_have` meets its contract: as many hashes as were heard are the heads that were heard. Assumes nothing.
 use mathlib.Core.Path.{_∙_}
 use native.Mathlib.Omega.{arith}
 use borrow.Author.Needs.{needs}

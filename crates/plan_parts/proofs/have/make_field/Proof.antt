@@ -1,4 +1,4 @@
--- `planning::have::make_field` meets its contract: the rows that are marked when the marks are turned are those beyond the shared heads, and the part
+-- `plan_parts::have::make_field` meets its contract: the rows that are marked when the marks are turned are those beyond the shared heads, and the part
 -- of the buffer that is lent has the filter's size. Assumes nothing.
 use Prim.Native.Nat.{_≤_}
 use mathlib.Core.Bool.{false}

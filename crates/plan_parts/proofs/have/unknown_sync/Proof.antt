@@ -1,4 +1,4 @@
--- `planning::have::unknown_sync` meets its contract: where a have was heard, the first record's last-sync hashes decide. Assumes nothing.
+-- `plan_parts::have::unknown_sync` meets its contract: where a have was heard, the first record's last-sync hashes decide. Assumes nothing.
 use mathlib.Core.Path.{sym, ap, _∙_}
 use mathlib.Core.Bool.{not}
 use borrow.Author.Needs.{needs}

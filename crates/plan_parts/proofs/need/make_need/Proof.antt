@@ -1,4 +1,4 @@
--- `planning::need::make_need` meets its contract: what is missing from the heads that are asked for is the need. Assumes nothing.
+-- `plan_parts::need::make_need` meets its contract: what is missing from the heads that are asked for is the need. Assumes nothing.
 use borrow.Author.Needs.{needs}
 use Rattle.plan_parts.proofs.HeardLaws.{asked-there, need-found}
 use Rattle.plan_parts.proofs.need.make_need.Statement.{statement}

@@ -1,4 +1,4 @@
--- `planning::sent::make_sent` meets its contract: hashes join a copy of those that were sent. Assumes nothing.
+-- `plan_parts::sent::make_sent` meets its contract: hashes join a copy of those that were sent. Assumes nothing.
 use mathlib.Core.Path.{sym}
 use native.Mathlib.Omega.{arith}
 use borrow.Author.Needs.{needs}

@@ -1,4 +1,4 @@
--- `planning::silence::heard_as` meets its contract: what wasn't heard is no list, and else the lists are compared. Assumes nothing.
+-- `plan_parts::silence::heard_as` meets its contract: what wasn't heard is no list, and else the lists are compared. Assumes nothing.
 use mathlib.Core.Path.{_∙_}
 use native.Mathlib.Omega.{arith}
 use borrow.Author.Needs.{needs}

@@ -1,4 +1,4 @@
--- `planning::silence::is_silent` meets its contract: one law for each test (TestLaws). Assumes nothing.
+-- `plan_parts::silence::is_silent` meets its contract: one law for each test (TestLaws). Assumes nothing.
 use borrow.Author.Tests.{not-true, not-false}
 use Rattle.plan_parts.proofs.TestLaws.{quiet-untold, quiet-waiting, quiet-not, quiet-equal, quiet-decides}
 use Rattle.plan_parts.proofs.silence.is_silent.Statement.{statement}

@@ -1,4 +1,4 @@
--- `planning::silence::is_told` meets its contract: other heads decide, and else the answer does. Assumes nothing.
+-- `plan_parts::silence::is_told` meets its contract: other heads decide, and else the answer does. Assumes nothing.
 use mathlib.Core.Path.{sym, _∙_}
 use borrow.Author.Needs.{needs}
 use borrow.Author.Tests.{not-true, not-false}

@@ -1,4 +1,4 @@
--- `taking::put::put` meets its contract: one copy after the other, each into a buffer of its own. Assumes nothing.
+-- `receive_decide::put::put` meets its contract: one copy after the other, each into a buffer of its own. Assumes nothing.
 use native.Mathlib.Omega.{arith}
 use denote.Ref.{now}
 use Rattle.session_check.specs.SessionGood.{lentOf}

@@ -1,4 +1,4 @@
--- `taking::put::put_laid` meets its contract. Assumes nothing.
+-- `receive_decide::put::put_laid` meets its contract. Assumes nothing.
 use native.Mathlib.Omega.{arith}
 use lib.ListN.{length-take}
 use Rattle.receive_decide.proofs.PutLaws.{laid-fits}

@@ -1,4 +1,4 @@
--- `taking::put::receipt_puts` meets its contract: one law for each kind of answer (DecideLaws). Assumes nothing.
+-- `receive_decide::put::receipt_puts` meets its contract: one law for each kind of answer (DecideLaws). Assumes nothing.
 use borrow.Author.Needs.{needs}
 use Rattle.receive_decide.proofs.put.receipt_puts.Statement.{statement}
 use Rattle.receive_decide.proofs.put.receipt_puts.Tie as tie

@@ -1,4 +1,4 @@
--- `laying::haves::laid_size` meets its contract: the sizes that are added and those still to come make the whole (HaveLaws). Assumes nothing.
+-- `receive_haves::haves::laid_size` meets its contract: the sizes that are added and those still to come make the whole (HaveLaws). Assumes nothing.
 use Prim.Native.Nat.{_+_, _-_, _≤_}
 use mathlib.Core.Path.{_≡_}
 use native.Mathlib.Omega.{arith}
@@ -7,7 +7,7 @@ use denote.Ref.{now}
 use lib.ListN.{length}
 use Rattle.bloom.specs.Have.{haveCount, havesOf}
 use Rattle.session.specs.Laid.{laidBytes}
-use Rattle.receive_haves.proofs.HaveLaws.{Fits, have-fits, leftFrom, size-starts, size-on, size-ends, laid-small}
+use Rattle.receive_haves.proofs.HaveLaws.{BehindRecord, have-fits, leftFrom, size-starts, size-on, size-ends, laid-small}
 use Rattle.receive_haves.proofs.haves.laid_size.Statement.{statement}
 use Rattle.receive_haves.proofs.haves.laid_size.Tie as tie
 
@@ -31,7 +31,7 @@ sync-count-requires c κs = c .before .loop-test .taken
 fits : (c : tie.After-filter-in Inv-loop μ-loop)
     → let l = c .before .before in
     let a = l .before .before .before .args in
-    Fits (now (a .message)) (now (a .words)) (l .loop .i) (c .filter-in .result)
+    BehindRecord (now (a .message)) (now (a .words)) (l .loop .i) (c .filter-in .result)
 fits c = have-fits _ _ (c .before .before .before .before .before .pre) _ (c .before .loop-test .taken) _ (c .filter-in .ensures)
 
 mul-size : tie.Need-mul-size Inv-loop μ-loop

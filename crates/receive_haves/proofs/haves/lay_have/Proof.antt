@@ -1,4 +1,4 @@
--- `laying::haves::lay_have` meets its contract: hashes and a field that stand in bytes are just these bytes, and the two parts put one after the other are
+-- `receive_haves::haves::lay_have` meets its contract: hashes and a field that stand in bytes are just these bytes, and the two parts put one after the other are
 -- the have put at once (HaveLaws). Assumes nothing.
 use Prim.Native.Nat.{_+_, _*_, _≤_}
 use native.Mathlib.Omega.{arith}
@@ -6,7 +6,7 @@ use borrow.Author.Needs.{needs}
 use denote.Ref.{now}
 use lib.ListN.{length}
 use Rattle.rules.specs.Sizes.{sizes}
-use Rattle.receive_haves.proofs.HaveLaws.{Fits, have-fits, have-ends, have-laid}
+use Rattle.receive_haves.proofs.HaveLaws.{BehindRecord, have-fits, have-ends, have-laid}
 use Rattle.receive_haves.proofs.haves.lay_have.Statement.{statement}
 use Rattle.receive_haves.proofs.haves.lay_have.Tie as tie
 
@@ -27,7 +27,7 @@ filter-in-requires c κs = search needs
 -- where the parts of the record stand
 fits : (c : tie.After-filter-in)
     → let a = c .before .before .before .before .before .before .args in
-    Fits (now (a .message)) (now (a .words)) (a .i) (c .filter-in .result)
+    BehindRecord (now (a .message)) (now (a .words)) (a .i) (c .filter-in .result)
 fits c =
     let start = c .before .before .before .before .before .before in
     have-fits _ _ (start .pre .0) _ (start .pre .1) _ (c .filter-in .ensures)

@@ -1,4 +1,4 @@
--- `laying::haves::lay_haves` meets its contract: what has been laid out and what is left make the whole (HaveLaws). Assumes nothing.
+-- `receive_haves::haves::lay_haves` meets its contract: what has been laid out and what is left make the whole (HaveLaws). Assumes nothing.
 use Prim.Native.Nat.{_-_}
 use native.Mathlib.Omega.{arith}
 use borrow.Author.Needs.{needs}

@@ -1,4 +1,4 @@
--- `laying::haves::put_record` meets its contract: seven words one after the other. Assumes nothing.
+-- `receive_haves::haves::put_record` meets its contract: seven words one after the other. Assumes nothing.
 use native.Mathlib.Omega.{arith}
 use borrow.Author.Needs.{needs}
 use lib.ListN.{length-set}

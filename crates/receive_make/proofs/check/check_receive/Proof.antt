@@ -1,4 +1,4 @@
--- `drafting::check::check_receive` meets its contract: one way out for each test, in their order. Assumes nothing.
+-- `receive_make::check::check_receive` meets its contract: one way out for each test, in their order. Assumes nothing.
 use mathlib.Core.Path.{sym, _∙_}
 use borrow.Author.Needs.{needs}
 use borrow.Author.Tests.{not-true, not-false}

@@ -1,4 +1,4 @@
--- `drafting::make::kept_hashes` meets its contract. Assumes nothing.
+-- `receive_make::make::kept_hashes` meets its contract. Assumes nothing.
 use Rattle.receive_make.proofs.MakeLaws.{kept-none, kept-all}
 use Rattle.receive_make.proofs.make.kept_hashes.Statement.{statement}
 use Rattle.receive_make.proofs.make.kept_hashes.Tie as tie

@@ -1,4 +1,4 @@
--- `drafting::make::last_sent_after` meets its contract. Assumes nothing.
+-- `receive_make::make::last_sent_after` meets its contract. Assumes nothing.
 use Rattle.receive_make.proofs.MakeLaws.{last-none, last-told, last-stays}
 use Rattle.receive_make.proofs.make.last_sent_after.Statement.{statement}
 use Rattle.receive_make.proofs.make.last_sent_after.Tie as tie

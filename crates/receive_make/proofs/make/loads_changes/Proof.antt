@@ -1,4 +1,4 @@
--- `drafting::make::loads_changes` meets its contract. Assumes nothing.
+-- `receive_make::make::loads_changes` meets its contract. Assumes nothing.
 use Rattle.receive_make.proofs.MakeLaws.{no-changes, some-changes}
 use Rattle.receive_make.proofs.make.loads_changes.Statement.{statement}
 use Rattle.receive_make.proofs.make.loads_changes.Tie as tie

@@ -1,4 +1,4 @@
--- `drafting::make::make_received` meets its contract: one part after the other. Assumes nothing.
+-- `receive_make::make::make_received` meets its contract: one part after the other. Assumes nothing.
 use mathlib.Core.Path.{refl}
 use native.Mathlib.Omega.{arith}
 use Rattle.receive_make.proofs.MakeLaws.{left-marked, keeps-there, keeps-gathered, left-there, shared-known}

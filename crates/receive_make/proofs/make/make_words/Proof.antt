@@ -1,4 +1,4 @@
--- `drafting::make::make_words` meets its contract: the message was read, so its haves are read again. Assumes nothing.
+-- `receive_make::make::make_words` meets its contract: the message was read, so its haves are read again. Assumes nothing.
 use native.Mathlib.Omega.{arith}
 use lib.ListN.{length-take}
 use Rattle.message_read.proofs.ReadLaws.{few-haves, haves-read}

@@ -1,4 +1,4 @@
--- `drafting::make::told_heads` meets its contract. Assumes nothing.
+-- `receive_make::make::told_heads` meets its contract. Assumes nothing.
 use mathlib.Core.Path.{sym, _∙_}
 use Rattle.receive_make.proofs.MakeLaws.{brings-some, is-told, not-told}
 use borrow.Author.Needs.{needs}

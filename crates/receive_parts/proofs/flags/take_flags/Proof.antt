@@ -1,4 +1,4 @@
--- `receiving::flags::take_flags` meets its contract: field by field, for each way through the section and its reset. Assumes nothing.
+-- `receive_parts::flags::take_flags` meets its contract: field by field, for each way through the section and its reset. Assumes nothing.
 use mathlib.Core.Path.{sym, _∙_}
 use borrow.Author.Needs.{needs}
 use Rattle.receive_parts.proofs.flags.take_flags.Statement.{statement}

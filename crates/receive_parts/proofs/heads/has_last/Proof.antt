@@ -1,4 +1,4 @@
--- `receiving::heads::has_last` meets its contract: the last row is a head, so a list without it isn't the heads (HeadLaws). Assumes nothing.
+-- `receive_parts::heads::has_last` meets its contract: the last row is a head, so a list without it isn't the heads (HeadLaws). Assumes nothing.
 use native.Mathlib.Omega.{arith}
 use mathlib.Core.Path.{refl, sym, _∙_}
 use Rattle.rules.proofs.Cases.{true-false}

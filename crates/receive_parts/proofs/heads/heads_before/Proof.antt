@@ -1,4 +1,4 @@
--- `receiving::heads::heads_before` meets its contract: heads without the last row aren't those of before, and the rows that no row needs are the heads
+-- `receive_parts::heads::heads_before` meets its contract: heads without the last row aren't those of before, and the rows that no row needs are the heads
 -- (HeadLaws). Assumes nothing.
 use Prim.Native.Nat.{_≤_}
 use mathlib.Core.Bool.{false}

@@ -1,4 +1,4 @@
--- `receiving::heads::mark_known` meets its contract: the row that is found for a head tells both its mark and whether it is held, and what the heads that
+-- `receive_parts::heads::mark_known` meets its contract: the row that is found for a head tells both its mark and whether it is held, and what the heads that
 -- are left decide and mark is what all of them do (HeadLaws). Assumes nothing.
 use Prim.Native.Nat.{_-_}
 use mathlib.Core.Path.{refl, _∙_}

@@ -1,4 +1,4 @@
--- `receiving::heads::same_marked` meets its contract: the rest of both lists decides what the whole ones do, and the index has the rows in ascending
+-- `receive_parts::heads::same_marked` meets its contract: the rest of both lists decides what the whole ones do, and the index has the rows in ascending
 -- order of hash (HeadLaws). Assumes nothing.
 use Prim.Native.Nat.{_-_, _<_}
 use mathlib.Core.Path.{sym, _∙_}

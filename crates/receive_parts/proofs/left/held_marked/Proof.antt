@@ -1,4 +1,4 @@
--- `receiving::left::held_marked` meets its contract: the row that is found tells both. Assumes nothing.
+-- `receive_parts::left::held_marked` meets its contract: the row that is found tells both. Assumes nothing.
 use borrow.Author.Needs.{needs}
 use Rattle.receive_parts.proofs.LeftLaws.{unknown-unmarked, known-marked}
 use Rattle.receive_parts.proofs.left.held_marked.Statement.{statement}

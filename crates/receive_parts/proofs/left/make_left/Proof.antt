@@ -1,4 +1,4 @@
--- `receiving::left::make_left` meets its contract: what has been put and what is left make the whole (LeftLaws). Assumes nothing.
+-- `receive_parts::left::make_left` meets its contract: what has been put and what is left make the whole (LeftLaws). Assumes nothing.
 use Prim.Native.Nat.{_-_}
 use mathlib.Core.Bool.{not}
 use mathlib.Core.Path.{sym, ap, _∙_}

@@ -1,4 +1,4 @@
--- `receiving::shared::advance_heads` meets its contract: the shared heads that are heads still and the new ones are joined to a list that has nothing in
+-- `receive_parts::shared::advance_heads` meets its contract: the shared heads that are heads still and the new ones are joined to a list that has nothing in
 -- it and is never full (SharedLaws). Assumes nothing.
 use mathlib.Core.Path.{_∙_}
 use native.Mathlib.Omega.{arith}

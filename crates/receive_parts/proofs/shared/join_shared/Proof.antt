@@ -1,4 +1,4 @@
--- `receiving::shared::join_shared` meets its contract: both are joined to a list that has nothing in it (SharedLaws). Assumes nothing.
+-- `receive_parts::shared::join_shared` meets its contract: both are joined to a list that has nothing in it (SharedLaws). Assumes nothing.
 use native.Mathlib.Omega.{arith}
 use borrow.Author.Needs.{needs}
 use Rattle.hash_lists.proofs.JoinLaws.{join-room}

@@ -1,4 +1,4 @@
--- `receiving::shared::make_shared` meets its contract: one law for each way through the two tests (SharedLaws). Assumes nothing.
+-- `receive_parts::shared::make_shared` meets its contract: one law for each way through the two tests (SharedLaws). Assumes nothing.
 use borrow.Author.Needs.{needs}
 use Rattle.receive_parts.proofs.SharedLaws.{advanced-room, advanced-fits, copied-made, where-held, where-still, where-moved}
 use Rattle.receive_parts.proofs.shared.make_shared.Statement.{statement}

@@ -1,4 +1,4 @@
--- `replay::little_endian::u64_at` meets its contract: two numbers of 32 bits. Assumes nothing.
+-- `sample_replay::little_endian::u64_at` meets its contract: two numbers of 32 bits. Assumes nothing.
 use native.Mathlib.Omega.{arith}
 use borrow.Author.Needs.{needs}
 use Rattle.sample_replay.specs.SampleWords.{u64At}

@@ -1,4 +1,4 @@
--- `replay::little_endian::words_at` meets its contract: the four words that the calls ensure. Assumes nothing.
+-- `sample_replay::little_endian::words_at` meets its contract: the four words that the calls ensure. Assumes nothing.
 use borrow.Author.Needs.{needs}
 use Rattle.sample_replay.specs.SampleWords.{wordsAt}
 use Rattle.sample_replay.proofs.little_endian.words_at.Statement.{statement}

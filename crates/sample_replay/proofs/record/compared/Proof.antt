@@ -1,4 +1,4 @@
--- `replay::record::compared` meets its contract: each test decides a word of `agreeing`, in its order. Assumes nothing.
+-- `sample_replay::record::compared` meets its contract: each test decides a word of `agreeing`, in its order. Assumes nothing.
 use borrow.Author.Needs.{needs}
 use Rattle.sample_replay.proofs.Records.{first-differs, refusals-agree, second-differs, third-differs, fourth-differs, all-agree}
 use Rattle.sample_replay.proofs.record.compared.Statement.{statement}

@@ -1,4 +1,4 @@
--- `replay::record::record_at` meets its contract: one case of `recordAt` for each answer. Assumes nothing.
+-- `sample_replay::record::record_at` meets its contract: one case of `recordAt` for each answer. Assumes nothing.
 use native.Mathlib.Omega.{arith}
 use borrow.Author.Needs.{needs}
 use Rattle.sample_replay.specs.declared.record.Verdict.the-variants.{Same, Different, Unknown}

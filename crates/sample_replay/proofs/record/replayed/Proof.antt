@@ -1,4 +1,4 @@
--- `replay::record::replayed` meets its contract: one case of `verdictOf` for each kind, by what the reader and its words ensure. Assumes nothing.
+-- `sample_replay::record::replayed` meets its contract: one case of `verdictOf` for each kind, by what the reader and its words ensure. Assumes nothing.
 use mathlib.Core.Path.{ap, _∙_}
 use borrow.Author.Needs.{needs}
 use Rattle.wire_calls.specs.WireWords.{numberWords, prefixedWords, hashListWords}

@@ -1,16 +1,16 @@
--- `replay::walk::walk` meets its contract. The loop's invariant, `Going`: what is counted and what the walk from here meets are the whole walk's
+-- `sample_replay::walk::walk` meets its contract. The loop's invariant, `Replaying`: what is counted and what the walk from here meets are the whole walk's
 -- counts. The measure is what is left of the bytes. Assumes nothing.
 use Prim.Native.Nat.{_-_}
 use mathlib.Core.Path.{sym, _∙_}
 use native.Mathlib.Omega.{arith}
 use borrow.Author.Needs.{needs}
 use lib.ListN.{length}
-use Rattle.sample_replay.proofs.Walks.{whole, Going, starts, ends, meets-bad, room, goes-on}
+use Rattle.sample_replay.proofs.Walks.{whole, Replaying, starts, ends, meets-bad, room, goes-on}
 use Rattle.sample_replay.proofs.walk.walk.Statement.{statement}
 use Rattle.sample_replay.proofs.walk.walk.Tie as tie
 
 abbrev Inv-loop : tie.InvT-loop
-Inv-loop bytes counts₀ at₀ counts at = Going bytes at counts
+Inv-loop bytes counts₀ at₀ counts at = Replaying bytes at counts
 
 abbrev μ-loop : tie.MeasureT-loop
 μ-loop bytes counts₀ at₀ counts at = length bytes - at

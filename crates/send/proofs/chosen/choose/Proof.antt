@@ -1,4 +1,4 @@
--- `selection::chosen::choose` meets its contract: the marks name the definition's list (ChosenLaws), and both kinds are counted. Assumes nothing.
+-- `send::chosen::choose` meets its contract: the marks name the definition's list (ChosenLaws), and both kinds are counted. Assumes nothing.
 use mathlib.Core.Bool.{false}
 use native.Mathlib.Omega.{arith}
 use lib.ListN.{length-replicate}

@@ -1,4 +1,4 @@
--- `selection::chosen::held_unmarked` meets its contract: the row that is found is the hash's place, and there is one if it is below the number of
+-- `send::chosen::held_unmarked` meets its contract: the row that is found is the hash's place, and there is one if it is below the number of
 -- rows. Assumes nothing.
 use Rattle.send.proofs.ChosenLaws.{held-none, held-member, held-past}
 use borrow.Author.Needs.{needs}

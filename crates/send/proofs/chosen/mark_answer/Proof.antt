@@ -1,4 +1,4 @@
--- `selection::chosen::mark_answer` meets its contract: a list shorter than one record has no have. Assumes nothing.
+-- `send::chosen::mark_answer` meets its contract: a list shorter than one record has no have. Assumes nothing.
 use Rattle.send.proofs.ChosenLaws.{none-answered, some-answered}
 use borrow.Author.Needs.{needs}
 use Rattle.send.proofs.chosen.mark_answer.Statement.{statement}

@@ -1,4 +1,4 @@
--- `selection::chosen::mark_needs` meets its contract: the marks before the k-th are made, the others are as they were. Assumes nothing.
+-- `send::chosen::mark_needs` meets its contract: the marks before the k-th are made, the others are as they were. Assumes nothing.
 use Prim.Native.Nat.{_-_, _≤_}
 use mathlib.Core.Path.{_≡_, refl, _∙_}
 use native.Mathlib.Omega.{arith}

@@ -1,4 +1,4 @@
--- `selection::chosen::put_chosen` meets its contract: the rows are put where the needs end. Assumes nothing.
+-- `send::chosen::put_chosen` meets its contract: the rows are put where the needs end. Assumes nothing.
 use native.Mathlib.Omega.{arith}
 use Rattle.send.proofs.ChosenLaws.{room-first, room-second, both-put}
 use borrow.Author.Needs.{needs}

@@ -1,4 +1,4 @@
--- `selection::chosen::put_needs` meets its contract: putting the hashes that are left behind those that were put gives the buffer that putting
+-- `send::chosen::put_needs` meets its contract: putting the hashes that are left behind those that were put gives the buffer that putting
 -- all of them gives, and they end after as many as are counted. Assumes nothing.
 use Prim.Native.Nat.{_+_, _-_, _*_, _≤_}
 use mathlib.Core.Path.{_≡_, refl, _∙_}

@@ -1,4 +1,4 @@
--- `selection::to_send::get_hashes_to_send` meets its contract: one law for each answer (SendCalls), and an accepted table is good beside its
+-- `send::to_send::get_hashes_to_send` meets its contract: one law for each answer (SendCalls), and an accepted table is good beside its
 -- index. Assumes nothing.
 use mathlib.Core.Path.{sym, _∙_}
 use borrow.Author.Tests.{not-true, not-false}

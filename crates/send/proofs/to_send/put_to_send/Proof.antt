@@ -1,4 +1,4 @@
--- `selection::to_send::put_to_send` meets its contract: what is chosen where nothing was sent before is what is to be sent. Assumes nothing.
+-- `send::to_send::put_to_send` meets its contract: what is chosen where nothing was sent before is what is to be sent. Assumes nothing.
 use mathlib.Core.Bool.{false}
 use native.Mathlib.Omega.{arith}
 use lib.ListN.{length-replicate}

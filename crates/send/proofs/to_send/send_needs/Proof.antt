@@ -1,4 +1,4 @@
--- `selection::to_send::send_needs` meets its contract: one law for each answer (SendCalls), and what has passed the tests is good. Assumes
+-- `send::to_send::send_needs` meets its contract: one law for each answer (SendCalls), and what has passed the tests is good. Assumes
 -- nothing.
 use mathlib.Core.Path.{_≡_, sym, _∙_}
 use native.Mathlib.Omega.{arith}

@@ -1,4 +1,4 @@
--- `selection_calls::calls::bt_hashes_to_send` meets its contract: the words and the buffer of what the writer ensures. Assumes nothing.
+-- `send_calls::calls::bt_hashes_to_send` meets its contract: the words and the buffer of what the writer ensures. Assumes nothing.
 use Rattle.call_words.proofs.Answers.{answered}
 use borrow.Author.Needs.{needs}
 use Rattle.send_calls.proofs.calls.bt_hashes_to_send.Statement.{statement}

@@ -1,4 +1,4 @@
--- `members::members::is_member` meets its contract: its tests are the equation's, the cheaper first. Assumes nothing.
+-- `send_members::members::is_member` meets its contract: its tests are the equation's, the cheaper first. Assumes nothing.
 use mathlib.Core.Bool.{Bool, true, false, not, _&&_, _||_}
 use mathlib.Core.Path.{_≡_, sym, _∙_}
 use borrow.Author.Needs.{needs}

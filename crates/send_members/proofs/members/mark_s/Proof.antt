@@ -1,4 +1,4 @@
--- `members::members::mark_s` meets its contract: the marks of the rows before row i are final, and the equation of S then says whether row i
+-- `send_members::members::mark_s` meets its contract: the marks of the rows before row i are final, and the equation of S then says whether row i
 -- joins (MemberLaws). Assumes nothing.
 use Prim.Native.Nat.{_-_, _≤_}
 use mathlib.Core.Bool.{false}

@@ -1,4 +1,4 @@
--- `members::members::mark_synced` meets its contract: the rows of the last-sync hashes are the base of what is below them. Assumes nothing.
+-- `send_members::members::mark_synced` meets its contract: the rows of the last-sync hashes are the base of what is below them. Assumes nothing.
 use Rattle.table_graph.proofs.GraphMarks.{below-list}
 use borrow.Author.Needs.{needs}
 use Rattle.send_members.proofs.members.mark_synced.Statement.{statement}

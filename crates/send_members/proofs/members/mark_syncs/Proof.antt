@@ -1,4 +1,4 @@
--- `members::members::mark_syncs` meets its contract: the marks that were, with the lists that are left, are the marks of all lists. Assumes
+-- `send_members::members::mark_syncs` meets its contract: the marks that were, with the lists that are left, are the marks of all lists. Assumes
 -- nothing.
 use Prim.Native.Nat.{ℕ, _-_, _<_}
 use mathlib.Core.Bool.{false, _||_}

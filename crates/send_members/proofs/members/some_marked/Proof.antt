@@ -1,4 +1,4 @@
--- `members::members::some_marked` meets its contract: the numbers from the j-th on decide what all of them do. A number of a good row is below
+-- `send_members::members::some_marked` meets its contract: the numbers from the j-th on decide what all of them do. A number of a good row is below
 -- the row's own, so it has a mark. Assumes nothing.
 use Prim.Native.Nat.{_-_, _≤_}
 use mathlib.Core.Bool.{false}

@@ -1,4 +1,4 @@
--- `summaries::laid::lay` meets its contract: a walk of its MIR, by hand. What one call of `lay_five` returns is held in a local and passed to the next, from `nothing_laid` on. All that the proof knows of the two is that each meets its contract.
+-- `send_records::laid::lay` meets its contract: a walk of its MIR, by hand. What one call of `lay_five` returns is held in a local and passed to the next, from `nothing_laid` on. All that the proof knows of the two is that each meets its contract.
 -- A slice that is lent by `&` is Copy: what it owns is had twice, once for the callee and once for the exit.
 -- Assumes nothing.
 use mathlib.Core.Path.{_≡_, refl, ap, _∙_}

@@ -1,4 +1,4 @@
--- `summaries::laid::lay_five` meets its contract: a walk of its MIR, by hand. What one call of `lay_one` returns is held in a local and passed to the next. All that the proof knows of `lay_one` is that it meets its contract.
+-- `send_records::laid::lay_five` meets its contract: a walk of its MIR, by hand. What one call of `lay_one` returns is held in a local and passed to the next. All that the proof knows of `lay_one` is that it meets its contract.
 -- A slice that is lent by `&` and a `Laid` are Copy: what each owns is had twice, once for the callee and once for the exit.
 -- Assumes nothing.
 use mathlib.Core.Path.{_≡_, refl, ap, _∙_}

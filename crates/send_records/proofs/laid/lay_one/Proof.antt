@@ -1,4 +1,4 @@
--- `summaries::laid::lay_one` meets its contract: a walk of its MIR, by hand. The next have is read by `get_or`, and `with_next` lays it. All that the proof knows of the two is that each meets its contract.
+-- `send_records::laid::lay_one` meets its contract: a walk of its MIR, by hand. The next have is read by `get_or`, and `with_next` lays it. All that the proof knows of the two is that each meets its contract.
 -- A slice that is lent by `&` and a `Laid` are Copy: what each owns is had twice, once for the callee and once for the exit.
 -- Assumes nothing.
 use mathlib.Core.Path.{_≡_, refl, ap, _∙_}

@@ -1,4 +1,4 @@
--- `summaries::laid::nothing_laid` meets its contract: it is the definition. Assumes nothing.
+-- `send_records::laid::nothing_laid` meets its contract: it is the definition. Assumes nothing.
 use mathlib.Core.Path.{refl}
 use Rattle.send_records.specs.Internal.RecordsLaid.{nothingLaid}
 use Rattle.send_records.proofs.laid.nothing_laid.Statement.{statement}

@@ -1,4 +1,4 @@
--- `summaries::laid::with_next` meets its contract: one case of `withNext` for each answer. Assumes nothing.
+-- `send_records::laid::with_next` meets its contract: one case of `withNext` for each answer. Assumes nothing.
 use mathlib.Core.Path.{sym}
 use Rattle.send_records.proofs.LaidLaws.{next-none, next-full, next-stored}
 use borrow.Author.Needs.{needs}

@@ -1,4 +1,4 @@
--- `summaries::summary::get_or` meets its contract: a walk of its MIR, by hand. The place of `haves[i]` is 56 * i past the slice's pointer, and the record is read there.
+-- `send_records::summary::get_or` meets its contract: a walk of its MIR, by hand. The place of `haves[i]` is 56 * i past the slice's pointer, and the record is read there.
 -- A `HaveSummary` is Copy: what the element owns is had twice, once for the slice and once for the result.
 -- Assumes nothing.
 use mathlib.Core.Path.{_≡_, refl, sym}

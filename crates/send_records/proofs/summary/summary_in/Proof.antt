@@ -1,4 +1,4 @@
--- `summaries::summary::summary_in` meets its contract: one case of `summaryIn` for each answer. Assumes nothing.
+-- `send_records::summary::summary_in` meets its contract: one case of `summaryIn` for each answer. Assumes nothing.
 use borrow.Author.Tests.{le-leb, lt-leb}
 use Rattle.send_records.specs.Summary.{summaryIn}
 use borrow.Author.Needs.{needs}

@@ -1,4 +1,4 @@
--- `summaries::to_send::laid_to_send` meets its contract: the selection's own, at the words that are laid. Assumes nothing.
+-- `send_records::to_send::laid_to_send` meets its contract: the selection's own, at the words that are laid. Assumes nothing.
 use mathlib.Core.List.{List}
 use mathlib.Core.Path.{sym, subst}
 use Prim.Native.Nat.{ℕ}

@@ -1,4 +1,4 @@
--- `summaries::to_send::summaries_to_send` meets its contract: a walk of its MIR, by hand. The list is laid as words, and the selection on them is called. All that the proof knows of `lay` and `laid_to_send` is that each meets its contract.
+-- `send_records::to_send::summaries_to_send` meets its contract: a walk of its MIR, by hand. The list is laid as words, and the selection on them is called. All that the proof knows of `lay` and `laid_to_send` is that each meets its contract.
 -- Slices that are lent by `&` are Copy: what each owns is had twice, once for the callee and once for the exit. The buffer's borrow goes to `laid_to_send` at its own lifetime, share and name: it is given up for good, and what the callee says of its last list is what is said at exit.
 -- Assumes nothing.
 use mathlib.Core.Path.{_≡_, refl}

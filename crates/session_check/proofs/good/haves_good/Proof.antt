@@ -1,4 +1,4 @@
--- `lent::good::haves_good` meets its contract: what is absent is good; else each test that fails decides, and after three that pass the
+-- `session_check::good::haves_good` meets its contract: what is absent is good; else each test that fails decides, and after three that pass the
 -- last-sync hashes do. Assumes nothing.
 use mathlib.Core.Path.{sym, _∙_}
 use borrow.Author.Needs.{needs}

@@ -1,4 +1,4 @@
--- `lent::good::session_good` meets its contract: each test that fails decides, and after six that pass it is good. Assumes nothing.
+-- `session_check::good::session_good` meets its contract: each test that fails decides, and after six that pass it is good. Assumes nothing.
 use mathlib.Core.Path.{sym, _∙_}
 use borrow.Author.Needs.{needs}
 use borrow.Author.Tests.{not-true, not-false}

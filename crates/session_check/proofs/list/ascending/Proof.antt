@@ -1,4 +1,4 @@
--- `lent::list::ascending` meets its contract: the hashes from number i on decide what all of them do. Assumes nothing.
+-- `session_check::list::ascending` meets its contract: the hashes from number i on decide what all of them do. Assumes nothing.
 use Prim.Native.Nat.{_-_, _≤_}
 use mathlib.Core.Path.{_≡_, sym, _∙_}
 use native.Mathlib.Omega.{arith}

@@ -1,4 +1,4 @@
--- `lent::list::heard_good` meets its contract: what is absent is good, and else the count decides. Assumes nothing.
+-- `session_check::list::heard_good` meets its contract: what is absent is good, and else the count decides. Assumes nothing.
 use mathlib.Core.Path.{sym, _∙_}
 use borrow.Author.Needs.{needs}
 use Rattle.session_check.proofs.GoodLaws.{heard-nothing, heard-count}

@@ -1,4 +1,4 @@
--- `lent::list::list_good` meets its contract: the limit is tested first, and else the buffer decides. Assumes nothing.
+-- `session_check::list::list_good` meets its contract: the limit is tested first, and else the buffer decides. Assumes nothing.
 use mathlib.Core.Path.{sym}
 use borrow.Author.Needs.{needs}
 use Rattle.session_check.proofs.GoodLaws.{list-many, list-where}

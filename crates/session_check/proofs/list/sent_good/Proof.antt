@@ -1,4 +1,4 @@
--- `lent::list::sent_good` meets its contract: the limit is tested first, then the buffer, and then the order decides. Assumes nothing.
+-- `session_check::list::sent_good` meets its contract: the limit is tested first, then the buffer, and then the order decides. Assumes nothing.
 use mathlib.Core.Path.{sym, _∙_}
 use borrow.Author.Needs.{needs}
 use Rattle.session_check.proofs.GoodLaws.{sent-many, sent-short, sent-there}

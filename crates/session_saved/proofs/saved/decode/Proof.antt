@@ -1,4 +1,4 @@
--- `saved::saved::decode` meets its contract: what `parse` found decides, and a list that it found stands inside the state. Assumes nothing.
+-- `session_saved::saved::decode` meets its contract: what `parse` found decides, and a list that it found stands inside the state. Assumes nothing.
 use mathlib.Core.Path.{_≡_, sym, _∙_}
 use native.Mathlib.Omega.{arith}
 use denote.Ref.{now}

@@ -1,4 +1,4 @@
--- `saved::saved::encode` meets its contract: the count is tested first, then the room, and then type byte, count and hashes are put one after
+-- `session_saved::saved::encode` meets its contract: the count is tested first, then the room, and then type byte, count and hashes are put one after
 -- the other, which puts them at once. Assumes nothing.
 use Prim.Native.Nat.{_≤_}
 use mathlib.Core.Bool.{true}

@@ -1,4 +1,4 @@
--- `saved::saved::parse` meets its contract: one law for each of its tests. Assumes nothing.
+-- `session_saved::saved::parse` meets its contract: one law for each of its tests. Assumes nothing.
 use mathlib.Core.Path.{sym, _∙_}
 use borrow.Author.Needs.{needs}
 use Rattle.session_saved.proofs.SavedLaws.{state-empty, state-other, state-list}

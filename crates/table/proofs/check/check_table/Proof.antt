@@ -1,4 +1,4 @@
--- `tables::check::check_table` meets its contract: one law of CheckLaws for each answer. Assumes nothing.
+-- `table::check::check_table` meets its contract: one law of CheckLaws for each answer. Assumes nothing.
 use mathlib.Core.Path.{sym}
 use borrow.Author.Needs.{needs}
 use Rattle.table.proofs.CheckLaws.{table-past, table-bad, table-partial, table-fine}

@@ -1,4 +1,4 @@
--- `tables::check::first_bad_row` meets its contract: the first bad one of the rows from i on is that of all, until row i is bad or no row is
+-- `table::check::first_bad_row` meets its contract: the first bad one of the rows from i on is that of all, until row i is bad or no row is
 -- left. Assumes nothing.
 use Prim.Native.Nat.{_-_, _≤_}
 use borrow.Author.Needs.{needs}

@@ -1,4 +1,4 @@
--- `tables::check::four_zeros` meets its contract: four numbers of two bytes don't overflow a sum, and it is 0 where each of them is. Assumes nothing.
+-- `table::check::four_zeros` meets its contract: four numbers of two bytes don't overflow a sum, and it is 0 where each of them is. Assumes nothing.
 use borrow.Author.Needs.{needs}
 use native.Mathlib.Omega.{arith}
 use Rattle.table.proofs.RowLaws.{sum-zeros, u16-small}

@@ -1,4 +1,4 @@
--- `tables::check::numbers_good` meets its contract: the numbers from the j-th on climb from `least` as all of them do from 0, until one doesn't
+-- `table::check::numbers_good` meets its contract: the numbers from the j-th on climb from `least` as all of them do from 0, until one doesn't
 -- or none is left. Assumes nothing.
 use Prim.Native.Nat.{_-_, _≤_}
 use borrow.Author.Needs.{needs}

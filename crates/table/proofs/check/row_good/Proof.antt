@@ -1,4 +1,4 @@
--- `tables::check::row_good` meets its contract: one law of RowLaws for each test that decides. Assumes nothing.
+-- `table::check::row_good` meets its contract: one law of RowLaws for each test that decides. Assumes nothing.
 use mathlib.Core.Path.{sym, _∙_}
 use borrow.Author.Needs.{needs}
 use borrow.Author.Tests.{not-true, not-false}

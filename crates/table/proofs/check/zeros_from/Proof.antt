@@ -1,4 +1,4 @@
--- `tables::check::zeros_from` meets its contract: the numbers from the j-th on are 0 as all of them are, until one isn't or none is left.
+-- `table::check::zeros_from` meets its contract: the numbers from the j-th on are 0 as all of them are, until one isn't or none is left.
 -- Assumes nothing.
 use Prim.Native.Nat.{_-_, _≤_}
 use borrow.Author.Needs.{needs}

@@ -1,4 +1,4 @@
--- `tables::check::zeros_good` meets its contract: the numbers from the j-th on are 0 as all unused ones are, until four aren't or fewer are left.
+-- `table::check::zeros_good` meets its contract: the numbers from the j-th on are 0 as all unused ones are, until four aren't or fewer are left.
 -- Assumes nothing.
 use Prim.Native.Nat.{_-_, _≤_}
 use borrow.Author.Needs.{needs}

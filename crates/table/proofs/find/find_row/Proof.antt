@@ -1,4 +1,4 @@
--- `tables::find::find_row` meets its contract: what is found from row i on is what is found at all, until a row has the hash or no row is left.
+-- `table::find::find_row` meets its contract: what is found from row i on is what is found at all, until a row has the hash or no row is left.
 -- Assumes nothing.
 use Prim.Native.Nat.{_*_, _-_, _≤_}
 use borrow.Author.Needs.{needs}

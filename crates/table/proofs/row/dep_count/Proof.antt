@@ -1,4 +1,4 @@
--- `tables::row::dep_count` meets its contract: the count stands behind the hash. Assumes nothing.
+-- `table::row::dep_count` meets its contract: the count stands behind the hash. Assumes nothing.
 use Rattle.table.specs.TableBytes.{countOf}
 use borrow.Author.Needs.{needs}
 use Rattle.table.proofs.row.dep_count.Statement.{statement}

@@ -1,4 +1,4 @@
--- `graph::beyond::beyond` meets its contract: one law for each answer (CallLaws), and the rows of an accepted table are good. Assumes nothing.
+-- `table_graph::beyond::beyond` meets its contract: one law for each answer (CallLaws), and the rows of an accepted table are good. Assumes nothing.
 use mathlib.Core.Path.{_≡_, sym, _∙_}
 use native.Mathlib.Omega.{arith}
 use denote.Ref.{now}

@@ -1,4 +1,4 @@
--- `graph::beyond::mark_at_or_below` meets its contract: the list's marks, made where none was, are the base of what is below it. Assumes nothing.
+-- `table_graph::beyond::mark_at_or_below` meets its contract: the list's marks, made where none was, are the base of what is below it. Assumes nothing.
 use Rattle.table_graph.proofs.GraphMarks.{below-blank}
 use borrow.Author.Needs.{needs}
 use Rattle.table_graph.proofs.beyond.mark_at_or_below.Statement.{statement}

@@ -1,4 +1,4 @@
--- `graph::beyond::put_beyond` meets its contract: the rows that are marked when the marks are turned are those beyond the list, as many are
+-- `table_graph::beyond::put_beyond` meets its contract: the rows that are marked when the marks are turned are those beyond the list, as many are
 -- counted, and they are put where there is room. Assumes nothing.
 use native.Mathlib.Omega.{arith}
 use lib.ListN.{length-replicate}

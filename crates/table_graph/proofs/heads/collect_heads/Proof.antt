@@ -1,4 +1,4 @@
--- `graph::heads::collect_heads` meets its contract: the rows that no row needs are the heads, and they stand where they were put. Assumes nothing.
+-- `table_graph::heads::collect_heads` meets its contract: the rows that no row needs are the heads, and they stand where they were put. Assumes nothing.
 use Prim.Native.Nat.{ℕ, _*_, _≤_}
 use mathlib.Core.Bool.{Bool, false}
 use mathlib.Core.List.{List}

@@ -1,4 +1,4 @@
--- `graph::heads::mark_heads` meets its contract: the rows that aren't needed are those that no row depends on. Assumes nothing.
+-- `table_graph::heads::mark_heads` meets its contract: the rows that aren't needed are those that no row depends on. Assumes nothing.
 use Rattle.table_graph.proofs.GraphMarks.{heads-marked}
 use Rattle.table_graph.proofs.MarkLaws.{blank-or}
 use borrow.Author.Needs.{needs}

@@ -1,4 +1,4 @@
--- `graph::heads::put_heads` meets its contract: the rows that no row needs are the heads, as many are counted, and they are put where there is room.
+-- `table_graph::heads::put_heads` meets its contract: the rows that no row needs are the heads, as many are counted, and they are put where there is room.
 -- Assumes nothing.
 use Prim.Native.Nat.{_≤_}
 use mathlib.Core.Bool.{false}

@@ -1,4 +1,4 @@
--- `graph::marked::collect_marked` meets its contract: what has been put and what is left make the whole, and the index has the rows in ascending
+-- `table_graph::marked::collect_marked` meets its contract: what has been put and what is left make the whole, and the index has the rows in ascending
 -- order of hash (CollectLaws). Assumes nothing.
 use Prim.Native.Nat.{_-_, _<_}
 use native.Mathlib.Omega.{arith}

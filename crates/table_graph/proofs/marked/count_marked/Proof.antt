@@ -1,4 +1,4 @@
--- `graph::marked::count_marked` meets its contract: at each mark those before it are counted. Assumes nothing.
+-- `table_graph::marked::count_marked` meets its contract: at each mark those before it are counted. Assumes nothing.
 use Prim.Native.Nat.{_-_, _≤_}
 use mathlib.Core.Path.{_≡_}
 use native.Mathlib.Omega.{arith}

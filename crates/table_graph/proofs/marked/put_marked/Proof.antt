@@ -1,4 +1,4 @@
--- `graph::marked::put_marked` meets its contract: putting the hashes that are left behind those that were put gives the buffer that putting all
+-- `table_graph::marked::put_marked` meets its contract: putting the hashes that are left behind those that were put gives the buffer that putting all
 -- of them gives, and there is room for as many as are left. Assumes nothing.
 use Prim.Native.Nat.{_+_, _-_, _*_, _≤_}
 use mathlib.Core.Path.{_≡_, refl, _∙_}

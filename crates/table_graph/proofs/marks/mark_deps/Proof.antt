@@ -1,4 +1,4 @@
--- `graph::marks::mark_deps` meets its contract: the numbers that are left, marked after those that were, are all of them marked. A number of a
+-- `table_graph::marks::mark_deps` meets its contract: the numbers that are left, marked after those that were, are all of them marked. A number of a
 -- good row is below the row's own, so it has a mark. Assumes nothing.
 use Prim.Native.Nat.{_-_, _≤_}
 use mathlib.Core.Path.{_≡_, refl, sym, _∙_}

@@ -1,4 +1,4 @@
--- `graph::marks::mark_hash` meets its contract: the row that is found is the hash's place, and there is one if it is below the number of rows.
+-- `table_graph::marks::mark_hash` meets its contract: the row that is found is the hash's place, and there is one if it is below the number of rows.
 -- Assumes nothing.
 use Rattle.table_graph.proofs.MarkLaws.{hash-held, hash-unknown}
 use borrow.Author.Needs.{needs}

@@ -1,4 +1,4 @@
--- `graph::marks::mark_list` meets its contract: the hashes that are left, marked after those that were, are all of them marked; and where no
+-- `table_graph::marks::mark_list` meets its contract: the hashes that are left, marked after those that were, are all of them marked; and where no
 -- two rows have one hash, a row is marked exactly if its hash stands in the list (MarkLaws). Assumes nothing.
 use Prim.Native.Nat.{_+_, _-_, _*_, _≤_}
 use mathlib.Core.Path.{_≡_, refl, sym, _∙_}

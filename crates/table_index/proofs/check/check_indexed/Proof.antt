@@ -1,4 +1,4 @@
--- `index::check::check_indexed` meets its contract: beside an index that fits the rows' own bytes decide, beside another one the scan does
+-- `table_index::check::check_indexed` meets its contract: beside an index that fits the rows' own bytes decide, beside another one the scan does
 -- (CheckLaws). Assumes nothing.
 use mathlib.Core.Path.{sym, _∙_}
 use borrow.Author.Tests.{not-true, not-false}

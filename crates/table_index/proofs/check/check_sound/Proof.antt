@@ -1,4 +1,4 @@
--- `index::check::check_sound` meets its contract: one law of CheckLaws for each answer. Assumes nothing.
+-- `table_index::check::check_sound` meets its contract: one law of CheckLaws for each answer. Assumes nothing.
 use mathlib.Core.Path.{sym}
 use borrow.Author.Needs.{needs}
 use Rattle.table_index.proofs.CheckLaws.{sound-past, sound-bad, sound-partial, sound-fine}

@@ -1,4 +1,4 @@
--- `index::check::check_unfit` meets its contract: the table's own refusal goes first. Assumes nothing.
+-- `table_index::check::check_unfit` meets its contract: the table's own refusal goes first. Assumes nothing.
 use mathlib.Core.Path.{sym, _∙_}
 use Rattle.table_index.proofs.CheckLaws.{unfit-refused, unfit-good}
 use borrow.Author.Needs.{needs}

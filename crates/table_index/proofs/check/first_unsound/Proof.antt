@@ -1,4 +1,4 @@
--- `index::check::first_unsound` meets its contract: the first unsound one of the rows from i on is that of all, until row i is one or no row
+-- `table_index::check::first_unsound` meets its contract: the first unsound one of the rows from i on is that of all, until row i is one or no row
 -- is left. Assumes nothing.
 use Prim.Native.Nat.{_-_, _≤_}
 use borrow.Author.Needs.{needs}

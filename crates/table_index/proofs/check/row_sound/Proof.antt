@@ -1,4 +1,4 @@
--- `index::check::row_sound` meets its contract: one law of CheckLaws for each test that decides. Assumes nothing.
+-- `table_index::check::row_sound` meets its contract: one law of CheckLaws for each test that decides. Assumes nothing.
 use mathlib.Core.Path.{sym, _∙_}
 use borrow.Author.Tests.{not-true, not-false}
 use Rattle.table_index.proofs.CheckLaws.{sound-many, sound-numbers, sound-zeros}

@@ -1,4 +1,4 @@
--- `index::fit::entries_fit` meets its contract: what the entries from the i-th on say behind the last one is what all of them say, until one
+-- `table_index::fit::entries_fit` meets its contract: what the entries from the i-th on say behind the last one is what all of them say, until one
 -- doesn't fit or none is left. Assumes nothing.
 use Prim.Native.Nat.{_-_, _≤_, _<_}
 use mathlib.Core.Path.{_≡_, sym, _∙_}

@@ -1,4 +1,4 @@
--- `index::fit::index_fits` meets its contract: as many bytes as two for each row, then the entries decide. Assumes nothing.
+-- `table_index::fit::index_fits` meets its contract: as many bytes as two for each row, then the entries decide. Assumes nothing.
 use mathlib.Core.Path.{sym, _∙_}
 use Rattle.table_index.proofs.FitLaws.{index-odd, index-even}
 use borrow.Author.Needs.{needs}

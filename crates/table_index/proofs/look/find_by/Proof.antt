@@ -1,4 +1,4 @@
--- `index::look::find_by` meets its contract: the record at the hash's place has it, or none has it, since each is named (HalveLaws). Assumes
+-- `table_index::look::find_by` meets its contract: the record at the hash's place has it, or none has it, since each is named (HalveLaws). Assumes
 -- nothing.
 use Prim.Native.Nat.{_+_, _*_, _≤_}
 use mathlib.Core.Path.{sym, _∙_}

@@ -1,4 +1,4 @@
--- `index::look::look_up` meets its contract: change rows are records that begin with their hash (HalveLaws). Assumes nothing.
+-- `table_index::look::look_up` meets its contract: change rows are records that begin with their hash (HalveLaws). Assumes nothing.
 use native.Mathlib.Omega.{arith}
 use Rattle.table_index.proofs.HalveLaws.{fit-records, rows-are-records}
 use Rattle.table_index.proofs.look.look_up.Statement.{statement}

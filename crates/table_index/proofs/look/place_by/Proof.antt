@@ -1,4 +1,4 @@
--- `index::look::place_by` meets its contract: the place lies between low and high, and the entry in the middle tells on which side (HalveLaws).
+-- `table_index::look::place_by` meets its contract: the place lies between low and high, and the entry in the middle tells on which side (HalveLaws).
 -- Assumes nothing.
 use Prim.Native.Nat.{_+_, _-_, _*_, _/_, _≤_, _<_}
 use mathlib.Core.List.{map}

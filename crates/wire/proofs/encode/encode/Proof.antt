@@ -1,4 +1,4 @@
--- `writing::encode::encode` meets its contract: the count and the bytes put after it are both put at once. Assumes nothing.
+-- `wire::encode::encode` meets its contract: the count and the bytes put after it are both put at once. Assumes nothing.
 use Prim.Native.Nat.{ℕ, _+_}
 use mathlib.Core.List.{List, _++_}
 use mathlib.Core.Path.{_≡_, ap, _∙_}

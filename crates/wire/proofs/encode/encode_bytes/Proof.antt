@@ -1,4 +1,4 @@
--- `writing::encode::encode_bytes` meets its contract: a prefixed string is its length and its bytes. Assumes nothing.
+-- `wire::encode::encode_bytes` meets its contract: a prefixed string is its length and its bytes. Assumes nothing.
 use Rattle.wire.specs.Item.{prefixedBytes}
 use borrow.Author.Needs.{needs}
 use Rattle.wire.proofs.encode.encode_bytes.Statement.{statement}

@@ -1,4 +1,4 @@
--- `writing::encode::encode_hashes` meets its contract: bytes that are whole hashes are the bytes of the hashes that stand in them. Assumes
+-- `wire::encode::encode_hashes` meets its contract: bytes that are whole hashes are the bytes of the hashes that stand in them. Assumes
 -- nothing.
 use Prim.Native.Nat.{ℕ, _+_, _*_, _≤_}
 use mathlib.Core.List.{List, _++_}

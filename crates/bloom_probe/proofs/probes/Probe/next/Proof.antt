@@ -1,4 +1,4 @@
--- `probe::probes::Probe::next` meets its contract: both steps return their remainders, x by the y before it. Assumes nothing.
+-- `bloom_probe::probes::Probe::next` meets its contract: both steps return their remainders, x by the y before it. Assumes nothing.
 use borrow.Author.Needs.{needs}
 use Rattle.bloom_probe.proofs.probes.Probe.next.Statement.{statement}
 use Rattle.bloom_probe.proofs.probes.Probe.next.Tie as tie

@@ -1,4 +1,4 @@
--- `replay::walk::Counts::add` meets its contract, which says what the code does; `Room` has the sums fit. Assumes nothing.
+-- `sample_replay::walk::Counts::add` meets its contract, which says what the code does; `Room` has the sums fit. Assumes nothing.
 use native.Mathlib.Omega.{arith}
 use borrow.Author.Needs.{needs}
 use Rattle.sample_replay.proofs.walk.Counts.add.Statement.{statement}

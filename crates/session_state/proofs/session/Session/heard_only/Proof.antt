@@ -1,4 +1,4 @@
--- `state::session::Session::heard_only` meets its contract: field by field. Assumes nothing.
+-- `session_state::session::Session::heard_only` meets its contract: field by field. Assumes nothing.
 use mathlib.Core.Path.{refl}
 use Rattle.session_state.proofs.session.Session.heard_only.Statement.{statement}
 use Rattle.session_state.proofs.session.Session.heard_only.Tie as tie

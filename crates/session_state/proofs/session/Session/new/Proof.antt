@@ -1,4 +1,4 @@
--- `state::session::Session::new` meets its contract: nothing was heard. Assumes nothing.
+-- `session_state::session::Session::new` meets its contract: nothing was heard. Assumes nothing.
 use borrow.Author.Needs.{needs}
 use Rattle.session_state.proofs.session.Session.new.Statement.{statement}
 use Rattle.session_state.proofs.session.Session.new.Tie as tie

@@ -1,4 +1,4 @@
--- `state::session::Session::new_read_only` meets its contract: a new session, read-only. Assumes nothing.
+-- `session_state::session::Session::new_read_only` meets its contract: a new session, read-only. Assumes nothing.
 use borrow.Author.Needs.{needs}
 use Rattle.session_state.proofs.session.Session.new_read_only.Statement.{statement}
 use Rattle.session_state.proofs.session.Session.new_read_only.Tie as tie

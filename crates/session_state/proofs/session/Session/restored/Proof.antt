@@ -1,4 +1,4 @@
--- `state::session::Session::restored` meets its contract: a session that heard haves only, with its shared heads. Assumes nothing.
+-- `session_state::session::Session::restored` meets its contract: a session that heard haves only, with its shared heads. Assumes nothing.
 use borrow.Author.Needs.{needs}
 use Rattle.session_state.proofs.session.Session.restored.Statement.{statement}
 use Rattle.session_state.proofs.session.Session.restored.Tie as tie

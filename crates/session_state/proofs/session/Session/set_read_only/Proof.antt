@@ -1,4 +1,4 @@
--- `state::session::Session::set_read_only` meets its contract: one law for each way through the two tests. Assumes nothing.
+-- `session_state::session::Session::set_read_only` meets its contract: one law for each way through the two tests. Assumes nothing.
 use mathlib.Core.Path.{sym}
 use Rattle.session_state.proofs.CountsLaws.{counts-same, counts-on, counts-off}
 use borrow.Author.Needs.{needs}
