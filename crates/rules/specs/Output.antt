@@ -34,7 +34,7 @@ abbrev pub contentOf : Output → List ℕ → List ℕ
 contentOf (bytes l) before = cond (ltb (length before) (length l)) before (sets before 0 l)
 contentOf (refuse r) before = before
 
--- Both together, which is what a writing call ensures.
+-- The answer and the buffer at exit together, which is what a writing call ensures.
 pub record Written (o : Output) (before after : List ℕ) (r : Write) : Type 0 where
   pub answer : r ≡ answerOf o (length before)
   pub content : after ≡ contentOf o before

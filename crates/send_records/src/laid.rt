@@ -9,7 +9,7 @@ ghost use Rattle.send_records.specs.Internal.RecordsLaid.{nothingLaid, w
 // Haves that are laid at most: one more than a list may have, so that a list that is too long is seen to be.
 pub const LAID_HAVES: usize = HAVES + 1;
 
-// Their words.
+// The words of the haves that are laid at most.
 pub const LAID_WORDS: usize = LAID_HAVES * HAVE_WORDS;
 
 // The words of the first haves, and how many haves that is.

@@ -79,7 +79,7 @@ pub data Walk01 (bits probes : ℕ → ℕ) (L : ℕ → List ℕ) (A B : List R
 abbrev pub Walk01Walks : Type 0
 Walk01Walks = (bits probes : ℕ → ℕ) (L : ℕ → List ℕ) (A B : List Row) → GoodTable A → Part A B → (k : ℕ) (s : At) → Walk01 bits probes L A B k s → Walk A B k s
 
--- Each of its rounds is a round.
+-- Each round of 01's walk is a round.
 abbrev pub Round01Rounds : Type 0
 Round01Rounds = (bits probes : ℕ) (A : List Row) (heard l : List ℕ) (s : At) (haves : List Have) (reply : List ℕ) (s′ : At)
     → Round01 bits probes A heard l s haves reply s′

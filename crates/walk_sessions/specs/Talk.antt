@@ -111,7 +111,7 @@ module _ (bits probes : ℕ) (A : List Row) (B : ℕ → List Row) (W U : ℕ �
   pub record Granted (k : ℕ) : Type 0 where
     -- the reply goes by list
     pub list : (q : Plan) (s : State) → answered k (pairAt k) ≡ Planned.says q s → q .body .document ≡ false
-    -- its message is within its size; B's always is
+    -- the message that has the reply is within its size; B's message always is
     pub small : length (bytesFor (hosts k) (answered k (pairAt k))) ≤ sizes .message
     -- the reply loads, and what waits then is within its limit
     pub loads : Loads A (B k) (W k) (goes (answered k (pairAt k))) (B (suc k)) (W (suc k))
@@ -163,7 +163,7 @@ module _ (bits probes : ℕ) (A : List Row) (B : ℕ → List Row) (W U : ℕ �
   pub record Statement2 : Type 0 where
     -- in every round that is reached inside what is granted B speaks the walk's words, A hears them and answers, by list with the walk's reply
     pub stated : (k : ℕ) → Underway k → WalkStated k
-    -- and B hears it
+    -- in every round that is reached and granted B takes A's answer
     pub taken : (k : ℕ) → Underway k → Granted k → (s : State) × (toB k (pairAt k) ≡ Received.took s)
 
   -- The user's words: if all is granted in each round that is reached, there is a last one.
@@ -173,10 +173,10 @@ module _ (bits probes : ℕ) (A : List Row) (B : ℕ → List Row) (W U : ℕ �
     pub bound : last ≤ m
     pub reached : Reached last
     pub holds : holdsAll A (B (suc last)) ≡ true
-    -- each of them was said: none is a reset, none refused, none missing
+    -- each message was said: none is a reset, none refused, none missing
     pub asks : (k : ℕ) → k ≤ last → (q : Plan) × (s : State) × (asked k (pairAt k) ≡ Planned.says q s)
     pub answers : (k : ℕ) → k ≤ last → (q : Plan) × (s : State) × (answered k (pairAt k) ≡ Planned.says q s)
-    -- and taken at the other end
+    -- each message was taken at the other end
     pub hears : (k : ℕ) → k ≤ last → (s : State) × (toA k (pairAt k) ≡ Received.took s)
     pub takes : (k : ℕ) → k ≤ last → (s : State) × (toB k (pairAt k) ≡ Received.took s)
     -- the messages carry m rows in all, those that the validator lacked

@@ -37,7 +37,7 @@ unfoldable pub laidMany : ℕ → List HaveSummary → Laid → Laid
 laidMany zero hs l = l
 laidMany (suc k) hs l = laidMany k hs (laidOne hs l)
 
--- As many as there is room for, and more.
+-- How many steps lay the haves: more than there is room for.
 abbrev pub laidSteps : ℕ
 laidSteps = 20
 
