@@ -133,7 +133,7 @@ module _ (bits probes : ℕ) (A : List Row) (B : ℕ → List Row) (W U : ℕ �
   pub record Statement2 : Type 0 where
     -- in every round that is reached inside what is granted B speaks the walk's words, A hears them and answers, by list with the walk's reply
     pub stated : (k : ℕ) → Underway k → WalkStated k
-    -- in such a round B takes A's answer
+    -- in every round that is reached and granted B takes A's answer
     pub taken : (k : ℕ) → Underway k → Granted k → (s : State) × (toB k (pairAt k) ≡ Received.took s)
 
   -- The user's words: if all is granted in each round that is reached, there is a last one.
