@@ -33,8 +33,10 @@ use Rattle.table.specs.TableCalls.{afterCheck, passedOn}
 use Rattle.table.specs.Table.{Row, GoodTable, hashOf}
 use Rattle.table.specs.declared.check.Checked.the-variants.{Good, Refused}
 use Rattle.table.specs.declared.check.Checked.{Checked}
-use Rattle.table_index_build.specs.Indexing.{entryLimit, indexBytes, builtOutput, fitsButLast, extendedOutput}
-use Rattle.table_index_build.proofs.ExtendLaws.{u16-same, index-next}
+use Rattle.table_index_build.specs.Indexing.{indexBytes, builtOutput, fitsButLast, extendedOutput}
+use Rattle.table_index_build.proofs.ExtendLaws.{index-next}
+use Rattle.table_order.proofs.EntryLaws.{u16-same}
+use Rattle.table_order.specs.Internal.Merging.{entryLimit}
 
 -- ---- entries and their bytes
 

@@ -6,7 +6,6 @@ use mathlib.Core.Path.{_≡_}
 use lib.Dec.{ltb}
 use lib.ListN.{getD}
 use Rattle.table_index.specs.Index.{put, indexOf, indexFits}
-use Rattle.rules.specs.LittleEndian.{u16At}
 use Rattle.rules.specs.Output.{Output}
 use Rattle.rules.specs.declared.refusal.Refusal.the-variants.{BadIndex}
 use Rattle.table.specs.TableBytes.{u16sAt, rowsAt, tableOf, tableChecked}
@@ -37,17 +36,7 @@ extendedOutput s x =
 
 -- ---- what internal contracts speak of
 
--- Two bytes hold the numbers below this one.
-abbrev pub entryLimit : ℕ
-entryLimit = 65536
-
 -- The bytes from a place up to an end moved up by an entry's size; those before the place as they were. What stands behind is of no account.
 pub record Shifted (before after : List ℕ) (place end : ℕ) : Type 0 where
   pub low : (j : ℕ) → j < place → getD after j 0 ≡ getD before j 0
   pub high : (j : ℕ) → place ≤ j → j < end → getD after (j + 2) 0 ≡ getD before j 0
-
--- An entry put at a place, the other bytes as they were.
-pub record EntryPut (before after : List ℕ) (at row : ℕ) : Type 0 where
-  pub is : u16At after at ≡ row
-  pub low : (j : ℕ) → j < at → getD after j 0 ≡ getD before j 0
-  pub high : (j : ℕ) → at + 2 ≤ j → getD after j 0 ≡ getD before j 0

@@ -1,7 +1,5 @@
 // The index of a change table written: made of all its rows, or of the index of all but the last.
-use crate::check::INDEX_SIZE;
 use crate::check::check_fitted;
-use crate::extend::build_by_rows;
 use crate::extend::extend;
 use rules::output::Write;
 use rules::put::copy_into;
@@ -11,6 +9,8 @@ use table::check::Checked;
 use table::check::check_table;
 use table::row::ROW_SIZE;
 use table_index::fit::index_fits;
+use table_order::entry::INDEX_SIZE;
+use table_order::merge::build_by_rows;
 ghost use mathlib.Core.Bool.{true};
 ghost use mathlib.Core.Path.{_≡_};
 ghost use Prim.Native.Nat.{_*_, _/_, _≤_};

@@ -1,5 +1,4 @@
 // A table checked by an index that is built from it.
-use crate::extend::build_by_rows;
 use rules::refusal::Refusal;
 use rules::sizes::ROWS;
 use table::check::Checked;
@@ -7,13 +6,12 @@ use table::check::check_table;
 use table::row::ROW_SIZE;
 use table_index::check::check_sound;
 use table_index::fit::entries_fit;
+use table_order::entry::INDEX_SIZE;
+use table_order::merge::build_by_rows;
 ghost use mathlib.Core.Path.{_≡_};
 ghost use Prim.Native.Nat.{_*_, _/_, _≤_};
 ghost use lib.ListN.{length};
 ghost use Rattle.table.specs.TableBytes.{rowSize, tableChecked};
-
-// Bytes of the longest index.
-pub const INDEX_SIZE: usize = 2 * ROWS;
 
 // The table's check beside entries of its n whole rows: rows are compared in pairs only where the entries don't fit.
 pub fn check_fitted(table: &[u8], index: &[u8], n: usize) -> Checked
