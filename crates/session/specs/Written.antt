@@ -49,9 +49,9 @@ abbrev pub heardHave : Have → Have
 heardHave v = record { lastSync = v .lastSync; filter = heardFilter (v .filter) }
 
 -- Haves as they are heard.
-unfoldable pub heardHaves : List Have → List Have
-heardHaves [] = []
-heardHaves (v ∷ vs) = heardHave v ∷ heardHaves vs
+unfoldable pub havesHeard : List Have → List Have
+havesHeard [] = []
+havesHeard (v ∷ vs) = heardHave v ∷ havesHeard vs
 
 -- A body has chunks if it is the document or names a hash.
 abbrev pub carries : Body → Bool
@@ -63,7 +63,7 @@ heardSaid p =
     record {
       heads = p .heads;
       need = p .need;
-      haves = heardHaves (p .haves);
+      haves = havesHeard (p .haves);
       flags = Present (p .flags);
       chunks = carries (p .body);
     }

@@ -69,7 +69,7 @@ use Rattle.walk_sessions.proofs.Sides.{Fixed, SideA, Going, not-same, h
 use Rattle.walk_sessions.proofs.Small.{mostWords}
 use Rattle.walk_sessions.proofs.Spoken.{plain-writes, plain-keeps, HeardWords, hears-as, Spoken, spoken}
 use Rattle.walk_sessions.proofs.Waits.{rows-few}
-use Rattle.session.specs.Written.{Host, chunksFor, messageFor, heardHaves, heardSaid}
+use Rattle.session.specs.Written.{Host, chunksFor, messageFor, havesHeard, heardSaid}
 
 or-swap : (x y : Bool) → (x || y) ≡ (y || x)
 or-swap true true = refl
@@ -137,7 +137,7 @@ module _ (bits probes : ℕ) (A b : List Row) (u : List Waiting) (k : ℕ) (T : 
     pub next : bodyOf A mid .document ≡ false → SideA A (suc k) (trimmed ++ bodyOf A mid .hashes) (planned A mid)
 
   module _ (fixed : Fixed bits probes A) (part : Part A b) (going : Going A b k) (inv : SideA A k T a)
-      (known : unknownSync A (some (heardHaves haves)) ≡ false) (hm : HeardWords (heads b) need haves m) where
+      (known : unknownSync A (some (havesHeard haves)) ≡ false) (hm : HeardWords (heads b) need haves m) where
     b-heads : (h : ℕ) → member h (heads b) ≡ true → held b h ≡ true
     b-heads = head-held b (part .good)
 
@@ -183,7 +183,7 @@ module _ (bits probes : ℕ) (A b : List Row) (u : List Waiting) (k : ℕ) (T : 
     unfolding received
     mid-need = ap some (hm .need-are)
 
-    mid-have : mid .theirHave ≡ some (heardHaves haves)
+    mid-have : mid .theirHave ≡ some (havesHeard haves)
     unfolding received
     mid-have = ap some (hm .haves-are)
 
@@ -255,20 +255,20 @@ module _ (bits probes : ℕ) (A b : List Row) (u : List Waiting) (k : ℕ) (T : 
           ∙ sym (keep-member (λ x. not (below A (heads b) x)) T h)
 
       -- so the hashes to send are the walk's
-      selects : toSendLess A (heardHaves haves) need (mid .sentHashes) ≡ toSendLess A haves need trimmed
+      selects : toSendLess A (havesHeard haves) need (mid .sentHashes) ≡ toSendLess A haves need trimmed
       unfolding toSendLess
       selects =
           heard-selects A haves need (mid .sentHashes) ∙ keep-same _ _ (toSend A haves need) (λ h e. ap not (mid-sent h))
 
-    mid-body : bodyOf A mid ≡ bodyFor A true (same (heads b) []) (heardHaves haves) need (mid .sentHashes)
+    mid-body : bodyOf A mid ≡ bodyFor A true (same (heads b) []) (havesHeard haves) need (mid .sentHashes)
     mid-body =
-        body-heard A mid (heardHaves haves) need mid-peer mid-have mid-need
-        ∙ ap₂ (λ (v2 : Bool) (o : Option (List ℕ)). bodyFor A v2 (heardAs [] o) (heardHaves haves) need (mid .sentHashes)) mid-v2 mid-heads
+        body-heard A mid (havesHeard haves) need mid-peer mid-have mid-need
+        ∙ ap₂ (λ (v2 : Bool) (o : Option (List ℕ)). bodyFor A v2 (heardAs [] o) (havesHeard haves) need (mid .sentHashes)) mid-v2 mid-heads
 
     few-listed : empty (heads b) ≡ false → length (toSendLess A haves need trimmed) ≤ length A / documentPart → bodyOf A mid .document ≡ false
     few-listed found few =
         ap (λ (x : Body). x .document) mid-body
-        ∙ list-short A (same (heads b) []) (heardHaves haves) need (mid .sentHashes) (found-head (heads b) found)
+        ∙ list-short A (same (heads b) []) (havesHeard haves) need (mid .sentHashes) (found-head (heads b) found)
         (rw (selects (rw (hm .heads-are) found)) few)
 
     -- ---- by list
@@ -278,10 +278,10 @@ module _ (bits probes : ℕ) (A b : List Row) (u : List Waiting) (k : ℕ) (T : 
       not-lost =
           rw (hm .heads-are)
           (some-head (heads b)
-          (list-found A _ (heardHaves haves) need (mid .sentHashes) (ap (λ (x : Body). x .document) (sym mid-body) ∙ list)))
+          (list-found A _ (havesHeard haves) need (mid .sentHashes) (ap (λ (x : Body). x .document) (sym mid-body) ∙ list)))
 
       by-list : bodyOf A mid .hashes ≡ toSendLess A haves need trimmed
-      by-list = list-hashes A mid (heardHaves haves) need mid-peer mid-have mid-need list ∙ selects not-lost
+      by-list = list-hashes A mid (havesHeard haves) need mid-peer mid-have mid-need list ∙ selects not-lost
 
       stands : SideA A (suc k) (trimmed ++ bodyOf A mid .hashes) (planned A mid)
       unfolding planned

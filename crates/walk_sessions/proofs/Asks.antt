@@ -54,7 +54,7 @@ use Rattle.walk.specs.Walk.{heardIn}
 use Rattle.walk_sessions.proofs.Sides.{Fixed, HeardBefore, nothing, said, SideB, Going, not-same, heads-apart}
 use Rattle.walk_sessions.proofs.Spoken.{HeardWords, Spoken, spoken}
 use Rattle.walk_sessions.proofs.Waits.{part-sound, part-few, missing-sound}
-use Rattle.session.specs.Written.{Host, messageFor, heardHave, heardHaves, heardSaid}
+use Rattle.session.specs.Written.{Host, messageFor, heardHave, havesHeard, heardSaid}
 
 -- ---- pieces of a plan
 
@@ -106,7 +106,7 @@ module _ (bits probes : ℕ) (A b : List Row) (w : List Waiting) (k : ℕ) (s : 
     pub crosses : (host : Host) (before : ℕ) (t : List Row) (r : State) → before ≤ length t
         → receiveBytes true before t r (messageBytes (messageFor host q)) ≡ receive true before t r (heardSaid q)
     -- A knows its last-sync hashes
-    pub known : unknownSync A (some (heardHaves haves)) ≡ false
+    pub known : unknownSync A (some (havesHeard haves)) ≡ false
 
   module _ (fixed : Fixed bits probes A) (going : Going A b k) (inv : SideB A b w k s) where
     heard-is : (k : ℕ) → HeardBefore A b s k → heard (s .theirHeads) ≡ heardIn k A
@@ -178,8 +178,8 @@ module _ (bits probes : ℕ) (A b : List Row) (w : List Waiting) (k : ℕ) (s : 
         (speaks k going (inv .heard-so))
         (rw sent-none (omega arith))
 
-    sync-held : unknownSync A (some (heardHaves haves)) ≡ false
-    unfolding heardHaves haveOf unknownSync
+    sync-held : unknownSync A (some (havesHeard haves)) ≡ false
+    unfolding havesHeard haveOf unknownSync
     sync-held =
         split (every (λ x. member x (heardIn k A)) need)
         (λ e.

@@ -26,7 +26,7 @@ use Rattle.send.specs.ToSend.{toSend, toSendLess}
 use Rattle.session.specs.Plan.{Plan}
 use Rattle.session_state.specs.Session.{State}
 use Rattle.table.specs.Table.{Row, hashOf, depsOf, rowsWhere}
-use Rattle.session.specs.Written.{Host, messageFor, heardFilter, heardHave, heardHaves, heardSaid}
+use Rattle.session.specs.Written.{Host, messageFor, heardFilter, heardHave, havesHeard, heardSaid}
 use Rattle.session.proofs.WrittenLaws.{chunks-carried}
 
 -- ---- filters over no rows
@@ -73,18 +73,18 @@ heardMessage m =
       version = m .version;
       heads = m .heads;
       need = m .need;
-      haves = heardHaves (m .haves);
+      haves = havesHeard (m .haves);
       chunks = m .chunks;
       flags = m .flags;
     }
 
-pub length-heard : (vs : List Have) → length (heardHaves vs) ≡ length vs
-unfolding heardHaves
+pub length-heard : (vs : List Have) → length (havesHeard vs) ≡ length vs
+unfolding havesHeard
 length-heard [] = refl
 length-heard (v ∷ vs) = ap suc (length-heard vs)
 
-heard-joined : (vs : List Have) → joined haveBytes (heardHaves vs) ≡ joined haveBytes vs
-unfolding heardHaves joined haveBytes
+heard-joined : (vs : List Have) → joined haveBytes (havesHeard vs) ≡ joined haveBytes vs
+unfolding havesHeard joined haveBytes
 heard-joined [] = refl
 heard-joined (v ∷ vs) = rw (heard-filter-bytes (v .filter), heard-joined vs)
 
@@ -93,13 +93,13 @@ pub heard-bytes : (m : Message) → messageBytes (heardMessage m) ≡ messageByt
 unfolding messageBytes counted
 heard-bytes m = rw (length-heard (m .haves), heard-joined (m .haves))
 
-all-said : (vs : List Have) → Each HaveReadsBack (heardHaves vs)
-unfolding Each heardHaves
+all-said : (vs : List Have) → Each HaveReadsBack (havesHeard vs)
+unfolding Each havesHeard
 all-said [] = tt
 all-said (v ∷ vs) = (heard-said (v .filter), all-said vs)
 
-pub all-sound : (vs : List Have) → Each SoundHave vs → Each SoundHave (heardHaves vs)
-unfolding Each heardHaves
+pub all-sound : (vs : List Have) → Each SoundHave vs → Each SoundHave (havesHeard vs)
+unfolding Each havesHeard
 all-sound [] e = tt
 all-sound (v ∷ vs) e = (heard-sound v (e .0), all-sound vs (e .1))
 
@@ -138,13 +138,13 @@ crosses host p sound flags loaded before t s inside =
 
 -- ---- selection doesn't see the difference
 
-heard-syncs : (vs : List Have) → lastSyncs (heardHaves vs) ≡ lastSyncs vs
-unfolding lastSyncs heardHaves
+heard-syncs : (vs : List Have) → lastSyncs (havesHeard vs) ≡ lastSyncs vs
+unfolding lastSyncs havesHeard
 heard-syncs [] = refl
 heard-syncs (v ∷ vs) = rw (heard-syncs vs)
 
-heard-any : (vs : List Have) (h : ℕ) → anyContains (filters (heardHaves vs)) h ≡ anyContains (filters vs) h
-unfolding filters anyContains heardHaves
+heard-any : (vs : List Have) (h : ℕ) → anyContains (filters (havesHeard vs)) h ≡ anyContains (filters vs) h
+unfolding filters anyContains havesHeard
 heard-any [] h = refl
 heard-any (v ∷ vs) h = rw (heard-contains (v .filter) h, heard-any vs h)
 
@@ -158,17 +158,17 @@ selected-is : (t : List Row) (vs : List Have) → theS t vs ≡ selected t (last
 unfolding theS inTheS missed candidate
 selected-is t vs = refl
 
-heard-s : (t : List Row) (vs : List Have) → theS t (heardHaves vs) ≡ theS t vs
+heard-s : (t : List Row) (vs : List Have) → theS t (havesHeard vs) ≡ theS t vs
 heard-s t vs =
-    selected-is t (heardHaves vs)
+    selected-is t (havesHeard vs)
     ∙ ap₂ (selected t) (heard-syncs vs) (fun-ext (heard-any vs))
     ∙ sym (selected-is t vs)
 
-heard-send : (t : List Row) (vs : List Have) (need : List ℕ) → toSend t (heardHaves vs) need ≡ toSend t vs need
-unfolding toSend heardHaves
+heard-send : (t : List Row) (vs : List Have) (need : List ℕ) → toSend t (havesHeard vs) need ≡ toSend t vs need
+unfolding toSend havesHeard
 heard-send t [] need = refl
 heard-send t (v ∷ vs) need = rw (heard-s t (v ∷ vs))
 
-pub heard-selects : (t : List Row) (vs : List Have) (need sent : List ℕ) → toSendLess t (heardHaves vs) need sent ≡ toSendLess t vs need sent
+pub heard-selects : (t : List Row) (vs : List Have) (need sent : List ℕ) → toSendLess t (havesHeard vs) need sent ≡ toSendLess t vs need sent
 unfolding toSendLess
 heard-selects t vs need sent = rw (heard-send t vs need)

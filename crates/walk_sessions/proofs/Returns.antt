@@ -32,7 +32,7 @@ use Rattle.walk_sessions.proofs.Message.{heard-contains}
 use Rattle.walk_sessions.proofs.Sides.{Fixed, said, SideB}
 use Rattle.walk_sessions.proofs.Spoken.{plain-writes, HeardWords}
 use Rattle.walk_sessions.proofs.Waits.{Waits, rows-few, part-sound}
-use Rattle.session.specs.Written.{heardHave, heardHaves}
+use Rattle.session.specs.Written.{heardHave, havesHeard}
 
 -- B's table b and what waits there become b′ and w′; s is its session before the round, and m is what it hears of A
 module _ (A b : List Row) (w : List Waiting) (b′ : List Row) (w′ : List Waiting) (k : ℕ) (s : State) (m : Said) where
@@ -130,7 +130,7 @@ module _ (A b : List Row) (w : List Waiting) (b′ : List Row) (w′ : List Wait
         }
 
     one-have : m .haves ≡ heardHave (haveOf bits probes A (heads b)) ∷ []
-    unfolding heardHaves
+    unfolding havesHeard
     one-have = hm .haves-are
 
     sent-none : sentLeft b′ asking m ≡ []

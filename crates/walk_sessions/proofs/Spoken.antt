@@ -32,7 +32,7 @@ use Rattle.wire.specs.Item.{prefixedBytes}
 use Rattle.walk_sessions.proofs.Message.{all-sound, length-heard, crosses}
 use Rattle.walk_sessions.proofs.Sides.{Fixed}
 use Rattle.walk_sessions.proofs.Small.{mostWords, message-fits, no-chunk-small}
-use Rattle.session.specs.Written.{Host, chunksFor, messageFor, heardHaves, heardSaid}
+use Rattle.session.specs.Written.{Host, chunksFor, messageFor, havesHeard, heardSaid}
 use Rattle.session.proofs.WrittenLaws.{chunks-few, no-chunks}
 
 -- Flags that say neither read-only nor reset.
@@ -51,7 +51,7 @@ plain-keeps = refl
 pub record HeardWords (heads need : List ℕ) (haves : List Have) (m : Said) : Type 0 where
   pub heads-are : m .heads ≡ heads
   pub need-are : m .need ≡ need
-  pub haves-are : m .haves ≡ heardHaves haves
+  pub haves-are : m .haves ≡ havesHeard haves
   pub flags-are : m .flags ≡ Present plainFlags
   pub sound : SoundSaid m
 
@@ -61,7 +61,7 @@ hears-as x e f =
     record {
       heads-are = x .heads-are;
       need-are = x .need-are ∙ e;
-      haves-are = x .haves-are ∙ ap heardHaves f;
+      haves-are = x .haves-are ∙ ap havesHeard f;
       flags-are = x .flags-are;
       sound = x .sound;
     }
@@ -174,7 +174,7 @@ module _ (bits probes : ℕ) (t : List Row) (w : List Waiting) (s : State) where
         record {
           heads-are = plan-heads;
           need-are = plan-need;
-          haves-are = ap heardHaves plan-haves;
+          haves-are = ap havesHeard plan-haves;
           flags-are = ap Present plan-flags;
           sound =
               record {
