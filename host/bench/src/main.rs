@@ -15,6 +15,7 @@ mod message;
 mod runs;
 mod selection;
 mod session;
+mod steep;
 mod tables;
 mod wire;
 
@@ -33,6 +34,7 @@ fn main() -> ExitCode {
         message::measure_all();
         selection::measure_all();
         session::measure_all();
+        steep::measure_all();
         return ExitCode::SUCCESS;
     }
     let processor = std::env::consts::ARCH;

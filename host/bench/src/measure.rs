@@ -18,6 +18,9 @@ pub const REST: &str = ": rest";
 /// against earlier ones, and don't follow the limits.
 pub const SIZES: [(&str, usize); 3] = [("64 rows", 64), ("256 rows", 256), ("1,024 rows", 1_024)];
 
+/// How many copies of what the crate takes away or changes are made at a time.
+pub const AT_A_TIME: usize = 8;
+
 /// What is measured.
 pub struct Line<'a> {
     pub name: &'a str,

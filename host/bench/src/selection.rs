@@ -9,7 +9,7 @@ use compare::inputs::index::index_of;
 use compare::inputs::selection::lend;
 use compare::inputs::table::{table_bytes, Likeness, Shape};
 use compare::inputs::Random;
-use compare::model::have::OwnHave;
+use compare::model::have::{OwnHave, HAVE_WORDS};
 use compare::model::table::{Hash, HASH};
 use compare::published;
 use compare::tables::document;
@@ -40,7 +40,9 @@ struct Choice {
     table: Vec<u8>,
     index: Vec<u8>,
     s: Vec<u8>,
-    haves: Vec<u64>,
+    /// In as many orders as there are haves: each begins with another one, so that no
+    /// branch is learned from one order alone.
+    haves: Vec<Vec<u64>>,
     need: Hash,
     document: Automerge,
     published: Vec<Have>,
@@ -60,6 +62,11 @@ impl Choice {
         let (s, haves) = lend(&haves, &mut random);
         let document = document(&table, &[]);
         let published = published::haves(&s, &haves);
+        let turned = |k: usize| {
+            let (first, last) = haves.split_at(HAVE_WORDS * k);
+            [last, first].concat()
+        };
+        let haves = (0..count).map(turned).collect();
         let need = hashes[rows / 2];
         let chosen = hashes_to_send(&document, &published, &[ChangeHash(need)]);
         let choice = Choice {
@@ -79,16 +86,18 @@ impl Choice {
     /// Both sides choose the same, and neither everything nor nothing.
     fn compare(&self) {
         let mut out = vec![0; TO_SEND_SIZE];
-        let written = self.library(&mut out) as usize;
         let chosen: Vec<u8> = self.chosen.iter().flat_map(|hash| hash.0).collect();
-        assert_eq!(out[..written], chosen);
+        for haves in &self.haves {
+            let written = self.library(haves, &mut out) as usize;
+            assert_eq!(out[..written], chosen);
+        }
         let rows = self.document.rows().len();
         assert!((rows / 8..rows).contains(&self.chosen.len()));
     }
 
-    fn library(&self, out: &mut [u8]) -> u64 {
+    fn library(&self, haves: &[u64], out: &mut [u8]) -> u64 {
         let (table, index) = (black_box(&self.table), black_box(&self.index));
-        let (s, haves) = (black_box(&self.s), &self.haves);
+        let s = black_box(&self.s);
         let [first, written, ..] = raw::hashes_to_send(table, index, s, haves, &self.need, out);
         assert_eq!(first, 0);
         written
@@ -97,8 +106,10 @@ impl Choice {
     /// A run's number is how many bytes the hashes have.
     fn whole(&self, name: &str, size: &str) {
         let mut out = vec![0; TO_SEND_SIZE];
+        let mut orders = self.haves.iter().cycle();
         let library = || {
-            let written = self.library(&mut out);
+            let haves = orders.next().expect("haves in some order");
+            let written = self.library(haves, &mut out);
             black_box(&out);
             written
         };

@@ -3,7 +3,7 @@
 //! message brings, which here is the host's to do; both are measured apart, as the rest.
 //! The host's index is ready: what it takes to build and extend one stands with the tables.
 
-use crate::measure::{line_of, Line, SIZES};
+use crate::measure::{line_of, Line, AT_A_TIME, SIZES};
 use bisquetower::limits::{HAVES_SIZE, HAVES_WORDS, HAVE_SIZE, LIST_SIZE, TO_SEND_SIZE};
 use bisquetower::raw;
 use compare::inputs::index::index_of;
@@ -37,9 +37,6 @@ const CATCH_UPS: [(&str, &str, Shape, usize, &[usize]); 4] = [
     ("catch up 300", "catch up 300: rest", NARROW, 300, &[2]),
     ("catch wide 10", "catch wide 10: rest", WIDE, 10, &[0, 1, 2]),
 ];
-
-/// How many copies of what the crate takes away or changes are made at a time.
-const AT_A_TIME: usize = 8;
 
 type Measure = fn(&Talk, &str, &str);
 
@@ -83,13 +80,13 @@ pub fn measure_all() {
 }
 
 /// A table and its index, as a host keeps them.
-struct Indexed {
-    table: Vec<u8>,
-    index: Vec<u8>,
+pub struct Indexed {
+    pub table: Vec<u8>,
+    pub index: Vec<u8>,
 }
 
 impl Indexed {
-    fn of(document: &Automerge) -> Indexed {
+    pub fn of(document: &Automerge) -> Indexed {
         let table = table_of(document);
         let index = index_of(&table);
         Indexed { table, index }
@@ -98,17 +95,17 @@ impl Indexed {
 
 /// A session and the buffers that a host keeps for it and for what it says, each as
 /// long as it may have to be.
-struct Desk {
-    words: [u64; WORDS],
+pub struct Desk {
+    pub words: [u64; WORDS],
     hashes: [Vec<u8>; 5],
     haves: Vec<u64>,
     bytes: Vec<u8>,
-    said: [Vec<u8>; 4],
+    pub said: [Vec<u8>; 4],
     message: Vec<u8>,
 }
 
 impl Desk {
-    fn fresh() -> Desk {
+    pub fn fresh() -> Desk {
         Desk {
             words: [0; WORDS],
             hashes: [(); 5].map(|()| vec![0; LIST_SIZE]),
@@ -119,7 +116,7 @@ impl Desk {
         }
     }
 
-    fn plan(&mut self, lent: &Indexed, waiting: &[u8]) -> [u64; ANSWER_WORDS] {
+    pub fn plan(&mut self, lent: &Indexed, waiting: &[u8]) -> [u64; ANSWER_WORDS] {
         let [shared, last_sent, their_heads, their_need, sent] = &mut self.hashes;
         let [heads, need, have, list] = &mut self.said;
         raw::plan(
@@ -160,7 +157,22 @@ impl Desk {
         answer[1] as usize
     }
 
-    fn receive(&mut self, lent: &Indexed, before: usize, message: &[u8]) {
+    /// Takes a session over, all but its haves, of which it has none.
+    pub fn lay(&mut self, lent: &Lent) {
+        let lists = [
+            &lent.shared,
+            &lent.last_sent,
+            &lent.their_heads,
+            &lent.their_need,
+            &lent.sent,
+        ];
+        self.words = lent.words;
+        for (buffer, list) in self.hashes.iter_mut().zip(lists) {
+            buffer[..list.len()].copy_from_slice(list);
+        }
+    }
+
+    pub fn receive(&mut self, lent: &Indexed, before: usize, message: &[u8]) {
         assert_eq!(self.hear(lent, before, message), [0; 4]);
     }
 
@@ -282,18 +294,8 @@ impl Talk {
         let step = &self.steps[step];
         let lent = Lent::laid(&step.hearer);
         let mut desk = Desk::fresh();
-        let lists = [
-            &lent.shared,
-            &lent.last_sent,
-            &lent.their_heads,
-            &lent.their_need,
-            &lent.sent,
-        ];
         let library = || {
-            desk.words = lent.words;
-            for (buffer, list) in desk.hashes.iter_mut().zip(lists) {
-                buffer[..list.len()].copy_from_slice(list);
-            }
+            desk.lay(&lent);
             desk.receive(black_box(&step.after), step.before, &step.message);
             black_box(&desk.hashes);
             desk.heads()

@@ -3,6 +3,7 @@
 
 use crate::refusal::Refusal;
 use crate::{raw, room, Table};
+use std::cmp::Ordering;
 
 /// Bytes of an entry.
 const ENTRY: usize = 2;
@@ -31,10 +32,13 @@ impl Index {
         room::written(room, |out| raw::extend_index(table, &self.0, out)).map(Index)
     }
 
-    /// The rows' numbers, in ascending order of hash.
-    pub(crate) fn rows(&self) -> impl Iterator<Item = usize> + '_ {
-        let entries = self.0.chunks_exact(ENTRY);
-        entries.map(|two| u16::from_le_bytes([two[0], two[1]]).into())
+    /// The row that is found by halving, for rows that come before what is looked for,
+    /// are it, or come after it in ascending order of hash.
+    pub(crate) fn find(&self, order: impl Fn(usize) -> Ordering) -> Option<usize> {
+        let (entries, _) = self.0.as_chunks::<ENTRY>();
+        let row = |entry: &[u8; ENTRY]| usize::from(u16::from_le_bytes(*entry));
+        let place = entries.binary_search_by(|entry| order(row(entry)));
+        place.ok().map(|place| row(&entries[place]))
     }
 
     pub(crate) fn as_bytes(&self) -> &[u8] {

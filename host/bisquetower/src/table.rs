@@ -101,9 +101,7 @@ impl Table {
 
     /// The row of a hash.
     fn find(&self, hash: &ChangeHash) -> Option<usize> {
-        let rows: Vec<usize> = self.index.rows().collect();
-        let place = rows.binary_search_by_key(hash, |&row| self.hash(row));
-        place.ok().map(|place| rows[place])
+        self.index.find(|row| self.hash(row).cmp(hash))
     }
 
     /// How many rows it has.
