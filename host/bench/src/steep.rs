@@ -18,8 +18,12 @@ use compare::tables::document;
 use crate_under_test::facade::{Automerge, Message, State, SyncDoc};
 use std::hint::black_box;
 
+type Hashes = fn(usize) -> Vec<Hash>;
+
+type Measure = fn(&Case, &str, &str);
+
 /// How the hashes of a table stand.
-const ORDERS: [(&str, fn(usize) -> Vec<Hash>); 2] = [("", spread), (", falling", falling)];
+const ORDERS: [(&str, Hashes); 2] = [("", spread), (", falling", falling)];
 
 fn spread(count: usize) -> Vec<Hash> {
     Random(4).hashes(count, Likeness::Spread)
@@ -36,7 +40,7 @@ fn falling(count: usize) -> Vec<Hash> {
     (0..count).map(one).collect()
 }
 
-const LINES: [(&str, fn(&Case, &str, &str)); 5] = [
+const LINES: [(&str, Measure); 5] = [
     ("plan document", Case::plan_document),
     ("plan unknown heads", Case::plan_unknown_heads),
     ("plan waiting", Case::plan_waiting),
@@ -65,7 +69,7 @@ struct Case {
 }
 
 impl Case {
-    fn new(rows: usize, hashes: fn(usize) -> Vec<Hash>) -> Case {
+    fn new(rows: usize, hashes: Hashes) -> Case {
         let all = hashes(3 * rows);
         let table = table_bytes(&Random(5).rows_of(&all[..rows], Shape::Recent));
         let document = document(&table, &[]);
