@@ -59,6 +59,8 @@ pub(crate) enum Rule {
     Row { table: Rows, row: usize, rule: Row },
     /// The sent hashes of a session ascend: the one at an index doesn't.
     SentOrder(usize),
+    /// A list that a step makes, by the name of its items, has at most so many.
+    Made { items: &'static str, most: u64 },
 }
 
 /// Whose items are counted.
@@ -157,6 +159,9 @@ impl fmt::Display for Cause {
             Rule::SentOrder(k) => {
                 let above = "isn't above the one before it; sent hashes ascend";
                 write!(f, "the sent hash at index {} {above}", shown(k))
+            }
+            Rule::Made { items, most } => {
+                write!(f, "the {items} would be more than {}", grouped(most))
             }
         }
     }

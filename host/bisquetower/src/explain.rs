@@ -1,21 +1,21 @@
 //! What broke a rule, found in what was lent to a call that refused.
 //!
 //! Nothing is decided here: the library's refusal stands, and this looks for what it means
-//! at the place or in the row that it names. What is read is walked with the library's own
-//! readers. Where nothing is found the refusal keeps its general sentence.
+//! at the place or in the row that it names, or in the lists that were lent. What is read is
+//! walked with the library's own readers. Where nothing is found the refusal keeps its
+//! general sentence.
 
 mod lent;
 mod read;
 mod rows;
 mod written;
 
-pub(crate) use lent::{passed, selecting, session};
+pub(crate) use lent::{passed, planning, receiving, selecting, session};
 pub(crate) use read::{filter, message, state};
 pub(crate) use rows::{table, tables};
 pub(crate) use written::{building, parts, saved, writing};
 
 use crate::cause::Numbers;
-use crate::refusal::Refusal;
 use crate::Limits;
 
 /// The refusals that are looked into: a limit, a filter without bits, a bad change table, a
@@ -25,16 +25,6 @@ const NO_BITS: u64 = 5;
 const BAD_TABLE: u64 = 6;
 const BAD_WAITING: u64 = 9;
 const BAD_NUMBERS: u64 = 10;
-
-/// The refusal of a session that was lent a change table and a message's bytes: the table
-/// is tested first.
-pub(crate) fn receiving(change_table: &[u8], bytes: &[u8], refusal: Refusal) -> Refusal {
-    let told = table(change_table, refusal);
-    match told.cause() {
-        Some(_) => told,
-        None => message(bytes, refusal),
-    }
-}
 
 /// What is wrong with a filter's numbers, in the order in which 01 tests them. Without
 /// entries the others may be any.

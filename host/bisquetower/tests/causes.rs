@@ -716,6 +716,76 @@ fn a_session_says_what_broke() {
     );
 }
 
+/// What planning refuses for these parts of a session, which stays as it was.
+fn unplanned(parts: &SessionParts, host: &Tables) -> Refusal {
+    let mut session = Session::from_parts(parts).unwrap();
+    let refusal = refused(session.plan(&host.0, &host.1), 4, 0);
+    assert_eq!(session.parts(), *parts);
+    refusal
+}
+
+/// Changes wait for others, which together are one more than a list has.
+#[test]
+fn a_plan_with_too_many_needs() {
+    let many = HASHES + 1;
+    let waits = many.div_ceil(DEPENDENCIES);
+    let needs = |k: usize| {
+        let each = DEPENDENCIES * k..many.min(DEPENDENCIES * (k + 1));
+        each.map(|n| hash(waits + n)).collect::<Vec<_>>()
+    };
+    let waiting = Waiting::lay((0..waits).map(|k| (hash(k), needs(k))));
+    let parts = SessionParts {
+        their_heads: Some(hashes(waits)),
+        ..SessionParts::default()
+    };
+    let refusal = unplanned(&parts, &Tables(vec![], waiting));
+    let most = shown(HASHES);
+    let sentence = format!("the needs of the message would be more than {most}");
+    says(refusal, &sentence, None);
+}
+
+/// As many hashes are remembered as sent as may be, and a row is to be sent.
+#[test]
+fn a_plan_with_too_many_sent_hashes() {
+    let row = hash(SENT_HASHES);
+    let mut sent_hashes = hashes(SENT_HASHES);
+    sent_hashes.sort();
+    let parts = SessionParts {
+        their_heads: Some(vec![hash(SENT_HASHES + 1)]),
+        their_need: Some(vec![row]),
+        their_have: Some(vec![Have::default()]),
+        sent_hashes,
+        ..SessionParts::default()
+    };
+    let refusal = unplanned(&parts, &Tables(Table::lay([(row, vec![])]), vec![]));
+    let most = shown(SENT_HASHES);
+    let sentence = format!("the sent hashes of the session would be more than {most}");
+    says(refusal, &sentence, None);
+}
+
+/// As many heads are shared as may be, and a known head comes beside an unknown one.
+#[test]
+fn a_message_after_which_too_many_heads_are_shared() {
+    let row = hash(HASHES);
+    let parts = SessionParts {
+        shared_heads: hashes(HASHES),
+        ..SessionParts::default()
+    };
+    let message = Message {
+        heads: vec![row, hash(HASHES + 1)],
+        ..Message::default()
+    };
+    let mut session = Session::from_parts(&parts).unwrap();
+    let mut host = Tables(Table::lay([(row, vec![])]), vec![]);
+    let received = session.receive(&mut host, &message.encode().unwrap());
+    let most = shown(HASHES);
+    assert_eq!(
+        received.unwrap_err().to_string(),
+        format!("refusal 4, value 0: the shared heads of the session would be more than {most}")
+    );
+    assert_eq!(session.parts(), parts);
+}
+
 /// Refusals of other numbers say all there is.
 #[test]
 fn other_refusals_have_no_cause() {

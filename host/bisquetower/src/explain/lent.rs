@@ -1,11 +1,13 @@
-//! Lists that were lent beside a session's words or a table: which one is too long, or
-//! doesn't ascend.
+//! Lists that were lent beside a session's words or a table, and those that a step would
+//! make: which one is too long, or doesn't ascend.
 
 use super::written::{first_long, items, synced};
-use super::{BAD_NUMBERS, LIMIT};
+use super::{message, table, tables, BAD_NUMBERS, LIMIT};
 use crate::cause::{Cause, List, Rule};
-use crate::refusal::Refusal;
-use crate::{ChangeHash, Have, Limits, SessionParts};
+use crate::index::Index;
+use crate::limits::LIST_SIZE;
+use crate::refusal::{answer, Refusal};
+use crate::{raw, ChangeHash, Have, Limits, SessionParts};
 
 /// The refusal of a session that is made of its parts.
 pub(crate) fn session(parts: &SessionParts, refusal: Refusal) -> Refusal {
@@ -45,6 +47,43 @@ pub(crate) fn session(parts: &SessionParts, refusal: Refusal) -> Refusal {
 fn descent(sent: &[ChangeHash]) -> Option<Cause> {
     let before = sent.windows(2).position(|two| two[0] >= two[1])?;
     Some(Cause::new(Rule::SentOrder(before + 1), None))
+}
+
+/// The refusal of a plan over these tables, for a peer that said these heads. The tables are
+/// tested first, and the lists that would be made last.
+pub(crate) fn planning(own: &[u8], waiting: &[u8], heads: &[u8], refusal: Refusal) -> Refusal {
+    made(tables(own, waiting, refusal), |limits| {
+        let index = Index::of(own).unwrap_or_default();
+        let mut needs = vec![0; LIST_SIZE];
+        let missing = raw::missing(own, index.as_bytes(), waiting, heads, &mut needs);
+        match answer(missing) {
+            Ok(_) => ("sent hashes of the session", limits.sent_hashes),
+            Err(_) => ("needs of the message", limits.hashes),
+        }
+    })
+}
+
+/// The refusal of a session that was lent a change table and a message's bytes. The table is
+/// tested first, and the shared heads that would be made last.
+pub(crate) fn receiving(own: &[u8], bytes: &[u8], refusal: Refusal) -> Refusal {
+    let told = table(own, refusal);
+    let told = match told.cause() {
+        Some(_) => told,
+        None => message(bytes, refusal),
+    };
+    made(told, |limits| {
+        ("shared heads of the session", limits.hashes)
+    })
+}
+
+/// The refusal, with a list that would be made where nothing that was lent passes a limit:
+/// the name of its items, and how many it may have.
+fn made(refusal: Refusal, list: impl FnOnce(Limits) -> (&'static str, u64)) -> Refusal {
+    if (refusal.number, refusal.value) != (LIMIT, 0) || refusal.cause().is_some() {
+        return refusal;
+    }
+    let (items, most) = list(Limits::told());
+    refusal.because(Cause::new(Rule::Made { items, most }, None))
 }
 
 /// The refusal of so many hashes that are asked about.

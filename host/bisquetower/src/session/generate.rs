@@ -5,7 +5,7 @@ use crate::hash::{hashes_in, ChangeHash, HASH};
 use crate::have::haves_in;
 use crate::limits::{HAVE_SIZE, LIST_SIZE, SENT_SIZE, TO_SEND_SIZE};
 use crate::refusal::{answer, Refusal};
-use crate::{raw, Error, Host, Message, MessageFlags, MessageVersion};
+use crate::{explain, raw, Error, Host, Message, MessageFlags, MessageVersion};
 use std::borrow::Cow;
 
 /// How the answer says that there is nothing to say.
@@ -99,7 +99,8 @@ impl Session {
             )
         });
         self.trim();
-        let answer = answer(words).map_err(|why| crate::explain::tables(table, waiting, why))?;
+        let heard = &self.lists.their_heads;
+        let answer = answer(words).map_err(|why| explain::planning(table, waiting, heard, why))?;
         let [what, version, flags, document, head_count, need_count, have_count, ..] = answer;
         if what == NOTHING {
             return Ok(None);
