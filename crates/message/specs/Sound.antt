@@ -52,7 +52,7 @@ abbrev pub FlagsReadBack : Section → Type 0
 FlagsReadBack Absent = Unit {0}
 FlagsReadBack (Present f) = f .0 < 0x80
 
--- Both, of a whole message.
+-- Both conditions of reading back, of a whole message.
 pub record ReadsBack (m : Message) : Type 0 where
   pub filters : Each HaveReadsBack (m .haves)
   pub flags : FlagsReadBack (m .flags)

@@ -169,7 +169,7 @@ module _ (t : List Row) (s : State) (m : Said) where
 
 -- Two sessions that differ in what a message does even if its changes don't load, and in nothing else: the hashes sent, what is in flight, and what
 -- its flags say of the peer.
-pub record Kept (s s′ : State) : Type 0 where
+pub record FlagsApart (s s′ : State) : Type 0 where
   pub sharedHeads : s′ .sharedHeads ≡ s .sharedHeads
   pub lastSentHeads : s′ .lastSentHeads ≡ s .lastSentHeads
   pub theirHeads : s′ .theirHeads ≡ s .theirHeads
@@ -180,7 +180,7 @@ pub record Kept (s s′ : State) : Type 0 where
   pub needsReset : s′ .needsReset ≡ s .needsReset
 
 module _ (flags : Section) (s : State) where
-  pub flagged-keeps : Kept s (flagged flags s)
+  pub flagged-keeps : FlagsApart s (flagged flags s)
   unfolding flagged
   flagged-keeps =
       record {

@@ -46,7 +46,7 @@ pub record Kept (s : State) (l : Lent) : Type 0 where
   pub theirHave : StandHeardHaves (s .theirHave) (l .haves) (l .bytes)
   pub sent : Stand (s .sentHashes) (l .sent)
 
--- Its counts over the lists are a good session, and just this one.
+-- A session's counts over its lists are a good session, and just this one.
 pub record Stays (s : State) (l : Lent) : Type 0 where
   pub good : sessionGood (countsOf s) l ≡ true
   pub value : stateOf (countsOf s) l ≡ s

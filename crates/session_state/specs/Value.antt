@@ -58,7 +58,7 @@ stateOf s l =
       needsReset = s .«needs_reset»;
     }
 
--- And back: how long a session's lists are, and its flags.
+-- The counts of a session: how long its lists are, and its flags.
 abbrev pub countHeard : {A : Type 0} → Option (List A) → Heard
 countHeard none = Nothing
 countHeard (some l) = Count (length l)
