@@ -9,7 +9,14 @@ use Rattle.rules.specs.declared.refusal.Refusal.the-variants.{BadNumbers}
 use Rattle.session_saved.specs.Saved.{stateAt, savedWith, loadedInto}
 use Rattle.session_saved.specs.declared.saved.SavedRead.{SavedRead}
 use Rattle.session_saved.specs.declared.saved.SavedRead.the-variants.{Session as Read, Refused as NotRead}
+use Rattle.session_state.specs.Counts.{freshCounts, freshReadOnlyCounts}
+use Rattle.session_state.specs.declared.session.Session.{Session}
 use Rattle.call_words.specs.SessionWords.{sessionWords}
+
+-- The counts of a session in which nothing was said yet, read-only or not.
+abbrev pub freshFor : Bool → Session
+freshFor true = freshReadOnlyCounts
+freshFor false = freshCounts
 
 -- The words of a checked session: 0, or refusal 10.
 abbrev pub goodWords : Bool → List ℕ

@@ -12,14 +12,24 @@ ghost use Rattle.session_saved.specs.Saved.{stateOutput};
 ghost use Rattle.session_state.specs.Counts.{freshCounts, freshReadOnlyCounts, setReadOnlyCounts};
 ghost use Rattle.call_words.specs.Answer.{Answered};
 ghost use Rattle.call_words.specs.SessionWords.{flagOf, sessionWords, sessionOf};
-ghost use Rattle.state_calls.specs.StateCalls.{goodWords, StateRead};
+ghost use Rattle.state_calls.specs.StateCalls.{freshFor, goodWords, StateRead};
+
+// The words of a session in which nothing was said yet, of a unit that takes changes or, read-only, takes none.
+fn fresh_words(read_only: bool) -> [u64; 16]
+    ensures { λ w. ⌜ w ≡ sessionWords (freshFor «read_only») ⌝ }
+{
+    if read_only {
+        return session_words(Session::new_read_only());
+    }
+    session_words(Session::new())
+}
 
 // Writes the words of a session in which nothing was said yet.
 #[no_mangle]
 pub extern "C" fn bt_fresh(session: &mut [u64; 16])
     ensures { λ _. ⌜ now (session .exit) ≡ sessionWords freshCounts ⌝ }
 {
-    *session = session_words(Session::new());
+    *session = fresh_words(false);
 }
 
 // Writes the words of a session in which nothing was said yet, of a unit that takes no changes (read-only).
@@ -27,7 +37,7 @@ pub extern "C" fn bt_fresh(session: &mut [u64; 16])
 pub extern "C" fn bt_fresh_read_only(session: &mut [u64; 16])
     ensures { λ _. ⌜ now (session .exit) ≡ sessionWords freshReadOnlyCounts ⌝ }
 {
-    *session = session_words(Session::new_read_only());
+    *session = fresh_words(true);
 }
 
 // Changes the words of a session to those that it has once read-only is switched off (`on` is 0) or on (any other number).
