@@ -21,7 +21,7 @@ session-words-requires-2 : tie.Need-session-words-requires-2
 session-words-requires-2 c κs = search needs
 
 returns-2 : tie.Need-returns-2
-returns-2 c = rw (c .before .before .if1 .left) (c .session-words .ensures ∙ ap sessionWords (c .before .new .ensures))
+returns-2 c = rw (c .before .before .if1 .left) (c .session-words2 .ensures ∙ ap sessionWords (c .before .new .ensures))
 
 pub fresh-words-spec : {M : Type 1} → statement M
 fresh-words-spec =
