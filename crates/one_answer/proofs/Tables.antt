@@ -6,11 +6,8 @@ use Rattle.one_answer.proofs.Once.{once, joined, skip}
 pub tables-bind : TablesBind
 tables-bind =
     record {
-      check-table = λ κs a x y u v p q. (once p q, refl);
       check-tables = λ κs a x y u v p q. (once p q, refl);
       check-indexed = λ κs a x y u v p q. (once p q, refl);
-      check-sound = λ κs a x y u v p q. (once p q, refl);
-      check-unfit = λ κs a x y u v p q. (once p q, refl);
       check-alone = λ κs a x y u v p q. (once p q, refl);
       build-index = λ κs a x y u v p q. (once (p .answer) (q .answer), skip (joined (once (p .content) (q .content)) refl));
       extend-index = λ κs a x y u v p q. (once (p .answer) (q .answer), skip (skip (joined (once (p .content) (q .content)) refl)));

@@ -1,10 +1,7 @@
 -- Calls over tables, and the hashes to send. 01, How tightly the statements bind.
 use Rattle.one_answer.specs.Binds.{Binds}
-use Rattle.table.proofs.check.check_table as of-check-table
-use Rattle.table_index.proofs.check.check_indexed as of-check-indexed
-use Rattle.table_index.proofs.check.check_sound as of-check-sound
-use Rattle.table_index.proofs.check.check_unfit as of-check-unfit
-use Rattle.table_index_build.proofs.check.check_alone as of-check-alone
+use Rattle.table_check.proofs.check.check_alone as of-check-alone
+use Rattle.table_check.proofs.check.check_indexed as of-check-indexed
 use Rattle.table_index_build.proofs.build.build_index as of-build-index
 use Rattle.table_index_build.proofs.build.extend_index as of-extend-index
 use Rattle.waiting.proofs.check.check_tables as of-check-tables
@@ -16,14 +13,10 @@ use Rattle.send_records.proofs.summary.summary_in as of-summary-in
 
 -- Tables, their index, what waits, and what is computed over them.
 pub record TablesBind : Type 0 where
-  -- the crate table
-  pub check-table : Binds of-check-table.ended of-check-table.Reads.Post
-  -- the crate table_index
-  pub check-indexed : Binds of-check-indexed.ended of-check-indexed.Reads.Post
-  pub check-sound : Binds of-check-sound.ended of-check-sound.Reads.Post
-  pub check-unfit : Binds of-check-unfit.ended of-check-unfit.Reads.Post
-  -- the crate table_index_build
+  -- the crate table_check
   pub check-alone : Binds of-check-alone.ended of-check-alone.Reads.Post
+  pub check-indexed : Binds of-check-indexed.ended of-check-indexed.Reads.Post
+  -- the crate table_index_build
   pub build-index : Binds of-build-index.ended of-build-index.Reads.Post
   pub extend-index : Binds of-extend-index.ended of-extend-index.Reads.Post
   -- the crate waiting

@@ -6,7 +6,7 @@ use rules::refusal::Refusal;
 use session_check::good::session_good;
 use session_state::session::Session;
 use table::check::Checked;
-use table_index::check::check_indexed;
+use table_check::check::check_indexed;
 ghost use mathlib.Core.Path.{_≡_};
 ghost use Rattle.session_check.specs.SessionGood.{lentOf};
 ghost use Rattle.receive_make.specs.Internal.ReceiveChecks.{checked};

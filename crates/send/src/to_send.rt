@@ -11,7 +11,7 @@ use rules::sizes::HASH_SIZE;
 use rules::sizes::HASHES;
 use rules::sizes::ROWS;
 use table::check::Checked;
-use table_index::check::check_indexed;
+use table_check::check::check_indexed;
 ghost use mathlib.Core.Bool.{true};
 ghost use mathlib.Core.Path.{_≡_};
 ghost use Rattle.bloom.specs.Have.{havesOf, passedGood};

@@ -1,6 +1,5 @@
 pub mod CheckLaws
 pub mod ExtendLaws
-pub mod FindLaws
 pub mod GoodLaws
 pub mod Promises
 pub mod RowLaws

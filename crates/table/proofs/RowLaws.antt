@@ -8,18 +8,17 @@ use native.Mathlib.Numerals.{add-one}
 use native.Mathlib.Omega.{arith}
 use borrow.Author.Tests.{ltb-true, leb-true, eqb-true, eqb-false, lt-ltb, le-ltb, le-leb, lt-leb, eq-eqb, ne-eqb}
 use lib.Dec.{ltb, leb, eqb}
-use lib.ListN.{length}
 use Rattle.hash_order.proofs.KeepLaws.{every-member, every-one}
 use Rattle.hash_order.proofs.OrderLaws.{member-here, member-there, ascends-tail, ascends-first}
 use Rattle.hash_order.specs.Order.{member, every, ascends}
 use Rattle.rules.proofs.Cases.{split, both, same-truth, and-true}
-use Rattle.rules.specs.Hash.{Bytes, hashAt}
+use Rattle.rules.specs.Hash.{Bytes}
 use Rattle.rules.specs.LittleEndian.{u16At}
 use Rattle.rules.specs.Sizes.{sizes}
-use Rattle.table.specs.TableBytes.{u16sAt, usedOf, unusedOf, rowGoodOf, rowSize, depCount, usedAt, rowsAt, numbersGood, zeros}
-use Rattle.table.specs.Table.{rows, indexIn}
-use Rattle.table.proofs.Today.{unusedAt, rowGood}
-use Rattle.table.proofs.TableLaws.{numberPlace, length-rows, length-rows-at, index-tells}
+use Rattle.table.specs.Internal.OwnBytes.{rowSound}
+use Rattle.table.specs.TableBytes.{u16sAt, usedOf, unusedOf, rowSize, depCount, usedAt, numbersGood, zeros}
+use Rattle.table.proofs.Today.{unusedAt}
+use Rattle.table.proofs.TableLaws.{numberPlace}
 
 -- ---- numbers that climb
 
@@ -198,25 +197,16 @@ u16-small s at d bytes e = omega (arith, bytes at, bytes (at + 1))
 
 -- ---- a row
 
-module _ (s : List ℕ) (i : ℕ) where
-  module _ (count : ℕ) (is : count ≡ depCount s i) where
-    pub row-many : sizes .dependencies < count → rowGood s i ≡ false
-    unfolding rowGoodOf
-    row-many h = rw (← is, lt-leb count (sizes .dependencies) h)
+module _ (s : List ℕ) (i count : ℕ) (is : count ≡ depCount s i) where
+  pub sound-many : sizes .dependencies < count → rowSound s i ≡ false
+  unfolding rowSound
+  sound-many h = rw (← is, lt-leb count (sizes .dependencies) h)
 
-    module _ (few : count ≤ sizes .dependencies) where
-      pub row-numbers : numbersGood i (usedAt s i) ≡ false → rowGood s i ≡ false
-      unfolding rowGoodOf
-      row-numbers e = rw (← is, le-leb count (sizes .dependencies) few, e)
+  module _ (few : count ≤ sizes .dependencies) where
+    pub sound-numbers : numbersGood i (usedAt s i) ≡ false → rowSound s i ≡ false
+    unfolding rowSound
+    sound-numbers e = rw (← is, le-leb count (sizes .dependencies) few, e)
 
-      module _ (numbers : numbersGood i (usedAt s i) ≡ true) where
-        pub row-unused : zeros (unusedAt s i) ≡ false → rowGood s i ≡ false
-        unfolding rowGoodOf
-        row-unused e = rw (← is, le-leb count (sizes .dependencies) few, numbers, e)
-
-        pub row-hash : zeros (unusedAt s i) ≡ true → (r : ℕ) → r ≡ indexIn (rows (rowsAt s 0 i)) (hashAt s (i * rowSize))
-            → rowGood s i ≡ eqb r i
-        unfolding rowGoodOf
-        row-hash e r q =
-            let n : length (rows (rowsAt s 0 i)) ≡ i = length-rows (rowsAt s 0 i) ∙ length-rows-at s 0 i in
-            rw (← is, le-leb count (sizes .dependencies) few, numbers, e, index-tells, ← q) (ap (eqb r) n)
+    pub sound-zeros : numbersGood i (usedAt s i) ≡ true → rowSound s i ≡ zeros (unusedAt s i)
+    unfolding rowSound
+    sound-zeros e = rw (← is, le-leb count (sizes .dependencies) few, e)

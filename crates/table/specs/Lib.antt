@@ -1,3 +1,4 @@
+pub mod Internal
 pub mod Table
 pub mod TableBytes
 pub mod TableCalls

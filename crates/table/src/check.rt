@@ -1,16 +1,14 @@
-// Whether a table is good.
-use crate::find::find_row;
-use crate::row::ROW_SIZE;
+// What is answered of a table, and which rows are good by their own bytes: that a hash stands once shows only beside other rows (table_check).
 use crate::row::dep;
 use crate::row::dep_count;
 use rules::refusal::Refusal;
 use rules::sizes::DEPENDENCIES;
-use rules::sizes::ROWS;
 ghost use mathlib.Core.Path.{_≡_};
 ghost use Prim.Native.Nat.{_+_, _-_, _*_, _≤_};
 ghost use lib.ListN.{length};
 ghost use Rattle.rules.specs.Sizes.{sizes};
-ghost use Rattle.table.specs.TableBytes.{u16sAt, rowSize, depCount, usedAt, unusedOf, numbersGood, zeros, rowGoodOf, firstBad, tableChecked};
+ghost use Rattle.table.specs.TableBytes.{u16sAt, rowSize, depCount, usedAt, unusedOf, numbersGood, zeros, firstBad};
+ghost use Rattle.table.specs.Internal.OwnBytes.{rowSound};
 
 // A good table's number of rows, or the refusal.
 pub enum Checked {
@@ -19,7 +17,7 @@ pub enum Checked {
 }
 
 // Whether the numbers in use of row i ascend and are below it.
-pub fn numbers_good(table: &[u8], i: usize) -> bool
+fn numbers_good(table: &[u8], i: usize) -> bool
     requires { ⌜ ((i + 1) * rowSize ≤ length (now table)) × (depCount (now table) i ≤ sizes .dependencies) ⌝ }
     ensures { λ r. ⌜ r ≡ numbersGood i (usedAt (now (table .entry)) i) ⌝ }
 {
@@ -64,7 +62,7 @@ fn zeros_from(table: &[u8], i: usize, from: usize) -> bool
 }
 
 // Whether the other numbers of row i are 0, four at a time as long as there are as many.
-pub fn zeros_good(table: &[u8], i: usize) -> bool
+fn zeros_good(table: &[u8], i: usize) -> bool
     requires { ⌜ ((i + 1) * rowSize ≤ length (now table)) × (depCount (now table) i ≤ sizes .dependencies) ⌝ }
     ensures { λ r. ⌜ r ≡ zeros (unusedOf (sizes .dependencies) (now (table .entry)) i) ⌝ }
 {
@@ -78,10 +76,10 @@ pub fn zeros_good(table: &[u8], i: usize) -> bool
     zeros_from(table, i, j)
 }
 
-// Whether row i is good: its count, its numbers, and a hash that no earlier row has.
-pub fn row_good(table: &[u8], i: usize) -> bool
+// Whether row i is good by its own bytes: its count, its numbers, and zeros behind them.
+fn row_sound(table: &[u8], i: usize) -> bool
     requires { ⌜ (i + 1) * rowSize ≤ length (now table) ⌝ }
-    ensures { λ r. ⌜ r ≡ rowGoodOf (sizes .dependencies) (now (table .entry)) i ⌝ }
+    ensures { λ r. ⌜ r ≡ rowSound (now (table .entry)) i ⌝ }
 {
     if DEPENDENCIES < dep_count(table, i) {
         return false;
@@ -89,41 +87,20 @@ pub fn row_good(table: &[u8], i: usize) -> bool
     if !numbers_good(table, i) {
         return false;
     }
-    if !zeros_good(table, i) {
-        return false;
-    }
-    find_row(table, i, table, i * ROW_SIZE) == i
+    zeros_good(table, i)
 }
 
-// The first of the first n rows that isn't good, or n.
-fn first_bad_row(table: &[u8], n: usize) -> usize
+// The first of the first n rows that isn't, or n.
+pub fn first_unsound(table: &[u8], n: usize) -> usize
     requires { ⌜ n * rowSize ≤ length (now table) ⌝ }
-    ensures { λ r. ⌜ r ≡ firstBad (rowGoodOf (sizes .dependencies) (now (table .entry))) 0 n ⌝ }
+    ensures { λ r. ⌜ r ≡ firstBad (rowSound (now (table .entry))) 0 n ⌝ }
 {
     let mut i = 0;
     while i < n {
-        if !row_good(table, i) {
+        if !row_sound(table, i) {
             return i;
         }
         i += 1;
     }
     n
-}
-
-// The number of rows of a change table, if it is good. A partial row at its end is a bad one.
-pub fn check_table(table: &[u8]) -> Checked
-    ensures { λ r. ⌜ r ≡ tableChecked (now (table .entry)) ⌝ }
-{
-    if ROWS * ROW_SIZE < table.len() {
-        return Checked::Refused(Refusal::PastSize(0));
-    }
-    let n = table.len() / ROW_SIZE;
-    let bad = first_bad_row(table, n);
-    if bad < n {
-        return Checked::Refused(Refusal::BadRow(bad));
-    }
-    if table.len() % ROW_SIZE != 0 {
-        return Checked::Refused(Refusal::BadRow(n));
-    }
-    Checked::Good(n)
 }

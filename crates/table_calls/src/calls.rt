@@ -1,4 +1,4 @@
-// Calls of the crates `table`, `table_index_build`, `waiting`, `table_graph` and `waiting_missing`.
+// Calls of the crates `table_check`, `table_index_build`, `waiting`, `table_graph` and `waiting_missing`.
 use crate::answer::checked_words;
 use call_words::answer::write_words;
 ghost use mathlib.Core.Path.{_≡_};
@@ -15,7 +15,7 @@ ghost use Rattle.waiting_missing.specs.MissingCalls.{missingOutput};
 pub extern "C" fn bt_check_table(table: &[u8], answer: &mut [u64; 4])
     ensures { λ _. ⌜ now (answer .exit) ≡ checkedWords (tableChecked (now (table .entry))) ⌝ }
 {
-    *answer = checked_words(table_index_build::check::check_alone(table));
+    *answer = checked_words(table_check::check::check_alone(table));
 }
 
 // Checks the change table in `table` beside its index in `index`, and the waiting table in `waiting` beside both. Answer: 0, how many rows the

@@ -9,7 +9,7 @@ ghost use Rattle.table.specs.TableBytes.{rowSize, rowsAt, u16sAt};
 ghost use Rattle.table_index.specs.Index.{fits, indexFits};
 
 // Whether the first n entries fit the first n rows: each below n, and of a greater hash than the one before it.
-pub fn entries_fit(table: &[u8], index: &[u8], n: usize) -> bool
+fn entries_fit(table: &[u8], index: &[u8], n: usize) -> bool
     requires { ⌜ (n * rowSize ≤ length (now table)) × (2 * n ≤ length (now index)) ⌝ }
     ensures { λ r. ⌜ r ≡ fits (rowsAt (now (table .entry)) 0 n) (u16sAt (now (index .entry)) 0 n) ⌝ }
 {

@@ -10,11 +10,10 @@ use lib.Dec.{ltb}
 use lib.ListN.{length, getD, take, drop, List·getD-append}
 use lib.Seq.{sets, slice, sets-eq, slice-empty, slice-cons, ext-getD}
 use Rattle.table_index.proofs.ByteLaws.{length-u16s, entry}
-use Rattle.table_index.proofs.CheckLaws.{checked-sound}
 use Rattle.table_index.proofs.FitLaws.{index-fitting}
 use Rattle.table_index.proofs.IndexLaws.{index-length, index-member-below}
 use Rattle.table_index.proofs.LookLaws.{good-fits, fits-is-index}
-use Rattle.table_index.specs.Index.{put, indexed, indexOf, fits, indexFits, indexChecked, soundChecked}
+use Rattle.table_index.specs.Index.{put, indexed, indexOf, indexFits, indexChecked}
 use Rattle.hash_order.proofs.OrderLaws.{member-here, member-there}
 use Rattle.hash_order.specs.Order.{member}
 use Rattle.rules.proofs.Cases.{both}
@@ -22,19 +21,19 @@ use Rattle.rules.specs.Hash.{Bytes}
 use Rattle.rules.specs.LittleEndian.{u16At}
 use Rattle.rules.specs.Output.{Output}
 use Rattle.rules.specs.Sizes.{sizes}
-use Rattle.rules.specs.declared.refusal.Refusal.the-variants.{PastSize, BadRow, BadIndex}
+use Rattle.rules.specs.declared.refusal.Refusal.the-variants.{PastSize, BadIndex}
 use Rattle.rules.specs.declared.refusal.Refusal.{Refusal}
-use Rattle.table.proofs.CheckLaws.{check-past}
+use Rattle.table.proofs.CheckLaws.{table-past}
 use Rattle.table.proofs.GoodLaws.{accepted-rows, good-part}
 use Rattle.table.proofs.TableLaws.{table-good}
-use Rattle.table.proofs.Today.{rowGood}
-use Rattle.table.specs.TableBytes.{u16sAt, rowSize, rowsAt, tableOf, wholeRowsOf, tableChecked, tableCheckedOf}
+use Rattle.table.specs.TableBytes.{u16sAt, rowSize, rowsAt, tableOf, wholeRowsOf, tableChecked}
 use Rattle.table.specs.TableCalls.{afterCheck, passedOn}
 use Rattle.table.specs.Table.{Row, GoodTable, hashOf}
 use Rattle.table.specs.declared.check.Checked.the-variants.{Good, Refused}
 use Rattle.table.specs.declared.check.Checked.{Checked}
 use Rattle.table_index_build.specs.Indexing.{indexBytes, builtOutput, fitsButLast, extendedOutput}
-use Rattle.table_index_build.proofs.ExtendLaws.{index-next}
+use Rattle.table_index_build.proofs.ExtendLaws.{index-next, index-records}
+use Rattle.table_check.specs.Internal.Repeats.{RowOrder}
 use Rattle.table_order.proofs.EntryLaws.{u16-same}
 use Rattle.table_order.specs.Internal.Merging.{entryLimit}
 
@@ -109,15 +108,11 @@ entries-copied x d next n long room e =
 
 -- ---- the table's check
 
-pub fitted-decides : (s l : List ℕ) (n : ℕ) → n ≡ length s / rowSize → fits (rowsAt s 0 n) l ≡ true → soundChecked s ≡ tableChecked s
-unfolding soundChecked wholeRowsOf
-fitted-decides s l n e ok = sym (checked-sound s l (rw e at ok))
+-- the index of a table is the order of its rows
+pub index-order : (s x : List ℕ) (n : ℕ) → n ≡ length s / rowSize → 2 * n ≤ length x → u16sAt x 0 n ≡ indexOf (rowsAt s 0 n) → RowOrder s x n
+index-order s x n e room is = record { inside = omega arith; entries = room; order = is ∙ index-records s n }
 
 module _ (s : List ℕ) where
-  past : sizes .rows * rowSize < length s → tableChecked s ≡ Refused (PastSize 0)
-  unfolding tableCheckedOf
-  past h = check-past (λ i. Refused (BadRow i)) (rowGood s) rowSize (sizes .rows) (length s) h
-
   -- ---- built
 
   pub built-refused : (r : Refusal) → tableChecked s ≡ Refused r → builtOutput s ≡ Output.refuse r
@@ -125,7 +120,7 @@ module _ (s : List ℕ) where
   built-refused r e = rw e
 
   pub built-past : sizes .rows * rowSize < length s → builtOutput s ≡ Output.refuse (PastSize 0)
-  built-past h = built-refused (PastSize 0) (past h)
+  built-past h = built-refused (PastSize 0) (table-past s h)
 
   pub built-written : (n k : ℕ) (l : List ℕ) → tableChecked s ≡ Good k → n ≡ length s / rowSize → l ≡ indexOf (rowsAt s 0 n)
       → builtOutput s ≡ Output.bytes (indexBytes l)
@@ -140,7 +135,7 @@ module _ (s : List ℕ) where
     extend-refused r e = rw e
 
     pub extend-past : sizes .rows * rowSize < length s → extendedOutput s x ≡ Output.refuse (PastSize 0)
-    extend-past h = extend-refused (PastSize 0) (past h)
+    extend-past h = extend-refused (PastSize 0) (table-past s h)
 
     pub last-none : (n : ℕ) → n ≡ 0 → fitsButLast s n x ≡ false
     unfolding fitsButLast

@@ -1,13 +1,13 @@
 // The index of a change table written: made of all its rows, or of the index of all but the last.
-use crate::check::check_fitted;
 use crate::extend::extend;
 use rules::output::Write;
 use rules::put::copy_into;
 use rules::refusal::Refusal;
 use rules::sizes::ROWS;
 use table::check::Checked;
-use table::check::check_table;
 use table::row::ROW_SIZE;
+use table_check::check::check_alone;
+use table_check::check::check_ordered;
 use table_index::fit::index_fits;
 use table_order::entry::INDEX_SIZE;
 use table_order::merge::build_by_rows;
@@ -34,12 +34,13 @@ fn put_index(index: &[u8], n: usize, out: &mut [u8]) -> Write
     Write::Wrote(size)
 }
 
-// Checks a table beside its index, and writes that.
+// Checks a table within its limit beside its index, and writes that.
 fn put_built(table: &[u8], index: &[u8], n: usize, out: &mut [u8]) -> Write
-    requires { ⌜ (n ≡ length (now table) / rowSize) × (2 * n ≤ length (now index)) × (u16sAt (now index) 0 n ≡ indexOf (rowsAt (now table) 0 n)) ⌝ }
+    requires { ⌜ (length (now table) ≤ sizes .rows * rowSize) × (n ≡ length (now table) / rowSize) × (2 * n ≤ length (now index))
+        × (u16sAt (now index) 0 n ≡ indexOf (rowsAt (now table) 0 n)) ⌝ }
     ensures { λ r. ⌜ Written (builtOutput (now (table .entry))) (now (out .entry)) (now (out .exit)) r ⌝ }
 {
-    match check_fitted(table, index, n) {
+    match check_ordered(table, index, n) {
         Checked::Refused(r) => Write::Refused(r),
         Checked::Good(_) => put_index(index, n, out),
     }
@@ -71,7 +72,7 @@ fn fits_but_last(table: &[u8], index: &[u8], n: usize) -> bool
 
 // Writes the index of a table, made of one that fits all rows but the last.
 fn put_extended(table: &[u8], index: &[u8], n: usize, out: &mut [u8]) -> Write
-    requires { ⌜ (n ≡ length (now table) / rowSize) × (n ≤ sizes .rows) × (fitsButLast (now table) n (now index) ≡ true) ⌝ }
+    requires { ⌜ (length (now table) ≤ sizes .rows * rowSize) × (n ≡ length (now table) / rowSize) × (fitsButLast (now table) n (now index) ≡ true) ⌝ }
     ensures { λ r. ⌜ Written (builtOutput (now (table .entry))) (now (out .entry)) (now (out .exit)) r ⌝ }
 {
     let mut extended = [0u8; INDEX_SIZE];
@@ -91,7 +92,7 @@ pub fn extend_index(table: &[u8], index: &[u8], out: &mut [u8]) -> Write
     if fits_but_last(table, index, n) {
         return put_extended(table, index, n, out);
     }
-    match check_table(table) {
+    match check_alone(table) {
         Checked::Refused(r) => Write::Refused(r),
         Checked::Good(_) => Write::Refused(Refusal::BadIndex),
     }

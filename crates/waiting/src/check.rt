@@ -8,7 +8,7 @@ use rules::sizes::DEPENDENCIES;
 use rules::sizes::HASH_SIZE;
 use rules::sizes::WAITING_ROWS;
 use table::check::Checked;
-use table_index::check::check_indexed;
+use table_check::check::check_indexed;
 use table_index::look::look_up;
 use table_index_build::extend::extend;
 ghost use mathlib.Core.Path.{_≡_};

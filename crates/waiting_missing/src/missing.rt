@@ -9,7 +9,7 @@ use rules::sizes::HASH_SIZE;
 use rules::sizes::HASHES;
 use rules::sizes::WAITING_ROWS;
 use table::check::Checked;
-use table_index::check::check_indexed;
+use table_check::check::check_indexed;
 use table_index::look::look_up;
 use waiting::check::asks_count;
 use waiting::check::check_in_order;

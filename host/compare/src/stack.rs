@@ -53,6 +53,7 @@ pub fn calls() -> Vec<Deep> {
     let mut calls = wire(&mut random);
     calls.extend(filters(&mut random));
     calls.extend(tables(&mut random));
+    calls.extend(beside_no_index(&mut random));
     calls.extend(states(&mut random));
     calls.extend(messages(&mut random));
     calls.extend(sessions(&mut random));
@@ -220,6 +221,31 @@ fn tables(random: &mut Random) -> Vec<Deep> {
         raw::missing(&[], &[], &[], &unknown, &mut vec![0; LIST_SIZE])
     }));
     deep_calls
+}
+
+/// Beside an index that doesn't fit, a call puts the rows in order in memory of its own.
+fn beside_no_index(random: &mut Random) -> Vec<Deep> {
+    let rows = random.rows(ROWS, Shape::Any, Likeness::Descending);
+    let lent = || (table_bytes(&rows), vec![0; 2 * ROWS]);
+    let [first, second, third, fourth, fifth] = [(); 5].map(|()| lent());
+    vec![
+        deep("bt_check_tables", move || {
+            raw::check_tables(&first.0, &first.1, &[])
+        }),
+        deep("bt_heads", move || {
+            raw::heads(&second.0, &second.1, ROWS, &mut vec![0; HASH * ROWS])
+        }),
+        deep("bt_beyond", move || {
+            raw::beyond(&third.0, &third.1, &[], &mut vec![0; HASH * ROWS])
+        }),
+        deep("bt_extend_index", move || {
+            raw::extend_index(&fourth.0, &fourth.1, &mut vec![0; 2 * ROWS])
+        }),
+        deep("bt_hashes_to_send", move || {
+            let out = &mut vec![0; TO_SEND_SIZE];
+            raw::hashes_to_send(&fifth.0, &fifth.1, &[], &[], &[], out)
+        }),
+    ]
 }
 
 /// The words of a session in which every list is as long as it may be, with these flags.

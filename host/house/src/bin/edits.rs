@@ -91,7 +91,7 @@ const READ: &[(&str, &str)] = &[
     ("send/need_twice", "`returns-3` of `chosen::held_unmarked`"),
     (
         "table/table_count",
-        "`numbers-good-requires` of `check::row_good`",
+        "`numbers-good-requires` of `check::row_sound`",
     ),
     (
         "table/table_not_ascending",

@@ -26,7 +26,7 @@ slice-aggregate-put-built c = search needs
 put-built-requires : tie.Need-put-built-requires
 put-built-requires c κs =
     let b = c .before .before .before in
-    (search needs, search needs, b .build-by-rows .ensures ∙ sym (index-records _ _))
+    (b .before .before .if1 .left, search needs, search needs, b .build-by-rows .ensures ∙ sym (index-records _ _))
 
 same-length : tie.Need-same-length
 same-length c = search needs

@@ -3,7 +3,6 @@ use mathlib.Core.Path.{refl, sym, _∙_}
 use Rattle.rules.proofs.Outputs.{refused}
 use Rattle.table_index_build.proofs.BuildLaws.{extend-past, extend-refused, extend-unfit, extend-written}
 use borrow.Author.Needs.{needs}
-use native.Mathlib.Omega.{arith}
 use Rattle.table_index_build.proofs.build.extend_index.Statement.{statement}
 use Rattle.table_index_build.proofs.build.extend_index.Tie as tie
 
@@ -19,7 +18,7 @@ fits-but-last-requires c κs = search needs
 put-extended-requires : tie.Need-put-extended-requires
 put-extended-requires c κs =
     let f = c .before .before in
-    (refl, omega (arith, f .before .if1 .left), sym (f .fits-but-last .ensures) ∙ c .before .if2 .taken)
+    (f .before .if1 .left, refl, sym (f .fits-but-last .ensures) ∙ c .before .if2 .taken)
 
 same-length : tie.Need-same-length
 same-length c = search needs
@@ -30,8 +29,8 @@ returns-2 c =
     let t = p .before .before in
     rw (extend-written _ _ _ refl (sym (t .before .fits-but-last .ensures) ∙ t .if2 .taken)) (p .put-extended .ensures)
 
-check-table-requires : tie.Need-check-table-requires
-check-table-requires c κs = search needs
+check-alone-requires : tie.Need-check-alone-requires
+check-alone-requires c κs = search needs
 
 enum-known-r : tie.Need-enum-known-r
 enum-known-r c = search needs
@@ -40,13 +39,13 @@ enum-told : tie.Need-enum-told
 enum-told c = search needs
 
 returns-3 : tie.Need-returns-3
-returns-3 c = rw (extend-refused _ _ _ (sym (c .before .before .before .check-table .ensures) ∙ c .before .r .given .1)) (refused _ _)
+returns-3 c = rw (extend-refused _ _ _ (sym (c .before .before .before .check-alone .ensures) ∙ c .before .r .given .1)) (refused _ _)
 
 returns-4 : tie.Need-returns-4
 returns-4 c =
     let k = c .before .before in
     rw
-    (extend-unfit _ _ _ refl _ (sym (k .check-table .ensures) ∙ c .enum-told .given .1)
+    (extend-unfit _ _ _ refl _ (sym (k .check-alone .ensures) ∙ c .enum-told .given .1)
     (sym (k .before .before .fits-but-last .ensures) ∙ k .before .if2 .left))
     (refused _ _)
 
@@ -60,7 +59,7 @@ extend-index-spec =
     put-extended-requires
     same-length
     returns-2
-    check-table-requires
+    check-alone-requires
     enum-known-r
     enum-told
     returns-3

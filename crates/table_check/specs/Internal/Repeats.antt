@@ -1,0 +1,32 @@
+-- What a table's check is made of: rows whose hash an earlier row has, seen along the order of all rows, where of rows with the same hash a later
+-- one stands before an earlier one; and an index that fits.
+use Prim.Native.Nat.{ℕ, _*_, _/_, _≤_, min}
+use mathlib.Core.Bool.{Bool, cond, not, _&&_}
+use mathlib.Core.List.{List}
+use mathlib.Core.Path.{_≡_}
+use lib.Dec.{eqb, leb}
+use lib.ListN.{length}
+use Rattle.hash_order.specs.Order.{member}
+use Rattle.rules.specs.Hash.{hashAt}
+use Rattle.rules.specs.Sizes.{sizes}
+use Rattle.table.specs.TableBytes.{u16sAt, rowSize, rowsAt}
+use Rattle.table.specs.Table.{rows}
+use Rattle.table_index.specs.Index.{indexed, indexFits, recordHash}
+
+-- Whether no earlier row has row i's hash.
+unfoldable pub newHash : List ℕ → ℕ → Bool
+newHash s i = not (member (hashAt s (i * rowSize)) (rows (rowsAt s 0 i)))
+
+-- The lesser of a number and an entry, if the entry's next has the same hash; else the number. f tells a row's hash.
+unfoldable pub orRepeat : (ℕ → ℕ) → ℕ → ℕ → ℕ → ℕ
+orRepeat f first x y = cond (eqb (f x) (f y)) (min x first) first
+
+-- The first n rows, and entries that are their order.
+pub record RowOrder (s x : List ℕ) (n : ℕ) : Type 0 where
+  pub inside : n * rowSize ≤ length s
+  pub entries : 2 * n ≤ length x
+  pub order : u16sAt x 0 n ≡ indexed (recordHash s rowSize) n
+
+-- Whether a table is within its limit and an index fits its whole rows.
+unfoldable pub fitsWithin : List ℕ → List ℕ → Bool
+fitsWithin s x = leb (length s) (sizes .rows * rowSize) && indexFits (rowsAt s 0 (length s / rowSize)) x
