@@ -72,6 +72,13 @@ module _ {w : List Waiting} where
   marks-kept none k e = e
   marks-kept (more d f) k e = marks-kept f k (marks-kept d k e)
 
+  pub as-many-marks : {q : Request} {m m′ : List Bool} → Asks w q m m′ → length m′ ≡ length m
+  as-many-marks (away a) = refl
+  as-many-marks (marked a) = refl
+  as-many-marks (waits {k = j} {m} a i c d) = as-many-marks d ∙ length-set m j true
+  as-many-marks none = refl
+  as-many-marks (more d f) = as-many-marks f ∙ as-many-marks d
+
   pub fewer-unmarked : {q : Request} {m m′ : List Bool} → Asks w q m m′ → unmarked m′ ≤ unmarked m
   fewer-unmarked (away a) = omega arith
   fewer-unmarked (marked a) = omega arith
@@ -136,10 +143,10 @@ one-less marks k t b e q = omega (arith, unmarked-set marks k b e)
 
 module _ {waitings order : List ℕ} {m : ℕ} {marks : List Bool} (a : Askable waitings order m marks) where
   pub mark-set : (k : ℕ) → Askable waitings order m (set marks k true)
-  mark-set k = record { sorted = a .sorted; few = a .few; marked = rw length-set (a .marked) }
+  mark-set k = record { sorted = a .sorted; few = a .few; rows = a .rows; marked = rw length-set (a .marked) }
 
   pub still-askable : {marks′ : List Bool} → length marks′ ≡ length marks → Askable waitings order m marks′
-  still-askable p = record { sorted = a .sorted; few = a .few; marked = rw p (a .marked) }
+  still-askable p = record { sorted = a .sorted; few = a .few; rows = a .rows; marked = rw p (a .marked) }
 
   -- its list stands in the table
   pub asks-inside : (k entries : ℕ) → k < m → entries ≡ asksCount waitings k → asksPlace k + sizes .hash * entries ≤ length waitings

@@ -31,4 +31,5 @@ pub data Asks (w : List Waiting) : Request → List Bool → List Bool → Type 
 pub record Askable (waitings order : List ℕ) (m : ℕ) (marks : List Bool) : Type 0 where
   pub sorted : Sorted waitings order m
   pub few : (i : ℕ) → i < m → asksCount waitings i ≤ sizes .dependencies
+  pub rows : m ≤ sizes .waitingRows
   pub marked : m ≤ length marks

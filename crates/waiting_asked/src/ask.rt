@@ -1,6 +1,8 @@
 // Waiting rows asked by their hashes: a change that waits asks its own list, once, and a list asks each change in turn.
 use rules::sizes::HASH_SIZE;
+use rules::sizes::WAITING_ROWS;
 use waiting::check::asks_count;
+use waiting::find::ORDER_SIZE;
 use waiting::find::find_waiting;
 use waiting::row::ASKS_PLACE;
 use waiting::row::WAITING_SIZE;
@@ -14,7 +16,7 @@ ghost use Rattle.waiting_asked.specs.Ask.{Request, Asks, Askable};
 
 // Asks the change of a waiting row, or none where there is no such row: one that hasn't been asked is marked and asks its list. The marks make the
 // calls end: each list is asked with one row less unmarked.
-fn ask_change(waiting: &[u8], order: &[u8], m: usize, marks: &mut [bool], row: usize)
+fn ask_change(waiting: &[u8], order: &[u8; ORDER_SIZE], m: usize, marks: &mut [bool; WAITING_ROWS], row: usize)
     requires { ⌜ Askable (now waiting) (now order) m (now marks) ⌝ }
     ensures { λ _. ⌜ Asks (waitingsAt (now (waiting .entry)) 0 m) (Request.change row) (now (marks .entry)) (now (marks .exit)) ⌝ }
 {
@@ -29,7 +31,7 @@ fn ask_change(waiting: &[u8], order: &[u8], m: usize, marks: &mut [bool], row: u
 }
 
 // Asks each change of a waiting row's list in turn.
-fn ask_list(waiting: &[u8], order: &[u8], m: usize, marks: &mut [bool], row: usize)
+fn ask_list(waiting: &[u8], order: &[u8; ORDER_SIZE], m: usize, marks: &mut [bool; WAITING_ROWS], row: usize)
     requires { ⌜ Askable (now waiting) (now order) m (now marks) × (row < m) ⌝ }
     ensures { λ _. ⌜ Asks (waitingsAt (now (waiting .entry)) 0 m) (Request.list (asksOf (waitingsAt (now (waiting .entry)) 0 m) row))
         (now (marks .entry)) (now (marks .exit)) ⌝ }
@@ -47,9 +49,9 @@ fn ask_list(waiting: &[u8], order: &[u8], m: usize, marks: &mut [bool], row: usi
 // Asks each change of a list that stands in bytes of its own. It is no part of the cycle, whose lists all stand in the waiting table.
 pub fn ask_hashes(
     waiting: &[u8],
-    order: &[u8],
+    order: &[u8; ORDER_SIZE],
     m: usize,
-    marks: &mut [bool],
+    marks: &mut [bool; WAITING_ROWS],
     bytes: &[u8],
     place: usize,
     entries: usize,

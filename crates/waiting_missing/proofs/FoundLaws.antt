@@ -227,6 +227,7 @@ module _ (table : List ℕ) (n : ℕ) (waitings : List ℕ) (m : ℕ) (d : Waiti
       record {
         sorted = o;
         few = λ i h. decoded-asks-count (rowsAt table 0 n) waitings m d i h;
+        rows = d .few;
         marked = rw (length-replicate (sizes .waitingRows) false) (d .few);
       }
 

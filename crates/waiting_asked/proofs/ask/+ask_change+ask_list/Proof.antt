@@ -17,7 +17,7 @@ use Rattle.waiting.proofs.WaitingLaws.{asks-of-waiting}
 use Rattle.waiting.specs.WaitingBytes.{waitingsAt}
 use Rattle.waiting.specs.Waiting.{asksOf}
 use Rattle.waiting_asked.specs.Ask.{Request, Asks, marked}
-use Rattle.waiting_asked.proofs.AskLaws.{unmarked, fewer-unmarked, one-less, mark-set, still-askable, asks-inside, row-away, row-waits, list-ends, list-on}
+use Rattle.waiting_asked.proofs.AskLaws.{unmarked, as-many-marks, fewer-unmarked, one-less, mark-set, still-askable, asks-inside, row-away, row-waits, list-ends, list-on}
 use borrow.Fn.Kinds.{In}
 use borrow.Fn.PlainCycle.{Measures, is, falls, and}
 use Rattle.waiting_asked.proofs.ask.ask_change.Reads as ask-change
@@ -68,34 +68,30 @@ list-calls t = (
 ask-change-returns : (t : ℕ) → ask-change-lts.Need-returns (change-calls t) (ask-change-at t) ask-change.Post
 ask-change-returns t c = row-away _ _ (c .if1 .taken)
 
-ask-change-slice-read-if2 : (t : ℕ) → ask-change-lts.Need-slice-read-if2 (change-calls t) (ask-change-at t) ask-change.Post
-ask-change-slice-read-if2 t c = search needs
+ask-change-element-copy-out-if2 : (t : ℕ) → ask-change-lts.Need-element-copy-out-if2 (change-calls t) (ask-change-at t) ask-change.Post
+ask-change-element-copy-out-if2 t c = search needs
 
 ask-change-returns-2 : (t : ℕ) → ask-change-lts.Need-returns-2 (change-calls t) (ask-change-at t) ask-change.Post
 ask-change-returns-2 t c = marked (c .if2 .taken)
 
-ask-change-slice-write-marks : (t : ℕ) → ask-change-lts.Need-slice-write-marks (change-calls t) (ask-change-at t) ask-change.Post
-ask-change-slice-write-marks t c = search needs
+ask-change-element-write-marks : (t : ℕ) → ask-change-lts.Need-element-write-marks (change-calls t) (ask-change-at t) ask-change.Post
+ask-change-element-write-marks t c = search needs
 
 ask-change-ask-list-requires : (t : ℕ) → ask-change-lts.Need-ask-list-requires (change-calls t) (ask-change-at t) ask-change.Post
 ask-change-ask-list-requires t c κs =
     let f = c .before in
     let b = f .before .before in
-    let a = b .before .before .before .before in (
+    let a = b .before .before in (
       one-less _ _ _ (omega (arith, a .pre .1 .marked, b .if1 .left)) (f .if2 .left) (a .pre .0),
       (mark-set (a .pre .1) _, b .if1 .left),
     )
 
-ask-change-same-length : (t : ℕ) → ask-change-lts.Need-same-length (change-calls t) (ask-change-at t) ask-change.Post
-ask-change-same-length t c = c .before .before .ask-list .kept .1 .1 .1 .0 ∙ simp length-set
 
 ask-change-returns-3 : (t : ℕ) → ask-change-lts.Need-returns-3 (change-calls t) (ask-change-at t) ask-change.Post
 ask-change-returns-3 t c =
-    let d = c .before .before in
-    let f = d .before .before in
+    let f = c .before .before in
     let b = f .before .before in
-    let a = b .before .before .before .before in
-    row-waits _ _ (b .if1 .left) (a .pre .1 .marked) (f .if2 .left) (d .ask-list .ensures)
+    row-waits _ _ (b .if1 .left) (b .before .before .pre .1 .marked) (f .if2 .left) (c .ask-list .ensures)
 
 abbrev ask-list-Inv-loop : ask-list-lts.InvT-loop
 ask-list-Inv-loop waiting order m marks₀ row place entries i₀ marks i =
@@ -122,37 +118,39 @@ ask-list-asks-count-requires t c κs = search needs
 
 ask-list-loop-holds : (t : ℕ) → ask-list-lts.Need-loop-holds (list-calls t) (ask-list-at t) ask-list.Post ask-list-Inv-loop ask-list-μ-loop
 ask-list-loop-holds t c =
-    let a = c .before .before .before .before in
+    let a = c .before .before in
     let at = a .args in
     record {
       upto = omega arith;
       same-marks = refl;
       less = omega arith;
-      rest = λ marks′ x. rw (asks-of-waiting (at .waiting .now) (at .m) (at .row) (a .pre .1 .1), ← c .asks-count .ensures) (rw (add-zero, sub-zero) at x);
+      rest =
+          λ marks′ x.
+          rw (asks-of-waiting (at .waiting .now) (at .m) (at .row) (a .pre .1 .1), ← c .asks-count .ensures) (rw (add-zero, sub-zero) at x);
     }
 
 -- the hash that is asked next stands in the table
 inside : (t : ℕ) (c : ask-list-lts.In-loop (list-calls t) (ask-list-at t) ask-list.Post ask-list-Inv-loop ask-list-μ-loop)
-    → let k = c .before .before in
-    asksPlace (k .before .before .before .before .args .row) + sizes .hash * (c .before .loop .i) + sizes .hash ≤ length (k .before .before .before .before .args .waiting .now)
+    → let a = c .before .before .before .before in
+    asksPlace (a .args .row) + sizes .hash * (c .before .loop .i) + sizes .hash ≤ length (a .args .waiting .now)
 inside t c =
     let k = c .before .before in
-    let a = k .before .before .before .before in
+    let a = k .before .before in
     omega (arith, asks-inside (a .pre .1 .0) _ _ (a .pre .1 .1) (k .asks-count .ensures), c .loop-test .taken)
 
 ask-list-mul-find-waiting : (t : ℕ) → ask-list-lts.Need-mul-find-waiting (list-calls t) (ask-list-at t) ask-list.Post ask-list-Inv-loop ask-list-μ-loop
-ask-list-mul-find-waiting t c = omega (arith, inside t c)
+ask-list-mul-find-waiting t c = omega (arith, inside t (c .before))
 
 ask-list-add-find-waiting : (t : ℕ) → ask-list-lts.Need-add-find-waiting (list-calls t) (ask-list-at t) ask-list.Post ask-list-Inv-loop ask-list-μ-loop
-ask-list-add-find-waiting t c = omega (arith, inside t c)
+ask-list-add-find-waiting t c = omega (arith, inside t (c .before))
 
 ask-list-find-waiting-requires : (t : ℕ) → ask-list-lts.Need-find-waiting-requires (list-calls t) (ask-list-at t) ask-list.Post ask-list-Inv-loop ask-list-μ-loop
-ask-list-find-waiting-requires t c κs = (c .before .before .before .before .before .before .pre .1 .0 .sorted, inside t c)
+ask-list-find-waiting-requires t c κs = (c .before .before .before .before .before .pre .1 .0 .sorted, inside t (c .before))
 
 ask-list-ask-change-requires : (t : ℕ) → ask-list-lts.Need-ask-change-requires (list-calls t) (ask-list-at t) ask-list.Post ask-list-Inv-loop ask-list-μ-loop
 ask-list-ask-change-requires t c κs =
-    let l = c .before .before .before in
-    let a = l .before .before .before .before .before in
+    let l = c .before .before .before .before in
+    let a = l .before .before .before in
     let v = l .loop .inv in
     (omega (arith, v .less, a .pre .0), still-askable (a .pre .1 .0) (v .same-marks))
 
@@ -164,18 +162,16 @@ ask-list-loop-less t c = search needs
 
 ask-list-loop-again : (t : ℕ) → ask-list-lts.Need-loop-again (list-calls t) (ask-list-at t) ask-list.Post ask-list-Inv-loop ask-list-μ-loop
 ask-list-loop-again t c =
-    let d = c .before .before in
-    let f = d .before .before in
-    let v = f .before .before .loop .inv in
+    let f = c .before .before in
+    let l = f .before .before in
+    let v = l .before .loop .inv in
     record {
-      upto = omega (arith, f .before .loop-test .taken);
-      same-marks = d .ask-change .kept .1 .1 .1 .0 ∙ v .same-marks;
-      less = omega (arith, fewer-unmarked (d .ask-change .ensures), v .less);
-      rest = λ marks′ x. v .rest marks′ (list-on _ _ _ _ _ _ _ (f .before .loop-test .taken) (f .find-waiting .ensures) (d .ask-change .ensures) x);
+      upto = omega (arith, l .loop-test .taken);
+      same-marks = as-many-marks (c .ask-change .ensures) ∙ v .same-marks;
+      less = omega (arith, fewer-unmarked (c .ask-change .ensures), v .less);
+      rest = λ marks′ x. v .rest marks′ (list-on _ _ _ _ _ _ _ (l .loop-test .taken) (f .find-waiting .ensures) (c .ask-change .ensures) x);
     }
 
-ask-list-same-length : (t : ℕ) → ask-list-lts.Need-same-length (list-calls t) (ask-list-at t) ask-list.Post ask-list-Inv-loop ask-list-μ-loop
-ask-list-same-length t c = search needs
 
 ask-list-returns : (t : ℕ) → ask-list-lts.Need-returns (list-calls t) (ask-list-at t) ask-list.Post ask-list-Inv-loop ask-list-μ-loop
 ask-list-returns t c = c .before .loop .inv .rest _ (list-ends _ _ _ _ _ (omega (arith, c .loop-test .left)))
@@ -185,11 +181,10 @@ pub +ask-change+ask-list-spec : {M : Type 1} → statement M
     (ask-change-at t)
     ask-change.Post
     (ask-change-returns t)
-    (ask-change-slice-read-if2 t)
+    (ask-change-element-copy-out-if2 t)
     (ask-change-returns-2 t)
-    (ask-change-slice-write-marks t)
+    (ask-change-element-write-marks t)
     (ask-change-ask-list-requires t)
-    (ask-change-same-length t)
     (ask-change-returns-3 t))
     λ t. ask-list-lts.spec (list-calls t)
     (ask-list-at t)
@@ -207,5 +202,4 @@ pub +ask-change+ask-list-spec : {M : Type 1} → statement M
     (ask-list-add-i t)
     (ask-list-loop-less t)
     (ask-list-loop-again t)
-    (ask-list-same-length t)
     (ask-list-returns t)

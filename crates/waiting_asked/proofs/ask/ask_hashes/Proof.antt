@@ -11,7 +11,7 @@ use Rattle.rules.specs.Hash.{hashesAt}
 use Rattle.rules.specs.Sizes.{sizes}
 use Rattle.waiting.specs.WaitingBytes.{waitingsAt}
 use Rattle.waiting_asked.specs.Ask.{Request, Asks}
-use Rattle.waiting_asked.proofs.AskLaws.{still-askable, list-ends, list-on}
+use Rattle.waiting_asked.proofs.AskLaws.{as-many-marks, still-askable, list-ends, list-on}
 use Rattle.waiting_asked.proofs.ask.ask_hashes.Statement.{statement}
 use Rattle.waiting_asked.proofs.ask.ask_hashes.Tie as tie
 
@@ -42,8 +42,8 @@ find-waiting-requires c κs = search needs
 
 ask-change-requires : tie.Need-ask-change-requires Inv-loop μ-loop
 ask-change-requires c κs =
-    let l = c .before .before .before in
-    still-askable (l .before .before .before .before .before .pre .0) (l .loop .inv .same-marks)
+    let l = c .before .before .before .before in
+    still-askable (l .before .before .before .pre .0) (l .loop .inv .same-marks)
 
 add-i : tie.Need-add-i Inv-loop μ-loop
 add-i c = search needs
@@ -53,17 +53,15 @@ loop-less c = search needs
 
 loop-again : tie.Need-loop-again Inv-loop μ-loop
 loop-again c =
-    let d = c .before .before in
-    let f = d .before .before in
-    let v = f .before .before .loop .inv in
+    let f = c .before .before in
+    let l = f .before .before in
+    let v = l .before .loop .inv in
     record {
-      upto = omega (arith, f .before .loop-test .taken);
-      same-marks = d .ask-change .kept .1 .1 .1 .0 ∙ v .same-marks;
-      rest = λ marks′ x. v .rest marks′ (list-on _ _ _ _ _ _ _ (f .before .loop-test .taken) (f .find-waiting .ensures) (d .ask-change .ensures) x);
+      upto = omega (arith, l .loop-test .taken);
+      same-marks = as-many-marks (c .ask-change .ensures) ∙ v .same-marks;
+      rest = λ marks′ x. v .rest marks′ (list-on _ _ _ _ _ _ _ (l .loop-test .taken) (f .find-waiting .ensures) (c .ask-change .ensures) x);
     }
 
-same-length : tie.Need-same-length Inv-loop μ-loop
-same-length c = search needs
 
 returns : tie.Need-returns Inv-loop μ-loop
 returns c = c .before .loop .inv .rest _ (list-ends _ _ _ _ _ (omega (arith, c .loop-test .left)))
@@ -82,5 +80,4 @@ ask-hashes-spec =
     add-i
     loop-less
     loop-again
-    same-length
     returns)

@@ -12,7 +12,7 @@ find-in-order-requires c κs = search needs
 put-found-requires : tie.Need-put-found-requires
 put-found-requires c κs =
     let f = c .before .before .before .before in
-    let start = f .before .before .before .before .before .before .before .before .before in
+    let start = f .before .before .before .before .before .before .before .before in
     let g = f .find-in-order .ensures in
     (g .found, found-room g (start .args .out .now) (f .find-in-order .kept .1 .1 .1 .1 .1 .1 .1 .1 .1 .0 ∙ start .pre .5))
 
@@ -27,8 +27,8 @@ returns c =
     let p = c .before .before in
     let f = p .before .before .before .before .before in
     let b = f .before .before .before .before in
-    let start = b .before .before .before .before .before in
-    found-put (f .find-in-order .ensures) _ _ (λ k. b .shared-slice-known5 .given k .fits) (λ k. b .before .before .shared-slice-known3 .given k .fits)
+    let start = b .before .before .before .before in
+    found-put (f .find-in-order .ensures) _ _ (λ k. b .shared-slice-known4 .given k .fits) (λ k. b .before .shared-slice-known3 .given k .fits)
     (f .find-in-order .kept .1 .1 .1 .1 .1 .1 .1 .1 .1 .0 ∙ start .pre .5)
     (p .put-found .ensures)
 

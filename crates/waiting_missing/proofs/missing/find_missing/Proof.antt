@@ -24,14 +24,11 @@ order-waiting-requires c κs =
     let d = waiting-good _ _ _ (a .pre .1 .0) in
     (omega (arith, d .whole), d .few, omega (arith, d .few, length-replicate {A = ℕ} (2 * sizes .waitingRows) 0), waitings-good _ _ _ (d .each) .once)
 
-slice-aggregate-find-by-refs : tie.Need-slice-aggregate-find-by-refs
-slice-aggregate-find-by-refs c = search needs
-
 array-borrow-prefix-refs : tie.Need-array-borrow-prefix-refs
 array-borrow-prefix-refs c = search needs
 
-slice-aggregate-find-by-refs-2 : tie.Need-slice-aggregate-find-by-refs-2
-slice-aggregate-find-by-refs-2 c =
+slice-aggregate-find-by-refs : tie.Need-slice-aggregate-find-by-refs
+slice-aggregate-find-by-refs c =
     sym (first-numbers _ (c .before .before .before .before .before .before .before .before .before .before .before .pre .1 .3))
 
 find-by-refs-requires : tie.Need-find-by-refs-requires
@@ -53,9 +50,8 @@ find-missing-spec =
     returns
     slice-aggregate-order-waiting
     order-waiting-requires
-    slice-aggregate-find-by-refs
     array-borrow-prefix-refs
-    slice-aggregate-find-by-refs-2
+    slice-aggregate-find-by-refs
     find-by-refs-requires
     same-length
     returns-2)

@@ -15,7 +15,7 @@ use Rattle.waiting_missing.proofs.missing.missing_from.Tie as tie
 
 -- the list that was accepted
 listed : (c : tie.After-entries)
-    → passedHashes (c .before .before .before .before .before .before .before .before .before .args .l .now) ≡ Hashes (c .entries .given .0 .0)
+    → passedHashes (c .before .before .before .before .before .before .before .before .args .l .now) ≡ Hashes (c .entries .given .0 .0)
 listed c = sym (c .before .before .passed-hashes .ensures) ∙ c .entries .given .1
 
 passed-hashes-requires : tie.Need-passed-hashes-requires
@@ -33,7 +33,7 @@ slice-aggregate-find-in-order c = search needs
 find-in-order-requires : tie.Need-find-in-order-requires
 find-in-order-requires c κs =
     let e = c .before .before in
-    let start = e .before .before .before .before .before .before .before .before .before in
+    let start = e .before .before .before .before .before .before .before .before in
     let is = passed-is _ _ (listed e) in
     (start .pre .0, start .pre .1, start .pre .2, omega (arith, is .whole), is .few)
 
