@@ -30,6 +30,11 @@ unfolding heardGood
 heard-there s Nothing k e g = omega arith
 heard-there s (Count n) k e g = omega (arith, list-parts s n g .there)
 
+heard-few : (s : List ℕ) (h : Heard) (k : ℕ) → k ≡ heardCount h → heardGood s h ≡ true → k ≤ sizes .hashes
+unfolding heardGood
+heard-few s Nothing k e g = omega arith
+heard-few s (Count n) k e g = omega (arith, list-parts s n g .few)
+
 pub heard-list : (s : List ℕ) (h : Heard) (k : ℕ) → k ≡ heardCount h → hashesAt s 0 k ≡ heard (heardHashes s h)
 unfolding heardHashes hashesAt
 heard-list s Nothing k e = rw e
@@ -46,6 +51,9 @@ module _ (s : List ℕ) (readOnlyUnit : Bool) (h : Heard) (k : ℕ) (e : k ≡ c
 
   pub asked-there : heardGood s h ≡ true → 0 + sizes .hash * k ≤ length s
   asked-there g = split readOnlyUnit (λ r. omega (arith, none-asked r)) (λ r. heard-there s h k (all-asked r) g)
+
+  pub asked-few : heardGood s h ≡ true → k ≤ sizes .hashes
+  asked-few g = split readOnlyUnit (λ r. omega (arith, none-asked r)) (λ r. heard-few s h k (all-asked r) g)
 
   need-asked : (t : List Row) (w : List Waiting) → missing t w (hashesAt s 0 k) ≡ needOf t w readOnlyUnit (heard (heardHashes s h))
   unfolding needOf hashesAt

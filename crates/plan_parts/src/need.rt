@@ -4,7 +4,7 @@ use session_state::session::heard_count;
 use waiting_missing::missing::find_missing;
 ghost use mathlib.Core.Bool.{cond, true};
 ghost use mathlib.Core.Path.{_≡_};
-ghost use Prim.Native.Nat.{_/_};
+ghost use Prim.Native.Nat.{_+_, _/_, _≤_};
 ghost use lib.ListN.{length};
 ghost use Rattle.table_index.specs.Index.{Indexed};
 ghost use Rattle.session_check.specs.SessionGood.{heardGood};
@@ -39,7 +39,7 @@ pub fn make_need(
     list: &mut [u8],
 ) -> usize
     requires { ⌜ Indexed (now table) (now index) n × (waitingChecked (rowsAt (now table) 0 n) (now waiting) ≡ Good m)
-        × (heardGood (now «their_heads») heads ≡ true) ⌝ }
+        × (heardGood (now «their_heads») heads ≡ true) × (length (now list) / sizes .hash ≤ sizes .hashes + 1) ⌝ }
     ensures { λ r. ⌜ FoundUpTo (needOf (rowsAt (now (table .entry)) 0 n) (waitingOf (now (waiting .entry))) «read_only»
         (heard (heardHashes (now («their_heads» .entry)) heads))) (length (now (list .entry)) / sizes .hash) (now (list .exit)) r ⌝ }
 {

@@ -7,6 +7,7 @@ use native.Mathlib.Nat.{add-zero, zero-add, one-le-pow, le-mul-of-pos-right, not
 use native.Mathlib.Numerals.{add-one}
 use native.Mathlib.Omega.{arith}
 use borrow.Author.Tests.{ltb-true, ltb-false, leb-true, eqb-true, eqb-false, not-true, le-leb, lt-leb, eq-eqb, ne-eqb}
+use lib.Bits.{bitOr, or-add-and, and-le-r}
 use lib.Dec.{ltb, leb, eqb}
 use lib.ListN.{length, getD, length-map}
 use lib.Seq.{slice, slice-empty, slice-cons}
@@ -93,37 +94,6 @@ module _ (s : List ℕ) where
 
 -- ---- zeros
 
-module _ (s : List ℕ) (at count : ℕ) where
-  -- what the bytes from the k-th on say
-  pub blanking : ℕ → Bool
-  blanking k = zeros (bytesAt s (at + k) (count - k))
-
-  pub blank-starts : blanking 0 ≡ zeros (bytesAt s at count)
-  unfolding blanking
-  blank-starts =
-      let d : count - 0 ≡ count = omega arith in
-      rw (d, add-zero)
-
-  module _ (k : ℕ) (inside : k < count) where
-    left : count - k ≡ suc (count - (k + 1))
-    left = omega arith
-
-    pub blank-fails : (getD s (at + k) 0 ≡ 0 → ⊥) → blanking k ≡ false
-    unfolding blanking zeros bytesAt
-    blank-fails h = rw (left, ne-eqb (getD s (at + k) 0) 0 h)
-
-    pub blank-on : getD s (at + k) 0 ≡ 0 → blanking k ≡ blanking (k + 1)
-    unfolding blanking zeros bytesAt
-    blank-on h =
-        let next : at + k + 1 ≡ at + (k + 1) = omega arith in
-        rw (left, eq-eqb (getD s (at + k) 0) 0 h, next)
-
-  pub blank-ends : (k : ℕ) → count ≤ k → blanking k ≡ true
-  unfolding blanking zeros bytesAt
-  blank-ends k h =
-      let d : count - k ≡ 0 = omega arith in
-      rw d
-
 zeros-parts : (s : List ℕ) (at a b : ℕ) → zeros (bytesAt s at (a + b)) ≡ (zeros (bytesAt s at a) && zeros (bytesAt s (at + a) b))
 unfolding zeros bytesAt
 zeros-parts s at zero b = rw (zero-add, add-zero)
@@ -133,6 +103,35 @@ zeros-parts s at (suc a) b =
     split (eqb (getD s at 0) 0)
     (λ q. rw (e, q, f) (zeros-parts s (at + 1) a b))
     (λ q. rw (e, q))
+
+-- joined numbers are 0 if both are
+or-zero : (a b : ℕ) → eqb (bitOr a b) 0 ≡ (eqb a 0 && eqb b 0)
+or-zero a b =
+    split (eqb a 0)
+    (λ e. rw (eqb-true a 0 e))
+    (λ e.
+    let n : a ≡ 0 → ⊥ = eqb-false a 0 e in
+    rw (e, ne-eqb (bitOr a b) 0 (λ q. n (omega (arith, or-add-and a b, and-le-r a b)))))
+
+and-true-right : (x : Bool) → (x && true) ≡ x
+and-true-right true = refl
+and-true-right false = refl
+
+-- The first bytes from a place on are 0 if what they are joined in is.
+module _ (s : List ℕ) (at : ℕ) where
+  pub joined-none : eqb 0 0 ≡ zeros (bytesAt s at 0)
+  unfolding zeros bytesAt
+  joined-none = refl
+
+  pub joined-next : (k any : ℕ) → eqb any 0 ≡ zeros (bytesAt s at k) → eqb (bitOr any (getD s (at + k) 0)) 0 ≡ zeros (bytesAt s at (k + 1))
+  unfolding zeros bytesAt
+  joined-next k any e =
+      rw (or-zero any (getD s (at + k) 0), zeros-parts s at k 1, e) (ap (λ (x : Bool). zeros (bytesAt s at k) && x) (sym (and-true-right _)))
+
+  pub joined-all : (k count any : ℕ) → k ≤ count → count ≤ k → eqb any 0 ≡ zeros (bytesAt s at k) → eqb any 0 ≡ zeros (bytesAt s at count)
+  joined-all k count any b c e =
+      let same : k ≡ count = omega arith in
+      rw same at e
 
 -- a number is 0 if its digits are
 digits-zero : (b c r : ℕ) → 1 ≤ c → eqb (b * c + r) 0 ≡ (eqb b 0 && eqb r 0)

@@ -1,6 +1,7 @@
 pub mod AcceptedLaws
-pub mod AskBytes
-pub mod AskLaws
+pub mod AskedLaws
+pub mod FoundLaws
 pub mod MissingCalls
 pub mod MissingLaws
 pub mod Promises
+pub mod TakeLaws

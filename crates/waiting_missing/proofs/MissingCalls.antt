@@ -1,10 +1,11 @@
 -- What the call for missing hashes writes: one law for each way out, with the code's tests as hypotheses.
-use Prim.Native.Nat.{ℕ, suc, _+_, _*_, _/_, _≤_, _<_}
+use Prim.Native.Nat.{ℕ, _+_, _≤_, _<_}
 use mathlib.Core.List.{List}
-use mathlib.Core.Path.{_≡_, refl, ap, _∙_}
+use mathlib.Core.Path.{_≡_, refl}
 use native.Mathlib.Omega.{arith}
 use borrow.Author.Tests.{lt-ltb, le-ltb}
-use lib.ListN.{length, replicate, length-replicate}
+use lib.ListN.{length}
+use Rattle.hash_refs.specs.Internal.Refs.{foundBy}
 use Rattle.rules.specs.Hash.{hashesAt, hashesBytes}
 use Rattle.rules.specs.Output.{Output, Written}
 use Rattle.rules.specs.Passed.{passedHashes}
@@ -28,22 +29,13 @@ use Rattle.table.proofs.TableLaws.{table-good}
 use Rattle.waiting.specs.WaitingBytes.{waitingOf, waitingChecked}
 use Rattle.waiting.specs.Waiting.{Waiting}
 use Rattle.waiting_missing.specs.Ask.{FoundUpTo}
+use Rattle.waiting_missing.specs.Internal.Take.{RefsFound}
 use Rattle.waiting_missing.specs.MissingCalls.{missingOf, missingFrom, missingBeside, missingOutput}
 use Rattle.waiting_missing.specs.Missing.{missing}
+use Rattle.waiting_missing.proofs.FoundLaws.{found-many, refs-many, refs-all}
 use Rattle.waiting_missing.proofs.MissingLaws.{missing-of-nothing}
 
 -- ---- a list that was found
-
--- The scratch list has room for one hash more than a list may have.
-pub one-more : length (replicate {A = ℕ} (sizes .hash * (sizes .hashes + 1)) 0) / sizes .hash ≡ suc (sizes .hashes)
-one-more = ap (λ (n : ℕ). n / sizes .hash) (length-replicate {A = ℕ} (sizes .hash * (sizes .hashes + 1)) 0)
-
-fits : (count most n : ℕ) → count ≤ most → n ≡ sizes .hash * (most + 1) → sizes .hash * count ≤ n
-fits count most n h e = omega arith
-
--- So what a list may have fits in it.
-pub list-fits : (count n : ℕ) → n ≡ length (replicate {A = ℕ} (sizes .hash * (sizes .hashes + 1)) 0) → count ≤ sizes .hashes → sizes .hash * count ≤ n
-list-fits count n e h = fits count (sizes .hashes) n h (e ∙ length-replicate {A = ℕ} (sizes .hash * (sizes .hashes + 1)) 0)
 
 module _ (t : List Row) (w : List Waiting) (l out : List ℕ) where
   pub no-list : (r : Refusal) → passedHashes l ≡ passed.Refused r → Written (missingFrom t w l) out out (Refused r)
@@ -55,22 +47,22 @@ module _ (t : List Row) (w : List Waiting) (l out : List ℕ) where
     unfolding missingFrom
     from-list = after-hashes _ _ _ n e
 
-    module _ {most : ℕ} {after : List ℕ} {count : ℕ} (room : most ≡ suc (sizes .hashes))
-        (f : FoundUpTo (missing t w (hashesAt l 0 n)) most after count) where
+    module _ {further refs : List ℕ} {count : ℕ} (room : length refs ≡ sizes .hashes + 1)
+        (f : RefsFound l 0 n further (missing t w (hashesAt l 0 n)) refs count) where
       pub too-many : sizes .hashes < count → Written (missingFrom t w l) out out (Refused (PastSize 0))
       unfolding missingOf
       too-many h =
-          let many : sizes .hashes < length (missing t w (hashesAt l 0 n)) = omega (arith, f .full (omega (arith, f .within))) in
+          let many : sizes .hashes < length (missing t w (hashesAt l 0 n)) = omega (arith, room, refs-many f (omega (arith, room, f .found .room))) in
           rw (from-list, lt-ltb _ _ many) (refused _ _)
 
       pub few-enough : {out′ : List ℕ} {r : Write} → count ≤ sizes .hashes
-          → Written (Output.bytes (hashesBytes (hashesAt after 0 count))) out out′ r
+          → Written (Output.bytes (hashesBytes (foundBy l 0 n further refs count))) out out′ r
           → Written (missingFrom t w l) out out′ r
       unfolding missingOf
       few-enough h v =
-          let g = f .all (omega arith) in
-          let few : length (missing t w (hashesAt l 0 n)) ≤ sizes .hashes = omega (arith, g .many) in
-          rw (from-list, le-ltb _ _ few) (rw (g .list) at v)
+          let is : foundBy l 0 n further refs count ≡ missing t w (hashesAt l 0 n) = refs-all f (omega (arith, room)) in
+          let few : length (missing t w (hashesAt l 0 n)) ≤ sizes .hashes = rw (← is) (omega (arith, found-many f)) in
+          rw (from-list, le-ltb _ _ few) (rw is at v)
 
 -- ---- after the checks
 

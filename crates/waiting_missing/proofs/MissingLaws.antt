@@ -1,5 +1,5 @@
 -- What is missing, as a relation and as a list: both have the same members. A hash that is asked for on the way is one of the list's or of the
--- asks of an asked row, and an asked row's asks lead back to the list. The list ascends, so its members tell it; asking finds just them.
+-- asks of an asked row, and an asked row's asks lead back to the list.
 use Prim.Native.Nat.{ℕ, zero, suc, _+_, _≤_, _<_}
 use mathlib.Core.Bool.{Bool, true, false, not, _&&_}
 use mathlib.Core.List.{List, [], _∷_, _++_}
@@ -19,8 +19,12 @@ use Rattle.table.specs.Table.{Row, held, indexIn}
 use Rattle.waiting.proofs.WaitingLaws.{length-waiting}
 use Rattle.waiting.specs.Waiting.{Waiting, noWaiting, waiting, asks, asksOf}
 use Rattle.waiting_missing.specs.Missing.{unknown, Missing, itself, through, askedRow, asksFrom, missing}
-use Rattle.waiting_missing.specs.Ask.{list, Asks}
-use Rattle.waiting_missing.proofs.AskLaws.{asked, more-missing, missing-found, asked-settled, newly-settled, found-missing, still-ascending}
+
+-- What is missing from a part is missing from the whole.
+pub more-missing : {t : List Row} {w : List Waiting} {l l′ : List ℕ} {x : ℕ} → ((u : ℕ) → member u l ≡ true → member u l′ ≡ true)
+    → Missing t w l x → Missing t w l′ x
+more-missing f (itself a b) = itself (f _ a) b
+more-missing f (through g a b c d) = through g (f g a) b c d
 
 -- ---- members of what rows ask for
 
@@ -210,24 +214,3 @@ module _ (t : List Row) (w : List Waiting) where
         → ((g : ℕ) → member g (waiting w) ≡ true → held t g ≡ false → P g → (d : ℕ) → member d (asks w g) ≡ true → P d)
         → (x : ℕ) → member x (missing t w l) ≡ true → P x
     missing-induction P l base step x e = missing-passes P step (member-missing l once x e) base
-
-    -- Asking from nothing finds what is missing, all of it unless the list is full.
-    module _ {most : ℕ} {hs : List ℕ} {m m′ : List Bool} {l : List ℕ} (d : Asks t w most (list hs) m [] m′ l)
-        (blank : (k : ℕ) → getD m k false ≡ false) where
-      found-is-missing : (x : ℕ) → member x l ≡ true → member x (missing t w hs) ≡ true
-      unfolding asked
-      found-is-missing x e = missing-member hs (found-missing (Missing t w hs) d (λ y z. absurd (member-none y z)) (λ y z. z) x e)
-
-      found-ascends : ascends l ≡ true
-      unfolding ascends
-      found-ascends = still-ascending d refl
-
-      pub found-all : length l < most → l ≡ missing t w hs
-      unfolding asked
-      found-all s =
-          ascending-unique l (missing t w hs) found-ascends (missing-ascends hs)
-          (λ x. same-truth _ _ (found-is-missing x)
-          (λ e. missing-found t w m′ l (λ k g a b. newly-settled d s k (blank k) a g b) (member-missing hs once x e) (asked-settled d s)))
-
-      pub found-many : length l ≤ length (missing t w hs)
-      found-many = ascending-shorter l (missing t w hs) found-ascends (missing-ascends hs) found-is-missing

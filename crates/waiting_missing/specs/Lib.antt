@@ -1,3 +1,4 @@
 pub mod Ask
+pub mod Internal
 pub mod Missing
 pub mod MissingCalls

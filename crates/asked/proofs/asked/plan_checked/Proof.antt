@@ -12,7 +12,7 @@ slice-aggregate-make-need c = refl
 make-need-requires : tie.Need-make-need-requires
 make-need-requires c κs =
     let pre = c .before .before .before .before .before .before .before .before .before .before .before .before .before .before .before .pre in
-    (pre .0 .rows, pre .0 .waitingRows, heads-good _ _ (pre .0 .rows) (pre .0 .session))
+    (pre .0 .rows, pre .0 .waitingRows, heads-good _ _ (pre .0 .rows) (pre .0 .session), omega arith)
 
 slice-aggregate-plan-asked : tie.Need-slice-aggregate-plan-asked
 slice-aggregate-plan-asked c = sym (c .before .before .before .make-need .kept .1 .1 .1 .1 .1 .1 .1 .1 .0)
@@ -53,7 +53,7 @@ slice-aggregate-make-need-2 c = refl
 make-need-requires-2 : tie.Need-make-need-requires-2
 make-need-requires-2 c κs =
     let pre = c .before .before .before .before .before .before .before .before .before .before .before .before .before .before .before .before .before .before .before .pre in
-    (pre .0 .rows, pre .0 .waitingRows, heads-good _ _ (pre .0 .rows) (pre .0 .session))
+    (pre .0 .rows, pre .0 .waitingRows, heads-good _ _ (pre .0 .rows) (pre .0 .session), omega arith)
 
 slice-aggregate-plan-asked-2 : tie.Need-slice-aggregate-plan-asked-2
 slice-aggregate-plan-asked-2 c = sym (c .before .before .make-need2 .kept .1 .1 .1 .1 .1 .1 .1 .1 .0)

@@ -1,6 +1,6 @@
 -- `plan_parts::need::make_need` meets its contract: what is missing from the heads that are asked for is the need. Assumes nothing.
 use borrow.Author.Needs.{needs}
-use Rattle.plan_parts.proofs.HeardLaws.{asked-there, need-found}
+use Rattle.plan_parts.proofs.HeardLaws.{asked-there, asked-few, need-found}
 use Rattle.plan_parts.proofs.need.make_need.Statement.{statement}
 use Rattle.plan_parts.proofs.need.make_need.Tie as tie
 
@@ -11,7 +11,15 @@ find-missing-requires : tie.Need-find-missing-requires
 find-missing-requires c κs =
     let a = c .before in
     let start = a .before .before .before .before .before .before in
-    (start .pre .0, (start .pre .1, asked-there _ (start .args .read-only) _ _ (a .asked .ensures) (start .pre .2)))
+    let heads = a .asked .ensures in (
+      start .pre .0,
+      (
+        start .pre .1,
+        asked-there _ (start .args .read-only) _ _ heads (start .pre .2),
+        asked-few _ (start .args .read-only) _ _ heads (start .pre .2),
+        start .pre .3,
+      ),
+    )
 
 same-length : tie.Need-same-length
 same-length c = search needs

@@ -1,34 +1,29 @@
--- `waiting::check::zero_bytes` meets its contract: the bytes from the k-th on are 0 as all of them are, until one isn't or none is left.
--- Assumes nothing.
+-- `waiting::check::zero_bytes` meets its contract: the bytes before the k-th are 0 if what they are joined in is. Assumes nothing.
 use Prim.Native.Nat.{_-_, _≤_}
-use borrow.Author.Needs.{needs}
-use mathlib.Core.Path.{_≡_, sym, _∙_}
+use mathlib.Core.Path.{_≡_}
 use native.Mathlib.Omega.{arith}
+use lib.Dec.{eqb}
 use Rattle.table.specs.TableBytes.{zeros}
 use Rattle.waiting.specs.WaitingBytes.{bytesAt}
-use Rattle.waiting.proofs.WaitingLaws.{blanking, blank-starts, blank-fails, blank-on, blank-ends}
+use Rattle.waiting.proofs.WaitingLaws.{joined-none, joined-next, joined-all}
+use borrow.Author.Needs.{needs}
 use Rattle.waiting.proofs.check.zero_bytes.Statement.{statement}
 use Rattle.waiting.proofs.check.zero_bytes.Tie as tie
 
 abbrev Inv-loop : tie.InvT-loop
-Inv-loop bytes at count k₀ k = record { upto : k ≤ count; rest : blanking bytes at count k ≡ zeros (bytesAt bytes at count) }
+Inv-loop bytes at count any₀ k₀ any k = record { upto : k ≤ count; is : eqb any 0 ≡ zeros (bytesAt bytes at k) }
 
 abbrev μ-loop : tie.MeasureT-loop
-μ-loop bytes at count k₀ k = count - k
+μ-loop bytes at count any₀ k₀ any k = count - k
 
 loop-holds : tie.Need-loop-holds Inv-loop μ-loop
-loop-holds c = record { upto = omega arith; rest = blank-starts _ _ _ }
+loop-holds c = record { upto = omega arith; is = joined-none _ _ }
 
-add-if1 : tie.Need-add-if1 Inv-loop μ-loop
-add-if1 c = search needs
+add-any : tie.Need-add-any Inv-loop μ-loop
+add-any c = search needs
 
-shared-slice-read-if1 : tie.Need-shared-slice-read-if1 Inv-loop μ-loop
-shared-slice-read-if1 c = search needs
-
-returns : tie.Need-returns Inv-loop μ-loop
-returns c =
-    let t = c .before .before in
-    sym (blank-fails _ _ _ _ (t .loop-test .taken) (c .if1 .taken)) ∙ t .before .loop .inv .rest
+shared-slice-read-any : tie.Need-shared-slice-read-any Inv-loop μ-loop
+shared-slice-read-any c = search needs
 
 add-k : tie.Need-add-k Inv-loop μ-loop
 add-k c = search needs
@@ -38,14 +33,13 @@ loop-less c = search needs
 
 loop-again : tie.Need-loop-again Inv-loop μ-loop
 loop-again c =
-    let t = c .before .before in
-    record {
-      upto = omega (arith, t .loop-test .taken);
-      rest = sym (blank-on _ _ _ _ (t .loop-test .taken) (c .if1 .left)) ∙ t .before .loop .inv .rest;
-    }
+    let t = c .before in
+    record { upto = omega (arith, t .loop-test .taken); is = joined-next _ _ _ (t .before .loop .any) (t .before .loop .inv .is) }
 
-returns-2 : tie.Need-returns-2 Inv-loop μ-loop
-returns-2 c = sym (blank-ends _ _ _ _ (c .loop-test .left)) ∙ c .before .loop .inv .rest
+returns : tie.Need-returns Inv-loop μ-loop
+returns c =
+    let l = c .before in
+    joined-all _ _ _ _ (l .loop .any) (l .loop .inv .upto) (c .loop-test .left) (l .loop .inv .is)
 
 pub zero-bytes-spec : {M : Type 1} → statement M
 zero-bytes-spec =
@@ -54,10 +48,9 @@ zero-bytes-spec =
     Inv-loop
     μ-loop
     loop-holds
-    add-if1
-    shared-slice-read-if1
-    returns
+    add-any
+    shared-slice-read-any
     add-k
     loop-less
     loop-again
-    returns-2)
+    returns)

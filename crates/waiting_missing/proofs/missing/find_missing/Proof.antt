@@ -1,10 +1,12 @@
--- `missing::missing::find_missing` meets its contract: nothing is missing from nothing, and a checked waiting table has no hash twice, so its rows can be
+-- `waiting_missing::missing::find_missing` meets its contract: nothing is missing from nothing, and a checked waiting table has no hash twice, so its rows can be
 -- put in order. Assumes nothing.
 use Prim.Native.Nat.{ℕ, _*_}
+use mathlib.Core.Path.{sym}
 use native.Mathlib.Omega.{arith}
 use lib.ListN.{length-replicate}
 use Rattle.rules.specs.Sizes.{sizes}
 use Rattle.waiting.proofs.WaitingLaws.{waiting-good, waitings-good}
+use Rattle.waiting_missing.proofs.FoundLaws.{first-numbers}
 use Rattle.waiting_missing.proofs.MissingCalls.{nothing-found}
 use borrow.Author.Needs.{needs}
 use Rattle.waiting_missing.proofs.missing.find_missing.Statement.{statement}
@@ -22,11 +24,18 @@ order-waiting-requires c κs =
     let d = waiting-good _ _ _ (a .pre .1 .0) in
     (omega (arith, d .whole), d .few, omega (arith, d .few, length-replicate {A = ℕ} (2 * sizes .waitingRows) 0), waitings-good _ _ _ (d .each) .once)
 
-slice-aggregate-find-in-order : tie.Need-slice-aggregate-find-in-order
-slice-aggregate-find-in-order c = search needs
+array-borrow-prefix-refs : tie.Need-array-borrow-prefix-refs
+array-borrow-prefix-refs c = search needs
 
-find-in-order-requires : tie.Need-find-in-order-requires
-find-in-order-requires c κs = search needs
+slice-aggregate-find-by-refs : tie.Need-slice-aggregate-find-by-refs
+slice-aggregate-find-by-refs c =
+    sym (first-numbers _ (c .before .before .before .before .before .before .before .before .before .before .before .pre .1 .3))
+
+find-by-refs-requires : tie.Need-find-by-refs-requires
+find-by-refs-requires c κs =
+    let o = c .before .before .before .before in
+    let a = o .before .before .before .before .before .before .before .before in
+    (a .pre .0, a .pre .1 .0, o .order-waiting .ensures, a .pre .1 .1, a .pre .1 .2, first-numbers _ (a .pre .1 .3))
 
 same-length : tie.Need-same-length
 same-length c = search needs
@@ -41,7 +50,8 @@ find-missing-spec =
     returns
     slice-aggregate-order-waiting
     order-waiting-requires
-    slice-aggregate-find-in-order
-    find-in-order-requires
+    array-borrow-prefix-refs
+    slice-aggregate-find-by-refs
+    find-by-refs-requires
     same-length
     returns-2)

@@ -18,9 +18,6 @@ enum-known-refusal c = search needs
 enum-known-m : tie.Need-enum-known-m
 enum-known-m c = search needs
 
-slice-aggregate-missing-from : tie.Need-slice-aggregate-missing-from
-slice-aggregate-missing-from c = search needs
-
 missing-from-requires : tie.Need-missing-from-requires
 missing-from-requires c κs =
     let m = c .before .before .before in
@@ -51,7 +48,6 @@ missing-beside-spec =
     check-in-order-requires
     enum-known-refusal
     enum-known-m
-    slice-aggregate-missing-from
     missing-from-requires
     returns
     same-length
