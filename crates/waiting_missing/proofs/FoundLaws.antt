@@ -3,7 +3,7 @@
 use Prim.Native.Nat.{ℕ, zero, suc, _+_, _-_, _*_, _/_, _≤_, _<_}
 use mathlib.Core.Bool.{Bool, true, false, cond, not}
 use mathlib.Core.List.{List, [], _∷_, _++_, append-nil, append-assoc}
-use mathlib.Core.Path.{_≡_, refl, sym, ap, _∙_}
+use mathlib.Core.Path.{_≡_, refl, sym, _∙_}
 use native.Mathlib.Nat.{add-zero, zero-add}
 use native.Mathlib.Omega.{arith}
 use lib.ListN.{length, getD, take, replicate, length-replicate}
@@ -27,7 +27,7 @@ use Rattle.waiting.specs.WaitingBytes.{waitingSize, waitingRowOf, waitingRowsOf
 use Rattle.waiting.specs.Waiting.{Waiting, waiting}
 use Rattle.waiting_asked.specs.Ask.{Request, Asks, Askable}
 use Rattle.waiting_missing.specs.Ask.{FoundUpTo}
-use Rattle.waiting_missing.specs.Internal.Take.{take-one, taking, Took, UpTo, RefsFound}
+use Rattle.waiting_missing.specs.Internal.Take.{takeOne, taking, Took, UpTo, RefsFound}
 use Rattle.waiting_missing.specs.Missing.{unknown, asksFrom, missing}
 use Rattle.waiting_missing.proofs.AskedLaws.{blank, marks-missing}
 use Rattle.waiting_missing.proofs.TakeLaws.{taking-append, taken-up-to}
@@ -55,13 +55,13 @@ module _ {list : List ℕ} {place entries : ℕ} {further : List ℕ} {p : ℕ �
   module _ {refs : List ℕ} {count : ℕ} (i : ℕ) where
     pub took-not : Found list place entries further refs count → p (refHash list place entries further i) ≡ false
         → Took list place entries further p (refHash list place entries further i ∷ []) refs count refs count
-    unfolding taking take-one
+    unfolding taking takeOne
     took-not f e = record { found = f; is = rw e }
 
     pub took-one : {refs′ : List ℕ} {count′ : ℕ} → p (refHash list place entries further i) ≡ true
         → Added list place entries further refs count refs′ count′ i
         → Took list place entries further p (refHash list place entries further i ∷ []) refs count refs′ count′
-    unfolding taking take-one
+    unfolding taking takeOne
     took-one e x = record { found = x .found; is = rw e (x .is) }
 
 -- ---- what look-ups say

@@ -9,13 +9,13 @@ use Rattle.hash_order.specs.Order.{insertUpTo}
 use Rattle.hash_refs.specs.Internal.Refs.{foundBy, Found}
 
 -- A hash goes into the list if p holds for it.
-unfoldable pub take-one : ℕ → (ℕ → Bool) → ℕ → List ℕ → List ℕ
-take-one most p h l = cond (p h) (insertUpTo most h l) l
+unfoldable pub takeOne : ℕ → (ℕ → Bool) → ℕ → List ℕ → List ℕ
+takeOne most p h l = cond (p h) (insertUpTo most h l) l
 
 -- Hashes in turn.
 unfoldable pub taking : ℕ → (ℕ → Bool) → List ℕ → List ℕ → List ℕ
 taking most p [] l = l
-taking most p (h ∷ hs) l = taking most p hs (take-one most p h l)
+taking most p (h ∷ hs) l = taking most p hs (takeOne most p h l)
 
 -- The found hashes, by their numbers, with those of hs taken that p holds for.
 pub record Took (list : List ℕ) (place entries : ℕ) (further : List ℕ) (p : ℕ → Bool) (hs refs : List ℕ) (count : ℕ) (refs′ : List ℕ) (count′ : ℕ) : Type 0 where

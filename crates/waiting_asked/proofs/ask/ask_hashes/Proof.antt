@@ -62,7 +62,6 @@ loop-again c =
       rest = λ marks′ x. v .rest marks′ (list-on _ _ _ _ _ _ _ (l .loop-test .taken) (f .find-waiting .ensures) (c .ask-change .ensures) x);
     }
 
-
 returns : tie.Need-returns Inv-loop μ-loop
 returns c = c .before .loop .inv .rest _ (list-ends _ _ _ _ _ (omega (arith, c .loop-test .left)))
 
