@@ -20,7 +20,7 @@ use Rattle.waiting.proofs.Today.{asksPlace}
 use Rattle.waiting.proofs.WaitingLaws.{length-waitings-at}
 use Rattle.waiting.specs.WaitingBytes.{asksCount, waitingsAt}
 use Rattle.waiting.specs.Waiting.{Waiting, waiting, asksOf}
-use Rattle.waiting_asked.specs.Ask.{Request, change, list, Asks, away, marked, waits, none, more, Askable}
+use Rattle.waiting_asked.specs.Asking.{Request, change, list, Asks, away, marked, waits, none, more, Askable}
 
 true-false : {C : Type 0} (x : Bool) → x ≡ true → x ≡ false → C
 true-false x p q = absurd (let z : _≡_ {A = ℕ} 0 1 = cc in omega arith)

@@ -12,7 +12,7 @@ ghost use Rattle.rules.specs.Hash.{hashesAt};
 ghost use Rattle.rules.specs.Sizes.{sizes};
 ghost use Rattle.waiting.specs.WaitingBytes.{waitingsAt};
 ghost use Rattle.waiting.specs.Waiting.{asksOf};
-ghost use Rattle.waiting_asked.specs.Ask.{Request, Asks, Askable};
+ghost use Rattle.waiting_asked.specs.Asking.{Request, Asks, Askable};
 
 // Asks the change of a waiting row, or none where there is no such row: one that hasn't been asked is marked and asks its list. The marks make the
 // calls end: each list is asked with one row less unmarked.

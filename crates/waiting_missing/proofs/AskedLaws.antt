@@ -15,7 +15,7 @@ use Rattle.table.specs.Table.{Row, held, indexIn}
 use Rattle.waiting.proofs.WaitingLaws.{length-waiting, GoodWaiting}
 use Rattle.waiting.specs.Waiting.{Waiting, waiting, asksOf}
 use Rattle.waiting_asked.proofs.AskLaws.{Each, asked-marked, newly-closed, newly-marked}
-use Rattle.waiting_asked.specs.Ask.{list, Asks}
+use Rattle.waiting_asked.specs.Asking.{list, Asks}
 use Rattle.waiting_missing.specs.Missing.{unknown, askedRow, asksFrom, missing}
 
 pub blank : (n k : ℕ) → getD (replicate n false) k false ≡ false

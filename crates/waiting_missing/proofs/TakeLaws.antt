@@ -8,11 +8,12 @@ use native.Mathlib.Omega.{arith}
 use borrow.Author.Tests.{ltb-false, eqb-true, eq-eqb}
 use lib.Dec.{ltb, eqb}
 use lib.ListN.{length}
+use Rattle.hash_lists.specs.Internal.Lists.{UpTo}
 use Rattle.hash_order.proofs.KeepLaws.{keep-member}
 use Rattle.hash_order.proofs.OrderLaws.{insert-member, insert-grows, up-to-fits, up-to-ascends, member-here, member-there, member-none, ascend-ascends, ascend-members, ascending-unique, ascending-shorter}
 use Rattle.hash_order.specs.Order.{member, ascends, keep, ascend, insertUpTo}
 use Rattle.rules.proofs.Cases.{split, both, true-false, same-truth, either, or-right, and-true}
-use Rattle.waiting_missing.specs.Internal.Take.{takeOne, taking, UpTo}
+use Rattle.waiting_missing.specs.Internal.Take.{takeOne, taking}
 
 -- ---- one hash
 
@@ -117,7 +118,7 @@ module _ (most : ℕ) (p : ℕ → Bool) where
     unfolding ascends
     taken-ascends = take-ascends hs [] refl
 
-    pub taken-up-to : UpTo (ascend (keep p hs)) most (taking most p hs [])
+    pub taken-up-to : UpTo most (ascend (keep p hs)) (taking most p hs [])
     taken-up-to =
         record {
           within = take-within hs [] (omega arith);

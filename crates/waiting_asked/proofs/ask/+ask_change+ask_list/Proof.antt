@@ -16,7 +16,7 @@ use Rattle.waiting.proofs.Today.{asksPlace}
 use Rattle.waiting.proofs.WaitingLaws.{asks-of-waiting}
 use Rattle.waiting.specs.WaitingBytes.{waitingsAt}
 use Rattle.waiting.specs.Waiting.{asksOf}
-use Rattle.waiting_asked.specs.Ask.{Request, Asks, marked}
+use Rattle.waiting_asked.specs.Asking.{Request, Asks, marked}
 use Rattle.waiting_asked.proofs.AskLaws.{unmarked, as-many-marks, fewer-unmarked, one-less, mark-set, still-askable, asks-inside, row-away, row-waits, list-ends, list-on}
 use borrow.Fn.Kinds.{In}
 use borrow.Fn.PlainCycle.{Measures, is, falls, and}

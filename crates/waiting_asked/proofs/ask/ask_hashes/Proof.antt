@@ -10,7 +10,7 @@ use lib.ListN.{length}
 use Rattle.rules.specs.Hash.{hashesAt}
 use Rattle.rules.specs.Sizes.{sizes}
 use Rattle.waiting.specs.WaitingBytes.{waitingsAt}
-use Rattle.waiting_asked.specs.Ask.{Request, Asks}
+use Rattle.waiting_asked.specs.Asking.{Request, Asks}
 use Rattle.waiting_asked.proofs.AskLaws.{as-many-marks, still-askable, list-ends, list-on}
 use Rattle.waiting_asked.proofs.ask.ask_hashes.Statement.{statement}
 use Rattle.waiting_asked.proofs.ask.ask_hashes.Tie as tie
