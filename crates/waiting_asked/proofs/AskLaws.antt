@@ -3,11 +3,11 @@
 use Prim.Native.Nat.{ℕ, zero, suc, _+_, _-_, _*_, _≤_, _<_}
 use mathlib.Core.Bool.{Bool, true, false, cond}
 use mathlib.Core.List.{List, [], _∷_}
-use mathlib.Core.Path.{_≡_, refl, sym, ap, _∙_}
+use mathlib.Core.Path.{_≡_, refl, ap, _∙_}
 use native.Mathlib.Nat.{not-suc-le-zero}
 use native.Mathlib.Omega.{arith}
-use borrow.Author.Tests.{eqb-true, ltb-true, ltb-false}
-use lib.Dec.{eqb, ltb}
+use borrow.Author.Tests.{eqb-true}
+use lib.Dec.{eqb}
 use lib.ListN.{length, getD, set, length-set}
 use lib.Seq.{getD-set-same}
 use Rattle.hash_order.proofs.OrderLaws.{member-here, member-there}
@@ -17,10 +17,10 @@ use Rattle.rules.specs.Hash.{hashAt, hashesAt}
 use Rattle.rules.specs.Sizes.{sizes}
 use Rattle.table.specs.Table.{indexIn}
 use Rattle.waiting.proofs.Today.{asksPlace}
-use Rattle.waiting.proofs.WaitingLaws.{length-waitings-at, asks-of-waiting}
+use Rattle.waiting.proofs.WaitingLaws.{length-waitings-at}
 use Rattle.waiting.specs.WaitingBytes.{asksCount, waitingsAt}
 use Rattle.waiting.specs.Waiting.{Waiting, waiting, asksOf}
-use Rattle.waiting_asked.specs.Ask.{Request, change, list, Asks, away, marked, waits, none, more, Askable}
+use Rattle.waiting_asked.specs.Asking.{Request, change, list, Asks, away, marked, waits, none, more, Askable}
 
 true-false : {C : Type 0} (x : Bool) → x ≡ true → x ≡ false → C
 true-false x p q = absurd (let z : _≡_ {A = ℕ} 0 1 = cc in omega arith)

@@ -12,11 +12,17 @@ ghost use Rattle.rules.specs.Hash.{hashesAt};
 ghost use Rattle.rules.specs.Sizes.{sizes};
 ghost use Rattle.waiting.specs.WaitingBytes.{waitingsAt};
 ghost use Rattle.waiting.specs.Waiting.{asksOf};
-ghost use Rattle.waiting_asked.specs.Ask.{Request, Asks, Askable};
+ghost use Rattle.waiting_asked.specs.Asking.{Request, Asks, Askable};
 
 // Asks the change of a waiting row, or none where there is no such row: one that hasn't been asked is marked and asks its list. The marks make the
 // calls end: each list is asked with one row less unmarked.
-fn ask_change(waiting: &[u8], order: &[u8; ORDER_SIZE], m: usize, marks: &mut [bool; WAITING_ROWS], row: usize)
+fn ask_change(
+    waiting: &[u8],
+    order: &[u8; ORDER_SIZE],
+    m: usize,
+    marks: &mut [bool; WAITING_ROWS],
+    row: usize,
+)
     requires { ⌜ Askable (now waiting) (now order) m (now marks) ⌝ }
     ensures { λ _. ⌜ Asks (waitingsAt (now (waiting .entry)) 0 m) (Request.change row) (now (marks .entry)) (now (marks .exit)) ⌝ }
 {
@@ -31,7 +37,13 @@ fn ask_change(waiting: &[u8], order: &[u8; ORDER_SIZE], m: usize, marks: &mut [b
 }
 
 // Asks each change of a waiting row's list in turn.
-fn ask_list(waiting: &[u8], order: &[u8; ORDER_SIZE], m: usize, marks: &mut [bool; WAITING_ROWS], row: usize)
+fn ask_list(
+    waiting: &[u8],
+    order: &[u8; ORDER_SIZE],
+    m: usize,
+    marks: &mut [bool; WAITING_ROWS],
+    row: usize,
+)
     requires { ⌜ Askable (now waiting) (now order) m (now marks) × (row < m) ⌝ }
     ensures { λ _. ⌜ Asks (waitingsAt (now (waiting .entry)) 0 m) (Request.list (asksOf (waitingsAt (now (waiting .entry)) 0 m) row))
         (now (marks .entry)) (now (marks .exit)) ⌝ }

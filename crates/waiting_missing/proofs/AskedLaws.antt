@@ -1,22 +1,21 @@
 -- The rows that asking marks are the asked ones: what is asked and what a marked row asks for is marked, and nothing else is. So what the marked rows
 -- ask for, with the list, has all that is missing.
-use Prim.Native.Nat.{ℕ, zero, suc, _+_, _≤_, _<_}
-use mathlib.Core.Bool.{Bool, true, false, cond, not, _&&_}
+use Prim.Native.Nat.{ℕ, zero, suc, _+_, _<_}
+use mathlib.Core.Bool.{Bool, true, false, not}
 use mathlib.Core.List.{List, [], _∷_, _++_}
-use mathlib.Core.Path.{_≡_, refl, sym, _∙_}
+use mathlib.Core.Path.{_≡_, refl}
 use native.Mathlib.Nat.{add-zero, zero-add}
 use native.Mathlib.Omega.{arith}
-use borrow.Author.Tests.{not-true}
 use lib.ListN.{length, getD, replicate}
 use Rattle.hash_order.proofs.ReachLaws.{reach-base, reach-closed, reach-least}
-use Rattle.hash_order.specs.Order.{member, keep, ascend, Once}
+use Rattle.hash_order.specs.Order.{member, keep, ascend}
 use Rattle.rules.proofs.Cases.{both, same-truth}
-use Rattle.table.proofs.TableLaws.{member-of-index, entry-at-index, member-at, index-of-entry}
+use Rattle.table.proofs.TableLaws.{member-of-index, entry-at-index, index-of-entry}
 use Rattle.table.specs.Table.{Row, held, indexIn}
 use Rattle.waiting.proofs.WaitingLaws.{length-waiting, GoodWaiting}
 use Rattle.waiting.specs.Waiting.{Waiting, waiting, asksOf}
 use Rattle.waiting_asked.proofs.AskLaws.{Each, asked-marked, newly-closed, newly-marked}
-use Rattle.waiting_asked.specs.Ask.{list, Asks}
+use Rattle.waiting_asked.specs.Asking.{list, Asks}
 use Rattle.waiting_missing.specs.Missing.{unknown, askedRow, asksFrom, missing}
 
 pub blank : (n k : ℕ) → getD (replicate n false) k false ≡ false

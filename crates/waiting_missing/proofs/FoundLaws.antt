@@ -3,15 +3,16 @@
 use Prim.Native.Nat.{ℕ, zero, suc, _+_, _-_, _*_, _/_, _≤_, _<_}
 use mathlib.Core.Bool.{Bool, true, false, cond, not}
 use mathlib.Core.List.{List, [], _∷_, _++_, append-nil, append-assoc}
-use mathlib.Core.Path.{_≡_, refl, sym, ap, _∙_}
+use mathlib.Core.Path.{_≡_, refl, sym, _∙_}
 use native.Mathlib.Nat.{add-zero, zero-add}
 use native.Mathlib.Omega.{arith}
 use lib.ListN.{length, getD, take, replicate, length-replicate}
 use lib.Seq.{sets, length-take-le}
+use Rattle.hash_lists.specs.Internal.Lists.{UpTo}
 use Rattle.hash_order.proofs.OrderLaws.{member-none}
 use Rattle.hash_order.specs.Order.{ascends, ascend, keep}
 use Rattle.hash_refs.proofs.RefLaws.{of-list, of-further, long-found, found-hashes}
-use Rattle.hash_refs.specs.Internal.Refs.{refHash, refEnd, foundBy, Found, Added}
+use Rattle.hash_refs.specs.Internal.Refs.{refHash, refEnd, foundBy, FoundRefs, Added}
 use Rattle.rules.proofs.Cases.{split, and-false}
 use Rattle.rules.proofs.Outputs.{written-gathered}
 use Rattle.rules.specs.Hash.{Bytes, hashesAt, hashesBytes}
@@ -25,9 +26,9 @@ use Rattle.waiting.proofs.Today.{asksPlace}
 use Rattle.waiting.proofs.WaitingLaws.{length-waiting, length-waitings-at, GoodWaiting, WaitingDecoded, decoded-asks-count}
 use Rattle.waiting.specs.WaitingBytes.{waitingSize, waitingRowOf, waitingRowsOf, waitingsAt, waitingOf, asksCount, asksPlaceOf, asksCountOf, Sorted}
 use Rattle.waiting.specs.Waiting.{Waiting, waiting}
-use Rattle.waiting_asked.specs.Ask.{Request, Asks, Askable}
+use Rattle.waiting_asked.specs.Asking.{Request, Asks, Askable}
 use Rattle.waiting_missing.specs.Ask.{FoundUpTo}
-use Rattle.waiting_missing.specs.Internal.Take.{take-one, taking, Took, UpTo, RefsFound}
+use Rattle.waiting_missing.specs.Internal.Take.{takeOne, taking, Took, RefsFound}
 use Rattle.waiting_missing.specs.Missing.{unknown, asksFrom, missing}
 use Rattle.waiting_missing.proofs.AskedLaws.{blank, marks-missing}
 use Rattle.waiting_missing.proofs.TakeLaws.{taking-append, taken-up-to}
@@ -35,7 +36,7 @@ use Rattle.waiting_missing.proofs.TakeLaws.{taking-append, taken-up-to}
 -- ---- taken in turn
 
 module _ {list : List ℕ} {place entries : ℕ} {further : List ℕ} {p : ℕ → Bool} where
-  pub took-none : {refs : List ℕ} {count : ℕ} → Found list place entries further refs count → Took list place entries further p [] refs count refs count
+  pub took-none : {refs : List ℕ} {count : ℕ} → FoundRefs list place entries further refs count → Took list place entries further p [] refs count refs count
   unfolding taking
   took-none f = record { found = f; is = refl }
 
@@ -53,15 +54,15 @@ module _ {list : List ℕ} {place entries : ℕ} {further : List ℕ} {p : ℕ �
       }
 
   module _ {refs : List ℕ} {count : ℕ} (i : ℕ) where
-    pub took-not : Found list place entries further refs count → p (refHash list place entries further i) ≡ false
+    pub took-not : FoundRefs list place entries further refs count → p (refHash list place entries further i) ≡ false
         → Took list place entries further p (refHash list place entries further i ∷ []) refs count refs count
-    unfolding taking take-one
+    unfolding taking takeOne
     took-not f e = record { found = f; is = rw e }
 
     pub took-one : {refs′ : List ℕ} {count′ : ℕ} → p (refHash list place entries further i) ≡ true
         → Added list place entries further refs count refs′ count′ i
         → Took list place entries further p (refHash list place entries further i ∷ []) refs count refs′ count′
-    unfolding taking take-one
+    unfolding taking takeOne
     took-one e x = record { found = x .found; is = rw e (x .is) }
 
 -- ---- what look-ups say
@@ -108,7 +109,7 @@ from-next f first i b =
 
 -- numbers taken in turn, from the first up to i
 module _ {list : List ℕ} {place entries : ℕ} {further : List ℕ} {p : ℕ → Bool} {refs : List ℕ} {count : ℕ} (first i : ℕ) where
-  pub took-start : Found list place entries further refs count → first ≡ i
+  pub took-start : FoundRefs list place entries further refs count → first ≡ i
       → Took list place entries further p (hashesFrom (refHash list place entries further) first (i - first)) refs count refs count
   unfolding hashesFrom
   took-start f e =
@@ -198,7 +199,7 @@ row-inside s marks entries i count b inside few c =
 
 -- what the marked ones of the first rows ask for, taken in turn
 module _ {list : List ℕ} {place entries : ℕ} {p : ℕ → Bool} {refs : List ℕ} {count : ℕ} (s : List ℕ) (marks : List Bool) where
-  pub asked-start : Found list place entries s refs count
+  pub asked-start : FoundRefs list place entries s refs count
       → Took list place entries s p (asksFrom 0 (waitingsAt s 0 0) (λ k. getD marks k false)) refs count refs count
   unfolding asksFrom waitingRowsOf
   asked-start f = took-none f
@@ -232,7 +233,7 @@ module _ (table : List ℕ) (n : ℕ) (waitings : List ℕ) (m : ℕ) (d : Waiti
       }
 
   pub found-first : (list : List ℕ) (place entries : ℕ) (refs : List ℕ) → place + sizes .hash * entries ≤ length list → entries ≤ sizes .hashes
-      → Found list place entries waitings refs 0
+      → FoundRefs list place entries waitings refs 0
   unfolding ascends
   found-first list place entries refs b c =
       record {
@@ -263,7 +264,7 @@ module _ (table : List ℕ) (n : ℕ) (waitings : List ℕ) (m : ℕ) (d : Waiti
       in
       let is : foundBy list place entries waitings refs″ count′ ≡ taking (length refs) (unknown t w) all [] = both .is in
       let good : GoodWaiting t w = rw (d .is) at (d .good) in
-      let upTo : UpTo (ascend (keep (unknown t w) all)) (length refs) (taking (length refs) (unknown t w) all []) = taken-up-to (length refs) (unknown t w) all in
+      let upTo : UpTo (length refs) (ascend (keep (unknown t w) all)) (taking (length refs) (unknown t w) all []) = taken-up-to (length refs) (unknown t w) all in
       let whole : length refs″ ≡ length refs = same ∙ long in
       record {
         found = y .found;

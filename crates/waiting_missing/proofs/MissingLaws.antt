@@ -1,18 +1,18 @@
 -- What is missing, as a relation and as a list: both have the same members. A hash that is asked for on the way is one of the list's or of the
 -- asks of an asked row, and an asked row's asks lead back to the list.
-use Prim.Native.Nat.{ℕ, zero, suc, _+_, _≤_, _<_}
+use Prim.Native.Nat.{ℕ, zero, suc, _+_, _<_}
 use mathlib.Core.Bool.{Bool, true, false, not, _&&_}
 use mathlib.Core.List.{List, [], _∷_, _++_}
-use mathlib.Core.Path.{_≡_, refl, sym, _∙_}
+use mathlib.Core.Path.{_≡_, sym, _∙_}
 use native.Mathlib.Nat.{not-suc-le-zero, add-zero, zero-add}
 use native.Mathlib.Omega.{arith}
 use borrow.Author.Tests.{not-true}
 use lib.ListN.{length, getD}
 use Rattle.hash_order.proofs.KeepLaws.{keep-member, no-members, hashes-member, hashes-each}
-use Rattle.hash_order.proofs.OrderLaws.{ascend-ascends, ascend-members, member-append, member-none, ascending-unique, ascending-shorter}
+use Rattle.hash_order.proofs.OrderLaws.{ascend-ascends, ascend-members, member-append, member-none}
 use Rattle.hash_order.proofs.ReachLaws.{reach-base, reach-closed, reach-least}
 use Rattle.hash_order.specs.Order.{member, ascends, keep, Once}
-use Rattle.rules.proofs.Cases.{split, both, true-false, same-truth, either, or-left, or-right, and-true}
+use Rattle.rules.proofs.Cases.{split, both, true-false, either, or-left, or-right, and-true}
 use Rattle.rules.specs.Hash.{AreHashes}
 use Rattle.table.proofs.TableLaws.{index-of-member, entry-at-index, member-at, index-of-entry}
 use Rattle.table.specs.Table.{Row, held, indexIn}

@@ -1,18 +1,19 @@
 -- Hashes taken one after the other: the list keeps ascending and what it has; what it has in the end was there or was wanted; and while it isn't full it
 -- has all that was wanted. So it is the wanted hashes, each once, ascending, or it is full and those are no fewer.
-use Prim.Native.Nat.{ℕ, suc, _≤_, _<_}
-use mathlib.Core.Bool.{Bool, true, false, _&&_}
+use Prim.Native.Nat.{ℕ, _≤_, _<_}
+use mathlib.Core.Bool.{Bool, true, false}
 use mathlib.Core.List.{List, [], _∷_, _++_}
 use mathlib.Core.Path.{_≡_, refl, sym, _∙_}
 use native.Mathlib.Omega.{arith}
 use borrow.Author.Tests.{ltb-false, eqb-true, eq-eqb}
 use lib.Dec.{ltb, eqb}
 use lib.ListN.{length}
+use Rattle.hash_lists.specs.Internal.Lists.{UpTo}
 use Rattle.hash_order.proofs.KeepLaws.{keep-member}
 use Rattle.hash_order.proofs.OrderLaws.{insert-member, insert-grows, up-to-fits, up-to-ascends, member-here, member-there, member-none, ascend-ascends, ascend-members, ascending-unique, ascending-shorter}
-use Rattle.hash_order.specs.Order.{member, ascends, keep, ascend, insertOnce, insertUpTo}
+use Rattle.hash_order.specs.Order.{member, ascends, keep, ascend, insertUpTo}
 use Rattle.rules.proofs.Cases.{split, both, true-false, same-truth, either, or-right, and-true}
-use Rattle.waiting_missing.specs.Internal.Take.{take-one, taking, UpTo}
+use Rattle.waiting_missing.specs.Internal.Take.{takeOne, taking}
 
 -- ---- one hash
 
@@ -45,36 +46,36 @@ module _ (most : ℕ) (p : ℕ → Bool) where
   pub taking-append : (a b l : List ℕ) → taking most p (a ++ b) l ≡ taking most p b (taking most p a l)
   unfolding taking
   taking-append [] b l = refl
-  taking-append (h ∷ hs) b l = taking-append hs b (take-one most p h l)
+  taking-append (h ∷ hs) b l = taking-append hs b (takeOne most p h l)
 
   take-ascends : (hs l : List ℕ) → ascends l ≡ true → ascends (taking most p hs l) ≡ true
-  unfolding taking take-one
+  unfolding taking takeOne
   take-ascends [] l a = a
   take-ascends (h ∷ hs) l a =
-      take-ascends hs (take-one most p h l) (split (p h) (λ e. rw e (up-to-ascends most h l a)) (λ e. rw e a))
+      take-ascends hs (takeOne most p h l) (split (p h) (λ e. rw e (up-to-ascends most h l a)) (λ e. rw e a))
 
   take-within : (hs l : List ℕ) → length l ≤ most → length (taking most p hs l) ≤ most
-  unfolding taking take-one
+  unfolding taking takeOne
   take-within [] l a = a
-  take-within (h ∷ hs) l a = take-within hs (take-one most p h l) (split (p h) (λ e. rw e (up-to-fits most h l a)) (λ e. rw e a))
+  take-within (h ∷ hs) l a = take-within hs (takeOne most p h l) (split (p h) (λ e. rw e (up-to-fits most h l a)) (λ e. rw e a))
 
-  one-grows : (h : ℕ) (l : List ℕ) → length l ≤ length (take-one most p h l)
-  unfolding take-one
+  one-grows : (h : ℕ) (l : List ℕ) → length l ≤ length (takeOne most p h l)
+  unfolding takeOne
   one-grows h l = split (p h) (λ e. rw e (insert-no-shorter most h l)) (λ e. rw e (omega arith))
 
   take-grows : (hs l : List ℕ) → length l ≤ length (taking most p hs l)
   unfolding taking
   take-grows [] l = omega arith
-  take-grows (h ∷ hs) l = omega (arith, one-grows h l, take-grows hs (take-one most p h l))
+  take-grows (h ∷ hs) l = omega (arith, one-grows h l, take-grows hs (takeOne most p h l))
 
   take-kept : (hs l : List ℕ) (x : ℕ) → member x l ≡ true → member x (taking most p hs l) ≡ true
-  unfolding taking take-one
+  unfolding taking takeOne
   take-kept [] l x m = m
   take-kept (h ∷ hs) l x m =
-      take-kept hs (take-one most p h l) x (split (p h) (λ e. rw e (insert-kept most h x l m)) (λ e. rw e m))
+      take-kept hs (takeOne most p h l) x (split (p h) (λ e. rw e (insert-kept most h x l m)) (λ e. rw e m))
 
-  one-of : {C : Type 0} (h x : ℕ) (l : List ℕ) → member x (take-one most p h l) ≡ true → (member x l ≡ true → C) → (p x ≡ true → x ≡ h → C) → C
-  unfolding take-one
+  one-of : {C : Type 0} (h x : ℕ) (l : List ℕ) → member x (takeOne most p h l) ≡ true → (member x l ≡ true → C) → (p x ≡ true → x ≡ h → C) → C
+  unfolding takeOne
   one-of h x l m f g =
       split (p h)
       (λ e. insert-of most h x l (rw e at m) (λ q. g (rw q e) q) f)
@@ -86,12 +87,12 @@ module _ (most : ℕ) (p : ℕ → Bool) where
   unfolding taking
   take-of [] l x m f g = f m
   take-of (h ∷ hs) l x m f g =
-      take-of hs (take-one most p h l) x m
+      take-of hs (takeOne most p h l) x m
       (λ n. one-of h x l n f (λ a q. g a (rw q (member-here h hs))))
       (λ a n. g a (member-there x h hs n))
 
-  one-has : (h : ℕ) (l : List ℕ) → length (take-one most p h l) < most → p h ≡ true → member h (take-one most p h l) ≡ true
-  unfolding take-one
+  one-has : (h : ℕ) (l : List ℕ) → length (takeOne most p h l) < most → p h ≡ true → member h (takeOne most p h l) ≡ true
+  unfolding takeOne
   one-has h l s e = rw e (insert-has most h l (rw e at s))
 
   take-has : (hs l : List ℕ) → length (taking most p hs l) < most → (x : ℕ) → member x hs ≡ true → p x ≡ true → member x (taking most p hs l) ≡ true
@@ -101,9 +102,9 @@ module _ (most : ℕ) (p : ℕ → Bool) where
       either (eqb x h) (member x hs) m
       (λ q.
       let same : x ≡ h = eqb-true x h q in
-      take-kept hs (take-one most p h l) x
-      (rw same (one-has h l (omega (arith, take-grows hs (take-one most p h l))) (rw same at e))))
-      (λ q. take-has hs (take-one most p h l) s x q e)
+      take-kept hs (takeOne most p h l) x
+      (rw same (one-has h l (omega (arith, take-grows hs (takeOne most p h l))) (rw same at e))))
+      (λ q. take-has hs (takeOne most p h l) s x q e)
 
   -- From nothing: what is wanted, each once, ascending, as much of it as there is room for.
   module _ (hs : List ℕ) where
@@ -117,7 +118,7 @@ module _ (most : ℕ) (p : ℕ → Bool) where
     unfolding ascends
     taken-ascends = take-ascends hs [] refl
 
-    pub taken-up-to : UpTo (ascend (keep p hs)) most (taking most p hs [])
+    pub taken-up-to : UpTo most (ascend (keep p hs)) (taking most p hs [])
     taken-up-to =
         record {
           within = take-within hs [] (omega arith);

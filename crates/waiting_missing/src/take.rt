@@ -12,7 +12,7 @@ ghost use mathlib.Core.List.{_∷_, []};
 ghost use mathlib.Core.Path.{_≡_};
 ghost use Prim.Native.Nat.{ℕ, _+_, _-_, _*_, _≤_, _<_};
 ghost use lib.ListN.{length, getD};
-ghost use Rattle.hash_refs.specs.Internal.Refs.{refHash, refEnd, Found};
+ghost use Rattle.hash_refs.specs.Internal.Refs.{refHash, refEnd, FoundRefs};
 ghost use Rattle.rules.specs.Sizes.{sizes};
 ghost use Rattle.table.specs.TableBytes.{rowsAt};
 ghost use Rattle.table_index.specs.Index.{Indexed, hashesFrom};
@@ -35,7 +35,7 @@ fn take_ref(
     count: usize,
     number: usize,
 ) -> usize
-    requires { ⌜ Indexed (now table) (now index) n × Sorted (now waiting) (now order) m × Found (now list) place entries (now waiting) (now refs) count
+    requires { ⌜ Indexed (now table) (now index) n × Sorted (now waiting) (now order) m × FoundRefs (now list) place entries (now waiting) (now refs) count
         × (number < refEnd entries (now waiting)) ⌝ }
     ensures { λ r. ⌜ Took (now (list .entry)) place entries (now (waiting .entry))
         (unknown (rowsAt (now (table .entry)) 0 n) (waitingsAt (now (waiting .entry)) 0 m))
@@ -68,7 +68,7 @@ pub fn take_refs(
     first: usize,
     end: usize,
 ) -> usize
-    requires { ⌜ Indexed (now table) (now index) n × Sorted (now waiting) (now order) m × Found (now list) place entries (now waiting) (now refs) count
+    requires { ⌜ Indexed (now table) (now index) n × Sorted (now waiting) (now order) m × FoundRefs (now list) place entries (now waiting) (now refs) count
         × (first ≤ end) × (end ≤ refEnd entries (now waiting)) ⌝ }
     ensures { λ r. ⌜ Took (now (list .entry)) place entries (now (waiting .entry))
         (unknown (rowsAt (now (table .entry)) 0 n) (waitingsAt (now (waiting .entry)) 0 m))
@@ -123,7 +123,7 @@ pub fn take_asked(
     refs: &mut [u32],
     count: usize,
 ) -> usize
-    requires { ⌜ Indexed (now table) (now index) n × Sorted (now waiting) (now order) m × Found (now list) place entries (now waiting) (now refs) count
+    requires { ⌜ Indexed (now table) (now index) n × Sorted (now waiting) (now order) m × FoundRefs (now list) place entries (now waiting) (now refs) count
         × (m ≤ length (now marks)) × ((i : ℕ) → i < m → asksCount (now waiting) i ≤ sizes .dependencies) ⌝ }
     ensures { λ r. ⌜ Took (now (list .entry)) place entries (now (waiting .entry))
         (unknown (rowsAt (now (table .entry)) 0 n) (waitingsAt (now (waiting .entry)) 0 m))

@@ -9,14 +9,14 @@ use mathlib.Core.Bool.{Bool}
 use mathlib.Core.List.{List}
 use mathlib.Core.Path.{_≡_, refl, _∙_}
 use native.Mathlib.Nat.{add-zero, sub-zero}
-use lib.ListN.{length, length-set}
+use lib.ListN.{length}
 use Rattle.rules.specs.Hash.{hashesAt}
 use Rattle.rules.specs.Sizes.{sizes}
 use Rattle.waiting.proofs.Today.{asksPlace}
 use Rattle.waiting.proofs.WaitingLaws.{asks-of-waiting}
 use Rattle.waiting.specs.WaitingBytes.{waitingsAt}
 use Rattle.waiting.specs.Waiting.{asksOf}
-use Rattle.waiting_asked.specs.Ask.{Request, Asks, marked}
+use Rattle.waiting_asked.specs.Asking.{Request, Asks, marked}
 use Rattle.waiting_asked.proofs.AskLaws.{unmarked, as-many-marks, fewer-unmarked, one-less, mark-set, still-askable, asks-inside, row-away, row-waits, list-ends, list-on}
 use borrow.Fn.Kinds.{In}
 use borrow.Fn.PlainCycle.{Measures, is, falls, and}
@@ -85,7 +85,6 @@ ask-change-ask-list-requires t c κs =
       one-less _ _ _ (omega (arith, a .pre .1 .marked, b .if1 .left)) (f .if2 .left) (a .pre .0),
       (mark-set (a .pre .1) _, b .if1 .left),
     )
-
 
 ask-change-returns-3 : (t : ℕ) → ask-change-lts.Need-returns-3 (change-calls t) (ask-change-at t) ask-change.Post
 ask-change-returns-3 t c =
@@ -171,7 +170,6 @@ ask-list-loop-again t c =
       less = omega (arith, fewer-unmarked (c .ask-change .ensures), v .less);
       rest = λ marks′ x. v .rest marks′ (list-on _ _ _ _ _ _ _ (l .loop-test .taken) (f .find-waiting .ensures) (c .ask-change .ensures) x);
     }
-
 
 ask-list-returns : (t : ℕ) → ask-list-lts.Need-returns (list-calls t) (ask-list-at t) ask-list.Post ask-list-Inv-loop ask-list-μ-loop
 ask-list-returns t c = c .before .loop .inv .rest _ (list-ends _ _ _ _ _ (omega (arith, c .loop-test .left)))

@@ -10,7 +10,7 @@ use lib.ListN.{length}
 use Rattle.rules.specs.Hash.{hashesAt}
 use Rattle.rules.specs.Sizes.{sizes}
 use Rattle.waiting.specs.WaitingBytes.{waitingsAt}
-use Rattle.waiting_asked.specs.Ask.{Request, Asks}
+use Rattle.waiting_asked.specs.Asking.{Request, Asks}
 use Rattle.waiting_asked.proofs.AskLaws.{as-many-marks, still-askable, list-ends, list-on}
 use Rattle.waiting_asked.proofs.ask.ask_hashes.Statement.{statement}
 use Rattle.waiting_asked.proofs.ask.ask_hashes.Tie as tie
@@ -61,7 +61,6 @@ loop-again c =
       same-marks = as-many-marks (c .ask-change .ensures) ∙ v .same-marks;
       rest = λ marks′ x. v .rest marks′ (list-on _ _ _ _ _ _ _ (l .loop-test .taken) (f .find-waiting .ensures) (c .ask-change .ensures) x);
     }
-
 
 returns : tie.Need-returns Inv-loop μ-loop
 returns c = c .before .loop .inv .rest _ (list-ends _ _ _ _ _ (omega (arith, c .loop-test .left)))

@@ -32,8 +32,7 @@ take-asked-requires c κs =
     let t = c .before .before .before .before .before in
     let h = t .before .before .before in
     let a = h .before .before .before .before .before .before .before in
-    let d = waiting-good _ _ _ (a .pre .1) in
-    (
+    let d = waiting-good _ _ _ (a .pre .1) in (
       a .pre .0,
       a .pre .2,
       t .take-refs .ensures .found,
