@@ -24,9 +24,6 @@ pub fn measure_all() {
         tables.check_beside(size);
     }
     for (size, tables) in &tables {
-        tables.check_beside_unfit(size);
-    }
-    for (size, tables) in &tables {
         tables.build_index(size);
     }
     for (size, tables) in &tables {
@@ -93,17 +90,6 @@ impl Tables {
             rows + raw::check_tables(table, index, &[])[0]
         };
         self.checked("check beside index", size, library);
-    }
-
-    /// With an index that doesn't fit: the table is checked without it, then 12 is answered.
-    fn check_beside_unfit(&self, size: &str) {
-        let unfit = vec![0; self.index.len()];
-        let rows = self.rows.len() as u64;
-        let library = || {
-            let (table, index) = (black_box(&self.table), black_box(&unfit));
-            rows + raw::check_tables(table, index, &[])[0] - 12
-        };
-        self.checked("check beside unfit", size, library);
     }
 
     fn checked(&self, name: &str, size: &str, library: impl FnMut() -> u64) {
