@@ -60,9 +60,9 @@ unmarked-less (b ∷ bs) (suc p) = omega (arith, unmarked-less bs p)
 -- ---- what is asked
 
 -- Something holds of the row that a request asks, if there is such a row, or of each row that has one of its hashes.
-unfoldable pub Each : List Waiting → (ℕ → Type 0) → Request → Type 0
-Each w P (change k) = k < length w → P k
-Each w P (list hs) = (g : ℕ) → member g hs ≡ true → indexIn (waiting w) g < length w → P (indexIn (waiting w) g)
+unfoldable pub EachAsked : List Waiting → (ℕ → Type 0) → Request → Type 0
+EachAsked w P (change k) = k < length w → P k
+EachAsked w P (list hs) = (g : ℕ) → member g hs ≡ true → indexIn (waiting w) g < length w → P (indexIn (waiting w) g)
 
 module _ {w : List Waiting} where
   pub marks-kept : {q : Request} {m m′ : List Bool} → Asks w q m m′ → (k : ℕ) → getD m k false ≡ true → getD m′ k false ≡ true
@@ -87,8 +87,8 @@ module _ {w : List Waiting} where
   fewer-unmarked (more d f) = let p = fewer-unmarked d in let r = fewer-unmarked f in omega (arith, p, r)
 
   -- What is asked is marked.
-  pub asked-marked : {q : Request} {m m′ : List Bool} → Asks w q m m′ → Each w (λ k. getD m′ k false ≡ true) q
-  unfolding Each member
+  pub asked-marked : {q : Request} {m m′ : List Bool} → Asks w q m m′ → EachAsked w (λ k. getD m′ k false ≡ true) q
+  unfolding EachAsked member
   asked-marked (away a) = λ b. absurd (omega (arith, a, b))
   asked-marked (marked a) = λ b. a
   asked-marked (waits {k = j} {m} a i c d) = λ b. marks-kept d j (getD-set-same m j true false i)
@@ -104,7 +104,7 @@ module _ {w : List Waiting} where
   -- So is what a newly marked row asks for.
   pub newly-closed : {q : Request} {m m′ : List Bool} → Asks w q m m′ → (k : ℕ) → getD m k false ≡ false → getD m′ k false ≡ true
       → (g : ℕ) → member g (asksOf w k) ≡ true → indexIn (waiting w) g < length w → getD m′ (indexIn (waiting w) g) false ≡ true
-  unfolding Each
+  unfolding EachAsked
   newly-closed (away a) k x y g e b = true-false _ y x
   newly-closed (marked a) k x y g e b = true-false _ y x
   newly-closed (waits {k = j} {m} {m′} a i c d) k x y g e b =
@@ -118,10 +118,10 @@ module _ {w : List Waiting} where
       (λ p. newly-closed f k p y g e b)
 
   -- What holds of what is asked, and passes from a row to those that it asks for, holds of the newly marked rows.
-  module _ (P : ℕ → Type 0) (passes : (k : ℕ) → k < length w → P k → Each w P (list (asksOf w k))) where
-    pub newly-marked : {q : Request} {m m′ : List Bool} → Asks w q m m′ → Each w P q
+  module _ (P : ℕ → Type 0) (passes : (k : ℕ) → k < length w → P k → EachAsked w P (list (asksOf w k))) where
+    pub newly-marked : {q : Request} {m m′ : List Bool} → Asks w q m m′ → EachAsked w P q
         → (k : ℕ) → getD m k false ≡ false → getD m′ k false ≡ true → P k
-    unfolding Each member
+    unfolding EachAsked member
     newly-marked (away a) r k x y = true-false _ y x
     newly-marked (marked a) r k x y = true-false _ y x
     newly-marked (waits {k = j} {m} {m′} a i c d) r k x y =

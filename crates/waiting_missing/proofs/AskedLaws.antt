@@ -14,7 +14,7 @@ use Rattle.table.proofs.TableLaws.{member-of-index, entry-at-index, index-of-en
 use Rattle.table.specs.Table.{Row, held, indexIn}
 use Rattle.waiting.proofs.WaitingLaws.{length-waiting, GoodWaiting}
 use Rattle.waiting.specs.Waiting.{Waiting, waiting, asksOf}
-use Rattle.waiting_asked.proofs.AskLaws.{Each, asked-marked, newly-closed, newly-marked}
+use Rattle.waiting_asked.proofs.AskLaws.{EachAsked, asked-marked, newly-closed, newly-marked}
 use Rattle.waiting_asked.specs.Asking.{list, Asks}
 use Rattle.waiting_missing.specs.Missing.{unknown, askedRow, asksFrom, missing}
 
@@ -49,7 +49,7 @@ module _ (t : List Row) (w : List Waiting) (good : GoodWaiting t w) (hs : List �
   own i b = index-of-entry (waiting w) (good .once) i (rw length-waiting b)
 
   marked-asked : (k : ℕ) → getD m′ k false ≡ true → askedRow t w hs k ≡ true
-  unfolding askedRow Each
+  unfolding askedRow EachAsked
   marked-asked k e =
       newly-marked (λ i. askedRow t w hs i ≡ true)
       (λ i b a g n c.
@@ -59,7 +59,7 @@ module _ (t : List Row) (w : List Waiting) (good : GoodWaiting t w) (hs : List �
       k (none k) e
 
   asked-is-marked : (k : ℕ) → k < length w → askedRow t w hs k ≡ true → getD m′ k false ≡ true
-  unfolding askedRow Each
+  unfolding askedRow EachAsked
   asked-is-marked k b e =
       reach-least (length w) _ _ (λ i. getD m′ i false ≡ true)
       (λ i c q.
