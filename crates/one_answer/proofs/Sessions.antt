@@ -1,4 +1,5 @@
 -- Calls of sessions: saved, planning, receiving. Each contract is an equation, or one for each thing that it speaks of. Assumes nothing.
+use mathlib.Core.List.{[]}
 use mathlib.Core.Path.{refl, ap}
 use Rattle.session.specs.PlanCall.{Buffers}
 use Rattle.session_state.specs.Value.{Lent}
@@ -46,6 +47,7 @@ sessions-bind =
                 (joined (ap (λ (l : Lent). l .sent) same) refl)))))))))))),
           );
       heard-count = λ κs a x y u v p q. (once p q, refl);
+      heard-none = λ κs a x y u v p q. (once (p []) (q []), refl);
       is-silent = λ κs a x y u v p q. (once p q, refl);
       puts-of = λ κs a x y u v p q. (once p q, refl);
       check-plan = λ κs a x y u v p q. (once p q, refl);

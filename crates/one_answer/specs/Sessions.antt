@@ -16,8 +16,9 @@ use Rattle.session_saved.proofs.saved.decode as of-saved-decode
 use Rattle.plan.proofs.plan.generate_sync_message as of-generate-sync-message
 use Rattle.plan.proofs.check.check_plan as of-check-plan
 use Rattle.receive.proofs.receive.receive_sync_message as of-receive-sync-message
+use Rattle.plan_parts.proofs.silence.heard_none as of-heard-none
 use Rattle.plan_parts.proofs.silence.is_silent as of-is-silent
-use Rattle.plan_decide.proofs.put.puts_of as of-puts-of
+use Rattle.plan_decide.proofs.puts.puts_of as of-puts-of
 use Rattle.receive_parts.proofs.flags.take_flags as of-take-flags
 use Rattle.receive_decide.proofs.put.receipt_puts as of-receipt-puts
 use Rattle.receive_make.proofs.check.check_receive as of-check-receive
@@ -48,6 +49,7 @@ pub record SessionsBind : Type 0 where
   -- the crate receive
   pub receive-sync-message : Binds of-receive-sync-message.ended of-receive-sync-message.Reads.Post
   -- the crate plan_parts
+  pub heard-none : Binds of-heard-none.ended of-heard-none.Reads.Post
   pub is-silent : Binds of-is-silent.ended of-is-silent.Reads.Post
   -- the crate plan_decide
   pub puts-of : Binds of-puts-of.ended of-puts-of.Reads.Post

@@ -1,15 +1,16 @@
-// The plan: checked, computed, decided, put.
+// The plan: checked, counted, put.
 use crate::check::PlanChecks;
 use crate::check::check_plan;
-use asked::asked::plan_checked;
 use bloom::parse::BITS_PER_ENTRY;
 use bloom::parse::NUM_PROBES;
+use plan_make::make::Setting;
+use plan_make::make::plan_checked;
 use session::plan_answer::PlanAnswer;
 use session_state::session::Session;
 ghost use Rattle.bloom.specs.Filter.{defaultBits, defaultProbes};
 ghost use Rattle.session_check.specs.SessionGood.{lentOf};
 ghost use Rattle.session.specs.PlanCall.{planWith, buffersOf, PlanCalled};
-ghost use Rattle.plan_parts.specs.Internal.PlanParts.{Setting};
+ghost use Rattle.plan_parts.specs.Internal.PlanParts.{SettingGood};
 
 // The plan with a filter of these bits and probes.
 pub fn plan(
@@ -31,7 +32,7 @@ pub fn plan(
     have: &mut [u8],
     list: &mut [u8],
 ) -> PlanAnswer
-    requires { ⌜ Setting bits probes ⌝ }
+    requires { ⌜ SettingGood bits probes ⌝ }
     ensures { λ r. ⌜ PlanCalled (planWith bits probes session
         (lentOf (now (shared .entry)) (now («last_sent» .entry)) (now («their_heads» .entry)) (now («their_need» .entry)) (now (haves .entry))
         (now (bytes .entry)) (now (sent .entry)))
@@ -58,8 +59,7 @@ pub fn plan(
     ) {
         PlanChecks::Refused(r) => PlanAnswer::Refused(r),
         PlanChecks::Good { rows, waiting_rows } => plan_checked(
-            bits,
-            probes,
+            Setting { bits, probes },
             session,
             table,
             index,

@@ -30,7 +30,7 @@ use Rattle.session_state.specs.declared.session.Session.{Session}
 use Rattle.plan_decide.specs.Internal.Draft.{SmallStated, SmallDraft, headsCount, countIf, filterIf, drafted, resetStated, plannedCounts, saysWith, decided, noPuts}
 use Rattle.plan_decide.specs.Internal.Draft.{putsFor, putsOf}
 use Rattle.plan_decide.specs.declared.decide.Draft.{Draft}
-use Rattle.plan_decide.specs.declared.put.Puts.{Puts}
+use Rattle.plan_decide.specs.declared.puts.Puts.{Puts}
 
 -- ---- room
 

@@ -1,2 +1,3 @@
 pub mod DecideLaws
+pub mod FitLaws
 pub mod PutLaws

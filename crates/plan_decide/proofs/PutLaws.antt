@@ -1,10 +1,12 @@
--- Where what stands ready starts with the bytes of what is said, what is put is what the call promises. Nothing is put after a refusal and in silence,
+-- Where the parts are what is said, what is put is what the call promises. Nothing is put after a refusal and in silence,
 -- which is no case of its own. Assumes nothing.
-use Prim.Native.Nat.{ℕ, _+_, _*_, _≤_}
-use mathlib.Core.List.{List, [], _++_}
-use mathlib.Core.Path.{_≡_, refl, sym, ap, _∙_}
+use Prim.Native.Nat.{ℕ, suc, _+_, _*_}
+use mathlib.Core.List.{List, [], _∷_, _++_}
+use mathlib.Core.Path.{_≡_, refl, ap, _∙_}
 use native.Mathlib.Nat.{zero-add}
-use lib.ListN.{length, take}
+use native.Mathlib.Omega.{arith}
+use borrow.Author.Tests.{ne-eqb}
+use lib.ListN.{length}
 use lib.Seq.{sets}
 use Rattle.session.specs.PlanCall.{syncsOf, filterNumbers, plannedAnswer, plannedRoomed}
 use Rattle.session.specs.PlanCall.{Buffers, putInto, plannedLists}
@@ -14,17 +16,16 @@ use Rattle.session.specs.declared.room.Room.the-variants.{Enough, Short}
 use Rattle.session.specs.declared.plan_answer.Rooms.{Rooms}
 use Rattle.message.specs.Flags.{flagsOf}
 use Rattle.message.specs.declared.version.MessageVersion.the-variants.{V1}
-use Rattle.rules.specs.Hash.{Bytes, hashesAt, hashesBytes}
-use Rattle.rules.specs.Output.{Gathered}
+use Rattle.rules.specs.Hash.{hashesAt, hashesBytes}
 use Rattle.rules.specs.Sizes.{sizes}
 use Rattle.rules.specs.declared.refusal.Refusal.{Refusal}
 use Rattle.rules.proofs.Hash.{length-hashes-at, length-hashes-bytes}
-use Rattle.rules.proofs.Outputs.{sets-append, gathered-bytes}
+use Rattle.rules.proofs.Outputs.{sets-append}
 use Rattle.session.specs.Laid.{laidBytes}
 use Rattle.session.specs.Plan.{Plan, Planned, listOf}
 use Rattle.session_state.specs.Value.{Lent}
 use Rattle.plan_decide.specs.Internal.Draft.{PlanParts, PutLists, putLists, putsOf}
-use Rattle.plan_decide.specs.Internal.Draft.{startPut, havePut, allPut}
+use Rattle.plan_decide.specs.Internal.Draft.{unlessNone, listPut, startPut, havePut, allPut}
 
 -- ---- what is said, and what the session's lists become
 
@@ -53,44 +54,47 @@ sentPut Planned.silent = []
 sentPut (Planned.reset p) = []
 sentPut (Planned.says p after) = after .sentHashes
 
--- ---- bytes at the start of what stands ready
+-- ---- what is said of the parts
 
--- What stands ready starts with what is said and with what the session's lists become.
-pub record Starts (q : Planned) (ready : PlanParts) : Type 0 where
-  pub heads : hashesAt (ready .heads) 0 (length (planSaid q .heads)) ≡ planSaid q .heads
-  pub need : hashesAt (ready .need) 0 (length (planSaid q .need)) ≡ planSaid q .need
-  pub have : hashesBytes (hashesAt (ready .shared) 0 (syncsOf (planSaid q .haves))) ++ take (filterNumbers (planSaid q .haves) .size) (ready .field)
+-- What is said, and what the session's lists become, is all or nothing of each part.
+pub record Starts (q : Planned) (parts : PlanParts) : Type 0 where
+  pub heads : unlessNone (length (planSaid q .heads)) (parts .heads) ≡ planSaid q .heads
+  pub need : hashesAt (parts .need) 0 (length (planSaid q .need)) ≡ planSaid q .need
+  pub have : hashesBytes (hashesAt (parts .shared) 0 (syncsOf (planSaid q .haves))) ++ unlessNone (filterNumbers (planSaid q .haves) .size) (parts .field)
       ≡ laidBytes (planSaid q .haves)
-  pub list : hashesAt (ready .list) 0 (length (planSaid q .body .hashes)) ≡ planSaid q .body .hashes
-  pub lastSent : hashesAt (ready .heads) 0 (length (lastSentPut q)) ≡ lastSentPut q
-  pub sent : hashesAt (ready .sent) 0 (length (sentPut q)) ≡ sentPut q
+  pub list : unlessNone (length (planSaid q .body .hashes)) (parts .list) ≡ planSaid q .body .hashes
+  pub lastSent : unlessNone (length (lastSentPut q)) (parts .heads) ≡ lastSentPut q
+  pub sent : unlessNone (length (sentPut q)) (parts .sent) ≡ sentPut q
+
+-- all of a list
+pub all-said : (l : List ℕ) → unlessNone (length l) l ≡ l
+unfolding unlessNone
+all-said [] = refl
+all-said (h ∷ hs) = rw (ne-eqb (suc (length hs)) 0 (λ z. omega arith))
 
 pub buffers-same : {a a′ b b′ c c′ d d′ e e′ f f′ : List ℕ} → a ≡ a′ → b ≡ b′ → c ≡ c′ → d ≡ d′ → e ≡ e′ → f ≡ f′
     → _≡_ {A = PutLists} (record { heads = a; need = b; have = c; list = d; lastSent = e; sent = f })
     (record { heads = a′; need = b′; have = c′; list = d′; lastSent = e′; sent = f′ })
 buffers-same a b c d e f = rw (a, b, c, d, e, f)
 
--- hashes at the start of a buffer
+-- a list at the start of a buffer
+list-put : (buffer part hs : List ℕ) → unlessNone (length hs) part ≡ hs → listPut (length hs) part buffer ≡ sets buffer 0 (hashesBytes hs)
+list-put buffer part hs e = ap (λ (l : List ℕ). sets buffer 0 (hashesBytes l)) e
+
+-- the first hashes of a buffer
 start-put : (buffer part hs : List ℕ) → hashesAt part 0 (length hs) ≡ hs → startPut (length hs) part buffer ≡ sets buffer 0 (hashesBytes hs)
 start-put buffer part hs e = ap (λ (l : List ℕ). sets buffer 0 (hashesBytes l)) e
 
--- the bytes of the first hashes of a part
-pub first-put : (part buffer next : List ℕ) (n : ℕ) → Bytes part → sizes .hash * n ≤ length part → next ≡ sets buffer 0 (take (sizes .hash * n) part)
-    → next ≡ startPut n part buffer
-first-put part buffer next n b h e =
-    let g : Gathered (hashesAt part 0 n) part n = record { many = sym (length-hashes-at part 0 n); list = refl } in
-    rw (gathered-bytes g b h) e
-
 -- one part after the other
-have-put : (buffer shared field bytes : List ℕ) (k n : ℕ) → hashesBytes (hashesAt shared 0 k) ++ take n field ≡ bytes
+have-put : (buffer shared field bytes : List ℕ) (k n : ℕ) → hashesBytes (hashesAt shared 0 k) ++ unlessNone n field ≡ bytes
     → havePut k shared n field buffer ≡ sets buffer 0 bytes
 have-put buffer shared field bytes k n e =
     let first : List ℕ = hashesBytes (hashesAt shared 0 k) in
     let long : 0 + length first ≡ sizes .hash * k =
     zero-add _ ∙ length-hashes-bytes (hashesAt shared 0 k) ∙ ap (λ (m : ℕ). sizes .hash * m) (length-hashes-at shared 0 k)
     in
-    let all : sets (sets buffer 0 first) (0 + length first) (take n field) ≡ sets buffer 0 (first ++ take n field) =
-    sets-append first (take n field) buffer 0
+    let all : sets (sets buffer 0 first) (0 + length first) (unlessNone n field) ≡ sets buffer 0 (first ++ unlessNone n field) =
+    sets-append first (unlessNone n field) buffer 0
     in
     rw (long, e) at all
 
@@ -98,27 +102,27 @@ have-put buffer shared field bytes k n e =
 abbrev pub listsOf : Buffers → Lent → PutLists
 listsOf b l = putLists (b .heads) (b .need) (b .have) (b .list) (l .lastSent) (l .sent)
 
-module _ (ready : PlanParts) (b : Buffers) (l : Lent) where
-  pub put-as-said : (q : Planned) → Starts q ready → allPut (putsOf (plannedAnswer q)) ready (listsOf b l) ≡ listsOf (putInto q b) (plannedLists q l)
-  unfolding putsOf plannedAnswer putInto plannedLists hashesAt hashesBytes laidBytes
+module _ (parts : PlanParts) (b : Buffers) (l : Lent) where
+  pub put-as-said : (q : Planned) → Starts q parts → allPut (putsOf (plannedAnswer q)) parts (listsOf b l) ≡ listsOf (putInto q b) (plannedLists q l)
+  unfolding putsOf plannedAnswer putInto plannedLists hashesAt hashesBytes laidBytes unlessNone
   put-as-said (Planned.refused r) f = refl
   put-as-said Planned.silent f = refl
   put-as-said (Planned.reset p) f =
       buffers-same
-      (start-put _ _ _ (f .heads))
+      (list-put _ _ _ (f .heads))
       (start-put _ _ _ (f .need))
-      (have-put (b .have) (ready .shared) (ready .field) _ (syncsOf (p .haves)) (filterNumbers (p .haves) .size) (f .have))
-      (start-put _ _ _ (f .list))
+      (have-put (b .have) (parts .shared) (parts .field) _ (syncsOf (p .haves)) (filterNumbers (p .haves) .size) (f .have))
+      (list-put _ _ _ (f .list))
       refl
       refl
   put-as-said (Planned.says p after) f =
       buffers-same
-      (start-put _ _ _ (f .heads))
+      (list-put _ _ _ (f .heads))
       (start-put _ _ _ (f .need))
-      (have-put (b .have) (ready .shared) (ready .field) _ (syncsOf (p .haves)) (filterNumbers (p .haves) .size) (f .have))
-      (start-put _ _ _ (f .list))
-      (start-put _ _ _ (f .lastSent))
-      (start-put _ _ _ (f .sent))
+      (have-put (b .have) (parts .shared) (parts .field) _ (syncsOf (p .haves)) (filterNumbers (p .haves) .size) (f .have))
+      (list-put _ _ _ (f .list))
+      (list-put _ _ _ (f .lastSent))
+      (list-put _ _ _ (f .sent))
 
 -- A session's lists with other heads sent last and other hashes sent.
 abbrev pub changed : Lent → List ℕ → List ℕ → Lent
@@ -142,22 +146,22 @@ lists-change (Planned.reset p) l = refl
 lists-change (Planned.says p after) l = refl
 
 -- nothing is at every start
-pub refused-starts : (r : Refusal) (ready : PlanParts) → Starts (Planned.refused r) ready
-unfolding hashesAt hashesBytes laidBytes
-refused-starts r ready = record { heads = refl; need = refl; have = refl; list = refl; lastSent = refl; sent = refl }
+pub refused-starts : (r : Refusal) (parts : PlanParts) → Starts (Planned.refused r) parts
+unfolding hashesAt hashesBytes laidBytes unlessNone
+refused-starts r parts = record { heads = refl; need = refl; have = refl; list = refl; lastSent = refl; sent = refl }
 
-pub silent-starts : (ready : PlanParts) → Starts Planned.silent ready
-unfolding hashesAt hashesBytes laidBytes
-silent-starts ready = record { heads = refl; need = refl; have = refl; list = refl; lastSent = refl; sent = refl }
+pub silent-starts : (parts : PlanParts) → Starts Planned.silent parts
+unfolding hashesAt hashesBytes laidBytes unlessNone
+silent-starts parts = record { heads = refl; need = refl; have = refl; list = refl; lastSent = refl; sent = refl }
 
-after-room : (x : Room) (q : Planned) (ready : PlanParts) → Starts q ready → Starts (ifRoom Planned.refused x q) ready
+after-room : (x : Room) (q : Planned) (parts : PlanParts) → Starts q parts → Starts (ifRoom Planned.refused x q) parts
 unfolding ifRoom
-after-room Enough q ready f = f
-after-room (Short wanted) q ready f = refused-starts _ ready
+after-room Enough q parts f = f
+after-room (Short wanted) q parts f = refused-starts _ parts
 
-pub roomed-starts : (r : Rooms) (q : Planned) (ready : PlanParts) → Starts q ready → Starts (plannedRoomed r q) ready
+pub roomed-starts : (r : Rooms) (q : Planned) (parts : PlanParts) → Starts q parts → Starts (plannedRoomed r q) parts
 unfolding plannedRoomed
-roomed-starts r (Planned.refused e) ready f = f
-roomed-starts r Planned.silent ready f = f
-roomed-starts r (Planned.reset p) ready f = after-room _ _ ready f
-roomed-starts r (Planned.says p after) ready f = after-room _ _ ready (after-room _ _ ready f)
+roomed-starts r (Planned.refused e) parts f = f
+roomed-starts r Planned.silent parts f = f
+roomed-starts r (Planned.reset p) parts f = after-room _ _ parts f
+roomed-starts r (Planned.says p after) parts f = after-room _ _ parts (after-room _ _ parts f)

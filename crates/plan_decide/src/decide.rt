@@ -1,4 +1,4 @@
-// What is decided once everything is computed: nothing is written before all of it is known.
+// What is decided once everything is counted: nothing is written before all of it is known.
 use bloom::have::FilterNumbers;
 use bloom::parse::BITS_PER_ENTRY;
 use bloom::parse::NUM_PROBES;
@@ -68,7 +68,7 @@ fn message_room(p: Stated, r: Rooms) -> Room
 
 // Whether the session's lists that change have room.
 fn session_room(last_sent: usize, sent: usize, r: Rooms) -> Room
-    requires { ⌜ («last_sent» ≤ sizes .rows) × (sent ≤ sizes .sentHashes + 1) ⌝ }
+    requires { ⌜ («last_sent» ≤ sizes .rows) × (sent ≤ sizes .sentHashes + sizes .rows) ⌝ }
     ensures { λ x. ⌜ x ≡ sessionRoom «last_sent» sent r ⌝ }
 {
     let heads = HASH_SIZE * last_sent;

@@ -1,5 +1,5 @@
-// What a unit says next, once all parts of it are computed: refused, silent, a reset or a message; and the copies that then are made.
+// What a unit says next, decided on numbers alone: refused, silent, a reset or a message; and how much of each part is then put.
 //
-// Nothing that is lent is written before everything was tested, the room too.
+// Nothing that is lent is written before everything was tested, the room too: this is where all of it is tested.
 pub mod decide;
-pub mod put;
+pub mod puts;

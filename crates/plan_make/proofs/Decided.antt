@@ -10,9 +10,9 @@ use lib.ListN.{length, length-replicate}
 use Rattle.bloom.specs.Filter.{fieldSize}
 use Rattle.bloom.specs.Have.{numbersOf}
 use Rattle.bloom.specs.declared.have.FilterNumbers.{FilterNumbers}
-use Rattle.plan_decide.specs.Internal.Draft.{PlanParts, headsCount, countIf, filterIf, drafted, resetStated, plannedCounts, saysWith, decided}
+use Rattle.plan_decide.specs.Internal.Draft.{headsCount, countIf, filterIf, drafted, resetStated, plannedCounts, saysWith, decided}
 use Rattle.plan_decide.specs.declared.decide.Draft.{Draft}
-use Rattle.table_graph.specs.Graph.{heads}
+use Rattle.table_graph.specs.Graph.{heads, beyond}
 use Rattle.message.specs.declared.flags.MessageFlags.{MessageFlags}
 use Rattle.message.specs.declared.version.MessageVersion.{MessageVersion}
 use Rattle.waiting_missing.specs.Ask.{FoundUpTo}
@@ -25,7 +25,6 @@ use Rattle.session.specs.declared.plan_answer.Stated.{Stated}
 use Rattle.session.specs.declared.room.Room.{Room}
 use Rattle.session.specs.declared.room.Room.the-variants.{Enough, Short}
 use Rattle.session.specs.Rooms.{ifRoom}
-use Rattle.plan_parts.specs.Internal.PlanParts.{FieldMade}
 use Rattle.bloom_probe.proofs.FieldLaws.{length-add-hashes}
 use Rattle.bloom_probe.specs.Build.{filterOf}
 use Rattle.rules.proofs.Cases.{split}
@@ -42,7 +41,7 @@ use Rattle.session_state.specs.Value.{Lent, stateOf, countsOf}
 use Rattle.session_state.specs.declared.session.Session.{Session}
 use Rattle.table.specs.Table.{Row}
 use Rattle.waiting.specs.Waiting.{Waiting}
-use Rattle.plan_make.specs.Internal.PlanMake.{DraftMade}
+use Rattle.plan_make.specs.Internal.PlanMake.{DraftCounted}
 
 -- ---- counts of parts
 
@@ -61,10 +60,9 @@ heads-count : (needs supports : Bool) (hs : List ℕ) → length (headsFor needs
 unfolding headsFor headsCount
 heads-count needs supports hs = split (needs && not supports) (λ e. rw e) (λ e. rw e)
 
-module _ (bits probes : ℕ) (hs field : List ℕ) (entries : ℕ) (f : FieldMade bits probes hs field entries) where
-  pub field-long : length (filterOf bits probes hs .field) ≡ fieldSize entries bits
-  unfolding filterOf
-  field-long = length-add-hashes probes _ hs ∙ length-replicate _ _ ∙ ap (λ (n : ℕ). fieldSize n bits) (sym (f .many))
+pub field-long : (bits probes : ℕ) (hs : List ℕ) (entries : ℕ) → entries ≡ length hs → length (filterOf bits probes hs .field) ≡ fieldSize entries bits
+unfolding filterOf
+field-long bits probes hs entries many = length-add-hashes probes _ hs ∙ length-replicate _ _ ∙ ap (λ (n : ℕ). fieldSize n bits) (sym many)
 
 -- ---- lists with room for one more than there may be
 
@@ -99,9 +97,9 @@ counted-same b h n v s f k = rw (b, h, n, v, s, f, k)
 numbers-same : {bits probes e e′ p p′ z z′ : ℕ} → e ≡ e′ → p ≡ p′ → z ≡ z′ → numbersOf e bits probes p z ≡ numbersOf e′ bits probes p′ z′
 numbers-same e p z = rw (e, p, z)
 
-module _ (bits probes : ℕ) (t : List Row) (w : List Waiting) (s : Session) (l : Lent) (ready : PlanParts) (d : Draft)
-    (asked : ℕ) (m : DraftMade bits probes t (stateOf s l) asked ready d)
-    (f : FoundUpTo (needOf t w (s .«read_only») (heard (stateOf s l .theirHeads))) (sizes .hashes + 1) (ready .need) (d .need)) where
+module _ (bits probes : ℕ) (t : List Row) (w : List Waiting) (s : Session) (l : Lent) (readyNeed : List ℕ) (d : Draft)
+    (asked : ℕ) (m : DraftCounted t (stateOf s l) readyNeed asked d)
+    (f : FoundUpTo (needOf t w (s .«read_only») (heard (stateOf s l .theirHeads))) (sizes .hashes + 1) readyNeed (d .need)) where
   abbrev theirs : List ℕ
   theirs = heard (stateOf s l .theirHeads)
 
@@ -128,9 +126,8 @@ module _ (bits probes : ℕ) (t : List Row) (w : List Waiting) (s : Session) (l 
         ≡ numbersOf (d .entries) bits probes (sizes .hash * s .«shared_heads») (fieldSize (d .entries) bits)
     unfolding haveOf filterOf
     given-numbers e =
-        let g = m .field .made e in
-        numbers-same (sym (g .many)) (ap (λ (n : ℕ). sizes .hash * n) (length-hashes-at (l .shared) 0 (s .«shared_heads»)))
-        (field-long bits probes _ _ _ g)
+        numbers-same (sym (m .entries e)) (ap (λ (n : ℕ). sizes .hash * n) (length-hashes-at (l .shared) 0 (s .«shared_heads»)))
+        (field-long bits probes (beyond t shared) (d .entries) (m .entries e))
 
     given-syncs : syncsOf (haveOf bits probes t shared ∷ []) ≡ s .«shared_heads»
     unfolding haveOf
@@ -141,11 +138,11 @@ module _ (bits probes : ℕ) (t : List Row) (w : List Waiting) (s : Session) (l 
     stated-drafted =
         split (d .gives)
         (λ e. rw (e, have-given e)
-        (counted-same (sym (m .body .document)) (heads-count _ _ _ ∙ ap (headsCount (s .«needs_reset») (s .«supports_reset»)) (sym (m .heads .many)))
-        (sym (found-all f few .many)) refl given-syncs (given-numbers e) (sym (m .body .hashes .many))))
+        (counted-same (sym (m .document)) (heads-count _ _ _ ∙ ap (headsCount (s .«needs_reset») (s .«supports_reset»)) (sym (m .heads)))
+        (sym (found-all f few .many)) refl given-syncs (given-numbers e) (sym (m .hashes))))
         (λ e. rw (e, have-none e)
-        (counted-same (sym (m .body .document)) (heads-count _ _ _ ∙ ap (headsCount (s .«needs_reset») (s .«supports_reset»)) (sym (m .heads .many)))
-        (sym (found-all f few .many)) refl refl refl (sym (m .body .hashes .many))))
+        (counted-same (sym (m .document)) (heads-count _ _ _ ∙ ap (headsCount (s .«needs_reset») (s .«supports_reset»)) (sym (m .heads)))
+        (sym (found-all f few .many)) refl refl refl (sym (m .hashes))))
 
   -- the counts of the session after the message
   counts-planned : sessionGood s l ≡ true → d .sent ≤ sizes .sentHashes → countsOf (planned t (stateOf s l)) ≡ plannedCounts s (d .heads) (d .sent)
@@ -155,7 +152,7 @@ module _ (bits probes : ℕ) (t : List Row) (w : List Waiting) (s : Session) (l 
       let heads-heard = hashes-counted (l .theirHeads) (s .«their_heads») in
       let need-heard = hashes-counted (l .theirNeed) (s .«their_need») in
       let haves-heard = haves-counted (l .bytes) (l .haves) (s .«their_have») (λ n e. session-parts s l good .theirHave n e .there) in
-      rw (shared-count, heads-heard, need-heard, haves-heard, m .heads .many, m .sent .all some .many)
+      rw (shared-count, heads-heard, need-heard, haves-heard, m .heads, m .sent)
 
   -- ---- the stages
 
@@ -170,7 +167,7 @@ module _ (bits probes : ℕ) (t : List Row) (w : List Waiting) (s : Session) (l 
         let p = planOf bits probes t w (stateOf s l) in
         let q : Planned = Planned.says p (planned t (stateOf s l)) in
         let x : Room = sessionRoom (length (heads t)) (length (sentAfter t (stateOf s l))) r in
-        rw (sym (stated-drafted few), sym (counts-planned good some), m .heads .many, m .sent .all some .many)
+        rw (sym (stated-drafted few), sym (counts-planned good some), m .heads, m .sent)
         (ap (λ (a : PlanAnswer). ifRoom Refused (messageRoom (statedOf p) r) a) (room-answers x q) ∙ room-answers (messageRoom (statedOf p) r) (ifRoom Planned.refused x q))
 
     sent-decided : d .need ≤ sizes .hashes
@@ -178,15 +175,17 @@ module _ (bits probes : ℕ) (t : List Row) (w : List Waiting) (s : Session) (l 
     unfolding sentAfter plannedRoomed plannedAnswer
     sent-decided few =
         split (ltb (sizes .sentHashes) (d .sent))
-        (λ e. rw (e, lt-ltb _ _ (m .sent .many (ltb-true _ _ e))))
+        (λ e.
+        let many : sizes .sentHashes < length (sentAfter t (stateOf s l)) = omega (arith, m .sent, ltb-true (sizes .sentHashes) (d .sent) e) in
+        rw (e, lt-ltb _ _ many))
         (λ e.
         let some : d .sent ≤ sizes .sentHashes = ltb-false _ _ e in
-        let room : length (sentAfter t (stateOf s l)) ≤ sizes .sentHashes = omega (arith, m .sent .all some .many) in
+        let room : length (sentAfter t (stateOf s l)) ≤ sizes .sentHashes = omega (arith, m .sent) in
         rw (e, le-ltb _ _ room) (says-decided few some))
 
     reset-decided : ifRoom Refused (messageRoom (resetStated (d .heads)) r) (Reset (resetStated (d .heads))) ≡ answer (Planned.reset (resetOf t))
     unfolding plannedRoomed resetOf plannedAnswer
-    reset-decided = rw (m .heads .many) (room-answers (messageRoom (resetStated (length (heads t))) r) (Planned.reset (resetOf t)))
+    reset-decided = rw (m .heads) (room-answers (messageRoom (resetStated (length (heads t))) r) (Planned.reset (resetOf t)))
 
     pub plan-decided : decided s d bits probes r ≡ answer (plan bits probes t w (stateOf s l))
     unfolding decided plan plannedRoomed plannedAnswer

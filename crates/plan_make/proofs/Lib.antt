@@ -1,4 +1,4 @@
+pub mod CountLaws
 pub mod Decided
-pub mod FitLaws
 pub mod MadeLaws
-pub mod MakeLaws
+pub mod PutDone

@@ -1,3 +1,3 @@
-// A plan for a session and tables that have been checked: all parts of it are computed into buffers that stand ready, then it is decided and put.
-pub mod finish;
+// A plan for a session and tables that have been checked: counted, decided on the numbers, put.
+pub mod count;
 pub mod make;

@@ -1,10 +1,12 @@
 -- What was heard, as a count and a buffer: its hashes stand inside what is lent and are the list that was heard. What is missing from those of them
 -- that are asked for is the need, and comparing takes the list as it stands.
-use Prim.Native.Nat.{ℕ, _+_, _*_, _≤_}
+use Prim.Native.Nat.{ℕ, zero, suc, _+_, _*_, _≤_}
 use mathlib.Core.Bool.{Bool, true, false, cond}
-use mathlib.Core.List.{List}
-use mathlib.Core.Path.{_≡_, _∙_}
+use mathlib.Core.List.{List, []}
+use mathlib.Core.Path.{_≡_, refl, _∙_}
 use native.Mathlib.Omega.{arith}
+use borrow.Author.Tests.{ne-eqb}
+use lib.Dec.{eqb}
 use lib.ListN.{length}
 use Rattle.session_check.proofs.GoodSessions.{list-parts}
 use Rattle.session_check.specs.SessionGood.{heardGood}
@@ -74,6 +76,18 @@ module _ (s : List ℕ) (h : Heard) (l : List ℕ) where
   pub as-nothing : h ≡ Nothing → false ≡ heardAs l (heardHashes s h)
   unfolding heardHashes
   as-nothing e = rw e
+
+  pub none-nothing : h ≡ Nothing → false ≡ heardAs [] (heardHashes s h)
+  unfolding heardHashes
+  none-nothing e = rw e
+
+  pub none-count : (n : ℕ) → h ≡ Count n → (b : Bool) → b ≡ eqb n 0 → b ≡ heardAs [] (heardHashes s h)
+  unfolding heardHashes hashesAt same
+  none-count n e b f = rw (e, f) (none-of n)
+    where
+      none-of : (n : ℕ) → eqb n 0 ≡ same (hashesAt s 0 n) []
+      none-of zero = refl
+      none-of (suc n) = ne-eqb (suc n) 0 (λ z. omega arith)
 
   pub as-count : (n : ℕ) → h ≡ Count n → same (hashesAt s 0 n) l ≡ heardAs l (heardHashes s h)
   unfolding heardHashes

@@ -1,8 +1,7 @@
+pub mod ApartLaws
+pub mod BeyondLaws
 pub mod BodyLaws
-pub mod FieldLaws
 pub mod HeardLaws
-pub mod MarkedLaws
-pub mod RoomLaws
 pub mod SentLaws
 pub mod SyncLaws
 pub mod TestLaws

@@ -1,43 +1,117 @@
--- Hashes joined to a copy of those that were sent: the copy's first hashes are the sent ones, so what joins them is what joins the sent ones.
-use Prim.Native.Nat.{ℕ, _*_, _/_, _≤_}
-use mathlib.Core.Bool.{true}
-use mathlib.Core.List.{List}
-use mathlib.Core.Path.{_≡_, sym, ap, _∙_}
+-- The rows of a body that weren't sent, as marks: each of them adds one to the hashes sent, and no other hash of the body does.
+use Prim.Native.Nat.{ℕ, _+_, _≤_, _<_}
+use mathlib.Core.Bool.{Bool, true, false, not, _&&_, _||_}
+use mathlib.Core.List.{List, _++_}
+use mathlib.Core.Path.{_≡_, refl, sym, ap, _∙_}
 use native.Mathlib.Omega.{arith}
-use lib.ListN.{length, take}
-use lib.Seq.{sets, length-sets, length-take-le}
-use Rattle.hash_lists.proofs.Lists.{up-to-ascending, joined-up-to}
-use Rattle.hash_lists.specs.Internal.Lists.{Joined, UpTo}
-use Rattle.hash_order.specs.Order.{ascends, ascend}
-use Rattle.rules.proofs.Hash.{length-hashes-at, hashes-at-slice}
-use Rattle.rules.proofs.Outputs.{take-sets}
-use Rattle.rules.specs.Hash.{hashesAt}
-use Rattle.rules.specs.Sizes.{sizes}
-use Rattle.plan_parts.specs.Internal.PlanParts.{SentMade}
+use lib.ListN.{length, getD}
+use Rattle.table_graph.proofs.GraphMarks.{many-rows}
+use Rattle.table_graph.proofs.PickLaws.{rows-marked, rows-where, picked-count}
+use Rattle.table_graph.specs.Internal.Marks.{Marks, Blank, marked, picked}
+use Rattle.table_index.specs.Index.{Indexed}
+use Rattle.hash_order.proofs.KeepLaws.{every-member}
+use Rattle.hash_order.proofs.OrderLaws.{member-append}
+use Rattle.hash_order.specs.Order.{member, every, ascends, ascend}
+use Rattle.rules.proofs.Cases.{split, both}
+use Rattle.send.specs.Internal.Chosen.{chosenBy}
+use Rattle.table.proofs.TableLaws.{length-rows-at, held-row, number-of-row, row-of-held, hash-of-held}
+use Rattle.table.specs.TableBytes.{rowsAt}
+use Rattle.table.specs.Table.{Row, rows, hashOf, held, rowNumber}
+use Rattle.plan_parts.specs.Internal.PlanParts.{FreshMarked}
+use Rattle.plan_parts.proofs.ApartLaws.{ascend-apart, ascend-alike, picked-once}
+use borrow.Author.Tests.{not-true}
 
--- the first hashes of a buffer stand in its first bytes
-first-bytes : (s : List ℕ) (count : ℕ) → hashesAt s 0 count ≡ hashesAt (take (sizes .hash * count) s) 0 count
-first-bytes s count = hashes-at-slice s 0 (sizes .hash * count) 0 count (omega arith)
+or-other : (x y : Bool) → (x || y) ≡ (y || x)
+or-other true true = refl
+or-other true false = refl
+or-other false true = refl
+or-other false false = refl
 
-module _ (sent : List ℕ) (before : ℕ) (there : sizes .hash * before ≤ length sent) (out copy : List ℕ) (room : sizes .hash * before ≤ length out)
-    (put : copy ≡ sets out 0 (take (sizes .hash * before) sent)) where
-  copied-long : length copy ≡ length out
-  copied-long = ap length put ∙ length-sets out 0 (take (sizes .hash * before) sent)
+-- a hash of a body that was sent before isn't a new one
+new-or-sent : (h b s : Bool) → (b ≡ true → h ≡ true) → ((h && (b && not s)) || s) ≡ (b || s)
+new-or-sent h true true f = rw (f refl)
+new-or-sent h true false f = rw (f refl)
+new-or-sent true false true f = refl
+new-or-sent true false false f = refl
+new-or-sent false false true f = refl
+new-or-sent false false false f = refl
 
-  copied : hashesAt copy 0 before ≡ hashesAt sent 0 before
-  copied =
-      let part : List ℕ = take (sizes .hash * before) sent in
-      let long : length part ≡ sizes .hash * before = length-take-le (sizes .hash * before) sent there in
-      let back : take (sizes .hash * before) (sets out 0 part) ≡ part = rw long at (take-sets part out (omega arith)) in
-      rw put (first-bytes (sets out 0 part) before ∙ ap (λ (l : List ℕ). hashesAt l 0 before) back ∙ sym (first-bytes sent before))
+module _ (table x : List ℕ) (n : ℕ) (good : Indexed table x n) (marks : List Bool) (need : List ℕ) (needs : List Bool) (sent : List ℕ) where
+  abbrev t : List Row
+  t = rowsAt table 0 n
 
-  pub sent-made : ascends (hashesAt sent 0 before) ≡ true → (hs after : List ℕ) (next : ℕ) → Joined copy after before hs next
-      → SentMade hs (hashesAt sent 0 before) (length out) after next
-  sent-made up hs after next j =
-      let old : List ℕ = hashesAt sent 0 before in
-      let many : length old ≡ before = length-hashes-at sent 0 before in
-      let start : UpTo (length copy / sizes .hash) (ascend old) (hashesAt copy 0 before) =
-      rw copied (up-to-ascending (length copy / sizes .hash) old up (omega (arith, copied-long)))
-      in
-      let all = joined-up-to j old start in
-      record { many = all .1; are = rw copied-long at (all .0) }
+  abbrev body : List ℕ
+  body = chosenBy (rowsAt table 0 n) marks need needs
+
+  row-picked : (m : List Bool) (i : ℕ) → i < n → member (hashOf t i) (picked (rows t) m) ≡ getD m i false
+  row-picked m i l =
+      let inside : i < length t = omega (arith, length-rows-at table 0 n) in
+      rw (rows-marked t m (λ k. getD m k false) (record { each = λ k q. refl }))
+      (rows-where t (good .rows .good) (λ k. getD m k false) (hashOf t i) ∙ rw (held-row t i inside, number-of-row t (good .rows .good) i inside))
+
+  row-of-body : (i : ℕ) → i < n → (getD marks i false || member (hashOf t i) (picked need needs)) ≡ member (hashOf t i) body
+  unfolding chosenBy
+  row-of-body i l =
+      or-other (getD marks i false) (member (hashOf t i) (picked need needs))
+      ∙ sym (member-append (hashOf t i) (picked need needs) (picked (rows t) marks) ∙ rw (row-picked marks i l))
+
+  module _ (copy joined none past fresh : List Bool) (a : Marks n copy (λ i. getD marks i false))
+      (b : Marks n joined (λ i. getD copy i false || member (hashOf t i) (picked need needs)))
+      (blank : Blank n none)
+      (c : Marks n past (λ i. getD none i false || member (hashOf t i) sent))
+      (d : Marks n fresh (λ i. getD joined i false && not (getD past i false))) where
+    fresh-rows : Marks n fresh (λ i. member (hashOf t i) body && not (member (hashOf t i) sent))
+    fresh-rows =
+        record {
+          each =
+              λ i l.
+              let in-body : getD joined i false ≡ member (hashOf t i) body =
+              b .each i l ∙ ap (λ (z : Bool). z || member (hashOf t i) (picked need needs)) (a .each i l) ∙ row-of-body i l
+              in
+              let in-sent : getD past i false ≡ member (hashOf t i) sent =
+              c .each i l ∙ ap (λ (z : Bool). z || member (hashOf t i) sent) (blank .each i l)
+              in
+              d .each i l ∙ rw (in-body, in-sent);
+        }
+
+    member-fresh : (y : ℕ) → member y (picked (rows t) fresh) ≡ (held t y && (member y body && not (member y sent)))
+    member-fresh y =
+        rw (rows-marked t fresh (λ k. getD fresh k false) (record { each = λ k q. refl }))
+        (rows-where t (good .rows .good) (λ k. getD fresh k false) y
+        ∙ split (held t y)
+        (λ h.
+        let inside : rowNumber t y < n = omega (arith, row-of-held t y h, length-rows-at table 0 n) in
+        let is : getD fresh (rowNumber t y) false ≡ (member y body && not (member y sent)) =
+        rw (hash-of-held t y h) at (fresh-rows .each (rowNumber t y) inside)
+        in
+        rw (h, is))
+        (λ h. rw h))
+
+    module _ (up : ascends sent ≡ true) (rows-alone : every (held t) body ≡ true) where
+      all-members : (y : ℕ) → member y (picked (rows t) fresh ++ sent) ≡ member y (body ++ sent)
+      all-members y =
+          member-append y (picked (rows t) fresh) sent
+          ∙ rw (member-fresh y) (new-or-sent (held t y) (member y body) (member y sent) (λ m. every-member (held t) body rows-alone y m))
+          ∙ sym (member-append y body sent)
+
+      none-sent : (y : ℕ) → member y (picked (rows t) fresh) ≡ true → member y sent ≡ false
+      none-sent y m =
+          let p = both (held t y) (member y body && not (member y sent)) (sym (member-fresh y) ∙ m) in
+          not-true (member y sent) (both (member y body) (not (member y sent)) (p .1) .1)
+
+      pub fresh-marked : n ≤ length fresh → (before count : ℕ) → length sent ≡ before → count ≡ marked n fresh
+          → FreshMarked (rowsAt table 0 n) n (chosenBy (rowsAt table 0 n) marks need needs) sent fresh (before + count)
+      fresh-marked room before count long many =
+          let both-many : length (ascend (picked (rows t) fresh ++ sent)) ≡ length (picked (rows t) fresh) + length sent =
+          ascend-apart (picked (rows t) fresh) sent (picked-once (rows t) fresh (good .rows .good .once)) up none-sent
+          in
+          let alike : ascend (picked (rows t) fresh ++ sent) ≡ ascend (body ++ sent) =
+          ascend-alike (picked (rows t) fresh ++ sent) (body ++ sent) all-members
+          in
+          record {
+            long = room;
+            those = fresh-rows;
+            all = omega arith;
+            many = omega (arith, both-many, ap length alike, picked-count (rows t) fresh n (many-rows table n));
+            are = alike;
+          }

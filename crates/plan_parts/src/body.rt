@@ -58,7 +58,7 @@ fn body_for(
     n: usize,
     v2: bool,
     headless: bool,
-    bytes: &[u8],
+    have_bytes: &[u8],
     haves: &[u64],
     need: &[u8],
     count: usize,
@@ -67,9 +67,9 @@ fn body_for(
     marks: &mut [bool],
     needs: &mut [bool],
 ) -> BodyCount
-    requires { ⌜ Choosable (now table) (now index) n (now bytes) (now haves) (now need) 0 count × (sizes .hash * before ≤ length (now sent))
+    requires { ⌜ Choosable (now table) (now index) n (now «have_bytes») (now haves) (now need) 0 count × (sizes .hash * before ≤ length (now sent))
         × BlankBody n count (now marks) (now needs) ⌝ }
-    ensures { λ r. ⌜ BodyChosen (bodyFor (rowsAt (now (table .entry)) 0 n) v2 headless (havesOf (now (bytes .entry)) (now (haves .entry)))
+    ensures { λ r. ⌜ BodyChosen (bodyFor (rowsAt (now (table .entry)) 0 n) v2 headless (havesOf (now («have_bytes» .entry)) (now (haves .entry)))
         (hashesAt (now (need .entry)) 0 count) (hashesAt (now (sent .entry)) 0 before))
         (rowsAt (now (table .entry)) 0 n) (now (marks .exit)) (hashesAt (now (need .entry)) 0 count) (now (needs .exit)) r ⌝ }
 {
@@ -80,7 +80,7 @@ fn body_for(
         table,
         index,
         n,
-        bytes,
+        have_bytes,
         haves,
         need,
         0,
@@ -107,7 +107,7 @@ pub fn mark_body(
     peer_read_only: bool,
     v2: bool,
     headless: bool,
-    bytes: &[u8],
+    have_bytes: &[u8],
     haves: &[u64],
     have: Heard,
     their_need: &[u8],
@@ -117,10 +117,10 @@ pub fn mark_body(
     marks: &mut [bool],
     needs: &mut [bool],
 ) -> BodyCount
-    requires { ⌜ Indexed (now table) (now index) n × (havesGood (now bytes) (now haves) have ≡ true) × (heardGood (now «their_need») need ≡ true)
+    requires { ⌜ Indexed (now table) (now index) n × (havesGood (now «have_bytes») (now haves) have ≡ true) × (heardGood (now «their_need») need ≡ true)
         × (sizes .hash * before ≤ length (now sent)) × BlankBody n (heardCount need) (now marks) (now needs) ⌝ }
     ensures { λ r. ⌜ BodyChosen (cond «peer_read_only» (listOf []) (bodyHeard (rowsAt (now (table .entry)) 0 n) v2 headless
-        (heardHaves (now (bytes .entry)) (now (haves .entry)) have) (heardHashes (now («their_need» .entry)) need)
+        (heardHaves (now («have_bytes» .entry)) (now (haves .entry)) have) (heardHashes (now («their_need» .entry)) need)
         (hashesAt (now (sent .entry)) 0 before)))
         (rowsAt (now (table .entry)) 0 n) (now (marks .exit)) (hashesAt (now («their_need» .entry)) 0 (heardCount need)) (now (needs .exit)) r ⌝ }
 {
@@ -144,7 +144,7 @@ pub fn mark_body(
         n,
         v2,
         headless,
-        bytes,
+        have_bytes,
         kept,
         their_need,
         asked,

@@ -1,11 +1,8 @@
 // The have that a unit gives, and whether the peer's first have is one that can be answered.
-use crate::field::fill_marked;
 use bloom::have::sync_count;
 use bloom::have::sync_place;
-use bloom::rule::bits_capacity;
 use hash_lists::compare::all_held;
 use hash_lists::compare::all_in;
-use rules::sizes::ROWS;
 use session_state::session::Heard;
 use session_state::session::heard_count;
 use table_graph::beyond::mark_at_or_below;
@@ -15,8 +12,7 @@ ghost use mathlib.Core.Bool.{true};
 ghost use mathlib.Core.Path.{_≡_};
 ghost use Prim.Native.Nat.{_*_, _≤_};
 ghost use lib.ListN.{length};
-ghost use Rattle.bloom.specs.Filter.{fieldSize};
-ghost use Rattle.table_graph.specs.Graph.{beyond};
+ghost use Rattle.table_graph.specs.Internal.Marks.{Blank};
 ghost use Rattle.table_index.specs.Index.{Indexed};
 ghost use Rattle.session_check.specs.SessionGood.{heardGood, havesGood};
 ghost use Rattle.hash_order.specs.Order.{member, every};
@@ -25,7 +21,7 @@ ghost use Rattle.rules.specs.Sizes.{sizes};
 ghost use Rattle.session.specs.Plan.{heard, unknownSync};
 ghost use Rattle.session_state.specs.Value.{heardHashes, heardHaves};
 ghost use Rattle.table.specs.TableBytes.{rowsAt};
-ghost use Rattle.plan_parts.specs.Internal.PlanParts.{Setting, FieldMade};
+ghost use Rattle.plan_parts.specs.Internal.PlanParts.{HaveCounted};
 
 // Whether each hash that is asked for is a head that was heard.
 pub fn gives_have(need: &[u8], count: usize, their_heads: &[u8], heads: Heard) -> bool
@@ -35,29 +31,25 @@ pub fn gives_have(need: &[u8], count: usize, their_heads: &[u8], heads: Heard) -
     all_in(need, 0, count, their_heads, 0, heard_count(heads))
 }
 
-// Builds the field of the filter over the rows beyond the shared heads, at the start of a buffer that is long enough for all, and returns how many rows
-// these are.
-pub fn make_field(
-    bits: u64,
-    probes: u64,
+// Marks the rows beyond the shared heads, which the filter of a have that is given is over, and returns how many they are; none where none is given.
+pub fn mark_beyond(
+    gives: bool,
     table: &[u8],
     index: &[u8],
     n: usize,
     shared: &[u8],
     count: usize,
-    field: &mut [u8],
+    marks: &mut [bool],
 ) -> usize
-    requires { ⌜ Indexed (now table) (now index) n × (sizes .hash * count ≤ length (now shared)) × Setting bits probes
-        × (fieldSize n bits ≤ length (now field)) ⌝ }
-    ensures { λ r. ⌜ FieldMade bits probes (beyond (rowsAt (now (table .entry)) 0 n) (hashesAt (now (shared .entry)) 0 count)) (now (field .exit)) r ⌝ }
+    requires { ⌜ Indexed (now table) (now index) n × (sizes .hash * count ≤ length (now shared)) × (n ≤ length (now marks)) × Blank n (now marks) ⌝ }
+    ensures { λ r. ⌜ HaveCounted (rowsAt (now (table .entry)) 0 n) n gives (hashesAt (now (shared .entry)) 0 count) (now (marks .exit)) r ⌝ }
 {
-    let mut marks = [false; ROWS];
-    mark_at_or_below(table, index, n, shared, 0, count, &mut marks);
-    flip(n, &mut marks);
-    let entries = count_marked(n, &marks);
-    let size = bits_capacity(entries as u64, bits) as usize;
-    fill_marked(&mut field[..size], probes, table, n, &marks);
-    entries
+    if !gives {
+        return 0;
+    }
+    mark_at_or_below(table, index, n, shared, 0, count, marks);
+    flip(n, marks);
+    count_marked(n, marks)
 }
 
 // Whether the first have that was heard, if there is one, names a last-sync hash that isn't held.
@@ -65,12 +57,12 @@ pub fn unknown_sync(
     table: &[u8],
     index: &[u8],
     n: usize,
-    bytes: &[u8],
+    have_bytes: &[u8],
     haves: &[u64],
     have: Heard,
 ) -> bool
-    requires { ⌜ Indexed (now table) (now index) n × (havesGood (now bytes) (now haves) have ≡ true) ⌝ }
-    ensures { λ r. ⌜ r ≡ unknownSync (rowsAt (now (table .entry)) 0 n) (heardHaves (now (bytes .entry)) (now (haves .entry)) have) ⌝ }
+    requires { ⌜ Indexed (now table) (now index) n × (havesGood (now «have_bytes») (now haves) have ≡ true) ⌝ }
+    ensures { λ r. ⌜ r ≡ unknownSync (rowsAt (now (table .entry)) 0 n) (heardHaves (now («have_bytes» .entry)) (now (haves .entry)) have) ⌝ }
 {
     if heard_count(have) == 0 {
         return false;
@@ -79,7 +71,7 @@ pub fn unknown_sync(
         table,
         index,
         n,
-        bytes,
+        have_bytes,
         sync_place(haves, 0),
         sync_count(haves, 0),
     )

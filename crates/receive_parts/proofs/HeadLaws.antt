@@ -6,17 +6,13 @@ use mathlib.Core.Bool.{Bool, true, false, not, _&&_, _||_}
 use mathlib.Core.List.{List}
 use mathlib.Core.Path.{_≡_, refl, sym, _∙_}
 use native.Mathlib.Omega.{arith}
-use borrow.Author.Tests.{ltb-true, ltb-false, eq-eqb, ne-eqb}
-use lib.Dec.{ltb, eqb}
-use lib.ListN.{length, getD, set, take, length-set}
-use Rattle.table_graph.proofs.CollectLaws.{collects, collectFrom, collect-is, collect-taken, collect-passed, collect-none}
+use lib.ListN.{length, getD, set, length-set}
 use Rattle.table_graph.proofs.GraphMarks.{below-blank, picked-heads}
 use Rattle.table_graph.proofs.HeadLaws.{head-is}
 use Rattle.table_graph.proofs.MarkLaws.{markList, hash-held, hash-unknown, list-start, list-on, list-done, list-marked}
 use Rattle.table_graph.specs.Graph.{needed, heads}
 use Rattle.table_graph.specs.Internal.Marks.{Marks, Blank, picked}
-use Rattle.table_index.specs.Index.{fits}
-use Rattle.hash_lists.proofs.CompareLaws.{onward, onward-starts, onward-first, onward-ends, test-starts, test-fails, test-on, test-ends, found-held, found-unknown}
+use Rattle.hash_lists.proofs.CompareLaws.{onward, test-starts, test-fails, test-on, test-ends, found-held, found-unknown}
 use Rattle.hash_lists.proofs.Lists.{same-equal}
 use Rattle.hash_lists.specs.Internal.Lists.{same}
 use Rattle.hash_order.proofs.ReachLaws.{some-witness}
@@ -24,10 +20,9 @@ use Rattle.hash_order.specs.Order.{every, member, ascend}
 use Rattle.hash_order.specs.Reach.{someBelow, reach}
 use Rattle.rules.proofs.Cases.{split, and-false, true-false}
 use Rattle.rules.specs.Hash.{hashAt, hashesAt}
-use Rattle.rules.specs.LittleEndian.{u16At}
 use Rattle.rules.specs.Sizes.{sizes}
 use Rattle.table.proofs.TableLaws.{length-rows-at, held-row, number-of-row, hash-of-row}
-use Rattle.table.specs.TableBytes.{u16sAt, rowSize, rowsAt, GoodRows}
+use Rattle.table.specs.TableBytes.{rowSize, rowsAt, GoodRows}
 use Rattle.table.specs.Table.{Row, rows, hashOf, depsOf, GoodTable, indexIn, held}
 use Rattle.receive_parts.specs.Internal.ReceiveParts.{HeadsMarked}
 
@@ -94,65 +89,7 @@ module _ (table : List ℕ) (n : ℕ) (s : List ℕ) (place many : ℕ) where
         let listed : Marks n marks (λ i. getD marks₀ i false || member (hashOf t i) hs) = list-marked table n s place many good marks₀ marks room is in
         record { rows = λ _. below-blank table n hs marks₀ marks after none listed below; known = all-known all (so .known) }
 
--- ---- the marked ones of the first rows, ascending, compared with a message's hashes
-
-module _ (table x : List ℕ) (n before : ℕ) (m : List Bool) where
-  module _ (s : List ℕ) (place many : ℕ) where
-    -- the first `count` hashes are those of the rows before entry k
-    pub record Comparing (count k : ℕ) : Type 0 where
-      pub upto : k ≤ n
-      pub few : count ≤ many
-      pub rest : same (onward s place many count) (collectFrom table x n before m k) ≡ same (hashesAt s place many) (collectFrom table x n before m 0)
-
-    pub comparing-starts : Comparing 0 0
-    comparing-starts = record { upto = omega arith; few = omega arith; rest = rw (onward-starts s place many) }
-
-    abbrev Decided : Bool → Type 0
-    Decided b = b ≡ same (hashesAt s place many) (ascend (picked (rows (rowsAt table 0 before)) m))
-
-    module _ (count k : ℕ) (so : Comparing count k) where
-      decides : fits (rowsAt table 0 n) (u16sAt x 0 n) ≡ true → before ≤ n → (b : Bool) → same (onward s place many count) (collectFrom table x n before m k) ≡ b → Decided b
-      decides ok h b e = rw (collect-is table x n before m ok h) at (sym e ∙ so .rest)
-
-      module _ (r : ℕ) (inside : k < n) (read : r ≡ u16At x (2 * k)) where
-        pub comparing-passed : collects table x n before m r ≡ false → Comparing count (k + 1)
-        comparing-passed e =
-            record { upto = omega arith; few = so .few; rest = rw (collect-passed table x n before m k r inside read e) at (so .rest) }
-
-        module _ (low : r < n) (e : collects table x n before m r ≡ true) where
-          -- a row more than there are hashes
-          pub comparing-more : fits (rowsAt table 0 n) (u16sAt x 0 n) ≡ true → before ≤ n → many ≤ count → Decided false
-          unfolding same
-          comparing-more ok h l = decides ok h false (rw (onward-ends s place many count l, collect-taken table x n before m k r inside read low e))
-
-          module _ (there : count < many) where
-            pub comparing-fails : fits (rowsAt table 0 n) (u16sAt x 0 n) ≡ true → before ≤ n
-                → eqb (hashAt s (place + sizes .hash * count)) (hashAt table (r * rowSize)) ≡ false
-                → Decided false
-            unfolding same
-            comparing-fails ok h d = decides ok h false (rw (onward-first s place many count there, collect-taken table x n before m k r inside read low e, d))
-
-            pub comparing-taken : eqb (hashAt s (place + sizes .hash * count)) (hashAt table (r * rowSize)) ≡ true → Comparing (count + 1) (k + 1)
-            unfolding same
-            comparing-taken d =
-                record {
-                  upto = omega arith;
-                  few = omega arith;
-                  rest = rw (onward-first s place many count there, collect-taken table x n before m k r inside read low e, d) at (so .rest);
-                }
-
-      pub comparing-ends : fits (rowsAt table 0 n) (u16sAt x 0 n) ≡ true → before ≤ n → n ≤ k → Decided (eqb count many)
-      unfolding same
-      comparing-ends ok h l =
-          split (ltb count many)
-          (λ e.
-          let less : count < many = ltb-true count many e in
-          rw (ne-eqb count many (λ q. omega arith))
-          (decides ok h false (rw (onward-first s place many count less, collect-none table x n before m k l))))
-          (λ e.
-          let is : count ≡ many = omega (arith, so .few, ltb-false count many e) in
-          rw (eq-eqb count many is)
-          (decides ok h true (rw (onward-ends s place many count (omega arith), collect-none table x n before m k l))))
+-- ---- heads
 
 -- the rows that none needs are the heads
 pub decided-heads : (table theirs : List ℕ) (n : ℕ) {r : List Bool} {b : Bool} → Marks n r (λ i. not (needed (rowsAt table 0 n) i))

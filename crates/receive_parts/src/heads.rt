@@ -1,11 +1,10 @@
 // A message's heads beside a table: which rows they are, and whether they are the heads that the table had before.
 use hash_lists::compare::is_in;
-use hash_order::hashes::same_hash;
-use rules::little_endian::u16_at;
 use rules::sizes::HASH_SIZE;
 use rules::sizes::ROWS;
 use table::row::ROW_SIZE;
 use table_graph::heads::mark_heads;
+use table_graph::marked::same_marked;
 use table_graph::marks::mark_below;
 use table_index::look::look_up;
 ghost use mathlib.Core.Bool.{false};
@@ -13,10 +12,9 @@ ghost use mathlib.Core.Path.{_≡_};
 ghost use Prim.Native.Nat.{_+_, _*_, _≤_};
 ghost use lib.ListN.{length};
 ghost use Rattle.table_graph.specs.Graph.{heads};
-ghost use Rattle.table_graph.specs.Internal.Marks.{Blank, picked};
+ghost use Rattle.table_graph.specs.Internal.Marks.{Blank};
 ghost use Rattle.table_index.specs.Index.{Indexed};
 ghost use Rattle.hash_lists.specs.Internal.Lists.{same};
-ghost use Rattle.hash_order.specs.Order.{ascend};
 ghost use Rattle.rules.specs.Hash.{hashesAt};
 ghost use Rattle.rules.specs.Sizes.{sizes};
 ghost use Rattle.table.specs.TableBytes.{rowsAt, GoodRows};
@@ -53,43 +51,6 @@ pub fn mark_known(
     }
     mark_below(table, n, marks);
     all
-}
-
-// Whether a message's hashes are those of the first rows that are marked, ascending: the index has the rows in this order.
-fn same_marked(
-    table: &[u8],
-    index: &[u8],
-    n: usize,
-    before: usize,
-    marks: &[bool],
-    bytes: &[u8],
-    place: usize,
-    many: usize,
-) -> bool
-    requires { ⌜ Indexed (now table) (now index) n × (before ≤ n) × (before ≤ length (now marks)) × (place + sizes .hash * many ≤ length (now bytes)) ⌝ }
-    ensures { λ r. ⌜ r ≡ same (hashesAt (now (bytes .entry)) place many)
-        (ascend (picked (rows (rowsAt (now (table .entry)) 0 before)) (now (marks .entry)))) ⌝ }
-{
-    let mut count = 0;
-    let mut k = 0;
-    while k < n {
-        let row = u16_at(index, 2 * k);
-        k += 1;
-        if before <= row {
-            continue;
-        }
-        if !marks[row] {
-            continue;
-        }
-        if many <= count {
-            return false;
-        }
-        if !same_hash(bytes, place + HASH_SIZE * count, table, row * ROW_SIZE) {
-            return false;
-        }
-        count += 1;
-    }
-    count == many
 }
 
 // Whether a message's heads have the last of a table's first rows, if there is one. It is always a head, as rows depend on rows before them: one look

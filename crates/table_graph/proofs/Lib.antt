@@ -6,6 +6,8 @@ pub mod HeadLaws
 pub mod MarkLaws
 pub mod MarkedRows
 pub mod PickLaws
+pub mod PickedMarks
 pub mod Promises
 pub mod PutLaws
+pub mod SameLaws
 pub mod TurnLaws

@@ -202,7 +202,7 @@ module _ (s : List ℕ) (n : ℕ) where
 
 -- ---- marks of a list's hashes
 
-pub markList : List ℕ → List Bool → List ℕ → List Bool
+unfoldable pub markList : List ℕ → List Bool → List ℕ → List Bool
 markList hs m [] = m
 markList hs m (h ∷ l) = markList hs (markHash hs m h) l
 
@@ -229,7 +229,7 @@ module _ (hs : List ℕ) where
         ne-eqb (getD hs i 0) h (λ q. let p = index-first hs h i l q in omega (arith, ltb-false (indexIn hs h) (length hs) e)) in
         rw (e, none) (sym (or-false (getD m i false))))
 
-    mark-list : (m : List Bool) (l : List ℕ) (i : ℕ) → length hs ≤ length m → i < length hs
+    pub mark-list : (m : List Bool) (l : List ℕ) (i : ℕ) → length hs ≤ length m → i < length hs
         → getD (markList hs m l) i false ≡ (getD m i false || member (getD hs i 0) l)
     unfolding markList member
     mark-list m [] i f h = sym (or-false (getD m i false))

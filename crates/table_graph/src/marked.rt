@@ -1,5 +1,6 @@
-// The rows that are marked: how many they are, their hashes in table order, and their hashes ascending.
+// The rows that are marked: how many they are, their hashes in table order, their hashes ascending, and whether a list is these.
 use hash_order::hashes::put_hash;
+use hash_order::hashes::same_hash;
 use rules::little_endian::u16_at;
 use rules::sizes::HASH_SIZE;
 use table::row::ROW_SIZE;
@@ -8,8 +9,9 @@ ghost use Prim.Native.Nat.{_+_, _*_, _≤_};
 ghost use lib.ListN.{length};
 ghost use lib.Seq.{sets};
 ghost use Rattle.table_index.specs.Index.{Indexed};
+ghost use Rattle.hash_lists.specs.Internal.Lists.{same};
 ghost use Rattle.hash_order.specs.Order.{ascend};
-ghost use Rattle.rules.specs.Hash.{hashesBytes};
+ghost use Rattle.rules.specs.Hash.{hashesAt, hashesBytes};
 ghost use Rattle.rules.specs.Sizes.{sizes};
 ghost use Rattle.table.specs.TableBytes.{rowsAt, GoodRows};
 ghost use Rattle.table.specs.Table.{rows};
@@ -79,4 +81,41 @@ pub fn collect_marked(
         count += 1;
     }
     count
+}
+
+// Whether the hashes at a place are those of the first rows that are marked, ascending: the index has the rows in this order.
+pub fn same_marked(
+    table: &[u8],
+    index: &[u8],
+    n: usize,
+    before: usize,
+    marks: &[bool],
+    bytes: &[u8],
+    place: usize,
+    many: usize,
+) -> bool
+    requires { ⌜ Indexed (now table) (now index) n × (before ≤ n) × (before ≤ length (now marks)) × (place + sizes .hash * many ≤ length (now bytes)) ⌝ }
+    ensures { λ r. ⌜ r ≡ same (hashesAt (now (bytes .entry)) place many)
+        (ascend (picked (rows (rowsAt (now (table .entry)) 0 before)) (now (marks .entry)))) ⌝ }
+{
+    let mut count = 0;
+    let mut k = 0;
+    while k < n {
+        let row = u16_at(index, 2 * k);
+        k += 1;
+        if before <= row {
+            continue;
+        }
+        if !marks[row] {
+            continue;
+        }
+        if many <= count {
+            return false;
+        }
+        if !same_hash(bytes, place + HASH_SIZE * count, table, row * ROW_SIZE) {
+            return false;
+        }
+        count += 1;
+    }
+    count == many
 }

@@ -17,7 +17,7 @@ ghost use Rattle.rules.specs.Sizes.{sizes};
 ghost use Rattle.table.specs.TableBytes.{usedAt, rowsAt, GoodRows};
 ghost use Rattle.table.specs.Table.{rows, hashOf, depsOf};
 ghost use Rattle.table_graph.specs.Graph.{needed};
-ghost use Rattle.table_graph.specs.Internal.Marks.{Marks, markAll, markRow, markDown, markHash};
+ghost use Rattle.table_graph.specs.Internal.Marks.{Marks, picked, markAll, markRow, markDown, markHash};
 
 // Marks the rows that row i depends on.
 fn mark_deps(table: &[u8], i: usize, marks: &mut [bool])
@@ -113,6 +113,44 @@ pub fn mark_list(
     while k < count {
         mark_hash(table, index, n, l, place + HASH_SIZE * k, marks);
         k += 1;
+    }
+}
+
+// Marks the rows of the hashes of a list that are themselves marked; unknown ones are ignored.
+pub fn mark_picked(
+    table: &[u8],
+    index: &[u8],
+    n: usize,
+    l: &[u8],
+    count: usize,
+    picks: &[bool],
+    marks: &mut [bool],
+)
+    requires { ⌜ Indexed (now table) (now index) n × (sizes .hash * count ≤ length (now l)) × (count ≤ length (now picks)) × (n ≤ length (now marks)) ⌝ }
+    ensures { λ _. ⌜ Marks n (now (marks .exit))
+        (λ i. getD (now (marks .entry)) i false
+        || member (hashOf (rowsAt (now (table .entry)) 0 n) i) (picked (hashesAt (now (l .entry)) 0 count) (now (picks .entry)))) ⌝ }
+{
+    let mut k = 0;
+    while k < count {
+        let i = k;
+        k += 1;
+        if !picks[i] {
+            continue;
+        }
+        mark_hash(table, index, n, l, HASH_SIZE * i, marks);
+    }
+}
+
+// Marks just the rows that others mark.
+pub fn copy_marks(n: usize, others: &[bool], marks: &mut [bool])
+    requires { ⌜ (n ≤ length (now others)) × (n ≤ length (now marks)) ⌝ }
+    ensures { λ _. ⌜ Marks n (now (marks .exit)) (λ i. getD (now (others .entry)) i false) ⌝ }
+{
+    let mut i = 0;
+    while i < n {
+        marks[i] = others[i];
+        i += 1;
     }
 }
 

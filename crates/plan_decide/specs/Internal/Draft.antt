@@ -1,9 +1,10 @@
--- What internal contracts speak of: numbers of a plan before it is decided, and what stands ready to be put. No rule of 01 stands here.
+-- What internal contracts speak of: numbers of a plan before it is decided, and what an answer puts of its parts. No rule of 01 stands here.
 use Prim.Native.Nat.{ℕ, _+_, _*_, _≤_}
 use mathlib.Core.Bool.{Bool, true, false, cond, _&&_, not}
-use mathlib.Core.List.{List}
-use lib.Dec.{ltb}
-use lib.ListN.{length, take}
+use mathlib.Core.List.{List, []}
+use mathlib.Core.Path.{_≡_}
+use lib.Dec.{eqb, ltb}
+use lib.ListN.{length}
 use lib.Seq.{sets}
 use Rattle.bloom.specs.Filter.{fieldSize, defaultBits, defaultProbes}
 use Rattle.bloom.specs.Have.{numbersOf}
@@ -23,7 +24,7 @@ use Rattle.rules.specs.declared.refusal.Refusal.the-variants.{PastSize}
 use Rattle.session.specs.Plan.{versionFor, flagsFor}
 use Rattle.session_state.specs.declared.session.Session.{Session}
 use Rattle.plan_decide.specs.declared.decide.Draft.{Draft}
-use Rattle.plan_decide.specs.declared.put.Puts.{Puts}
+use Rattle.plan_decide.specs.declared.puts.Puts.{Puts}
 
 -- ---- what is decided
 
@@ -72,7 +73,7 @@ pub record SmallDraft (s : Session) (d : Draft) (bits : ℕ) : Type 0 where
   pub few : bits ≤ mostFilter
   pub field : fieldSize (d .entries) bits ≤ sizes .field
   pub hashes : d .body .hashes ≤ sizes .hashesToSend
-  pub sent : d .sent ≤ sizes .sentHashes + 1
+  pub sent : d .sent ≤ sizes .sentHashes + sizes .rows
 
 -- The numbers of a reset's message: its heads, one empty have, no need and no body, in V1.
 abbrev pub resetStated : ℕ → Stated
@@ -127,7 +128,12 @@ decided s d bits probes r =
 
 -- ---- what is put
 
--- What stands ready to be put.
+-- A list, or nothing of it where none of it is counted.
+unfoldable pub unlessNone : ℕ → List ℕ → List ℕ
+unlessNone n l = cond (eqb n 0) [] l
+
+-- What an answer is put from: the heads; the hashes asked for and the shared heads as they stand in their buffers; the field of the have's filter; the
+-- hashes of the body; and those that are sent then.
 pub record PlanParts : Type 0 where
   pub heads : List ℕ
   pub need : List ℕ
@@ -135,11 +141,6 @@ pub record PlanParts : Type 0 where
   pub field : List ℕ
   pub list : List ℕ
   pub sent : List ℕ
-
--- The parts, in the order in which they are lent.
-abbrev pub planParts : List ℕ → List ℕ → List ℕ → List ℕ → List ℕ → List ℕ → PlanParts
-planParts heads need shared field list sent =
-    record { heads = heads; need = need; shared = shared; field = field; list = list; sent = sent }
 
 -- The lent lists, in the order in which room is asked for.
 pub record PutLists : Type 0 where
@@ -191,42 +192,42 @@ putsOf Silent = noPuts
 putsOf (Reset p) = putsFor p 0 0
 putsOf (Says p s) = putsFor p (s .«last_sent_heads») (s .«sent_hashes»)
 
--- n hashes stand in a part, and a buffer has room for them.
-pub record HashesFit (n : ℕ) (part buffer : List ℕ) : Type 0 where
-  pub there : sizes .hash * n ≤ length part
-  pub room : sizes .hash * n ≤ length buffer
+-- What an answer puts is what was drafted, and the buffers have room for it.
+pub record Fits (s : Session) (d : Draft) (bits : ℕ) (p : Puts) (r : Rooms) : Type 0 where
+  pub heads : (p .heads ≡ 0 → ⊥) → p .heads ≡ d .heads
+  pub headsRoom : sizes .hash * p .heads ≤ r .heads
+  pub need : p .need ≤ d .need
+  pub needRoom : sizes .hash * p .need ≤ r .need
+  pub syncs : p .syncs ≤ s .«shared_heads»
+  pub field : (p .field ≡ 0 → ⊥) → (p .field ≡ fieldSize (d .entries) bits) × (d .gives ≡ true)
+  pub haveRoom : sizes .hash * p .syncs + p .field ≤ r .have
+  pub list : (p .hashes ≡ 0 → ⊥) → p .hashes ≡ d .body .hashes
+  pub listRoom : sizes .hash * p .hashes ≤ r .list
+  pub lastSent : (p .«last_sent» ≡ 0 → ⊥) → p .«last_sent» ≡ d .heads
+  pub lastSentRoom : sizes .hash * p .«last_sent» ≤ r .«last_sent»
+  pub sent : (p .sent ≡ 0 → ⊥) → p .sent ≡ d .sent
+  pub sentRoom : sizes .hash * p .sent ≤ r .sent
 
--- The last-sync hashes of a have and its field are there, and a buffer has room for the field behind the hashes.
-pub record HaveFits (n : ℕ) (shared : List ℕ) (size : ℕ) (field buffer : List ℕ) : Type 0 where
-  pub hashes : sizes .hash * n ≤ length shared
-  pub bytes : size ≤ length field
-  pub room : sizes .hash * n + size ≤ length buffer
+-- A list put at the start of a buffer, or nothing of it.
+abbrev pub listPut : ℕ → List ℕ → List ℕ → List ℕ
+listPut n hs buffer = sets buffer 0 (hashesBytes (unlessNone n hs))
 
--- All that is put is there, and has room.
-pub record Fits (p : Puts) (ready : PlanParts) (b : PutLists) : Type 0 where
-  pub heads : HashesFit (p .heads) (ready .heads) (b .heads)
-  pub need : HashesFit (p .need) (ready .need) (b .need)
-  pub have : HaveFits (p .syncs) (ready .shared) (p .field) (ready .field) (b .have)
-  pub list : HashesFit (p .hashes) (ready .list) (b .list)
-  pub lastSent : HashesFit (p .«last_sent») (ready .heads) (b .lastSent)
-  pub sent : HashesFit (p .sent) (ready .sent) (b .sent)
-
--- The first hashes of a part put at the start of a buffer.
+-- The first hashes of one buffer put at the start of another.
 abbrev pub startPut : ℕ → List ℕ → List ℕ → List ℕ
 startPut n part buffer = sets buffer 0 (hashesBytes (hashesAt part 0 n))
 
--- A have's buffer: n last-sync hashes at its start, and `size` bytes of the field behind them.
+-- A have's buffer: n last-sync hashes at its start and the field behind them, if it has `size` bytes and not none.
 abbrev pub havePut : ℕ → List ℕ → ℕ → List ℕ → List ℕ → List ℕ
-havePut n shared size field buffer = sets (startPut n shared buffer) (sizes .hash * n) (take size field)
+havePut n shared size field buffer = sets (startPut n shared buffer) (sizes .hash * n) (unlessNone size field)
 
 -- All of it put.
 abbrev pub allPut : Puts → PlanParts → PutLists → PutLists
-allPut p ready b =
+allPut p parts b =
     record {
-      heads = startPut (p .heads) (ready .heads) (b .heads);
-      need = startPut (p .need) (ready .need) (b .need);
-      have = havePut (p .syncs) (ready .shared) (p .field) (ready .field) (b .have);
-      list = startPut (p .hashes) (ready .list) (b .list);
-      lastSent = startPut (p .«last_sent») (ready .heads) (b .lastSent);
-      sent = startPut (p .sent) (ready .sent) (b .sent);
+      heads = listPut (p .heads) (parts .heads) (b .heads);
+      need = startPut (p .need) (parts .need) (b .need);
+      have = havePut (p .syncs) (parts .shared) (p .field) (parts .field) (b .have);
+      list = listPut (p .hashes) (parts .list) (b .list);
+      lastSent = listPut (p .«last_sent») (parts .heads) (b .lastSent);
+      sent = listPut (p .sent) (parts .sent) (b .sent);
     }

@@ -1,36 +1,29 @@
--- What internal contracts speak of: parts of a plan that were computed into buffers. No rule of 01 stands here.
-use Prim.Native.Nat.{ℕ, _/_, _≤_, _<_}
-use mathlib.Core.Bool.{Bool, true, false}
+-- What internal contracts speak of: parts of a plan as marks and numbers. No rule of 01 stands here.
+use Prim.Native.Nat.{ℕ, _+_, _≤_}
+use mathlib.Core.Bool.{Bool, true, false, not, _&&_}
 use mathlib.Core.List.{List, _++_}
 use mathlib.Core.Path.{_≡_}
-use lib.ListN.{length, getD, take}
+use lib.ListN.{length}
 use Rattle.bloom.specs.Filter.{fieldSize, filterRules}
-use Rattle.table_graph.specs.Internal.Marks.{Marks, Blank}
-use Rattle.hash_lists.specs.Internal.Lists.{UpTo}
-use Rattle.hash_order.specs.Order.{ascend}
-use Rattle.bloom_probe.specs.Build.{filterOf}
-use Rattle.rules.specs.Hash.{hashesAt}
+use Rattle.table_graph.specs.Graph.{beyond}
+use Rattle.table_graph.specs.Internal.Marks.{Marks, Blank, marked, picked}
+use Rattle.hash_order.specs.Order.{member, ascend}
 use Rattle.rules.specs.Sizes.{sizes}
 use Rattle.send.specs.Internal.Chosen.{Chosen}
 use Rattle.session.specs.Plan.{Body}
-use Rattle.table.specs.Table.{Row}
+use Rattle.table.specs.Table.{Row, rows, hashOf}
 use Rattle.plan_parts.specs.declared.body.BodyCount.{BodyCount}
 
 -- Bits and probes with which a filter over any rows of a table keeps the filter rules.
-pub record Setting (bits probes : ℕ) : Type 0 where
+pub record SettingGood (bits probes : ℕ) : Type 0 where
   pub each : (n : ℕ) → n ≤ sizes .rows → filterRules n bits probes (fieldSize n bits) ≡ true
 
--- The first mark of n from place i on that is set stands at r; r is n if there is none.
-pub record NextMarked (n : ℕ) (marks : List Bool) (i r : ℕ) : Type 0 where
-  pub from : i ≤ r
-  pub upto : r ≤ n
-  pub passed : (k : ℕ) → i ≤ k → k < r → getD marks k false ≡ false
-  pub is : r < n → getD marks r false ≡ true
-
--- The filter of some hashes: how many they are, and its field at the start of a buffer.
-pub record FieldMade (bits probes : ℕ) (hs field : List ℕ) (entries : ℕ) : Type 0 where
-  pub many : entries ≡ length hs
-  pub is : take (fieldSize entries bits) field ≡ filterOf bits probes hs .field
+-- The rows beyond some hashes are marked and counted where a have is given; else none is counted.
+pub record HaveCounted (t : List Row) (n : ℕ) (given : Bool) (lastSync : List ℕ) (marks : List Bool) (entries : ℕ) : Type 0 where
+  pub long : n ≤ length marks
+  pub those : given ≡ true → picked (rows t) marks ≡ beyond t lastSync
+  pub many : given ≡ true → entries ≡ marked n marks
+  pub none : given ≡ false → entries ≡ 0
 
 -- A body that isn't chosen yet: no mark of the n rows and of the `count` needs is set.
 pub record BlankBody (n count : ℕ) (marks needs : List Bool) : Type 0 where
@@ -50,7 +43,10 @@ pub record BodyChosen (b : Body) (t : List Row) (marks : List Bool) (need : List
   pub document : r .document ≡ b .document
   pub hashes : Chosen (b .hashes) t marks need needs (r .hashes)
 
--- Hashes joined to those that were sent, as many as a buffer of `room` bytes holds.
-pub record SentMade (hs sent : List ℕ) (room : ℕ) (after : List ℕ) (count : ℕ) : Type 0 where
-  pub many : count ≡ length (hashesAt after 0 count)
-  pub are : UpTo (room / sizes .hash) (ascend (hs ++ sent)) (hashesAt after 0 count)
+-- The rows of a body that weren't sent are marked, and it is counted how many hashes are sent with them.
+pub record FreshMarked (t : List Row) (n : ℕ) (body sent : List ℕ) (fresh : List Bool) (count : ℕ) : Type 0 where
+  pub long : n ≤ length fresh
+  pub those : Marks n fresh (λ i. member (hashOf t i) body && not (member (hashOf t i) sent))
+  pub all : count ≡ length sent + marked n fresh
+  pub many : count ≡ length (ascend (body ++ sent))
+  pub are : ascend (picked (rows t) fresh ++ sent) ≡ ascend (body ++ sent)

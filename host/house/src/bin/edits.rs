@@ -70,7 +70,7 @@ const READ: &[(&str, &str)] = &[
     ),
     (
         "plan_parts/told_other_heads",
-        "`returns-2` of `silence::is_told`",
+        "`returns` of `silence::is_told`",
     ),
     (
         "message_reader/reads_first_byte",

@@ -12,18 +12,18 @@ enum-told c = search needs
 enum-known-heard : tie.Need-enum-known-heard
 enum-known-heard c = search needs
 
-same-list-requires : tie.Need-same-list-requires
-same-list-requires c κs =
+same-marked-requires : tie.Need-same-marked-requires
+same-marked-requires c κs =
     let h = c .before in
-    let start = h .before .before .before .before in
-    (count-there _ _ _ (h .heard .given .1) (start .pre .1), omega (arith, start .pre .0))
+    let start = h .before .before .before .before .before .before in
+    (start .pre .0, omega arith, start .pre .1, count-there _ _ _ (h .heard .given .1) (start .pre .2))
 
 returns : tie.Need-returns
 returns c = as-nothing _ _ _ (c .enum-told .given .1)
 
 returns-2 : tie.Need-returns-2
-returns-2 c = c .same-list .ensures ∙ as-count _ _ _ _ (c .before .before .heard .given .1)
+returns-2 c = c .same-marked .ensures ∙ as-count _ _ _ _ (c .before .before .heard .given .1)
 
 pub heard-as-spec : {M : Type 1} → statement M
 heard-as-spec =
-    tie.close (tie.spec enum-told enum-known-heard same-list-requires returns returns-2)
+    tie.close (tie.spec enum-told enum-known-heard same-marked-requires returns returns-2)

@@ -6,14 +6,14 @@ use Rattle.plan_parts.proofs.TestLaws.{first-fails, second-decides}
 use Rattle.plan_parts.proofs.silence.is_told.Statement.{statement}
 use Rattle.plan_parts.proofs.silence.is_told.Tie as tie
 
-same-list-requires : tie.Need-same-list-requires
-same-list-requires c κs = search needs
+same-marked-requires : tie.Need-same-marked-requires
+same-marked-requires c κs = search needs
 
 returns : tie.Need-returns
-returns c = first-fails _ _ (sym (c .before .same-list .ensures) ∙ not-true _ (c .if1 .taken))
+returns c = first-fails _ _ (sym (c .before .same-marked .ensures) ∙ not-true _ (c .if1 .taken))
 
 returns-2 : tie.Need-returns-2
-returns-2 c = second-decides _ _ (sym (c .before .same-list .ensures) ∙ not-false _ (c .if1 .left))
+returns-2 c = second-decides _ _ (sym (c .before .same-marked .ensures) ∙ not-false _ (c .if1 .left))
 
 pub is-told-spec : {M : Type 1} → statement M
-is-told-spec = tie.close (tie.spec same-list-requires returns returns-2)
+is-told-spec = tie.close (tie.spec same-marked-requires returns returns-2)

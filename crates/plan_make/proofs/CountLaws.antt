@@ -1,0 +1,155 @@
+-- The parts of a plan as marks and numbers: what each asks for follows from the tests before planning, and together they are the plan. Assumes nothing.
+use Prim.Native.Nat.{ℕ, _*_, _≤_}
+use mathlib.Core.Bool.{Bool, true, cond, not, _&&_, _||_}
+use mathlib.Core.List.{List, [], _∷_}
+use mathlib.Core.Path.{_≡_, refl, sym, ap, _∙_}
+use native.Mathlib.Omega.{arith}
+use borrow.Author.Tests.{ne-eqb}
+use lib.Dec.{eqb}
+use lib.ListN.{length}
+use Rattle.plan_decide.specs.declared.decide.Draft.{Draft}
+use Rattle.table_graph.proofs.GraphMarks.{picked-heads, heads-many, many-rows}
+use Rattle.table_graph.proofs.PickLaws.{picked-count}
+use Rattle.table_graph.specs.Graph.{needed, heads}
+use Rattle.table_graph.specs.Internal.Marks.{Marks, marked, picked}
+use Rattle.table_index.specs.Index.{Indexed}
+use Rattle.session_check.proofs.GoodSessions.{session-tests, session-parts}
+use Rattle.session_check.specs.SessionGood.{heardGood, havesGood, sessionGood}
+use Rattle.hash_lists.specs.Internal.Lists.{same}
+use Rattle.hash_order.specs.Order.{every, ascend}
+use Rattle.plan_parts.proofs.HeardLaws.{heard-there}
+use Rattle.plan_parts.specs.Internal.PlanParts.{BodyChosen, FreshMarked}
+use Rattle.plan_parts.specs.declared.body.BodyCount.{BodyCount}
+use Rattle.rules.proofs.Hash.{length-hashes-at}
+use Rattle.rules.specs.Hash.{hashesAt}
+use Rattle.rules.specs.Sizes.{sizes}
+use Rattle.send.specs.Internal.Chosen.{chosenBy}
+use Rattle.session.proofs.PlanLaws.{planned-held}
+use Rattle.session.specs.Plan.{heardAs, listOf, unknownSync, bodyHeard, bodyOf, empty, silence, sentAfter}
+use Rattle.session_state.specs.Value.{Lent, heardCount, heardHashes, heardHaves, stateOf}
+use Rattle.session_state.specs.declared.session.Session.{Session}
+use Rattle.table.specs.TableBytes.{rowsAt}
+use Rattle.table.specs.Table.{Row, rows as hashes, held}
+use Rattle.plan_make.specs.Internal.PlanMake.{BodyReady, carriedBody, BodyCounted, HaveGiven, quiet, PlanMarked, DraftCounted}
+use Rattle.plan_make.specs.declared.count.Carried.{Carried}
+use Rattle.plan_make.specs.declared.count.Given.{Given}
+
+-- ---- what is carried
+
+module _ {table index : List ℕ} {n : ℕ} {s : Session} {theirNeed haves bytes sent : List ℕ} (r : BodyReady table index n s theirNeed haves bytes sent)
+    {headless : Bool} (none : (theirs : List ℕ) → headless ≡ heardAs [] (heardHashes theirs (s .«their_heads»))) {marks needs : List Bool} {b : BodyCount}
+    (chosen : BodyChosen (cond (s .«peer_read_only») (listOf [])
+    (bodyHeard (rowsAt table 0 n) (s .«supports_v2») headless (heardHaves bytes haves (s .«their_have»)) (heardHashes theirNeed (s .«their_need»))
+    (hashesAt sent 0 (s .«sent_hashes»)))) (rowsAt table 0 n) marks (hashesAt theirNeed 0 (heardCount (s .«their_need»))) needs b) where
+  abbrev t : List Row
+  t = rowsAt table 0 n
+
+  -- the peer is heard to have no heads, or isn't
+  body-carried : (theirHeads : List ℕ)
+      → BodyChosen (carriedBody t s theirHeads theirNeed haves bytes sent) t marks (hashesAt theirNeed 0 (heardCount (s .«their_need»))) needs b
+  unfolding bodyOf
+  body-carried theirHeads = rw (none theirHeads) at chosen
+
+  module _ (k : ℕ) (e : k ≡ heardCount (s .«their_need»)) where
+    -- a body's hashes are rows
+    pub chosen-held : every (held t) (chosenBy t marks (hashesAt theirNeed 0 k) needs) ≡ true
+    chosen-held =
+        rw (e, body-carried [] .hashes .list) (planned-held t (r .rows .rows .good) _)
+
+    pub need-there : sizes .hash * k ≤ length theirNeed
+    need-there = omega (arith, heard-there theirNeed (s .«their_need») k e (r .need))
+
+    pub body-counted : {fresh : List Bool} {total : ℕ} → n ≤ length marks → heardCount (s .«their_need») ≤ length needs
+        → FreshMarked t n (chosenBy t marks (hashesAt theirNeed 0 k) needs) (hashesAt sent 0 (s .«sent_hashes»)) fresh total
+        → (theirHeads : List ℕ)
+        → BodyCounted t n (carriedBody t s theirHeads theirNeed haves bytes sent) (hashesAt theirNeed 0 (heardCount (s .«their_need»)))
+        (hashesAt sent 0 (s .«sent_hashes»)) marks needs fresh (record { body = b; sent = total })
+    body-counted a c f theirHeads =
+        record {
+          rowLong = a;
+          needLong = omega (arith, length-hashes-at theirNeed 0 (heardCount (s .«their_need»)));
+          body = body-carried theirHeads;
+          new = rw (e, body-carried theirHeads .hashes .list) at f;
+        }
+
+-- ---- silence
+
+pub quiet-is : (s : Session) (lastSent theirHeads ours : List ℕ) (hashes : ℕ) (told equal r : Bool)
+    → told ≡ (same (hashesAt lastSent 0 (s .«last_sent_heads»)) ours && s .«have_responded»)
+    → equal ≡ heardAs ours (heardHashes theirHeads (s .«their_heads»))
+    → r ≡ (told && (((equal || s .«read_only») && eqb hashes 0) || s .«in_flight»))
+    → r ≡ quiet s lastSent theirHeads ours hashes
+unfolding quiet
+quiet-is s lastSent theirHeads ours hashes told equal r t e q = rw (t, e) at q
+
+-- none is an empty list
+none-empty : (n : ℕ) (l : List ℕ) → n ≡ length l → eqb n 0 ≡ empty l
+none-empty n [] e = rw e
+none-empty n (h ∷ hs) e = ne-eqb n 0 (λ z. omega arith)
+
+-- ---- all of it
+
+module _ {table index : List ℕ} {n : ℕ} (s : Session) (l : Lent) (rows : Indexed table index n) (good : sessionGood s l ≡ true) where
+  pub have-good : havesGood (l .bytes) (l .haves) (s .«their_have») ≡ true
+  have-good = session-tests s l good .theirHave
+
+  pub heads-good : heardGood (l .theirHeads) (s .«their_heads») ≡ true
+  heads-good = session-tests s l good .theirHeads
+
+  pub shared-there : sizes .hash * s .«shared_heads» ≤ length (l .shared)
+  shared-there = session-parts s l good .shared .there
+
+  pub last-there : sizes .hash * s .«last_sent_heads» ≤ length (l .lastSent)
+  last-there = session-parts s l good .lastSent .there
+
+  pub body-ready : BodyReady table index n s (l .theirNeed) (l .haves) (l .bytes) (l .sent)
+  body-ready =
+      let q = session-tests s l good in
+      let p = session-parts s l good in
+      record { rows = rows; need = q .theirNeed; have = q .theirHave; there = p .sent .there; few = p .sent .few; ascending = p .sent .ascending }
+
+  module _ {headMarks haveMarks marks needs fresh : List Bool} (readyNeed : List ℕ) (asked : ℕ) {count : ℕ} {g : Given} {k : Carried} {unknown silent : Bool}
+      (long : n ≤ length headMarks) (those : Marks n headMarks (λ i. not (needed (rowsAt table 0 n) i))) (many : count ≡ marked n headMarks)
+      (given : HaveGiven (rowsAt table 0 n) n (hashesAt readyNeed 0 asked) (heardHashes (l .theirHeads) (s .«their_heads»)) (hashesAt (l .shared) 0 (s .«shared_heads»)) haveMarks g)
+      (u : unknown ≡ unknownSync (rowsAt table 0 n) (heardHaves (l .bytes) (l .haves) (s .«their_have»)))
+      (carried : (theirHeads : List ℕ) → BodyCounted (rowsAt table 0 n) n (carriedBody (rowsAt table 0 n) s theirHeads (l .theirNeed) (l .haves) (l .bytes) (l .sent))
+      (hashesAt (l .theirNeed) 0 (heardCount (s .«their_need»))) (hashesAt (l .sent) 0 (s .«sent_hashes»)) marks needs fresh k)
+      (q : silent ≡ quiet s (l .lastSent) (l .theirHeads) (ascend (picked (hashes (rowsAt table 0 n)) headMarks)) (k .body .hashes)) where
+    abbrev drawn : Draft
+    drawn =
+        record { heads = count; need = asked; unknown = unknown; gives = g .gives; entries = g .entries; body = k .body; silent = silent; sent = k .sent }
+
+    pub plan-marked : PlanMarked (rowsAt table 0 n) n (stateOf s l) (hashesAt (l .theirNeed) 0 (heardCount (s .«their_need»))) headMarks haveMarks marks needs fresh drawn
+    unfolding bodyOf
+    plan-marked =
+        let c = carried (l .theirHeads) in
+        record {
+          headLong = long;
+          heads = picked-heads table n headMarks those;
+          headsMany = many;
+          have = given .counted;
+          rowLong = c .rowLong;
+          needLong = c .needLong;
+          list = c .body .hashes .list;
+          new = c .new;
+        }
+
+    pub draft-counted : DraftCounted (rowsAt table 0 n) (stateOf s l) readyNeed asked drawn
+    unfolding bodyOf silence quiet sentAfter
+    draft-counted =
+        let t : List Row = rowsAt table 0 n in
+        let c = carried (l .theirHeads) in
+        let ours : ascend (picked (hashes t) headMarks) ≡ heads t = picked-heads table n headMarks those in
+        let nothing : eqb (k .body .hashes) 0 ≡ empty (bodyOf t (stateOf s l) .hashes) = none-empty _ (bodyOf t (stateOf s l) .hashes) (c .body .hashes .many) in
+        record {
+          heads = many ∙ sym (heads-many table n headMarks those (rows .rows .good));
+          need = refl;
+          unknown = u;
+          gives = given .gives;
+          entries = λ e. given .counted .many e ∙ sym (picked-count (hashes t) haveMarks n (many-rows table n)) ∙ ap length (given .counted .those e);
+          none = given .counted .none;
+          document = c .body .document;
+          hashes = c .body .hashes .many;
+          silent = rw (ours, nothing) at q;
+          sent = c .new .many;
+        }

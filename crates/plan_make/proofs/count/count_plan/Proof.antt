@@ -1,0 +1,81 @@
+-- `plan_make::count::count_plan` meets its contract: what each part asks for was tested before, and together they are the plan (CountLaws). Assumes
+-- nothing.
+use native.Mathlib.Omega.{arith}
+use borrow.Author.Needs.{needs}
+use Rattle.plan_make.proofs.CountLaws.{have-good, heads-good, shared-there, last-there, body-ready, plan-marked, draft-counted}
+use Rattle.plan_make.proofs.count.count_plan.Statement.{statement}
+use Rattle.plan_make.proofs.count.count_plan.Tie as tie
+
+mark-heads-requires : tie.Need-mark-heads-requires
+mark-heads-requires c κs = search needs
+
+count-marked-requires : tie.Need-count-marked-requires
+count-marked-requires c κs = search needs
+
+count-have-requires : tie.Need-count-have-requires
+count-have-requires c κs =
+    let start = c .before .before .before .before .before .before .before .before .before .before .before .before .before .before .before .before .before .before .before .before .before .before in
+    let pre = start .pre in
+    (pre .0, pre .2, heads-good _ _ (pre .0) (pre .1), shared-there _ _ (pre .0) (pre .1), pre .3 .haveLong, pre .3 .noHave)
+
+unknown-sync-requires : tie.Need-unknown-sync-requires
+unknown-sync-requires c κs =
+    let pre = c .before .before .before .before .before .before .before .before .before .before .before .before .before .before .before .before .before .before .before .before .before .before .before .before .before .pre in
+    (pre .0, have-good _ _ (pre .0) (pre .1))
+
+count-body-requires : tie.Need-count-body-requires
+count-body-requires c κs =
+    let pre = c .before .before .before .before .before .before .before .before .before .before .before .before .before .before .before .before .before .before .before .before .before .before .before .before .before .before .before .before .before .pre in
+    (body-ready _ _ (pre .0) (pre .1), pre .3 .body, pre .3 .freshLong)
+
+is-quiet-requires : tie.Need-is-quiet-requires
+is-quiet-requires c κs =
+    let heads = c .before .before .before .before .before .before .before .before .before .before .before .before .before .before .before .before .before .before .before .before .before in
+    let pre = heads .before .before .before .before .before .before .before .before .before .before .before .before .before .before .before .before .before .pre in
+    (pre .0, omega (arith, pre .3 .headLong, heads .mark-heads .kept .1 .1 .0), last-there _ _ (pre .0) (pre .1), heads-good _ _ (pre .0) (pre .1))
+
+same-length : tie.Need-same-length
+same-length c = c .before .before .before .before .before .before .before .before .before .before .before .before .before .before .before .before .before .before .before .before .before .before .mark-heads .kept .1 .1 .0
+
+same-length-2 : tie.Need-same-length-2
+same-length-2 c = search needs
+
+same-length-3 : tie.Need-same-length-3
+same-length-3 c = search needs
+
+same-length-4 : tie.Need-same-length-4
+same-length-4 c = search needs
+
+same-length-5 : tie.Need-same-length-5
+same-length-5 c = search needs
+
+returns : tie.Need-returns
+returns c =
+    let body = c .before .before .before .before .before .before .before .before .before in
+    let unknown = body .before .before .before .before in
+    let have = unknown .before .before .before in
+    let count = have .before .before in
+    let heads = count .before .before .before .before in
+    let pre = heads .before .before .before .before .before .before .before .before .before .before .before .before .before .before .before .before .before .pre in (
+      plan-marked _ _ (pre .0) (pre .1) _ _ (omega (arith, pre .3 .headLong, heads .mark-heads .kept .1 .1 .0)) (heads .mark-heads .ensures) (count .count-marked .ensures) (have .count-have .ensures)
+          (unknown .unknown-sync .ensures) (body .count-body .ensures) (c .is-quiet .ensures),
+      draft-counted _ _ (pre .0) (pre .1) _ _ (omega (arith, pre .3 .headLong, heads .mark-heads .kept .1 .1 .0)) (heads .mark-heads .ensures) (count .count-marked .ensures) (have .count-have .ensures)
+          (unknown .unknown-sync .ensures) (body .count-body .ensures) (c .is-quiet .ensures),
+    )
+
+pub count-plan-spec : {M : Type 1} → statement M
+count-plan-spec =
+    tie.close
+    (tie.spec
+    mark-heads-requires
+    count-marked-requires
+    count-have-requires
+    unknown-sync-requires
+    count-body-requires
+    is-quiet-requires
+    same-length
+    same-length-2
+    same-length-3
+    same-length-4
+    same-length-5
+    returns)
