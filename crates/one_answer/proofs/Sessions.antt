@@ -52,8 +52,9 @@ sessions-bind =
       puts-of = λ κs a x y u v p q. (once p q, refl);
       check-plan = λ κs a x y u v p q. (once p q, refl);
       take-flags = λ κs a x y u v p q. (once p q, refl);
-      receipt-puts = λ κs a x y u v p q. (once p q, refl);
+      taken = λ κs a x y u v p q. (once p q, refl);
       check-receive = λ κs a x y u v p q. (once p q, refl);
       loads-changes = λ κs a x y u v p q. (once p q, refl);
       load-failed = λ κs a x y u v p q. (once p q, refl);
+      kept-hashes = λ κs a x y u v p q. (once p q, refl);
     }

@@ -20,10 +20,11 @@ use Rattle.plan_parts.proofs.silence.heard_none as of-heard-none
 use Rattle.plan_parts.proofs.silence.is_silent as of-is-silent
 use Rattle.plan_decide.proofs.puts.puts_of as of-puts-of
 use Rattle.receive_parts.proofs.flags.take_flags as of-take-flags
-use Rattle.receive_decide.proofs.put.receipt_puts as of-receipt-puts
+use Rattle.receive_decide.proofs.decide.taken as of-taken
 use Rattle.receive_make.proofs.check.check_receive as of-check-receive
 use Rattle.receive_make.proofs.make.loads_changes as of-loads-changes
 use Rattle.receive_make.proofs.make.load_failed as of-load-failed
+use Rattle.receive_make.proofs.make.kept_hashes as of-kept-hashes
 
 -- Sessions: their struct, saved states, and the parts of planning and receiving that require nothing.
 pub record SessionsBind : Type 0 where
@@ -56,8 +57,9 @@ pub record SessionsBind : Type 0 where
   -- the crate receive_parts
   pub take-flags : Binds of-take-flags.ended of-take-flags.Reads.Post
   -- the crate receive_decide
-  pub receipt-puts : Binds of-receipt-puts.ended of-receipt-puts.Reads.Post
+  pub taken : Binds of-taken.ended of-taken.Reads.Post
   -- the crate receive_make
   pub check-receive : Binds of-check-receive.ended of-check-receive.Reads.Post
   pub loads-changes : Binds of-loads-changes.ended of-loads-changes.Reads.Post
   pub load-failed : Binds of-load-failed.ended of-load-failed.Reads.Post
+  pub kept-hashes : Binds of-kept-hashes.ended of-kept-hashes.Reads.Post

@@ -1,46 +1,57 @@
 -- The call's promise, from what its parts ensure: where a test before fails, and where all of them passed. Assumes nothing.
-use Prim.Native.Nat.{ℕ, _≤_}
+use Prim.Native.Nat.{ℕ, _+_, _*_, _≤_, _<_}
 use mathlib.Core.Bool.{Bool, true, false, cond, not, _&&_}
 use mathlib.Core.List.{List}
-use mathlib.Core.Path.{_≡_, refl, ap, _∙_}
+use mathlib.Core.Path.{_≡_, refl, sym, ap, _∙_}
 use native.Mathlib.Omega.{arith}
 use borrow.Author.Tests.{ltb-false}
 use lib.Dec.{ltb}
-use lib.ListN.{length}
+use lib.ListN.{length, replicate, length-replicate}
+use lib.Seq.{sets, slice}
 use Rattle.message_read.specs.MessageRead.{Reading, messageAt, decodedOf}
 use Rattle.message_read.specs.declared.parse.Decoded.{Decoded}
 use Rattle.message_read.specs.declared.parse.Decoded.the-variants.{Message as Placed, Refused as NotRead}
 use Rattle.message_read.specs.declared.parse.Places.{Places}
 use Rattle.message_read.proofs.ReadLaws.{not-placed}
-use Rattle.table_index.specs.Index.{indexChecked}
 use Rattle.table_index.proofs.CheckLaws.{checked-table, checked-indexed}
-use Rattle.session_check.specs.SessionGood.{sessionGood}
+use Rattle.session_check.specs.SessionGood.{sessionGood, lentOf}
 use Rattle.session_check.proofs.GoodSessions.{session-parts}
 use Rattle.message.specs.Flags.{syncReset, hasFlag}
-use Rattle.rules.specs.Hash.{Bytes}
+use Rattle.rules.specs.Hash.{Bytes, hashesAt, hashesBytes}
+use Rattle.rules.specs.Sizes.{sizes}
 use Rattle.rules.specs.declared.refusal.Refusal.{Refusal}
 use Rattle.rules.specs.declared.refusal.Refusal.the-variants.{BadNumbers, BadRowsBefore}
-use Rattle.rules.proofs.Cases.{split}
-use Rattle.session.specs.Receive.{Received, flagTaken, receive, receiveRead, receiveBytes}
-use Rattle.session_state.specs.Value.{Lent, stateOf}
+use Rattle.rules.proofs.Cases.{split, true-false}
+use Rattle.session.specs.Receive.{Received, flagTaken, sharedAfter, sentLeft, received, receive, receiveRead, receiveBytes}
+use Rattle.session_state.specs.Value.{Lent, keptHaves, stateOf}
 use Rattle.session_state.specs.declared.session.Session.{Session}
 use Rattle.table.specs.TableBytes.{rowsAt, tableOf}
 use Rattle.table.specs.declared.check.Checked.{Checked}
 use Rattle.table.specs.declared.check.Checked.the-variants as tables
 use Rattle.table.proofs.TableLaws.{table-good}
-use Rattle.receive_parts.specs.Internal.ReceiveParts.{flaggedCounts}
+use Rattle.receive_parts.specs.Internal.ReceiveParts.{flaggedCounts, heldMarked, HeadsMarked}
 use Rattle.session.specs.ReceiveCall.{afterTable, receiveWith, receivedRoomed, receivedAnswer, receivedLists, receivedRooms, ReceiveCalled}
 use Rattle.receive_make.specs.Internal.ReceiveChecks.{besideRows, afterRows, checked, Accepted}
-use Rattle.receive_make.specs.Internal.ReceiveMake.{saidAt, Prepared, Stands, Makes, ReceiptMade}
-use Rattle.receive_decide.specs.Internal.Receipt.{receiptDecided, SmallReceipt, ReceiptParts, receiptPuts, ReceiptFits, receiptPut}
+use Rattle.receive_make.specs.Internal.ReceiveMake.{saidAt, keptHashes, Prepared, Makes, ReceiptMade}
+use Rattle.receive_decide.specs.Internal.Receipt.{receiptRoom, receiptDecided, SmallReceipt, isTaken, HeardFits}
 use Rattle.session.specs.declared.receive_answer.ReceiveAnswer.{ReceiveAnswer}
 use Rattle.session.specs.declared.receive_answer.ReceiveAnswer.the-variants.{Refused}
 use Rattle.receive_make.specs.declared.check.ReceiptChecks.the-variants as checks
 use Rattle.receive_decide.specs.declared.decide.Receipt.{Receipt}
-use Rattle.receive.proofs.DraftLaws.{forgets-most, DraftedAs, Drafted, draft-small}
-use Rattle.receive.proofs.Outcomes.{Outcomes, outcome, same-answer}
-use Rattle.receive.proofs.KeptLaws.{puts-fit, puts-kept}
-use Rattle.receive_make.proofs.SaidLaws.{read-receives}
+use Rattle.receive.proofs.DraftLaws.{forgets-most, Drafted, draft-small, sent-is, shared-is}
+use Rattle.receive.proofs.Outcomes.{Outcome, Outcomes, outcome, same-answer}
+use Rattle.receive.proofs.KeptLaws.{shared-few, shared-fits, heard-fits, parts-kept}
+use Rattle.receive_make.proofs.SaidLaws.{read-words, read-receives}
+use Rattle.receive_make.proofs.MakeLaws.{keeps-there, left-trimmed}
+use Rattle.receive_shared.specs.Internal.Shared.{sharedThen}
+use Rattle.receive_haves.specs.Internal.HavesLaid.{LaidPut}
+use Rattle.bloom.specs.Have.{havesOf}
+use Rattle.hash_order.specs.Order.{keep}
+use Rattle.session.specs.declared.room.Room.the-variants.{Enough}
+use Rattle.table_graph.specs.Graph.{belowRow}
+use Rattle.table_graph.specs.Internal.Marks.{Marks, Blank}
+use Rattle.table_graph.proofs.MarkLaws.{blank}
+use Rattle.table_index.specs.Index.{indexChecked, Indexed}
 
 -- ---- the tests before, taken apart
 
@@ -143,45 +154,44 @@ module _ (s : Session) (l : Lent) (table index : List ℕ) (n before : ℕ) (mes
         sent = omega (arith, g .sent .there);
       })
 
-  -- sent hashes that are forgotten want no room
-  pub can-prepare : (flagged : Session) → flagged ≡ flaggedCounts (p .flags) s → {marks : List Bool} {all : Bool} {readyShared readySent : List ℕ}
-      → Prepared table n message p (s .«sent_hashes») marks all readyShared readySent
-      → Prepared table n message p (flagged .«sent_hashes») marks all readyShared readySent
-  can-prepare flagged e given =
-      let least = forgets-most (flagTaken (λ f. hasFlag f syncReset) (p .flags) false) (s .«sent_hashes») in
-      rw e
-      (record {
-        long = given .long;
-        marked = record { rows = λ h. given .marked .rows (omega (arith, least)); known = given .marked .known };
-        shared = given .shared;
-        sent = omega (arith, given .sent);
-      })
+  abbrev unmarked : List Bool
+  unmarked = replicate (sizes .rows) false
 
-  module _ (loads : Bool) (flagged : Session) (ready : ReceiptParts) (d : Receipt)
-      (flags : flagged ≡ flaggedCounts (p .flags) s)
-      (made : ReceiptMade loads flagged table n before message p (l .shared) (l .sent) ready d)
+  -- what marking asks
+  pub can-mark : Indexed table index n × (p .heads .start + sizes .hash * p .heads .count ≤ length message) × (n ≤ length unmarked) × Blank n unmarked
+  can-mark =
+      let rows = checked-indexed table index n (ok .rows) in (
+        rows,
+        read-words message p (ok .read) .headsThere,
+        omega (arith, length-replicate (sizes .rows) false, rows .rows .few),
+        blank n (sizes .rows) (rows .rows .few),
+      )
+
+  module _ (flagged : Session) (flags : flagged ≡ flaggedCounts (p .flags) s) (marks : List Bool) (known : Bool)
+      (marked : HeadsMarked table n (saidAt message p .heads) (s .«sent_hashes») marks known)
     where
-      drafted : DraftedAs loads s l table n before message p ready d
-      drafted = rw (← flags) made
+      -- marks that are asked for where hashes were sent are there where some stay remembered
+      still-marked : 0 < flagged .«sent_hashes» → Marks n marks (belowRow (rowsAt table 0 n) (saidAt message p .heads))
+      still-marked h =
+          let least = forgets-most (flagTaken (λ f. hasFlag f syncReset) (p .flags) false) (s .«sent_hashes») in
+          let some : 0 < cond (flagTaken (λ f. hasFlag f syncReset) (p .flags) false) 0 (s .«sent_hashes») = rw flags at h in
+          marked .rows (omega (arith, least))
 
-      -- what deciding asks
-      pub is-small : SmallReceipt d
-      is-small = draft-small s l (ok .good) table n before (ok .inside) message p (ok .read) ready d drafted
+      -- what counting asks
+      pub can-count : length marks ≡ length unmarked → Prepared table n message p (flagged .«sent_hashes») marks known
+      can-count long = record { long = omega (arith, can-mark .2); marked = record { rows = still-marked; known = marked .known } }
 
-      module _ (stands : Stands d ready) (all : Bytes message) where
-        -- what putting asks, whatever was decided
-        pub has-room : (kept : Session) (failed : Bool) (a : ReceiveAnswer) → a ≡ receiptDecided kept failed d (receivedRooms l)
-            → (puts : Receipt) → puts ≡ receiptPuts a d → ReceiptFits puts message (p .heads .start) (p .need .start) ready l
-        has-room kept failed a decides puts is =
-            rw (is, decides) (puts-fit s l (ok .good) table n before (ok .inside) message p (ok .read) ready d stands all drafted kept failed)
+      module _ (loads : Bool) (loading : loads ≡ (ltb 0 (p .chunks .count) && not (s .«read_only»))) (ready : List ℕ) (d : Receipt)
+          (made : ReceiptMade known loads flagged table n before message p (l .shared) (l .sent) ready d)
+        where
+          drafted : Drafted s l table n before message p ready d
+          drafted = rw (← flags, ← loading, ← marked .known) made
 
-        module _ (loading : loads ≡ (ltb 0 (p .chunks .count) && not (s .«read_only»))) (loaded failed : Bool) (a : ReceiveAnswer)
-            (failing : failed ≡ (loads && not loaded))
-            (decides : a ≡ receiptDecided flagged failed d (receivedRooms l))
-          where
-            whole : Drafted s l table n before message p ready d
-            whole = rw (← loading) drafted
+          -- what deciding asks
+          pub is-small : SmallReceipt d
+          is-small = draft-small s l (ok .good) table n before (ok .inside) message p (ok .read) ready d drafted
 
+          module _ (loaded failed : Bool) (a : ReceiveAnswer) (failing : failed ≡ (loads && not loaded)) (decides : a ≡ receiptDecided flagged failed d (receivedRooms l)) where
             is-decided : a ≡ receiptDecided (flaggedCounts (p .flags) s) ((ltb 0 (p .chunks .count) && not (s .«read_only»)) && not loaded) d (receivedRooms l)
             is-decided = rw (← loading, ← failing, ← flags) decides
 
@@ -189,7 +199,7 @@ module _ (s : Session) (l : Lent) (table index : List ℕ) (n before : ℕ) (mes
             values = receivedRoomed (receivedRooms l) (receive loaded before (rowsAt table 0 n) (stateOf s l) (saidAt message p))
 
             together : Outcomes s l table n before message p d (receivedRooms l) a values
-            together = rw is-decided (outcome s l (ok .good) table n before (ok .inside) message p (ok .read) ready d whole loaded (receivedRooms l))
+            together = rw is-decided (outcome s l (ok .good) table n before (ok .inside) message p (ok .read) ready d drafted loaded (receivedRooms l))
 
             result-is : receiveWith loaded before s l table index message ≡ receive loaded before (rowsAt table 0 n) (stateOf s l) (saidAt message p)
             unfolding receiveWith afterTable
@@ -198,12 +208,75 @@ module _ (s : Session) (l : Lent) (table index : List ℕ) (n before : ℕ) (mes
                 let inside : before ≤ length (tableOf table) = omega (arith, t .long, ok .inside) in
                 rw (ok .good, ok .rows, read-receives message p (ok .read) loaded before (tableOf table) (stateOf s l) inside, t .is)
 
-            -- the promise
-            pub received-called : (puts : Receipt) (after : Lent) → Bytes (l .lastSent) → puts ≡ receiptPuts a d
-                → after ≡ receiptPut puts message (p .heads .start) (p .need .start) ready l
-                → ReceiveCalled (receiveWith loaded before s l table index message) l after a
-            received-called puts after last is put =
-                let kept =
-                puts-kept s l (ok .good) table n before (ok .inside) message p (ok .read) ready d stands all whole a values together last
-                in
-                rw result-is (record { answer = same-answer _ _ _ _ a values together; lists = put ∙ rw is kept })
+            called : (after : Lent) → after ≡ receivedLists values l → ReceiveCalled (receiveWith loaded before s l table index message) l after a
+            called after lists = rw result-is (record { answer = same-answer _ _ _ _ a values together; lists = lists })
+
+            -- a message that isn't taken leaves everything
+            pub left-called : isTaken a ≡ false → ReceiveCalled (receiveWith loaded before s l table index message) l l a
+            left-called not-taken = called l (stays a values not-taken together)
+              where
+                stays : (a : ReceiveAnswer) (q : Received) → isTaken a ≡ false → Outcomes s l table n before message p d (receivedRooms l) a q → l ≡ receivedLists q l
+                stays a q e (Outcome.leaves kept f g) = sym (kept l)
+                stays a q e (Outcome.takes few room f g h) = absurd (true-false (isTaken a) f e)
+
+            module _ (yes : isTaken a ≡ true) where
+              -- taken, with room for all of it
+              taking : (a : ReceiveAnswer) (q : Received) → isTaken a ≡ true → Outcomes s l table n before message p d (receivedRooms l) a q
+                  → (d .shared ≤ sizes .hashes) × (receiptRoom d (receivedRooms l) ≡ Enough)
+                  × (q ≡ Received.took (received before (rowsAt table 0 n) (stateOf s l) (saidAt message p)))
+              taking a q e (Outcome.leaves kept f g) = absurd (true-false (isTaken a) e f)
+              taking a q e (Outcome.takes few room f g h) = (few, room, g)
+
+              few : d .shared ≤ sizes .hashes
+              few = taking a values yes together .0
+
+              room : receiptRoom d (receivedRooms l) ≡ Enough
+              room = taking a values yes together .1
+
+              shared-same : sharedThen known loads before (rowsAt table 0 n) (saidAt message p .heads) (hashesAt (l .shared) 0 (s .«shared_heads»))
+                  ≡ sharedAfter before (rowsAt table 0 n) (stateOf s l) (saidAt message p)
+              shared-same = rw (loading, marked .known) (shared-is s l (ok .good) table n before (ok .inside) message p (ok .read))
+
+              -- what putting asks
+              pub can-share : Bytes message → Indexed table index n × (before ≤ n) × (sizes .hash * s .«shared_heads» ≤ length (l .shared))
+                  × (p .heads .start + sizes .hash * p .heads .count ≤ length message)
+                  × (length (sharedThen known loads before (rowsAt table 0 n) (saidAt message p .heads) (hashesAt (l .shared) 0 (s .«shared_heads»))) ≤ sizes .hashes)
+                  × (sizes .hash * length (sharedThen known loads before (rowsAt table 0 n) (saidAt message p .heads) (hashesAt (l .shared) 0 (s .«shared_heads»)))
+                  ≤ length (l .shared))
+              can-share all = (
+                can-mark .0,
+                ok .inside,
+                session-parts s l (ok .good) .shared .there,
+                can-mark .1,
+                rw shared-same (shared-few s l (ok .good) table n before (ok .inside) message p (ok .read) ready d drafted all few room),
+                rw shared-same (shared-fits s l (ok .good) table n before (ok .inside) message p (ok .read) ready d drafted all few room),
+              )
+
+              pub can-hear : Bytes message
+                  → HeardFits d message (p .heads .start) (p .need .start) ready (l .lastSent) (l .theirHeads) (l .theirNeed) (l .haves) (l .bytes)
+              can-hear all = heard-fits s l (ok .good) table n before (ok .inside) message p (ok .read) ready d drafted all few room
+
+              module _ (keeps : ℕ) (keeping : keeps ≡ keptHashes (p .heads .count) (flagged .«sent_hashes»)) where
+                pub can-trim : (sent : List ℕ) → length sent ≡ length (l .sent) → sizes .hash * keeps ≤ length sent
+                can-trim sent same = keeps-there _ _ _ _ keeping (omega (arith, can-make flagged flags .sent))
+
+                -- the promise
+                pub taken-called : {shared lastSent theirHeads theirNeed records bytes sent : List ℕ} → Bytes message → Bytes (l .lastSent)
+                    → shared ≡ sets (l .shared) 0
+                    (hashesBytes (sharedThen known loads before (rowsAt table 0 n) (saidAt message p .heads) (hashesAt (l .shared) 0 (s .«shared_heads»))))
+                    → (lastSent ≡ sets (l .lastSent) 0 (slice (p .heads .start) (p .heads .start + sizes .hash * d .told) message))
+                    × (theirHeads ≡ sets (l .theirHeads) 0 (slice (p .heads .start) (p .heads .start + sizes .hash * d .heads) message))
+                    × (theirNeed ≡ sets (l .theirNeed) 0 (slice (p .need .start) (p .need .start + sizes .hash * d .need) message))
+                    × LaidPut (havesOf message (keptHaves ready (d .haves))) (l .haves) (l .bytes) records bytes
+                    → sent ≡ sets (l .sent) 0
+                    (hashesBytes (keep (λ h. not (heldMarked (rowsAt table 0 n) marks h)) (hashesAt (l .sent) 0 keeps)))
+                    → ReceiveCalled (receiveWith loaded before s l table index message) l (lentOf shared lastSent theirHeads theirNeed records bytes sent) a
+                taken-called {shared} {lastSent} {theirHeads} {theirNeed} {records} {bytes} {sent} all last a b e =
+                    let trimmed = left-trimmed table n marks (saidAt message p .heads) (l .sent) sent (p .heads .count) (flagged .«sent_hashes») keeps still-marked keeping e in
+                    let left : sent ≡ sets (l .sent) 0 (hashesBytes (sentLeft (rowsAt table 0 n) (stateOf s l) (saidAt message p))) =
+                    rw (flags, sent-is s l (ok .good) table n before (ok .inside) message p (ok .read)) at trimmed in
+                    let put : shared ≡ sets (l .shared) 0 (hashesBytes (sharedAfter before (rowsAt table 0 n) (stateOf s l) (saidAt message p))) = rw shared-same at a in
+                    let kept =
+                    parts-kept s l (ok .good) table n before (ok .inside) message p (ok .read) ready d drafted all few room last put (b .0) (b .1) (b .2) (b .3) left in
+                    called (lentOf shared lastSent theirHeads theirNeed records bytes sent)
+                    (kept ∙ ap (λ (q : Received). receivedLists q l) (sym (taking _ values yes together .2)))

@@ -1,5 +1,5 @@
 -- What was computed is what the definitions of receiving give, part by part, and its numbers are their counts. Assumes nothing.
-use Prim.Native.Nat.{ℕ, zero, suc, _+_, _*_, _/_, _≤_, _<_}
+use Prim.Native.Nat.{ℕ, zero, suc, _+_, _≤_}
 use mathlib.Core.Bool.{Bool, true, false, cond, not, _&&_}
 use mathlib.Core.List.{List, []}
 use mathlib.Core.Path.{_≡_, refl, sym, ap, _∙_}
@@ -17,13 +17,11 @@ use Rattle.session_check.specs.SessionGood.{sessionGood}
 use Rattle.hash_lists.specs.Internal.Lists.{same}
 use Rattle.message.specs.Flags.{syncReset, hasFlag}
 use Rattle.message.specs.declared.flags.Section.{Section}
-use Rattle.hash_order.proofs.KeepLaws.{keep-most}
-use Rattle.hash_order.specs.Order.{keep}
-use Rattle.receive_parts.specs.Internal.ReceiveParts.{flaggedCounts, sharedRoom, SharedMade}
+use Rattle.hash_order.specs.Order.{keep, every}
+use Rattle.receive_parts.specs.Internal.ReceiveParts.{flaggedCounts}
 use Rattle.rules.proofs.Cases.{split}
 use Rattle.rules.proofs.Hash.{length-hashes-at}
 use Rattle.rules.specs.Hash.{hashesAt}
-use Rattle.rules.specs.Output.{Gathered}
 use Rattle.rules.specs.Sizes.{sizes}
 use Rattle.session.specs.Plan.{empty}
 use Rattle.session_state.proofs.ValueLaws.{hashes-counted, haves-counted}
@@ -32,14 +30,14 @@ use Rattle.session_state.specs.Value.{Lent, stateOf, countsOf}
 use Rattle.session_state.specs.declared.session.Session.{Session}
 use Rattle.table.proofs.TableLaws.{take-rows-at}
 use Rattle.table.specs.TableBytes.{rowsAt}
-use Rattle.table.specs.Table.{Row}
+use Rattle.table.specs.Table.{Row, held}
 use Rattle.session.specs.ReceiveCall.{keptRoom}
-use Rattle.receive_make.specs.Internal.ReceiveMake.{saidAt, toldHeads, lastSentCount, keptHashes, ReceiptMade}
-use Rattle.receive_decide.specs.Internal.Receipt.{SmallReceipt, receivedCounts, receiptRoom, ReceiptParts}
+use Rattle.receive_make.specs.Internal.ReceiveMake.{saidAt, toldHeads, lastSentCount, keptHashes, leftOf, ReceiptMade}
+use Rattle.receive_decide.specs.Internal.Receipt.{SmallReceipt, receivedCounts, receiptRoom}
 use Rattle.session.specs.declared.receive_answer.SessionRooms.{SessionRooms}
 use Rattle.receive_decide.specs.declared.decide.Receipt.{Receipt}
 use Rattle.receive_make.proofs.SaidLaws.{read-words, haves-many}
-use Rattle.receive_make.proofs.MakeLaws.{kept-most}
+use Rattle.receive_shared.specs.Internal.Shared.{sharedThen, Counted}
 
 -- ---- counts of a good session
 
@@ -106,42 +104,14 @@ pub forgets-most : (b : Bool) (n : ℕ) → cond b 0 n ≤ n
 forgets-most true n = omega arith
 forgets-most false n = omega arith
 
--- ---- room for one more than there may be
-
-one-more : (most : ℕ) → sizes .hash * (most + 1) / sizes .hash ≡ most + 1
-one-more most = omega arith
-
-module _ {hs after : List ℕ} {count : ℕ} (f : SharedMade hs sharedRoom after count) where
-  pub shared-within : count ≤ sizes .hashes + 1
-  shared-within =
-      let z = one-more (sizes .hashes) in
-      omega (arith, f .many, f .are .within)
-
-  pub shared-many : sizes .hashes < count → sizes .hashes < length hs
-  shared-many h =
-      let e = f .many in
-      let z = one-more (sizes .hashes) in
-      omega (arith, f .are .full (omega (arith, f .are .within)))
-
-  pub shared-all : count ≤ sizes .hashes → Gathered hs after count
-  shared-all h =
-      let e = f .many in
-      let z = one-more (sizes .hashes) in
-      let q : hashesAt after 0 count ≡ hs = f .are .all (omega arith) in
-      record { many = rw q at e; list = q }
-
--- ---- room
-
 -- ---- all parts
 
--- The draft that is made where a message was read for a session, its flags being taken, whether its changes are loaded or not.
-abbrev pub DraftedAs : Bool → Session → Lent → List ℕ → ℕ → ℕ → List ℕ → Places → ReceiptParts → Receipt → Type 0
-DraftedAs loading s l table n before message p ready d =
-    ReceiptMade loading (flaggedCounts (p .flags) s) table n before message p (l .shared) (l .sent) ready d
-
--- The draft that is made where a message was read: its changes are loaded if there are some and this unit takes changes.
-abbrev pub Drafted : Session → Lent → List ℕ → ℕ → ℕ → List ℕ → Places → ReceiptParts → Receipt → Type 0
-Drafted s l table n before message p ready d = DraftedAs (ltb 0 (p .chunks .count) && not (s .«read_only»)) s l table n before message p ready d
+-- The numbers of a session after a message that was read, its flags being taken: whether all of its heads are held is known, and its changes are loaded if
+-- there are some and this unit takes changes.
+abbrev pub Drafted : Session → Lent → List ℕ → ℕ → ℕ → List ℕ → Places → List ℕ → Receipt → Type 0
+Drafted s l table n before message p ready d =
+    ReceiptMade (every (held (rowsAt table 0 n)) (saidAt message p .heads)) (ltb 0 (p .chunks .count) && not (s .«read_only»)) (flaggedCounts (p .flags) s) table n
+    before message p (l .shared) (l .sent) ready d
 
 module _ (s : Session) (l : Lent) (good : sessionGood s l ≡ true) (table : List ℕ) (n before : ℕ) (inside : before ≤ n) (message : List ℕ) (p : Places)
     (read : decodedOf (messageAt message) ≡ Placed p) where
@@ -160,12 +130,20 @@ module _ (s : Session) (l : Lent) (good : sessionGood s l ≡ true) (table : Lis
   abbrev tells : Bool
   tells = not (ltb 0 (p .chunks .count)) && same (m .heads) (heads (take before t))
 
-  module _ {loading : Bool} (ready : ReceiptParts) (d : Receipt) (made : DraftedAs loading s l table n before message p ready d) where
-    pub sent-made : Gathered (sentLeft t v m) (ready .sent) (d .sent)
-    unfolding sentLeft sentFlagged
-    sent-made =
-        let unknown : ℕ → Bool = λ h. not (below t (m .heads) h) in
-        rw (← left-is unknown message (p .heads .start) (p .heads .count) forgets (l .sent) (s .«sent_hashes»)) (made .sent)
+  -- the sent hashes that are left
+  pub sent-is : leftOf table n message p (l .sent) (keptHashes (p .heads .count) (cond forgets 0 (s .«sent_hashes»))) ≡ sentLeft t v m
+  unfolding sentLeft sentFlagged
+  sent-is = left-is (λ h. not (below t (m .heads) h)) message (p .heads .start) (p .heads .count) forgets (l .sent) (s .«sent_hashes»)
+
+  -- the shared heads
+  pub shared-is : sharedThen (every (held t) (m .heads)) (ltb 0 (p .chunks .count) && not (s .«read_only»)) before t (m .heads) (hashesAt (l .shared) 0 (s .«shared_heads»))
+      ≡ sharedAfter before t v m
+  unfolding sharedThen sharedAfter sharedLoaded loads
+  shared-is = refl
+
+  module _ (ready : List ℕ) (d : Receipt) (made : Drafted s l table n before message p ready d) where
+    pub sent-count : d .sent ≡ length (sentLeft t v m)
+    sent-count = made .sent ∙ ap length sent-is
 
     pub told-made : d .told ≡ cond tells (p .heads .count) 0
     unfolding toldHeads
@@ -194,44 +172,29 @@ module _ (s : Session) (l : Lent) (good : sessionGood s l ≡ true) (table : Lis
     pub told-within : d .told ≤ d .«last_sent»
     told-within = rw (told-made, last-made) (told-most (p .heads .count) (s .«last_sent_heads») tells)
 
-    -- sent hashes only become fewer
-    pub sent-within : d .sent ≤ s .«sent_hashes»
-    sent-within =
-        let g = made .sent in
-        let k : ℕ = cond forgets 0 (s .«sent_hashes») in
-        let gone : List ℕ = hashesAt (l .sent) 0 (keptHashes (p .heads .count) k) in
-        let fewer = keep-most (λ h. not (below t (m .heads) h)) gone in
-        let long = length-hashes-at (l .sent) 0 (keptHashes (p .heads .count) k) in
-        omega (arith, g .many, fewer, long, kept-most (p .heads .count) k, forgets-most forgets (s .«sent_hashes»))
-
     pub draft-small : SmallReceipt d
     draft-small =
         let g = session-parts s l good in
         let w = read-words message p read in
         record {
-          shared = shared-within (made .shared);
           lastSent = rw last-made (last-most (p .heads .count) (s .«last_sent_heads») (sizes .hashes) tells (w .fewHeads) (g .lastSent .few));
           heads = rw (made .heads) (w .fewHeads);
           need = rw (made .need) (w .fewNeed);
           haves = rw (made .haves) (w .fewHaves);
         }
 
-  module _ (ready : ReceiptParts) (d : Receipt) (made : Drafted s l table n before message p ready d) where
-    pub shared-made : SharedMade (sharedAfter before t v m) sharedRoom (ready .shared) (d .shared)
-    unfolding sharedAfter sharedLoaded loads
-    shared-made = made .shared
+    pub shared-made : Counted (sharedAfter before t v m) (d .shared)
+    shared-made = rw shared-is at (made .shared)
 
     module _ (few : d .shared ≤ sizes .hashes) where
-      pub shared-gathered : Gathered (sharedAfter before t v m) (ready .shared) (d .shared)
-      shared-gathered = shared-all shared-made few
+      pub shared-count : d .shared ≡ length (sharedAfter before t v m)
+      shared-count = shared-made .few few
 
       -- the counts that a message leaves
       pub received-counts : countsOf (received before t v m) ≡ receivedCounts (flaggedCounts (p .flags) s) d
       unfolding received flagged
-      received-counts =
-          rw (shared-gathered .many, last-count ready d made, heads-count ready d made, need-count ready d made, haves-count ready d made, sent-made ready d made .many)
+      received-counts = rw (shared-count, last-count, heads-count, need-count, haves-count, sent-count)
 
       pub room-is : (r : SessionRooms) → keptRoom (received before t v m) r ≡ receiptRoom d r
       unfolding keptRoom receiptRoom received
-      room-is r =
-          rw (← shared-gathered .many, ← last-count ready d made, ← heads-count ready d made, ← need-count ready d made, ← haves-count ready d made, ← made .words .bytes)
+      room-is r = rw (← shared-count, ← last-count, ← heads-count, ← need-count, ← haves-count, ← made .words .bytes)

@@ -1,5 +1,4 @@
--- What stands ready fits where it is put, and is what the call promises to keep; after a refusal nothing is put, which is no case of its own. Assumes
--- nothing.
+-- What is put where a message is taken has room, and is what the call promises to keep. Assumes nothing.
 use Prim.Native.Nat.{ℕ, zero, suc, _+_, _*_, _≤_}
 use mathlib.Core.Bool.{Bool, true, false, cond, not, _&&_}
 use mathlib.Core.List.{List, [], _++_}
@@ -10,58 +9,42 @@ use borrow.Author.Tests.{ltb-false}
 use lib.Dec.{ltb}
 use lib.ListN.{length, take, drop, take-append-drop}
 use lib.Seq.{sets, slice, sets-eq, slice-empty, length-take-le}
-use Rattle.bloom.specs.Have.{haveWords, havesFrom, havesOf}
+use Rattle.bloom.specs.Have.{haveWords, havesOf}
 use Rattle.message_read.specs.MessageRead.{messageAt, decodedOf}
 use Rattle.message_read.specs.declared.parse.Decoded.the-variants.{Message as Placed}
 use Rattle.message_read.specs.declared.parse.Places.{Places}
 use Rattle.table_graph.specs.Graph.{heads}
-use Rattle.session_check.specs.SessionGood.{sessionGood}
+use Rattle.session_check.specs.SessionGood.{sessionGood, lentOf}
 use Rattle.session_check.proofs.GoodSessions.{session-parts}
 use Rattle.hash_lists.specs.Internal.Lists.{same}
 use Rattle.rules.specs.Hash.{Bytes, hashesAt, hashesBytes}
 use Rattle.rules.specs.Sizes.{sizes}
 use Rattle.rules.proofs.Cases.{split}
 use Rattle.rules.proofs.Hash.{hashes-at-bytes}
-use Rattle.rules.proofs.Outputs.{gathered-bytes}
-use Rattle.session.specs.Laid.{laidBytes, laidFrom, laidWords}
 use Rattle.session.specs.Plan.{empty}
-use Rattle.session.specs.Receive.{Said, Received, lastSentAfter, received}
+use Rattle.session.specs.Receive.{Said, Received, sharedAfter, sentLeft, lastSentAfter, received}
 use Rattle.session_state.specs.Session.{State}
-use Rattle.session_state.specs.Value.{Lent, stateOf}
+use Rattle.session_state.specs.Value.{Lent, keptHaves, stateOf}
 use Rattle.session_state.specs.declared.session.Session.{Session}
 use Rattle.table.specs.TableBytes.{rowsAt}
 use Rattle.table.specs.Table.{Row}
-use Rattle.receive_haves.specs.Internal.HavesLaid.{Layable}
+use Rattle.receive_haves.specs.Internal.HavesLaid.{LaidPut}
 use Rattle.session.specs.ReceiveCall.{receivedLists, receivedRooms}
-use Rattle.receive_make.specs.Internal.ReceiveMake.{saidAt, havesWords, Stands}
-use Rattle.receive_decide.specs.Internal.Receipt.{receivedCounts, receiptRoom, receiptDecided, ReceiptParts, noReceipt, receiptPuts, ReceiptFits, receiptPut}
-use Rattle.session.specs.declared.receive_answer.ReceiveAnswer.{ReceiveAnswer}
-use Rattle.session.specs.declared.receive_answer.ReceiveAnswer.the-variants.{Took, Refused}
+use Rattle.receive_make.specs.Internal.ReceiveMake.{saidAt, havesWords}
+use Rattle.receive_decide.specs.Internal.Receipt.{receiptRoom, HeardFits}
 use Rattle.session.specs.declared.receive_answer.SessionRooms.{SessionRooms}
 use Rattle.session.specs.declared.room.Room.{Room}
 use Rattle.session.specs.declared.room.Room.the-variants.{Enough, Short}
-use Rattle.session.specs.Rooms.{orShort, ifRoom}
+use Rattle.session.specs.Rooms.{orShort}
 use Rattle.receive_decide.specs.declared.decide.Receipt.{Receipt}
-use Rattle.receive.proofs.DraftLaws.{DraftedAs, Drafted, shared-gathered, sent-made, told-made, told-few, told-within, sent-within, draft-small}
-use Rattle.receive.proofs.Outcomes.{Outcome, Outcomes}
+use Rattle.receive.proofs.DraftLaws.{Drafted, shared-count, told-made, told-few, told-within, draft-small}
 use Rattle.receive_make.proofs.SaidLaws.{read-words, read-layable}
 use Rattle.receive_decide.proofs.PutLaws.{lents-same}
 
--- ---- nothing put
+-- ---- no hashes
 
 none-at : (place : ℕ) (s : List ℕ) → slice place (place + 0) s ≡ []
 none-at place s = rw (add-zero, slice-empty)
-
-none-laid : (message : List ℕ) → havesOf message [] ≡ []
-unfolding havesOf havesFrom
-none-laid message = refl
-
-none-put : (message : List ℕ) (atHeads atNeed : ℕ) (ready : ReceiptParts) (l : Lent) → receiptPut noReceipt message atHeads atNeed ready l ≡ l
-unfolding laidWords laidFrom laidBytes
-none-put message atHeads atNeed ready l = rw (none-at atHeads message, none-at atNeed message, none-laid message)
-
-none-layable : (message : List ℕ) → Layable message []
-none-layable message = record { few = omega arith; each = λ i h. absurd (omega arith); syncs = λ i h. absurd (omega arith) }
 
 -- ---- heads sent last that stay
 
@@ -120,110 +103,70 @@ roomy d r e =
 -- ---- all parts
 
 module _ (s : Session) (l : Lent) (good : sessionGood s l ≡ true) (table : List ℕ) (n before : ℕ) (inside : before ≤ n) (message : List ℕ) (p : Places)
-    (read : decodedOf (messageAt message) ≡ Placed p) (ready : ReceiptParts) (d : Receipt) (stands : Stands d ready) (all : Bytes message)
+    (read : decodedOf (messageAt message) ≡ Placed p) (ready : List ℕ) (d : Receipt) (made : Drafted s l table n before message p ready d)
+    (all : Bytes message) (few : d .shared ≤ sizes .hashes) (room : receiptRoom d (receivedRooms l) ≡ Enough)
   where
-    module _ {loading : Bool} (made : DraftedAs loading s l table n before message p ready d) where
-      words-ready : take (haveWords * d .haves) (ready .words) ≡ havesWords message p
-      words-ready = rw (made .haves) (made .words .words)
+    abbrev v : State
+    v = stateOf s l
 
-      took-fits : receiptRoom d (receivedRooms l) ≡ Enough → ReceiptFits d message (p .heads .start) (p .need .start) ready l
-      took-fits room =
-          let g = session-parts s l good in
-          let w = read-words message p read in
-          let r = roomy d (receivedRooms l) room in
-          let small = draft-small s l good table n before inside message p read ready d made in
-          let tells = told-within s l good table n before inside message p read ready d made in
-          let less = sent-within s l good table n before inside message p read ready d made in
-          record {
-            shared = stands .sharedThere;
-            sharedRoom = r .shared;
-            told = omega (arith, w .headsThere, told-few s l good table n before inside message p read ready d made);
-            toldRoom = omega (arith, r .lastSent);
-            heads = rw (made .heads) (w .headsThere);
-            headsRoom = r .heads;
-            need = rw (made .need) (w .needThere);
-            needRoom = r .need;
-            haves =
-                record {
-                  there = omega (arith, stands .words, small .haves);
-                  layable = rw words-ready (read-layable message p read all);
-                  room = r .haves;
-                  bytesRoom = rw (words-ready, ← made .words .bytes) (r .bytes);
-                };
-            sent = stands .sentThere;
-            sentRoom = omega (arith, g .sent .there);
-          }
+    abbrev t : List Row
+    t = rowsAt table 0 n
 
-      none-fits : ReceiptFits noReceipt message (p .heads .start) (p .need .start) ready l
-      unfolding laidBytes
-      none-fits =
-          let w = read-words message p read in
-          record {
-            shared = omega arith;
-            sharedRoom = omega arith;
-            told = omega (arith, w .headsThere);
-            toldRoom = omega arith;
-            heads = omega (arith, w .headsThere);
-            headsRoom = omega arith;
-            need = omega (arith, w .needThere);
-            needRoom = omega arith;
-            haves = record { there = omega arith; layable = none-layable message; room = omega arith; bytesRoom = rw (none-laid message) (omega arith) };
-            sent = omega arith;
-            sentRoom = omega arith;
-          }
+    abbrev m : Said
+    m = saidAt message p
 
-      -- what is put has room, whatever was decided
-      pub puts-fit : (flagged : Session) (failed : Bool)
-          → ReceiptFits (receiptPuts (receiptDecided flagged failed d (receivedRooms l)) d) message (p .heads .start) (p .need .start) ready l
-      unfolding receiptPuts receiptDecided ifRoom
-      puts-fit flagged failed =
-          split failed
-          (λ e. rw e none-fits)
-          (λ e.
-          split (ltb (sizes .hashes) (d .shared))
-          (λ f. rw (e, f) none-fits)
-          (λ f. rw (e, f) (in-room (receiptRoom d (receivedRooms l)) refl)))
-        where
-          in-room : (x : Room) → receiptRoom d (receivedRooms l) ≡ x
-              → ReceiptFits (receiptPuts (ifRoom Refused x (Took (receivedCounts flagged d))) d) message (p .heads .start) (p .need .start) ready l
-          in-room Enough e = took-fits e
-          in-room (Short wanted) e = none-fits
+    words-ready : take (haveWords * d .haves) ready ≡ havesWords message p
+    words-ready = rw (made .haves) (made .words .words)
 
-    module _ (made : Drafted s l table n before message p ready d) (a : ReceiveAnswer) (q : Received) (o : Outcomes s l table n before message p d (receivedRooms l) a q) where
-      abbrev v : State
-      v = stateOf s l
+    -- the shared heads are few and have room
+    pub shared-few : length (sharedAfter before t v m) ≤ sizes .hashes
+    shared-few = omega (arith, shared-count s l good table n before inside message p read ready d made few)
 
-      abbrev t : List Row
-      t = rowsAt table 0 n
+    pub shared-fits : sizes .hash * length (sharedAfter before t v m) ≤ length (l .shared)
+    shared-fits = omega (arith, shared-count s l good table n before inside message p read ready d made few, roomy d (receivedRooms l) room .shared)
 
-      abbrev m : Said
-      m = saidAt message p
+    -- what the message says has room
+    pub heard-fits : HeardFits d message (p .heads .start) (p .need .start) ready (l .lastSent) (l .theirHeads) (l .theirNeed) (l .haves) (l .bytes)
+    heard-fits =
+        let w = read-words message p read in
+        let r = roomy d (receivedRooms l) room in
+        let small = draft-small s l good table n before inside message p read ready d made in
+        let tells = told-within s l good table n before inside message p read ready d made in
+        record {
+          told = omega (arith, w .headsThere, told-few s l good table n before inside message p read ready d made);
+          toldRoom = omega (arith, r .lastSent);
+          heads = rw (made .heads) (w .headsThere);
+          headsRoom = r .heads;
+          need = rw (made .need) (w .needThere);
+          needRoom = r .need;
+          haves =
+              record {
+                there = omega (arith, made .room, small .haves);
+                layable = rw words-ready (read-layable message p read all);
+                room = r .haves;
+                bytesRoom = rw (words-ready, ← made .words .bytes) (r .bytes);
+              };
+        }
 
-      module _ (lastBytes : Bytes (l .lastSent)) where
-        took-put : d .shared ≤ sizes .hashes → receiptPut d message (p .heads .start) (p .need .start) ready l ≡ receivedLists (Received.took (received before t v m)) l
-        unfolding receivedLists received lastSentAfter
-        took-put few =
-            let g = session-parts s l good in
-            let w = read-words message p read in
-            let tells : Bool = not (ltb 0 (p .chunks .count)) && same (m .heads) (heads (take before t)) in
-            let shared = shared-gathered s l good table n before inside message p read ready d made few in
-            let sent = sent-made s l good table n before inside message p read ready d made in
-            lents-same
-            (ap (sets (l .shared) 0) (sym (gathered-bytes shared (stands .shared) (stands .sharedThere))))
-            (rw (told-made s l good table n before inside message p read ready d made)
-            (last-put message (p .heads .start) (p .heads .count) tells (l .lastSent) (s .«last_sent_heads») all (w .headsThere) lastBytes (g .lastSent .there)))
-            (rw (made .heads) (ap (sets (l .theirHeads) 0) (sym (hashes-at-bytes message (p .heads .start) (p .heads .count) all (w .headsThere)))))
-            (rw (made .need) (ap (sets (l .theirNeed) 0) (sym (hashes-at-bytes message (p .need .start) (p .need .count) all (w .needThere)))))
-            (rw (words-ready made))
-            (rw (words-ready made))
-            (ap (sets (l .sent) 0) (sym (gathered-bytes sent (stands .sent) (stands .sentThere))))
-
-        -- and is what is kept
-        pub puts-kept : receiptPut (receiptPuts a d) message (p .heads .start) (p .need .start) ready l ≡ receivedLists q l
-        unfolding receiptPuts receivedLists
-        puts-kept = go o
-          where
-            go : Outcomes s l table n before message p d (receivedRooms l) a q
-                → receiptPut (receiptPuts a d) message (p .heads .start) (p .need .start) ready l ≡ receivedLists q l
-            go (Outcome.leaves kept f g) = rw (f, kept) (none-put message (p .heads .start) (p .need .start) ready l)
-            go (Outcome.takes few e f g) = rw (e, f) (took-put few)
+    -- all parts put are what is kept
+    pub parts-kept : {shared lastSent theirHeads theirNeed records bytes sent : List ℕ} → Bytes (l .lastSent)
+        → shared ≡ sets (l .shared) 0 (hashesBytes (sharedAfter before t v m))
+        → lastSent ≡ sets (l .lastSent) 0 (slice (p .heads .start) (p .heads .start + sizes .hash * d .told) message)
+        → theirHeads ≡ sets (l .theirHeads) 0 (slice (p .heads .start) (p .heads .start + sizes .hash * d .heads) message)
+        → theirNeed ≡ sets (l .theirNeed) 0 (slice (p .need .start) (p .need .start + sizes .hash * d .need) message)
+        → LaidPut (havesOf message (keptHaves ready (d .haves))) (l .haves) (l .bytes) records bytes
+        → sent ≡ sets (l .sent) 0 (hashesBytes (sentLeft t v m))
+        → lentOf shared lastSent theirHeads theirNeed records bytes sent ≡ receivedLists (Received.took (received before t v m)) l
+    unfolding receivedLists received lastSentAfter
+    parts-kept lastBytes a b c e laid g =
+        let w = read-words message p read in
+        let tells : Bool = not (ltb 0 (p .chunks .count)) && same (m .heads) (heads (take before t)) in
+        lents-same a
+        (b
+        ∙ rw (told-made s l good table n before inside message p read ready d made)
+        (last-put message (p .heads .start) (p .heads .count) tells (l .lastSent) (s .«last_sent_heads») all (w .headsThere) lastBytes (session-parts s l good .lastSent .there)))
+        (c ∙ rw (made .heads) (ap (sets (l .theirHeads) 0) (sym (hashes-at-bytes message (p .heads .start) (p .heads .count) all (w .headsThere)))))
+        (e ∙ rw (made .need) (ap (sets (l .theirNeed) 0) (sym (hashes-at-bytes message (p .need .start) (p .need .count) all (w .needThere)))))
+        (laid .records ∙ rw words-ready)
+        (laid .bytes ∙ rw words-ready)
+        g

@@ -4,4 +4,3 @@ pub mod KeptLaws
 pub mod Outcomes
 pub mod Promises
 pub mod ReceiveOnce
-pub mod RoomLaws

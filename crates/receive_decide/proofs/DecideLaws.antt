@@ -8,7 +8,7 @@ use Rattle.rules.specs.Sizes.{sizes}
 use Rattle.rules.specs.declared.refusal.Refusal.{Refusal}
 use Rattle.rules.specs.declared.refusal.Refusal.the-variants.{PastSize, NoRoom}
 use Rattle.session_state.specs.declared.session.Session.{Session}
-use Rattle.receive_decide.specs.Internal.Receipt.{receivedCounts, receiptRoom, receiptDecided, noReceipt, receiptPuts}
+use Rattle.receive_decide.specs.Internal.Receipt.{receivedCounts, receiptRoom, receiptDecided, isTaken}
 use Rattle.session.specs.declared.receive_answer.ReceiveAnswer.{ReceiveAnswer}
 use Rattle.session.specs.declared.receive_answer.ReceiveAnswer.the-variants.{Took, Failed, Refused}
 use Rattle.session.specs.declared.receive_answer.SessionRooms.{SessionRooms}
@@ -74,17 +74,17 @@ module _ (flagged : Session) (failed : Bool) (d : Receipt) (r : SessionRooms) wh
       unfolding receiptDecided ifRoom
       is-taken next e is = rw (fine, le-ltb _ _ few, ← asked, e) (ap Took is)
 
--- ---- what an answer puts
+-- ---- whether it was taken
 
-module _ (a : ReceiveAnswer) (d : Receipt) where
-  pub took-puts : (s : Session) → a ≡ Took s → d ≡ receiptPuts a d
-  unfolding receiptPuts
-  took-puts s e = rw e
+module _ (a : ReceiveAnswer) where
+  pub took-taken : (s : Session) → a ≡ Took s → true ≡ isTaken a
+  unfolding isTaken
+  took-taken s e = rw e
 
-  pub failed-puts : (s : Session) → a ≡ Failed s → noReceipt ≡ receiptPuts a d
-  unfolding receiptPuts
-  failed-puts s e = rw e
+  pub failed-left : (s : Session) → a ≡ Failed s → false ≡ isTaken a
+  unfolding isTaken
+  failed-left s e = rw e
 
-  pub refused-puts : (r : Refusal) → a ≡ Refused r → noReceipt ≡ receiptPuts a d
-  unfolding receiptPuts
-  refused-puts r e = rw e
+  pub refused-left : (r : Refusal) → a ≡ Refused r → false ≡ isTaken a
+  unfolding isTaken
+  refused-left r e = rw e

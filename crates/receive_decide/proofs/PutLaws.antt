@@ -4,17 +4,14 @@ use mathlib.Core.List.{List}
 use mathlib.Core.Path.{_≡_, ap, _∙_}
 use lib.ListN.{take, drop, length}
 use lib.Seq.{sets, slice, length-take-le}
-use native.Mathlib.Nat.{add-sub-cancel-left, zero-add}
+use native.Mathlib.Nat.{add-sub-cancel-left}
 use Rattle.bloom.specs.Have.{haveWords, haveCount, havesOf}
-use Rattle.rules.specs.Sizes.{sizes}
 use Rattle.rules.proofs.Hash.{take-drop}
 use Rattle.session_state.specs.Value.{Lent, keptHaves}
 use native.Mathlib.Omega.{arith}
-use Rattle.session_check.specs.SessionGood.{lentOf}
 use Rattle.session.specs.Laid.{laidBytes}
-use Rattle.receive_haves.specs.Internal.HavesLaid.{Layable, LaidPut}
-use Rattle.receive_decide.specs.declared.decide.Receipt.{Receipt}
-use Rattle.receive_decide.specs.Internal.Receipt.{ReceiptParts, LaidFit, receiptPut}
+use Rattle.receive_haves.specs.Internal.HavesLaid.{Layable}
+use Rattle.receive_decide.specs.Internal.Receipt.{LaidFit}
 
 pub part-put : (out s next : List ℕ) (a k : ℕ) → next ≡ sets out 0 (take (a + k - a) (drop a s)) → next ≡ sets out 0 (slice a (a + k) s)
 part-put out s next a k e = e ∙ ap (sets out 0) (ap (λ (j : ℕ). take j (drop a s)) (add-sub-cancel-left a k) ∙ take-drop k a s)
@@ -32,18 +29,3 @@ pub lents-same : {a a′ b b′ c c′ d d′ e e′ f f′ g g′ : List ℕ} �
     → _≡_ {A = Lent} (record { shared = a; lastSent = b; theirHeads = c; theirNeed = d; haves = e; bytes = f; sent = g })
     (record { shared = a′; lastSent = b′; theirHeads = c′; theirNeed = d′; haves = e′; bytes = f′; sent = g′ })
 lents-same a b c d e f g = rw (a, b, c, d, e, f, g)
-
--- one part after the other is all of it
-pub parts-put : (p : Receipt) (message : List ℕ) (atHeads atNeed : ℕ) (ready : ReceiptParts) (l : Lent) {a b c d e f g : List ℕ}
-    → a ≡ sets (l .shared) 0 (slice 0 (0 + sizes .hash * p .shared) (ready .shared))
-    → b ≡ sets (l .lastSent) 0 (slice atHeads (atHeads + sizes .hash * p .told) message)
-    → c ≡ sets (l .theirHeads) 0 (slice atHeads (atHeads + sizes .hash * p .heads) message)
-    → d ≡ sets (l .theirNeed) 0 (slice atNeed (atNeed + sizes .hash * p .need) message)
-    → LaidPut (havesOf message (keptHaves (ready .words) (p .haves))) (l .haves) (l .bytes) e f
-    → g ≡ sets (l .sent) 0 (slice 0 (0 + sizes .hash * p .sent) (ready .sent))
-    → lentOf a b c d e f g ≡ receiptPut p message atHeads atNeed ready l
-parts-put p message atHeads atNeed ready l a b c d laid g =
-    lents-same
-    (a ∙ ap (λ (k : ℕ). sets (l .shared) 0 (take k (ready .shared))) (zero-add (sizes .hash * p .shared)))
-    b c d (laid .records) (laid .bytes)
-    (g ∙ ap (λ (k : ℕ). sets (l .sent) 0 (take k (ready .sent))) (zero-add (sizes .hash * p .sent)))

@@ -1,4 +1,4 @@
-// What is decided once everything is computed: nothing is written before all of it is known.
+// What is decided once everything is counted: nothing is written before.
 use bloom::have::HAVE_WORDS;
 use rules::refusal::Refusal;
 use rules::sizes::HASH_SIZE;
@@ -9,7 +9,9 @@ use session::room::Room;
 use session_state::session::Heard;
 use session_state::session::Session;
 ghost use mathlib.Core.Path.{_≡_};
-ghost use Rattle.receive_decide.specs.Internal.Receipt.{SmallReceipt, receivedCounts, receiptRoom, receiptDecided};
+ghost use Prim.Native.Nat.{_≤_};
+ghost use Rattle.rules.specs.Sizes.{sizes};
+ghost use Rattle.receive_decide.specs.Internal.Receipt.{SmallReceipt, receivedCounts, receiptRoom, receiptDecided, isTaken};
 
 // The numbers of a session after a message: how many shared heads, heads sent last and hashes sent it has, how many of the message's heads become
 // the ones sent last, how many heads, needs and haves the message has, and how many bytes the haves take.
@@ -47,7 +49,7 @@ fn received_session(flagged: Session, d: Receipt) -> Session
 
 // Whether the session's lists have room, in the order in which 7 names them.
 fn receipt_room(d: Receipt, r: SessionRooms) -> Room
-    requires { ⌜ SmallReceipt d ⌝ }
+    requires { ⌜ (d .shared ≤ sizes .hashes) × SmallReceipt d ⌝ }
     ensures { λ x. ⌜ x ≡ receiptRoom d r ⌝ }
 {
     let shared = HASH_SIZE * d.shared;
@@ -90,5 +92,16 @@ pub fn decide(flagged: Session, failed: bool, d: Receipt, r: SessionRooms) -> Re
     match receipt_room(d, r) {
         Room::Short(wanted) => ReceiveAnswer::Refused(Refusal::NoRoom(wanted)),
         Room::Enough => ReceiveAnswer::Took(received_session(flagged, d)),
+    }
+}
+
+// Whether the message was taken: only then anything is put.
+pub fn taken(received: ReceiveAnswer) -> bool
+    ensures { λ r. ⌜ r ≡ isTaken received ⌝ }
+{
+    match received {
+        ReceiveAnswer::Took(_) => true,
+        ReceiveAnswer::Failed(_) => false,
+        ReceiveAnswer::Refused(_) => false,
     }
 }

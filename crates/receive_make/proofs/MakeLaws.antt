@@ -2,23 +2,21 @@
 use Prim.Native.Nat.{ℕ, zero, suc, _*_, _≤_, _<_}
 use mathlib.Core.Bool.{Bool, true, false, cond, not, _&&_}
 use mathlib.Core.List.{List}
-use mathlib.Core.Path.{_≡_}
+use mathlib.Core.Path.{_≡_, ap, _∙_}
 use borrow.Author.Tests.{lt-ltb, le-ltb, eq-eqb, ne-eqb}
 use lib.Dec.{ltb, eqb}
 use lib.ListN.{length}
+use lib.Seq.{sets}
 use Rattle.table_graph.specs.Graph.{belowRow, below}
 use Rattle.table_graph.specs.Internal.Marks.{Marks}
 use Rattle.hash_lists.specs.Internal.Lists.{same}
 use Rattle.rules.specs.Sizes.{sizes}
 use native.Mathlib.Omega.{arith}
-use Rattle.hash_order.proofs.KeepLaws.{keep-most}
 use Rattle.hash_order.specs.Order.{keep}
 use Rattle.receive_parts.proofs.LeftLaws.{left-below}
-use Rattle.receive_parts.specs.Internal.ReceiveParts.{heldMarked, SharedMade}
+use Rattle.receive_parts.specs.Internal.ReceiveParts.{heldMarked}
 use Rattle.rules.proofs.Cases.{split}
-use Rattle.rules.proofs.Hash.{length-hashes-at}
-use Rattle.rules.specs.Hash.{hashesAt}
-use Rattle.rules.specs.Output.{Gathered}
+use Rattle.rules.specs.Hash.{hashesAt, hashesBytes}
 use Rattle.table.specs.TableBytes.{rowsAt}
 use Rattle.receive_make.specs.Internal.ReceiveMake.{toldHeads, lastSentCount, keptHashes}
 
@@ -74,29 +72,32 @@ kept-most heads sent = split (eqb heads 0) (λ e. rw e (omega arith)) (λ e. rw 
 pub keeps-there : (heads sent keeps room : ℕ) → keeps ≡ keptHashes heads sent → sizes .hash * sent ≤ room → sizes .hash * keeps ≤ room
 keeps-there heads sent keeps room e h = omega (arith, kept-most heads sent)
 
-pub keeps-gathered : (p : ℕ → Bool) (s : List ℕ) (heads sent keeps : ℕ) (after : List ℕ) (count : ℕ) → keeps ≡ keptHashes heads sent
-    → Gathered (keep p (hashesAt s 0 keeps)) after count → Gathered (keep p (hashesAt s 0 (keptHashes heads sent))) after count
-keeps-gathered p s heads sent keeps after count e g = rw (← e) g
-
 -- marks are asked for where hashes were sent, and where none were none are left
-pub left-marked : (table : List ℕ) (n : ℕ) (marks : List Bool) (l s : List ℕ) (heads sent keeps : ℕ) (after : List ℕ) (count : ℕ)
+pub left-marked : (table : List ℕ) (n : ℕ) (marks : List Bool) (l s : List ℕ) (heads sent keeps : ℕ)
     → (0 < sent → Marks n marks (belowRow (rowsAt table 0 n) l))
     → keeps ≡ keptHashes heads sent
-    → Gathered (keep (λ h. not (heldMarked (rowsAt table 0 n) marks h)) (hashesAt s 0 keeps)) after count
-    → Gathered (keep (λ h. not (below (rowsAt table 0 n) l h)) (hashesAt s 0 keeps)) after count
+    → keep (λ h. not (heldMarked (rowsAt table 0 n) marks h)) (hashesAt s 0 keeps)
+    ≡ keep (λ h. not (below (rowsAt table 0 n) l h)) (hashesAt s 0 (keptHashes heads sent))
 unfolding hashesAt keep keptHashes
-left-marked table n marks l s heads zero keeps after count rows e g =
+left-marked table n marks l s heads zero keeps rows e =
     let none : keeps ≡ 0 = split (eqb heads 0) (λ q. rw q at e) (λ q. rw q at e) in
-    rw none (rw none at g)
-left-marked table n marks l s heads (suc k) keeps after count rows e g = left-below table n marks l (rows (omega arith)) (hashesAt s 0 keeps) after count g
+    let still : keptHashes heads 0 ≡ 0 = split (eqb heads 0) (λ q. rw q) (λ q. rw q) in
+    rw (none, still)
+left-marked table n marks l s heads (suc k) keeps rows e = rw (← e) (left-below table n marks l (rows (omega arith)) (hashesAt s 0 keeps))
 
--- those that are left are no more
-pub left-there : (p : ℕ → Bool) (s after : List ℕ) (keeps count room : ℕ) → sizes .hash * keeps ≤ room → length after ≡ room
-    → Gathered (keep p (hashesAt s 0 keeps)) after count
-    → sizes .hash * count ≤ length after
-left-there p s after keeps count room h e g = omega (arith, g .many, keep-most p (hashesAt s 0 keeps), length-hashes-at s 0 keeps)
+-- so are those that are counted
+pub left-counted : (table : List ℕ) (n : ℕ) (marks : List Bool) (l s : List ℕ) (heads sent keeps count : ℕ)
+    → (0 < sent → Marks n marks (belowRow (rowsAt table 0 n) l))
+    → keeps ≡ keptHashes heads sent
+    → count ≡ length (keep (λ h. not (heldMarked (rowsAt table 0 n) marks h)) (hashesAt s 0 keeps))
+    → count ≡ length (keep (λ h. not (below (rowsAt table 0 n) l h)) (hashesAt s 0 (keptHashes heads sent)))
+left-counted table n marks l s heads sent keeps count rows e c = c ∙ ap length (left-marked table n marks l s heads sent keeps rows e)
 
--- shared heads by whether all heads are held
-pub shared-known : (hs others after : List ℕ) (all known : Bool) (room count : ℕ) → all ≡ known → SharedMade (cond all hs others) room after count
-    → SharedMade (cond known hs others) room after count
-shared-known hs others after all known room count e made = rw e at made
+-- and those that are moved to the front
+pub left-trimmed : (table : List ℕ) (n : ℕ) (marks : List Bool) (l s after : List ℕ) (heads sent keeps : ℕ)
+    → (0 < sent → Marks n marks (belowRow (rowsAt table 0 n) l))
+    → keeps ≡ keptHashes heads sent
+    → after ≡ sets s 0 (hashesBytes (keep (λ h. not (heldMarked (rowsAt table 0 n) marks h)) (hashesAt s 0 keeps)))
+    → after ≡ sets s 0 (hashesBytes (keep (λ h. not (below (rowsAt table 0 n) l h)) (hashesAt s 0 (keptHashes heads sent))))
+left-trimmed table n marks l s after heads sent keeps rows e c =
+    c ∙ ap (λ (hs : List ℕ). sets s 0 (hashesBytes hs)) (left-marked table n marks l s heads sent keeps rows e)

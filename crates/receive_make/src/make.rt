@@ -1,12 +1,12 @@
-// The parts of a session after a message, computed beside it.
+// The numbers of a session after a message.
 use bloom::have::HAVE_WORDS;
 use message_items::haves::put_haves;
 use message_read::parse::Places;
 use receive_decide::decide::Receipt;
 use receive_haves::haves::laid_size;
 use receive_parts::heads::heads_before;
-use receive_parts::left::make_left;
-use receive_parts::shared::make_shared;
+use receive_parts::left::count_left;
+use receive_shared::shared::count_shared;
 use session_state::session::Session;
 ghost use mathlib.Core.Bool.{not, _&&_};
 ghost use mathlib.Core.Path.{_≡_};
@@ -20,8 +20,7 @@ ghost use Rattle.table_index.specs.Index.{Indexed};
 ghost use Rattle.rules.specs.Hash.{hashesAt};
 ghost use Rattle.rules.specs.Sizes.{sizes};
 ghost use Rattle.table.specs.TableBytes.{rowsAt};
-ghost use Rattle.receive_decide.specs.Internal.Receipt.{receiptParts};
-ghost use Rattle.receive_make.specs.Internal.ReceiveMake.{wordsRoom, toldHeads, lastSentCount, keptHashes, Prepared, Stands, Makes, WordsMade, ReceiptMade};
+ghost use Rattle.receive_make.specs.Internal.ReceiveMake.{wordsRoom, toldHeads, lastSentCount, keptHashes, Prepared, Makes, WordsMade, ReceiptMade};
 
 // Whether a message's changes are loaded: it has some, and this unit takes them.
 pub fn loads_changes(chunks: usize, read_only: bool) -> bool
@@ -75,7 +74,7 @@ fn last_sent_after(heads: usize, told: usize, before: usize) -> usize
 }
 
 // How many sent hashes are gone through: none where the peer has no heads, as it has lost everything.
-fn kept_hashes(heads: usize, sent: usize) -> usize
+pub fn kept_hashes(heads: usize, sent: usize) -> usize
     ensures { λ r. ⌜ r ≡ keptHashes heads sent ⌝ }
 {
     if heads == 0 {
@@ -94,9 +93,9 @@ fn make_words(message: &[u8], places: Places, words: &mut [u64]) -> usize
     laid_size(message, &words[..HAVE_WORDS * haves.count])
 }
 
-// Computes all parts of the session after a message, its flags being taken and what lies below its heads marked, each into a buffer that is long
-// enough for it.
-pub fn make_received(
+// Counts all parts of the session after a message, its flags being taken and what lies below its heads marked, and puts the words of its haves into a
+// list of the caller's own. Nothing of the session is written.
+pub fn count_received(
     flagged: Session,
     loads: bool,
     all: bool,
@@ -109,23 +108,20 @@ pub fn make_received(
     places: Places,
     shared: &[u8],
     sent: &[u8],
-    ready_shared: &mut [u8],
-    ready_sent: &mut [u8],
     words: &mut [u64],
 ) -> Receipt
     requires { ⌜ Makes flagged (now table) (now index) n before (now message) places (now shared) (now sent)
-        × Prepared (now table) n (now message) places (flagged .«sent_hashes») (now marks) all (now «ready_shared») (now «ready_sent»)
+        × Prepared (now table) n (now message) places (flagged .«sent_hashes») (now marks) all
         × (length (now words) ≡ wordsRoom) ⌝ }
-    ensures { λ d. ⌜ ReceiptMade loads flagged (now (table .entry)) n before (now (message .entry)) places (now (shared .entry)) (now (sent .entry))
-        (receiptParts (now («ready_shared» .exit)) (now («ready_sent» .exit)) (now (words .exit))) d
-        × Stands d (receiptParts (now («ready_shared» .exit)) (now («ready_sent» .exit)) (now (words .exit))) ⌝ }
+    ensures { λ d. ⌜ ReceiptMade all loads flagged (now (table .entry)) n before (now (message .entry)) places (now (shared .entry)) (now (sent .entry))
+        (now (words .exit)) d ⌝ }
 {
     let heads = places.heads;
     let need = places.need;
     let haves = places.haves;
     let chunks = places.chunks;
     let bytes = make_words(message, places, words);
-    let count = make_shared(
+    let count = count_shared(
         all,
         loads,
         table,
@@ -137,10 +133,9 @@ pub fn make_received(
         message,
         heads.start,
         heads.count,
-        ready_shared,
     );
     let keeps = kept_hashes(heads.count, flagged.sent_hashes);
-    let left = make_left(table, index, n, marks, sent, keeps, ready_sent);
+    let left = count_left(table, index, n, marks, sent, keeps);
     let told = told_heads(
         chunks.count,
         table,

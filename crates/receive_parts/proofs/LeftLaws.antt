@@ -1,24 +1,22 @@
--- The sent hashes that are left: those without a marked row, put one behind the other. Each law is one turn of the loop, with its test as a
--- hypothesis; what has been put and what is left make the whole.
+-- The sent hashes that are left: those without a marked row, counted, and moved to the front one behind the other. Each law is one turn of a loop,
+-- with its test as a hypothesis; what has been counted or moved and what is left make the whole.
 use Prim.Native.Nat.{ℕ, suc, _+_, _*_, _≤_, _<_}
 use mathlib.Core.Bool.{Bool, true, false, not}
 use mathlib.Core.List.{List, [], _∷_}
 use mathlib.Core.Path.{_≡_, refl, sym, ap, _∙_}
 use native.Mathlib.Nat.{zero-add}
 use native.Mathlib.Omega.{arith}
-use lib.ListN.{length, getD}
-use lib.Seq.{sets, slice}
+use lib.ListN.{length, getD, take, drop, set}
+use lib.Seq.{sets, slice, drop-drop, drop-set-lt}
 use Rattle.table_graph.proofs.PutLaws.{put-one, put-same, put-none}
 use Rattle.table_graph.specs.Graph.{belowRow, below}
 use Rattle.table_graph.specs.Internal.Marks.{Marks}
 use Rattle.hash_lists.proofs.CompareLaws.{onward, onward-starts, onward-first, onward-ends, found-held, found-unknown}
-use Rattle.hash_order.proofs.KeepLaws.{keep-member, keep-most, keep-same, hashes-inside}
+use Rattle.hash_order.proofs.KeepLaws.{keep-same}
 use Rattle.hash_order.specs.Order.{keep}
-use Rattle.rules.proofs.Cases.{split, both}
-use Rattle.rules.proofs.Hash.{length-hashes-at, hashes-are-hashes}
-use Rattle.rules.proofs.Outputs.{written-gathered}
-use Rattle.rules.specs.Hash.{Bytes, AreHashes, hashAt, hashesAt, hashesBytes}
-use Rattle.rules.specs.Output.{Gathered}
+use Rattle.rules.proofs.Cases.{split}
+use Rattle.rules.proofs.Hash.{take-drop, length-slice-of}
+use Rattle.rules.specs.Hash.{Bytes, bigEndian, hashAt, hashesAt, hashesBytes}
 use Rattle.rules.specs.Sizes.{sizes}
 use Rattle.table.proofs.TableLaws.{row-of-held, length-rows-at}
 use Rattle.table.specs.TableBytes.{rowsAt}
@@ -47,13 +45,30 @@ module _ (table : List ℕ) (n : ℕ) (marks : List Bool) (l : List ℕ) (m : Ma
       rw e (m .each (rowNumber (rowsAt table 0 n) h) inside))
       (λ e. rw e)
 
-  pub left-below : (hs after : List ℕ) (r : ℕ) → Gathered (keep (λ h. not (heldMarked (rowsAt table 0 n) marks h)) hs) after r
-      → Gathered (keep (λ h. not (below (rowsAt table 0 n) l h)) hs) after r
-  left-below hs after r g =
-      rw
-      (keep-same (λ h. not (heldMarked (rowsAt table 0 n) marks h)) (λ h. not (below (rowsAt table 0 n) l h)) hs
-      (λ h e. ap not (marked-below h)))
-      at g
+  -- those that aren't marked aren't below it
+  pub left-below : (hs : List ℕ)
+      → keep (λ h. not (heldMarked (rowsAt table 0 n) marks h)) hs ≡ keep (λ h. not (below (rowsAt table 0 n) l h)) hs
+  left-below hs =
+      keep-same (λ h. not (heldMarked (rowsAt table 0 n) marks h)) (λ h. not (below (rowsAt table 0 n) l h)) hs (λ h e. ap not (marked-below h))
+
+-- ---- bytes behind a place, which stay
+
+-- what is stored before a place leaves what stands from there on
+drop-sets : (b l : List ℕ) (i j : ℕ) → i + length b ≤ j → drop j (sets l i b) ≡ drop j l
+drop-sets [] l i j h = refl
+drop-sets (x ∷ b) l i j h = drop-sets b (set l i x) (suc i) j (omega arith) ∙ drop-set-lt j l i x (omega arith)
+
+-- lists that are the same from a place on have the same part there, the same hash, and are the same further on
+module _ (l s : List ℕ) (a : ℕ) (e : drop a l ≡ drop a s) where
+  same-part : (k : ℕ) → slice a (a + k) l ≡ slice a (a + k) s
+  same-part k = sym (take-drop k a l) ∙ ap (take k) e ∙ take-drop k a s
+
+  pub same-hash : hashAt l a ≡ hashAt s a
+  unfolding hashAt
+  same-hash = ap bigEndian (same-part (sizes .hash))
+
+  same-further : (k : ℕ) → drop (a + k) l ≡ drop (a + k) s
+  same-further k = sym (drop-drop k a l) ∙ ap (drop k) e ∙ drop-drop k a s
 
 -- ---- the loop
 
@@ -82,55 +97,81 @@ module _ (p : ℕ → Bool) (s : List ℕ) (count : ℕ) where
   unfolding leftFrom
   left-all = rw (onward-starts s 0 count)
 
-  -- `left` hashes have been put of those before number k
-  pub record Leaving (list₀ list : List ℕ) (left k : ℕ) : Type 0 where
+  -- `left` of those before number k were counted
+  pub record Counting (left k : ℕ) : Type 0 where
     pub upto : k ≤ count
     pub few : left ≤ k
-    pub long : length list ≡ length list₀
     pub many : left + length (leftFrom k) ≡ length (leftFrom 0)
-    pub rest : sets list (sizes .hash * left) (hashesBytes (leftFrom k)) ≡ sets list₀ 0 (hashesBytes (leftFrom 0))
 
-  pub leaving-starts : (list₀ : List ℕ) → Leaving list₀ list₀ 0 0
-  leaving-starts list₀ = record { upto = omega arith; few = omega arith; long = refl; many = omega arith; rest = refl }
+  pub counting-starts : Counting 0 0
+  counting-starts = record { upto = omega arith; few = omega arith; many = omega arith }
 
-  module _ (list₀ list : List ℕ) (left k : ℕ) (so : Leaving list₀ list left k) where
-    pub leaving-passed : k < count → p (hashAt s (sizes .hash * k)) ≡ false → Leaving list₀ list left (k + 1)
-    leaving-passed l e =
-        let same : leftFrom k ≡ leftFrom (k + 1) = left-passed k l e in
+  module _ (left k : ℕ) (so : Counting left k) where
+    pub counting-passed : k < count → p (hashAt s (sizes .hash * k)) ≡ false → Counting left (k + 1)
+    counting-passed l e = record { upto = omega arith; few = omega (arith, so .few); many = rw (left-passed k l e) at (so .many) }
+
+    pub counting-taken : k < count → p (hashAt s (sizes .hash * k)) ≡ true → Counting (left + 1) (k + 1)
+    counting-taken l e =
+        let more : length (leftFrom k) ≡ suc (length (leftFrom (k + 1))) = ap length (left-taken k l e) in
+        record { upto = omega arith; few = omega (arith, so .few); many = omega (arith, so .many) }
+
+    pub counting-ends : count ≤ k → left ≡ length (keep p (hashesAt s 0 count))
+    counting-ends l =
+        let none : length (leftFrom k) ≡ 0 = ap length (left-none k l) in
+        let all : left ≡ length (leftFrom 0) = omega (arith, so .many) in
+        rw left-all at all
+
+  -- `left` of those before number k were moved to the front, and from there on the list is as it was
+  pub record Trimming (list : List ℕ) (left k : ℕ) : Type 0 where
+    pub counted : Counting left k
+    pub long : length list ≡ length s
+    pub still : drop (sizes .hash * k) list ≡ drop (sizes .hash * k) s
+    pub rest : sets list (sizes .hash * left) (hashesBytes (leftFrom k)) ≡ sets s 0 (hashesBytes (leftFrom 0))
+
+  pub trimming-starts : Trimming s 0 0
+  trimming-starts = record { counted = counting-starts; long = refl; still = refl; rest = refl }
+
+  module _ (list : List ℕ) (left k : ℕ) (so : Trimming list left k) (l : k < count) where
+    next-place : sizes .hash * (k + 1) ≡ sizes .hash * k + sizes .hash
+    next-place = omega arith
+
+    further : drop (sizes .hash * (k + 1)) list ≡ drop (sizes .hash * (k + 1)) s
+    further = rw next-place (same-further list s (sizes .hash * k) (so .still) (sizes .hash))
+
+    -- what is told of a hash that is still to be read is told of the one that was lent
+    pub trimming-told : {b : Bool} → p (hashAt list (sizes .hash * k)) ≡ b → p (hashAt s (sizes .hash * k)) ≡ b
+    trimming-told e = rw (same-hash list s (sizes .hash * k) (so .still)) at e
+
+    pub trimming-passed : p (hashAt s (sizes .hash * k)) ≡ false → Trimming list left (k + 1)
+    trimming-passed e =
         record {
-          upto = omega arith;
-          few = omega (arith, so .few);
+          counted = counting-passed left k (so .counted) l e;
           long = so .long;
-          many = rw same at (so .many);
-          rest = put-same _ _ same _ _ _ (so .rest);
+          still = further;
+          rest = put-same _ _ (left-passed k l e) _ _ _ (so .rest);
         }
 
-    pub leaving-taken : (next : List ℕ) → k < count → p (hashAt s (sizes .hash * k)) ≡ true → Bytes s → sizes .hash * count ≤ length s
+    pub trimming-taken : (next : List ℕ) → p (hashAt s (sizes .hash * k)) ≡ true → Bytes s → sizes .hash * count ≤ length s
         → length next ≡ length list
-        → next ≡ sets list (sizes .hash * left) (slice (sizes .hash * k) (sizes .hash * k + sizes .hash) s)
-        → Leaving list₀ next (left + 1) (k + 1)
-    leaving-taken next l e all fits long put =
+        → next ≡ sets list (sizes .hash * left) (slice (sizes .hash * k) (sizes .hash * k + sizes .hash) list)
+        → Trimming next (left + 1) (k + 1)
+    trimming-taken next e all fits long put =
         let one : leftFrom k ≡ hashAt s (sizes .hash * k) ∷ leftFrom (k + 1) = left-taken k l e in
         let at : sizes .hash * (left + 1) ≡ sizes .hash * left + sizes .hash = omega arith in
-        let more : length (leftFrom k) ≡ suc (length (leftFrom (k + 1))) = ap length one in
+        let part : List ℕ = slice (sizes .hash * k) (sizes .hash * k + sizes .hash) s in
+        let size : length part ≡ sizes .hash = length-slice-of (sizes .hash) s (sizes .hash * k) (omega arith) in
+        let is : next ≡ sets list (sizes .hash * left) part =
+        put ∙ ap (sets list (sizes .hash * left)) (same-part list s (sizes .hash * k) (so .still) (sizes .hash))
+        in
+        let behind : drop (sizes .hash * (k + 1)) (sets list (sizes .hash * left) part) ≡ drop (sizes .hash * (k + 1)) list =
+        drop-sets part list (sizes .hash * left) (sizes .hash * (k + 1)) (omega (arith, so .counted .few))
+        in
         record {
-          upto = omega arith;
-          few = omega (arith, so .few);
+          counted = counting-taken left k (so .counted) l e;
           long = long ∙ so .long;
-          many = omega (arith, so .many);
-          rest = rw at (put-one _ _ _ one _ _ _ _ _ _ all (omega arith) refl put (so .rest));
+          still = ap (drop (sizes .hash * (k + 1))) is ∙ behind ∙ further;
+          rest = rw at (put-one _ _ _ one _ _ _ _ _ _ all (omega arith) refl is (so .rest));
         }
 
-    pub leaving-ends : count ≤ k → Bytes s → sizes .hash * count ≤ length list₀ → Gathered (keep p (hashesAt s 0 count)) list left
-    leaving-ends l all room =
-        let hs : List ℕ = keep p (hashesAt s 0 count) in
-        let none : leftFrom k ≡ [] = left-none k l in
-        let put : list ≡ sets list₀ 0 (hashesBytes hs) = rw left-all at (put-none _ none _ _ _ (so .rest)) in
-        let all-put : left ≡ length (leftFrom 0) = omega (arith, so .many, ap length none) in
-        let long : left ≡ length hs = rw left-all at all-put in
-        let are : AreHashes hs =
-        hashes-inside hs (hashesAt s 0 count) (hashes-are-hashes s 0 count all)
-        (λ h m. both (p h) _ (sym (keep-member p (hashesAt s 0 count) h) ∙ m) .1)
-        in
-        let fits : sizes .hash * length hs ≤ length list₀ = omega (arith, keep-most p (hashesAt s 0 count), length-hashes-at s 0 count) in
-        rw (put, long) (written-gathered hs list₀ are fits)
+  pub trimming-ends : (list : List ℕ) (left k : ℕ) → Trimming list left k → count ≤ k → list ≡ sets s 0 (hashesBytes (keep p (hashesAt s 0 count)))
+  trimming-ends list left k so l = rw left-all at (put-none _ (left-none k l) _ _ _ (so .rest))

@@ -1,19 +1,18 @@
--- What internal contracts speak of: the numbers of a session after a message before it is decided, and what stands ready to be put. No rule of 01
+-- What internal contracts speak of: the numbers of a session after a message, on which it is decided, and room for what the message says. No rule of 01
 -- stands here.
 use Prim.Native.Nat.{ℕ, _+_, _*_, _≤_}
-use mathlib.Core.Bool.{Bool, cond}
+use mathlib.Core.Bool.{Bool, true, false, cond}
 use mathlib.Core.List.{List}
 use lib.Dec.{ltb}
-use lib.ListN.{length, take}
-use lib.Seq.{sets, slice}
+use lib.ListN.{length}
 use Rattle.bloom.specs.Have.{haveWords, havesOf}
 use Rattle.rules.specs.Sizes.{sizes}
 use Rattle.rules.specs.declared.refusal.Refusal.the-variants.{PastSize}
-use Rattle.session.specs.Laid.{laidBytes, laidWords}
+use Rattle.session.specs.Laid.{laidBytes}
 use Rattle.session.specs.Rooms.{orShort, ifRoom}
 use Rattle.session.specs.declared.room.Room.{Room}
 use Rattle.session.specs.declared.room.Room.the-variants.{Enough}
-use Rattle.session_state.specs.Value.{Lent, keptHaves}
+use Rattle.session_state.specs.Value.{keptHaves}
 use Rattle.session_state.specs.declared.session.Heard.the-variants.{Count}
 use Rattle.session_state.specs.declared.session.Session.{Session}
 use Rattle.receive_haves.specs.Internal.HavesLaid.{Layable}
@@ -24,9 +23,8 @@ use Rattle.receive_decide.specs.declared.decide.Receipt.{Receipt}
 
 -- ---- what is decided
 
--- Small enough for its bytes to be counted.
+-- Small enough for its bytes to be counted. How many heads are shared is tested before.
 pub record SmallReceipt (d : Receipt) : Type 0 where
-  pub shared : d .shared ≤ sizes .hashes + 1
   pub lastSent : d .«last_sent» ≤ sizes .hashes
   pub heads : d .heads ≤ sizes .hashes
   pub need : d .need ≤ sizes .hashes
@@ -72,26 +70,11 @@ receiptDecided flagged failed d r =
 
 -- ---- what is put
 
--- What stands ready to be put: shared heads, sent hashes, and the words of the message's haves.
-pub record ReceiptParts : Type 0 where
-  pub shared : List ℕ
-  pub sent : List ℕ
-  pub words : List ℕ
-
--- The parts, in the order in which they are lent.
-abbrev pub receiptParts : List ℕ → List ℕ → List ℕ → ReceiptParts
-receiptParts shared sent words = record { shared = shared; sent = sent; words = words }
-
--- Nothing to put.
-abbrev pub noReceipt : Receipt
-noReceipt =
-    record { shared = 0; «last_sent» = 0; told = 0; sent = 0; heads = 0; need = 0; haves = 0; bytes = 0 }
-
--- What is put: all that was drafted, or nothing after a refusal.
-unfoldable pub receiptPuts : ReceiveAnswer → Receipt → Receipt
-receiptPuts (Took s) d = d
-receiptPuts (Failed s) d = noReceipt
-receiptPuts (Refused r) d = noReceipt
+-- Whether a message was taken.
+unfoldable pub isTaken : ReceiveAnswer → Bool
+isTaken (Took s) = true
+isTaken (Failed s) = false
+isTaken (Refused r) = false
 
 -- `count` records stand in a list, are haves over the message, and have room, laid out.
 pub record LaidFit (message words : List ℕ) (count : ℕ) (records bytes : List ℕ) : Type 0 where
@@ -100,29 +83,12 @@ pub record LaidFit (message words : List ℕ) (count : ℕ) (records bytes : Lis
   pub room : haveWords * count ≤ length records
   pub bytesRoom : length (laidBytes (havesOf message (keptHaves words count))) ≤ length bytes
 
--- All of it stands ready, and has room. Heads and need stand in the message from these places on.
-pub record ReceiptFits (p : Receipt) (message : List ℕ) (atHeads atNeed : ℕ) (ready : ReceiptParts) (l : Lent) : Type 0 where
-  pub shared : sizes .hash * p .shared ≤ length (ready .shared)
-  pub sharedRoom : sizes .hash * p .shared ≤ length (l .shared)
-  pub told : atHeads + sizes .hash * p .told ≤ length message
-  pub toldRoom : sizes .hash * p .told ≤ length (l .lastSent)
-  pub heads : atHeads + sizes .hash * p .heads ≤ length message
-  pub headsRoom : sizes .hash * p .heads ≤ length (l .theirHeads)
-  pub need : atNeed + sizes .hash * p .need ≤ length message
-  pub needRoom : sizes .hash * p .need ≤ length (l .theirNeed)
-  pub haves : LaidFit message (ready .words) (p .haves) (l .haves) (l .bytes)
-  pub sent : sizes .hash * p .sent ≤ length (ready .sent)
-  pub sentRoom : sizes .hash * p .sent ≤ length (l .sent)
-
--- All of it put.
-abbrev pub receiptPut : Receipt → List ℕ → ℕ → ℕ → ReceiptParts → Lent → Lent
-receiptPut p message atHeads atNeed ready l =
-    record {
-      shared = sets (l .shared) 0 (take (sizes .hash * p .shared) (ready .shared));
-      lastSent = sets (l .lastSent) 0 (slice atHeads (atHeads + sizes .hash * p .told) message);
-      theirHeads = sets (l .theirHeads) 0 (slice atHeads (atHeads + sizes .hash * p .heads) message);
-      theirNeed = sets (l .theirNeed) 0 (slice atNeed (atNeed + sizes .hash * p .need) message);
-      haves = sets (l .haves) 0 (laidWords (havesOf message (keptHaves (ready .words) (p .haves))));
-      bytes = sets (l .bytes) 0 (laidBytes (havesOf message (keptHaves (ready .words) (p .haves))));
-      sent = sets (l .sent) 0 (take (sizes .hash * p .sent) (ready .sent));
-    }
+-- What a message says has room. Heads and need stand in it from these places on.
+pub record HeardFits (d : Receipt) (message : List ℕ) (atHeads atNeed : ℕ) (words lastSent theirHeads theirNeed records bytes : List ℕ) : Type 0 where
+  pub told : atHeads + sizes .hash * d .told ≤ length message
+  pub toldRoom : sizes .hash * d .told ≤ length lastSent
+  pub heads : atHeads + sizes .hash * d .heads ≤ length message
+  pub headsRoom : sizes .hash * d .heads ≤ length theirHeads
+  pub need : atNeed + sizes .hash * d .need ≤ length message
+  pub needRoom : sizes .hash * d .need ≤ length theirNeed
+  pub haves : LaidFit message words (d .haves) records bytes

@@ -1,5 +1,4 @@
--- What internal contracts speak of: what a message says by its places, and a session after it as numbers and parts that stand ready. No rule of 01
--- stands here.
+-- What internal contracts speak of: what a message says by its places, and a session after it as numbers. No rule of 01 stands here.
 use Prim.Native.Nat.{ℕ, _*_, _≤_}
 use mathlib.Core.Bool.{Bool, cond, not, _&&_}
 use mathlib.Core.List.{List}
@@ -11,20 +10,18 @@ use Rattle.message_read.specs.MessageRead.{messageAt, decodedOf}
 use Rattle.message_read.specs.declared.parse.Decoded.the-variants.{Message as Placed}
 use Rattle.message_read.specs.declared.parse.Places.{Places}
 use Rattle.table_graph.specs.Graph.{heads, below}
-use Rattle.session.specs.Receive.{Said, advance, join}
+use Rattle.session.specs.Receive.{Said}
 use Rattle.table_index.specs.Index.{Indexed}
 use Rattle.message_items.specs.Items.{haveItem, manyAt, wordsOf}
 use Rattle.hash_lists.specs.Internal.Lists.{same}
-use Rattle.hash_order.specs.Order.{keep, every}
-use Rattle.receive_parts.specs.Internal.ReceiveParts.{HeadsMarked, sharedRoom, SharedFits, SharedMade}
-use Rattle.rules.specs.Hash.{Bytes, hashesAt}
-use Rattle.rules.specs.Output.{Gathered}
+use Rattle.hash_order.specs.Order.{keep}
+use Rattle.receive_parts.specs.Internal.ReceiveParts.{HeadsMarked}
+use Rattle.rules.specs.Hash.{hashesAt}
 use Rattle.rules.specs.Sizes.{sizes}
 use Rattle.session.specs.Laid.{laidBytes}
 use Rattle.session_state.specs.declared.session.Session.{Session}
 use Rattle.table.specs.TableBytes.{rowsAt}
-use Rattle.table.specs.Table.{held}
-use Rattle.receive_decide.specs.Internal.Receipt.{ReceiptParts}
+use Rattle.receive_shared.specs.Internal.Shared.{sharedThen, Counted}
 use Rattle.receive_decide.specs.declared.decide.Receipt.{Receipt}
 
 -- ---- what a message says, by its places
@@ -50,21 +47,10 @@ saidAt s p =
 abbrev pub wordsRoom : ℕ
 wordsRoom = haveWords * sizes .haves
 
--- What lies below a message's heads is marked, and buffers are long enough: for the shared heads after it, and for `kept` sent hashes.
-pub record Prepared (table : List ℕ) (n : ℕ) (message : List ℕ) (p : Places) (kept : ℕ) (marks : List Bool) (all : Bool) (readyShared readySent : List ℕ)
-    : Type 0 where
+-- What lies below a message's heads is marked, where `kept` hashes were sent, and whether all of its heads are held is known.
+pub record Prepared (table : List ℕ) (n : ℕ) (message : List ℕ) (p : Places) (kept : ℕ) (marks : List Bool) (all : Bool) : Type 0 where
   pub long : n ≤ length marks
   pub marked : HeadsMarked table n (saidAt message p .heads) kept marks all
-  pub shared : SharedFits all (p .heads .count) (length readyShared)
-  pub sent : sizes .hash * kept ≤ length readySent
-
--- Parts that stand ready: bytes, and as many as the draft says.
-pub record Stands (d : Receipt) (ready : ReceiptParts) : Type 0 where
-  pub shared : Bytes (ready .shared)
-  pub sharedThere : sizes .hash * d .shared ≤ length (ready .shared)
-  pub sent : Bytes (ready .sent)
-  pub sentThere : sizes .hash * d .sent ≤ length (ready .sent)
-  pub words : length (ready .words) ≡ wordsRoom
 
 -- A message that was read, beside a table and its index that were checked, and the lists of a session that is good.
 pub record Makes (s : Session) (table index : List ℕ) (n before : ℕ) (message : List ℕ) (p : Places) (oldShared oldSent : List ℕ) : Type 0 where
@@ -91,26 +77,19 @@ pub record WordsMade (message : List ℕ) (p : Places) (ready : List ℕ) (size 
   pub words : take (haveWords * p .haves .count) ready ≡ havesWords message p
   pub bytes : size ≡ length (laidBytes (saidAt message p .haves))
 
--- The numbers of a session after a message, the counts of before having the message's flags taken; and what stands ready.
-pub record ReceiptMade (loads : Bool) (s : Session) (table : List ℕ) (n before : ℕ) (message : List ℕ) (p : Places) (oldShared oldSent : List ℕ) (ready : ReceiptParts)
+-- The sent hashes that are left of those that are gone through.
+abbrev pub leftOf : List ℕ → ℕ → List ℕ → Places → List ℕ → ℕ → List ℕ
+leftOf table n message p sent keeps = keep (λ h. not (below (rowsAt table 0 n) (saidAt message p .heads) h)) (hashesAt sent 0 keeps)
+
+-- The numbers of a session after a message, the counts of before having the message's flags taken; and the words of its haves.
+pub record ReceiptMade (all loads : Bool) (s : Session) (table : List ℕ) (n before : ℕ) (message : List ℕ) (p : Places) (oldShared oldSent ready : List ℕ)
     (d : Receipt) : Type 0 where
-  pub shared : SharedMade
-      (cond (every (held (rowsAt table 0 n)) (saidAt message p .heads))
-      (saidAt message p .heads)
-      (join (rowsAt table 0 n) (saidAt message p .heads)
-      (cond loads
-      (advance (heads (take before (rowsAt table 0 n))) (heads (rowsAt table 0 n)) (hashesAt oldShared 0 (s .«shared_heads»)))
-      (hashesAt oldShared 0 (s .«shared_heads»)))))
-      sharedRoom
-      (ready .shared)
-      (d .shared)
-  pub sent : Gathered
-      (keep (λ h. not (below (rowsAt table 0 n) (saidAt message p .heads) h)) (hashesAt oldSent 0 (keptHashes (p .heads .count) (s .«sent_hashes»))))
-      (ready .sent)
-      (d .sent)
+  pub shared : Counted (sharedThen all loads before (rowsAt table 0 n) (saidAt message p .heads) (hashesAt oldShared 0 (s .«shared_heads»))) (d .shared)
+  pub sent : d .sent ≡ length (leftOf table n message p oldSent (keptHashes (p .heads .count) (s .«sent_hashes»)))
   pub told : d .told ≡ toldHeads (p .chunks .count) (p .heads .count) (saidAt message p .heads) (heads (rowsAt table 0 before))
   pub lastSent : d .«last_sent» ≡ lastSentCount (p .heads .count) (d .told) (s .«last_sent_heads»)
   pub heads : d .heads ≡ p .heads .count
   pub need : d .need ≡ p .need .count
   pub haves : d .haves ≡ p .haves .count
-  pub words : WordsMade message p (ready .words) (d .bytes)
+  pub room : length ready ≡ wordsRoom
+  pub words : WordsMade message p ready (d .bytes)

@@ -1,18 +1,15 @@
--- What internal contracts speak of: parts of a session that were computed into buffers. No rule of 01 stands here.
-use Prim.Native.Nat.{ℕ, _+_, _*_, _/_, _≤_, _<_}
+-- What internal contracts speak of: the counts of a session with flags taken, and which of a message's heads are held. No rule of 01 stands here.
+use Prim.Native.Nat.{ℕ, _<_}
 use mathlib.Core.Bool.{Bool, true, false, cond, _&&_}
 use mathlib.Core.List.{List}
 use mathlib.Core.Path.{_≡_}
-use lib.ListN.{length, getD}
+use lib.ListN.{getD}
 use Rattle.table_graph.specs.Graph.{belowRow}
 use Rattle.table_graph.specs.Internal.Marks.{Marks}
 use Rattle.session.specs.Receive.{flagTaken}
-use Rattle.hash_lists.specs.Internal.Lists.{UpTo}
 use Rattle.message.specs.Flags.{syncReset, readOnlyFlag, supportsSyncReset, hasFlag}
 use Rattle.message.specs.declared.flags.Section.{Section}
 use Rattle.hash_order.specs.Order.{every}
-use Rattle.rules.specs.Hash.{hashesAt}
-use Rattle.rules.specs.Sizes.{sizes}
 use Rattle.session_state.specs.declared.session.Session.{Session}
 use Rattle.table.specs.TableBytes.{rowsAt}
 use Rattle.table.specs.Table.{Row, held, rowNumber}
@@ -44,18 +41,3 @@ heldMarked t marks h = held t h && getD marks (rowNumber t h) false
 pub record HeadsMarked (table : List ℕ) (n : ℕ) (hs : List ℕ) (sent : ℕ) (marks : List Bool) (all : Bool) : Type 0 where
   pub rows : 0 < sent → Marks n marks (belowRow (rowsAt table 0 n) hs)
   pub known : all ≡ every (held (rowsAt table 0 n)) hs
-
--- Room for one shared head more than there may be, so that too many show.
-abbrev pub sharedRoom : ℕ
-sharedRoom = sizes .hash * (sizes .hashes + 1)
-
--- Room for the shared heads after a message of `many` heads: these are all where they are held.
-pub record SharedFits (all : Bool) (many room : ℕ) : Type 0 where
-  pub held : all ≡ true → sizes .hash * many ≤ room
-  pub joined : all ≡ false → room ≡ sharedRoom
-
--- Hashes at the start of a list, as many as `room` bytes hold.
-pub record SharedMade (hs : List ℕ) (room : ℕ) (after : List ℕ) (count : ℕ) : Type 0 where
-  pub there : sizes .hash * count ≤ length after
-  pub many : count ≡ length (hashesAt after 0 count)
-  pub are : UpTo (room / sizes .hash) hs (hashesAt after 0 count)

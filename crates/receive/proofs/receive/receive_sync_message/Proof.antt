@@ -14,8 +14,8 @@ enum-known-refusal c = search needs
 enum-known-rows : tie.Need-enum-known-rows
 enum-known-rows c = search needs
 
-receive-sized-requires : tie.Need-receive-sized-requires
-receive-sized-requires c κs =
+receive-checked-requires : tie.Need-receive-checked-requires
+receive-checked-requires c κs =
     let r = c .before .before .before .before .before .before .before .before in
     let k = r .before .before in
     accepted _ _ _ _ _ _ _ _ (sym (k .check-receive .ensures) ∙ r .rows .given .1)
@@ -78,7 +78,7 @@ receive-sync-message-spec =
     check-receive-requires
     enum-known-refusal
     enum-known-rows
-    receive-sized-requires
+    receive-checked-requires
     same-length
     same-length-2
     same-length-3

@@ -1,0 +1,3 @@
+pub mod AdvanceLaws
+pub mod JoinedLaws
+pub mod SharedLaws

@@ -1,0 +1,33 @@
+-- What internal contracts speak of: the shared heads after a message, counted and gathered. No rule of 01 stands here.
+use Prim.Native.Nat.{ℕ, _≤_, _<_}
+use mathlib.Core.Bool.{Bool, cond, not, _||_, _&&_}
+use mathlib.Core.List.{List, [], _++_}
+use mathlib.Core.Path.{_≡_}
+use lib.Dec.{leb}
+use lib.ListN.{length, take}
+use Rattle.hash_once.specs.Internal.Once.{addAll, OnceList}
+use Rattle.hash_order.specs.Order.{member, keep}
+use Rattle.rules.specs.Hash.{hashesAt}
+use Rattle.rules.specs.Sizes.{sizes}
+use Rattle.session.specs.Receive.{advance, join}
+use Rattle.table.specs.Table.{Row, hashOf, held}
+use Rattle.table_graph.specs.Graph.{needed, heads}
+
+-- The shared heads after a message by whether all of its heads are held and whether changes were loaded.
+unfoldable pub sharedThen : Bool → Bool → ℕ → List Row → List ℕ → List ℕ → List ℕ
+sharedThen all loads before t theirs shared =
+    cond all theirs (join t theirs (cond loads (advance (heads (take before t)) (heads t) shared) shared))
+
+-- A row that is shared after changes were loaded: a head that is new, since its row is, or that was shared; or a head of the message.
+unfoldable pub sharedRow : ℕ → List Row → List ℕ → List ℕ → ℕ → Bool
+sharedRow before t shared theirs i = (not (needed t i) && (leb before i || member (hashOf t i) shared)) || member (hashOf t i) theirs
+
+-- How many they are; or more than a list may have, where they are too many.
+pub record Counted (hs : List ℕ) (count : ℕ) : Type 0 where
+  pub few : count ≤ sizes .hashes → count ≡ length hs
+  pub many : sizes .hashes < count → sizes .hashes < length hs
+
+-- A message's heads that are held and the heads that were shared, gathered each once.
+pub record Gathers (t : List Row) (theirs shared list order : List ℕ) (count : ℕ) : Type 0 where
+  pub once : OnceList list order count
+  pub are : hashesAt list 0 count ≡ addAll shared (addAll (keep (held t) theirs) [])
