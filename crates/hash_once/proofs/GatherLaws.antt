@@ -23,7 +23,7 @@ use Rattle.table.specs.TableBytes.{u16sAt}
 use Rattle.table_graph.proofs.PutLaws.{put-one, put-none}
 use Rattle.table_index.proofs.ByteLaws.{u16s-next, u16s-none}
 use Rattle.table_index.proofs.HalveLaws.{length-hashes-from, hash-from, entry-below, look-ordered}
-use Rattle.table_index.proofs.IndexLaws.{Fits, Apart, fits-has, each-named, hashes-once, index-fits, fits-is, index-same}
+use Rattle.table_index.proofs.IndexLaws.{FittingNumbers, Apart, fits-has, each-named, hashes-once, index-fits, fits-is, index-same}
 use Rattle.table_index.proofs.ListLaws.{map-member, member-map}
 use Rattle.table_index.specs.Index.{indexed, fitsBy, hashesFrom, recordHash}
 use Rattle.hash_once.specs.Internal.Once.{addOnce, addAll, OnceList, Added}
@@ -211,7 +211,7 @@ module _ (list order : List ℕ) (count : ℕ) (so : OnceList list order count) 
   abbrev f : ℕ → ℕ
   f = recorded list
 
-  has : Fits f count (u16sAt order 0 count)
+  has : FittingNumbers f count (u16sAt order 0 count)
   has = fits-has f count (u16sAt order 0 count) (so .fit)
 
   -- the hashes from entry k on

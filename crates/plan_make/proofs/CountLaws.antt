@@ -30,7 +30,7 @@ use Rattle.session_state.specs.Value.{Lent, heardCount, heardHashes, heardHaves
 use Rattle.session_state.specs.declared.session.Session.{Session}
 use Rattle.table.specs.TableBytes.{rowsAt}
 use Rattle.table.specs.Table.{Row, rows as hashes, held}
-use Rattle.plan_make.specs.Internal.PlanMake.{BodyReady, carriedBody, BodyCounted, HaveGiven, quiet, PlanMarked, DraftCounted}
+use Rattle.plan_make.specs.Internal.PlanMake.{BodyReady, carriedBody, BodyCounted, HaveGiven, quietWith, PlanMarked, DraftCounted}
 use Rattle.plan_make.specs.declared.count.Carried.{Carried}
 use Rattle.plan_make.specs.declared.count.Given.{Given}
 
@@ -78,8 +78,8 @@ pub quiet-is : (s : Session) (lastSent theirHeads ours : List ℕ) (hashes : ℕ
     → told ≡ (same (hashesAt lastSent 0 (s .«last_sent_heads»)) ours && s .«have_responded»)
     → equal ≡ heardAs ours (heardHashes theirHeads (s .«their_heads»))
     → r ≡ (told && (((equal || s .«read_only») && eqb hashes 0) || s .«in_flight»))
-    → r ≡ quiet s lastSent theirHeads ours hashes
-unfolding quiet
+    → r ≡ quietWith s lastSent theirHeads ours hashes
+unfolding quietWith
 quiet-is s lastSent theirHeads ours hashes told equal r t e q = rw (t, e) at q
 
 -- none is an empty list
@@ -114,7 +114,7 @@ module _ {table index : List ℕ} {n : ℕ} (s : Session) (l : Lent) (rows : Ind
       (u : unknown ≡ unknownSync (rowsAt table 0 n) (heardHaves (l .bytes) (l .haves) (s .«their_have»)))
       (carried : (theirHeads : List ℕ) → BodyCounted (rowsAt table 0 n) n (carriedBody (rowsAt table 0 n) s theirHeads (l .theirNeed) (l .haves) (l .bytes) (l .sent))
       (hashesAt (l .theirNeed) 0 (heardCount (s .«their_need»))) (hashesAt (l .sent) 0 (s .«sent_hashes»)) marks needs fresh k)
-      (q : silent ≡ quiet s (l .lastSent) (l .theirHeads) (ascend (picked (hashes (rowsAt table 0 n)) headMarks)) (k .body .hashes)) where
+      (q : silent ≡ quietWith s (l .lastSent) (l .theirHeads) (ascend (picked (hashes (rowsAt table 0 n)) headMarks)) (k .body .hashes)) where
     abbrev drawn : Draft
     drawn =
         record { heads = count; need = asked; unknown = unknown; gives = g .gives; entries = g .entries; body = k .body; silent = silent; sent = k .sent }
@@ -135,7 +135,7 @@ module _ {table index : List ℕ} {n : ℕ} (s : Session) (l : Lent) (rows : Ind
         }
 
     pub draft-counted : DraftCounted (rowsAt table 0 n) (stateOf s l) readyNeed asked drawn
-    unfolding bodyOf silence quiet sentAfter
+    unfolding bodyOf silence quietWith sentAfter
     draft-counted =
         let t : List Row = rowsAt table 0 n in
         let c = carried (l .theirHeads) in

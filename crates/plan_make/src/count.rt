@@ -35,7 +35,7 @@ ghost use Rattle.plan_make.specs.Internal.PlanMake.{
   carriedBody,
   BodyCounted,
   HaveGiven,
-  quiet,
+  quietWith,
   BlankMarks,
   PlanMarked,
   DraftCounted,
@@ -147,7 +147,7 @@ fn is_quiet(
 ) -> bool
     requires { ⌜ Indexed (now table) (now index) n × (n ≤ length (now «head_marks»)) × (sizes .hash * session .«last_sent_heads» ≤ length (now «last_sent»))
         × (heardGood (now «their_heads») (session .«their_heads») ≡ true) ⌝ }
-    ensures { λ r. ⌜ r ≡ quiet session (now («last_sent» .entry)) (now («their_heads» .entry))
+    ensures { λ r. ⌜ r ≡ quietWith session (now («last_sent» .entry)) (now («their_heads» .entry))
         (ascend (picked (rows (rowsAt (now (table .entry)) 0 n)) (now («head_marks» .entry)))) hashes ⌝ }
 {
     let heard = session.their_heads;
