@@ -32,12 +32,12 @@ use Rattle.table.proofs.TableLaws.{table-good}
 use Rattle.receive_parts.specs.Internal.ReceiveParts.{flaggedCounts, heldMarked, HeadsMarked}
 use Rattle.session.specs.ReceiveCall.{afterTable, receiveWith, receivedRoomed, receivedAnswer, receivedLists, receivedRooms, ReceiveCalled}
 use Rattle.receive_make.specs.Internal.ReceiveChecks.{besideRows, afterRows, checked, Accepted}
-use Rattle.receive_make.specs.Internal.ReceiveMake.{saidAt, keptHashes, Prepared, Makes, ReceiptMade}
-use Rattle.receive_decide.specs.Internal.Receipt.{receiptRoom, receiptDecided, SmallReceipt, isTaken, HeardFits}
+use Rattle.receive_make.specs.Internal.ReceiveMake.{saidAt, keptHashes, Prepared, Makes, CountsMade}
+use Rattle.receive_decide.specs.Internal.ReceivedCounts.{countsRoom, countsDecided, SmallCounts, isTaken, HeardFits}
 use Rattle.session.specs.declared.receive_answer.ReceiveAnswer.{ReceiveAnswer}
 use Rattle.session.specs.declared.receive_answer.ReceiveAnswer.the-variants.{Refused}
 use Rattle.receive_make.specs.declared.check.ReceiptChecks.the-variants as checks
-use Rattle.receive_decide.specs.declared.decide.Receipt.{Receipt}
+use Rattle.receive_decide.specs.declared.decide.ReceivedCounts.{ReceivedCounts}
 use Rattle.receive.proofs.DraftLaws.{forgets-most, Drafted, draft-small, sent-is, shared-is}
 use Rattle.receive.proofs.Outcomes.{Outcome, Outcomes, outcome, same-answer}
 use Rattle.receive.proofs.KeptLaws.{shared-few, shared-fits, heard-fits, parts-kept}
@@ -181,18 +181,18 @@ module _ (s : Session) (l : Lent) (table index : List ℕ) (n before : ℕ) (mes
       pub can-count : length marks ≡ length unmarked → Prepared table n message p (flagged .«sent_hashes») marks known
       can-count long = record { long = omega (arith, can-mark .2); marked = record { rows = still-marked; known = marked .known } }
 
-      module _ (loads : Bool) (loading : loads ≡ (ltb 0 (p .chunks .count) && not (s .«read_only»))) (ready : List ℕ) (d : Receipt)
-          (made : ReceiptMade known loads flagged table n before message p (l .shared) (l .sent) ready d)
+      module _ (loads : Bool) (loading : loads ≡ (ltb 0 (p .chunks .count) && not (s .«read_only»))) (ready : List ℕ) (d : ReceivedCounts)
+          (made : CountsMade known loads flagged table n before message p (l .shared) (l .sent) ready d)
         where
           drafted : Drafted s l table n before message p ready d
           drafted = rw (← flags, ← loading, ← marked .known) made
 
           -- what deciding asks
-          pub is-small : SmallReceipt d
+          pub is-small : SmallCounts d
           is-small = draft-small s l (ok .good) table n before (ok .inside) message p (ok .read) ready d drafted
 
-          module _ (loaded failed : Bool) (a : ReceiveAnswer) (failing : failed ≡ (loads && not loaded)) (decides : a ≡ receiptDecided flagged failed d (receivedRooms l)) where
-            is-decided : a ≡ receiptDecided (flaggedCounts (p .flags) s) ((ltb 0 (p .chunks .count) && not (s .«read_only»)) && not loaded) d (receivedRooms l)
+          module _ (loaded failed : Bool) (a : ReceiveAnswer) (failing : failed ≡ (loads && not loaded)) (decides : a ≡ countsDecided flagged failed d (receivedRooms l)) where
+            is-decided : a ≡ countsDecided (flaggedCounts (p .flags) s) ((ltb 0 (p .chunks .count) && not (s .«read_only»)) && not loaded) d (receivedRooms l)
             is-decided = rw (← loading, ← failing, ← flags) decides
 
             abbrev values : Received
@@ -222,7 +222,7 @@ module _ (s : Session) (l : Lent) (table index : List ℕ) (n before : ℕ) (mes
             module _ (yes : isTaken a ≡ true) where
               -- taken, with room for all of it
               taking : (a : ReceiveAnswer) (q : Received) → isTaken a ≡ true → Outcomes s l table n before message p d (receivedRooms l) a q
-                  → (d .shared ≤ sizes .hashes) × (receiptRoom d (receivedRooms l) ≡ Enough)
+                  → (d .shared ≤ sizes .hashes) × (countsRoom d (receivedRooms l) ≡ Enough)
                   × (q ≡ Received.took (received before (rowsAt table 0 n) (stateOf s l) (saidAt message p)))
               taking a q e (Outcome.leaves kept f g) = absurd (true-false (isTaken a) e f)
               taking a q e (Outcome.takes few room f g h) = (few, room, g)
@@ -230,7 +230,7 @@ module _ (s : Session) (l : Lent) (table index : List ℕ) (n before : ℕ) (mes
               few : d .shared ≤ sizes .hashes
               few = taking a values yes together .0
 
-              room : receiptRoom d (receivedRooms l) ≡ Enough
+              room : countsRoom d (receivedRooms l) ≡ Enough
               room = taking a values yes together .1
 
               shared-same : sharedThen known loads before (rowsAt table 0 n) (saidAt message p .heads) (hashesAt (l .shared) 0 (s .«shared_heads»))
@@ -264,7 +264,7 @@ module _ (s : Session) (l : Lent) (table index : List ℕ) (n before : ℕ) (mes
                 pub taken-called : {shared lastSent theirHeads theirNeed records bytes sent : List ℕ} → Bytes message → Bytes (l .lastSent)
                     → shared ≡ sets (l .shared) 0
                     (hashesBytes (sharedThen known loads before (rowsAt table 0 n) (saidAt message p .heads) (hashesAt (l .shared) 0 (s .«shared_heads»))))
-                    → (lastSent ≡ sets (l .lastSent) 0 (slice (p .heads .start) (p .heads .start + sizes .hash * d .told) message))
+                    → (lastSent ≡ sets (l .lastSent) 0 (slice (p .heads .start) (p .heads .start + sizes .hash * d .«last_sent_from_message») message))
                     × (theirHeads ≡ sets (l .theirHeads) 0 (slice (p .heads .start) (p .heads .start + sizes .hash * d .heads) message))
                     × (theirNeed ≡ sets (l .theirNeed) 0 (slice (p .need .start) (p .need .start + sizes .hash * d .need) message))
                     × LaidPut (havesOf message (keptHaves ready (d .haves))) (l .haves) (l .bytes) records bytes

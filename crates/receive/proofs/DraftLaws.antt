@@ -32,10 +32,10 @@ use Rattle.table.proofs.TableLaws.{take-rows-at}
 use Rattle.table.specs.TableBytes.{rowsAt}
 use Rattle.table.specs.Table.{Row, held}
 use Rattle.session.specs.ReceiveCall.{keptRoom}
-use Rattle.receive_make.specs.Internal.ReceiveMake.{saidAt, toldHeads, lastSentCount, keptHashes, leftOf, ReceiptMade}
-use Rattle.receive_decide.specs.Internal.Receipt.{SmallReceipt, receivedCounts, receiptRoom}
+use Rattle.receive_make.specs.Internal.ReceiveMake.{saidAt, toldHeads, lastSentCount, keptHashes, leftOf, CountsMade}
+use Rattle.receive_decide.specs.Internal.ReceivedCounts.{SmallCounts, sessionCounts, countsRoom}
 use Rattle.session.specs.declared.receive_answer.SessionRooms.{SessionRooms}
-use Rattle.receive_decide.specs.declared.decide.Receipt.{Receipt}
+use Rattle.receive_decide.specs.declared.decide.ReceivedCounts.{ReceivedCounts}
 use Rattle.receive_make.proofs.SaidLaws.{read-words, haves-many}
 use Rattle.receive_shared.specs.Internal.Shared.{sharedThen, Counted}
 
@@ -108,9 +108,9 @@ forgets-most false n = omega arith
 
 -- The numbers of a session after a message that was read, its flags being taken: whether all of its heads are held is known, and its changes are loaded if
 -- there are some and this unit takes changes.
-abbrev pub Drafted : Session → Lent → List ℕ → ℕ → ℕ → List ℕ → Places → List ℕ → Receipt → Type 0
+abbrev pub Drafted : Session → Lent → List ℕ → ℕ → ℕ → List ℕ → Places → List ℕ → ReceivedCounts → Type 0
 Drafted s l table n before message p ready d =
-    ReceiptMade (every (held (rowsAt table 0 n)) (saidAt message p .heads)) (ltb 0 (p .chunks .count) && not (s .«read_only»)) (flaggedCounts (p .flags) s) table n
+    CountsMade (every (held (rowsAt table 0 n)) (saidAt message p .heads)) (ltb 0 (p .chunks .count) && not (s .«read_only»)) (flaggedCounts (p .flags) s) table n
     before message p (l .shared) (l .sent) ready d
 
 module _ (s : Session) (l : Lent) (good : sessionGood s l ≡ true) (table : List ℕ) (n before : ℕ) (inside : before ≤ n) (message : List ℕ) (p : Places)
@@ -141,11 +141,11 @@ module _ (s : Session) (l : Lent) (good : sessionGood s l ≡ true) (table : Lis
   unfolding sharedThen sharedAfter sharedLoaded loads
   shared-is = refl
 
-  module _ (ready : List ℕ) (d : Receipt) (made : Drafted s l table n before message p ready d) where
+  module _ (ready : List ℕ) (d : ReceivedCounts) (made : Drafted s l table n before message p ready d) where
     pub sent-count : d .sent ≡ length (sentLeft t v m)
     sent-count = made .sent ∙ ap length sent-is
 
-    pub told-made : d .told ≡ cond tells (p .heads .count) 0
+    pub told-made : d .«last_sent_from_message» ≡ cond tells (p .heads .count) 0
     unfolding toldHeads
     told-made = rw (take-rows-at table 0 before n inside) (made .told)
 
@@ -165,14 +165,14 @@ module _ (s : Session) (l : Lent) (good : sessionGood s l ≡ true) (table : Lis
     pub haves-count : d .haves ≡ length (m .haves)
     haves-count = made .haves ∙ sym (haves-many message p read)
 
-    pub told-few : d .told ≤ p .heads .count
+    pub told-few : d .«last_sent_from_message» ≤ p .heads .count
     told-few = rw told-made (told-least tells (p .heads .count))
 
     -- what is told has room where the heads sent last have it
-    pub told-within : d .told ≤ d .«last_sent»
+    pub told-within : d .«last_sent_from_message» ≤ d .«last_sent»
     told-within = rw (told-made, last-made) (told-most (p .heads .count) (s .«last_sent_heads») tells)
 
-    pub draft-small : SmallReceipt d
+    pub draft-small : SmallCounts d
     draft-small =
         let g = session-parts s l good in
         let w = read-words message p read in
@@ -191,10 +191,10 @@ module _ (s : Session) (l : Lent) (good : sessionGood s l ≡ true) (table : Lis
       shared-count = shared-made .few few
 
       -- the counts that a message leaves
-      pub received-counts : countsOf (received before t v m) ≡ receivedCounts (flaggedCounts (p .flags) s) d
+      pub received-counts : countsOf (received before t v m) ≡ sessionCounts (flaggedCounts (p .flags) s) d
       unfolding received flagged
       received-counts = rw (shared-count, last-count, heads-count, need-count, haves-count, sent-count)
 
-      pub room-is : (r : SessionRooms) → keptRoom (received before t v m) r ≡ receiptRoom d r
-      unfolding keptRoom receiptRoom received
+      pub room-is : (r : SessionRooms) → keptRoom (received before t v m) r ≡ countsRoom d r
+      unfolding keptRoom countsRoom received
       room-is r = rw (← shared-count, ← last-count, ← heads-count, ← need-count, ← haves-count, ← made .words .bytes)

@@ -31,12 +31,12 @@ use Rattle.table.specs.Table.{Row}
 use Rattle.receive_haves.specs.Internal.HavesLaid.{LaidPut}
 use Rattle.session.specs.ReceiveCall.{receivedLists, receivedRooms}
 use Rattle.receive_make.specs.Internal.ReceiveMake.{saidAt, havesWords}
-use Rattle.receive_decide.specs.Internal.Receipt.{receiptRoom, HeardFits}
+use Rattle.receive_decide.specs.Internal.ReceivedCounts.{countsRoom, HeardFits}
 use Rattle.session.specs.declared.receive_answer.SessionRooms.{SessionRooms}
 use Rattle.session.specs.declared.room.Room.{Room}
 use Rattle.session.specs.declared.room.Room.the-variants.{Enough, Short}
 use Rattle.session.specs.Rooms.{orShort}
-use Rattle.receive_decide.specs.declared.decide.Receipt.{Receipt}
+use Rattle.receive_decide.specs.declared.decide.ReceivedCounts.{ReceivedCounts}
 use Rattle.receive.proofs.DraftLaws.{Drafted, shared-count, told-made, told-few, told-within, draft-small}
 use Rattle.receive_make.proofs.SaidLaws.{read-words, read-layable}
 use Rattle.receive_decide.proofs.PutLaws.{lents-same}
@@ -81,7 +81,7 @@ not-short room wanted rest e =
     (λ t. let f : rest ≡ Enough = rw t at e in (omega (arith, ltb-false room wanted t), f))
 
 -- Room for every list.
-pub record RoomForEach (d : Receipt) (r : SessionRooms) : Type 0 where
+pub record RoomForEach (d : ReceivedCounts) (r : SessionRooms) : Type 0 where
   pub shared : sizes .hash * d .shared ≤ r .shared
   pub lastSent : sizes .hash * d .«last_sent» ≤ r .«last_sent»
   pub heads : sizes .hash * d .heads ≤ r .«their_heads»
@@ -89,8 +89,8 @@ pub record RoomForEach (d : Receipt) (r : SessionRooms) : Type 0 where
   pub haves : haveWords * d .haves ≤ r .haves
   pub bytes : d .bytes ≤ r .bytes
 
-roomy : (d : Receipt) (r : SessionRooms) → receiptRoom d r ≡ Enough → RoomForEach d r
-unfolding receiptRoom
+roomy : (d : ReceivedCounts) (r : SessionRooms) → countsRoom d r ≡ Enough → RoomForEach d r
+unfolding countsRoom
 roomy d r e =
     let a = not-short _ _ _ e in
     let b = not-short _ _ _ (a .1) in
@@ -103,8 +103,8 @@ roomy d r e =
 -- ---- all parts
 
 module _ (s : Session) (l : Lent) (good : sessionGood s l ≡ true) (table : List ℕ) (n before : ℕ) (inside : before ≤ n) (message : List ℕ) (p : Places)
-    (read : decodedOf (messageAt message) ≡ Placed p) (ready : List ℕ) (d : Receipt) (made : Drafted s l table n before message p ready d)
-    (all : Bytes message) (few : d .shared ≤ sizes .hashes) (room : receiptRoom d (receivedRooms l) ≡ Enough)
+    (read : decodedOf (messageAt message) ≡ Placed p) (ready : List ℕ) (d : ReceivedCounts) (made : Drafted s l table n before message p ready d)
+    (all : Bytes message) (few : d .shared ≤ sizes .hashes) (room : countsRoom d (receivedRooms l) ≡ Enough)
   where
     abbrev v : State
     v = stateOf s l
@@ -151,7 +151,7 @@ module _ (s : Session) (l : Lent) (good : sessionGood s l ≡ true) (table : Lis
     -- all parts put are what is kept
     pub parts-kept : {shared lastSent theirHeads theirNeed records bytes sent : List ℕ} → Bytes (l .lastSent)
         → shared ≡ sets (l .shared) 0 (hashesBytes (sharedAfter before t v m))
-        → lastSent ≡ sets (l .lastSent) 0 (slice (p .heads .start) (p .heads .start + sizes .hash * d .told) message)
+        → lastSent ≡ sets (l .lastSent) 0 (slice (p .heads .start) (p .heads .start + sizes .hash * d .«last_sent_from_message») message)
         → theirHeads ≡ sets (l .theirHeads) 0 (slice (p .heads .start) (p .heads .start + sizes .hash * d .heads) message)
         → theirNeed ≡ sets (l .theirNeed) 0 (slice (p .need .start) (p .need .start + sizes .hash * d .need) message)
         → LaidPut (havesOf message (keptHaves ready (d .haves))) (l .haves) (l .bytes) records bytes

@@ -24,21 +24,21 @@ use Rattle.table.specs.Table.{Row}
 use Rattle.receive_parts.specs.Internal.ReceiveParts.{flaggedCounts}
 use Rattle.session.specs.ReceiveCall.{receivedRoomed, receivedAnswer, receivedLists}
 use Rattle.receive_make.specs.Internal.ReceiveMake.{saidAt}
-use Rattle.receive_decide.specs.Internal.Receipt.{receivedCounts, receiptRoom, receiptDecided, isTaken}
+use Rattle.receive_decide.specs.Internal.ReceivedCounts.{sessionCounts, countsRoom, countsDecided, isTaken}
 use Rattle.session.specs.declared.receive_answer.ReceiveAnswer.{ReceiveAnswer}
 use Rattle.session.specs.declared.receive_answer.ReceiveAnswer.the-variants.{Took, Failed, Refused}
 use Rattle.session.specs.declared.receive_answer.SessionRooms.{SessionRooms}
 use Rattle.session.specs.declared.room.Room.{Room}
 use Rattle.session.specs.declared.room.Room.the-variants.{Enough, Short}
 use Rattle.session.specs.Rooms.{ifRoom}
-use Rattle.receive_decide.specs.declared.decide.Receipt.{Receipt}
+use Rattle.receive_decide.specs.declared.decide.ReceivedCounts.{ReceivedCounts}
 use Rattle.receive.proofs.DraftLaws.{Drafted, flagged-counts, shared-made, shared-count, received-counts, room-is}
 
-module _ (d : Receipt) (r : SessionRooms) (after : Session) (new : State) where
+module _ (d : ReceivedCounts) (r : SessionRooms) (after : Session) (new : State) where
   -- The two ways that an answer and a result on values go together: all lists stay, or the session is taken.
   pub data Outcome (a : ReceiveAnswer) (q : Received) : Type 0 where
     leaves : ((l : Lent) → receivedLists q l ≡ l) → isTaken a ≡ false → a ≡ receivedAnswer q → Outcome a q
-    takes : d .shared ≤ sizes .hashes → receiptRoom d r ≡ Enough → isTaken a ≡ true → q ≡ Received.took new → a ≡ receivedAnswer q → Outcome a q
+    takes : d .shared ≤ sizes .hashes → countsRoom d r ≡ Enough → isTaken a ≡ true → q ≡ Received.took new → a ≡ receivedAnswer q → Outcome a q
 
   pub same-answer : (a : ReceiveAnswer) (q : Received) → Outcome a q → a ≡ receivedAnswer q
   same-answer a q (Outcome.leaves kept f g) = g
@@ -49,19 +49,19 @@ module _ (d : Receipt) (r : SessionRooms) (after : Session) (new : State) where
   refuses refusal = Outcome.leaves (λ l. refl) refl refl
 
   -- room is asked last
-  room-asked : (room : Room) → receiptRoom d r ≡ room → d .shared ≤ sizes .hashes → countsOf new ≡ after
+  room-asked : (room : Room) → countsRoom d r ≡ room → d .shared ≤ sizes .hashes → countsOf new ≡ after
       → Outcome (ifRoom Refused room (Took after)) (ifRoom Received.refused room (Received.took new))
   unfolding ifRoom receivedAnswer isTaken
   room-asked Enough e few counts = Outcome.takes few e refl refl (ap Took (sym counts))
   room-asked (Short wanted) e few counts = refuses (NoRoom wanted)
 
 -- How the answer and the result on values go together for a message that was read, over its draft and the lengths of the lent lists.
-abbrev pub Outcomes : Session → Lent → List ℕ → ℕ → ℕ → List ℕ → Places → Receipt → SessionRooms → ReceiveAnswer → Received → Type 0
+abbrev pub Outcomes : Session → Lent → List ℕ → ℕ → ℕ → List ℕ → Places → ReceivedCounts → SessionRooms → ReceiveAnswer → Received → Type 0
 Outcomes s l table n before message p d r a q =
-    Outcome d r (receivedCounts (flaggedCounts (p .flags) s) d) (received before (rowsAt table 0 n) (stateOf s l) (saidAt message p)) a q
+    Outcome d r (sessionCounts (flaggedCounts (p .flags) s) d) (received before (rowsAt table 0 n) (stateOf s l) (saidAt message p)) a q
 
 module _ (s : Session) (l : Lent) (good : sessionGood s l ≡ true) (table : List ℕ) (n before : ℕ) (inside : before ≤ n) (message : List ℕ) (p : Places)
-    (read : decodedOf (messageAt message) ≡ Placed p) (ready : List ℕ) (d : Receipt) (made : Drafted s l table n before message p ready d) (loaded : Bool)
+    (read : decodedOf (messageAt message) ≡ Placed p) (ready : List ℕ) (d : ReceivedCounts) (made : Drafted s l table n before message p ready d) (loaded : Bool)
     (r : SessionRooms) where
   abbrev v : State
   v = stateOf s l
@@ -81,7 +81,7 @@ module _ (s : Session) (l : Lent) (good : sessionGood s l ≡ true) (table : Lis
   abbrev Of : ReceiveAnswer → Received → Type 0
   Of a q = Outcomes s l table n before message p d r a q
 
-  joined : Of (cond (ltb (sizes .hashes) (d .shared)) (Refused (PastSize 0)) (ifRoom Refused (receiptRoom d r) (Took (receivedCounts taken d))))
+  joined : Of (cond (ltb (sizes .hashes) (d .shared)) (Refused (PastSize 0)) (ifRoom Refused (countsRoom d r) (Took (sessionCounts taken d))))
       (receivedRoomed r (cond (ltb (sizes .hashes) (length (sharedAfter before t v m))) (Received.refused (PastSize 0)) (Received.took (received before t v m))))
   unfolding receivedRoomed
   joined =
@@ -89,17 +89,17 @@ module _ (s : Session) (l : Lent) (good : sessionGood s l ≡ true) (table : Lis
       (λ e.
       let many : sizes .hashes < length (sharedAfter before t v m) =
       shared-made s l good table n before inside message p read ready d made .many (ltb-true _ _ e) in
-      rw (e, lt-ltb _ _ many) (refuses d r (receivedCounts taken d) (received before t v m) (PastSize 0)))
+      rw (e, lt-ltb _ _ many) (refuses d r (sessionCounts taken d) (received before t v m) (PastSize 0)))
       (λ e.
       let few : d .shared ≤ sizes .hashes = ltb-false _ _ e in
       let g = shared-count s l good table n before inside message p read ready d made few in
       let fits : length (sharedAfter before t v m) ≤ sizes .hashes = omega (arith, g) in
       rw (e, le-ltb _ _ fits, room-is s l good table n before inside message p read ready d made few r)
-      (room-asked d r (receivedCounts taken d) (received before t v m) (receiptRoom d r) refl few
+      (room-asked d r (sessionCounts taken d) (received before t v m) (countsRoom d r) refl few
       (received-counts s l good table n before inside message p read ready d made few)))
 
-  pub outcome : Of (receiptDecided taken fails d r) (receivedRoomed r (receive loaded before t v m))
-  unfolding receiptDecided receive loads receivedRoomed isTaken receivedAnswer receivedLists
+  pub outcome : Of (countsDecided taken fails d r) (receivedRoomed r (receive loaded before t v m))
+  unfolding countsDecided receive loads receivedRoomed isTaken receivedAnswer receivedLists
   outcome =
       split fails
       (λ e. rw e (Outcome.leaves (λ l. refl) refl (ap Failed (sym (flagged-counts s l good (p .flags))))))

@@ -11,7 +11,7 @@ use Rattle.session_state.specs.Value.{Lent, keptHaves}
 use native.Mathlib.Omega.{arith}
 use Rattle.session.specs.Laid.{laidBytes}
 use Rattle.receive_haves.specs.Internal.HavesLaid.{Layable}
-use Rattle.receive_decide.specs.Internal.Receipt.{LaidFit}
+use Rattle.receive_decide.specs.Internal.ReceivedCounts.{LaidFit}
 
 pub part-put : (out s next : List ℕ) (a k : ℕ) → next ≡ sets out 0 (take (a + k - a) (drop a s)) → next ≡ sets out 0 (slice a (a + k) s)
 part-put out s next a k e = e ∙ ap (sets out 0) (ap (λ (j : ℕ). take j (drop a s)) (add-sub-cancel-left a k) ∙ take-drop k a s)

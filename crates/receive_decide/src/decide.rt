@@ -11,14 +11,14 @@ use session_state::session::Session;
 ghost use mathlib.Core.Path.{_≡_};
 ghost use Prim.Native.Nat.{_≤_};
 ghost use Rattle.rules.specs.Sizes.{sizes};
-ghost use Rattle.receive_decide.specs.Internal.Receipt.{SmallReceipt, receivedCounts, receiptRoom, receiptDecided, isTaken};
+ghost use Rattle.receive_decide.specs.Internal.ReceivedCounts.{SmallCounts, sessionCounts, countsRoom, countsDecided, isTaken};
 
 // The numbers of a session after a message: how many shared heads, heads sent last and hashes sent it has, how many of the message's heads become
 // the ones sent last, how many heads, needs and haves the message has, and how many bytes the haves take.
-pub struct Receipt {
+pub struct ReceivedCounts {
     pub shared: usize,
     pub last_sent: usize,
-    pub told: usize,
+    pub last_sent_from_message: usize,
     pub sent: usize,
     pub heads: usize,
     pub need: usize,
@@ -27,8 +27,8 @@ pub struct Receipt {
 }
 
 // The session after a message whose flags were taken.
-fn received_session(flagged: Session, d: Receipt) -> Session
-    ensures { λ r. ⌜ r ≡ receivedCounts flagged d ⌝ }
+fn received_session(flagged: Session, d: ReceivedCounts) -> Session
+    ensures { λ r. ⌜ r ≡ sessionCounts flagged d ⌝ }
 {
     Session {
         shared_heads: d.shared,
@@ -48,9 +48,9 @@ fn received_session(flagged: Session, d: Receipt) -> Session
 }
 
 // Whether the session's lists have room, in the order in which 7 names them.
-fn receipt_room(d: Receipt, r: SessionRooms) -> Room
-    requires { ⌜ (d .shared ≤ sizes .hashes) × SmallReceipt d ⌝ }
-    ensures { λ x. ⌜ x ≡ receiptRoom d r ⌝ }
+fn counts_room(d: ReceivedCounts, r: SessionRooms) -> Room
+    requires { ⌜ (d .shared ≤ sizes .hashes) × SmallCounts d ⌝ }
+    ensures { λ x. ⌜ x ≡ countsRoom d r ⌝ }
 {
     let shared = HASH_SIZE * d.shared;
     if r.shared < shared {
@@ -79,9 +79,9 @@ fn receipt_room(d: Receipt, r: SessionRooms) -> Room
 }
 
 // Decides: 8 where changes were to be loaded and weren't, which leaves the flags taken; 4 for too many shared heads; 7.
-pub fn decide(flagged: Session, failed: bool, d: Receipt, r: SessionRooms) -> ReceiveAnswer
-    requires { ⌜ SmallReceipt d ⌝ }
-    ensures { λ x. ⌜ x ≡ receiptDecided flagged failed d r ⌝ }
+pub fn decide(flagged: Session, failed: bool, d: ReceivedCounts, r: SessionRooms) -> ReceiveAnswer
+    requires { ⌜ SmallCounts d ⌝ }
+    ensures { λ x. ⌜ x ≡ countsDecided flagged failed d r ⌝ }
 {
     if failed {
         return ReceiveAnswer::Failed(flagged);
@@ -89,7 +89,7 @@ pub fn decide(flagged: Session, failed: bool, d: Receipt, r: SessionRooms) -> Re
     if HASHES < d.shared {
         return ReceiveAnswer::Refused(Refusal::PastSize(0));
     }
-    match receipt_room(d, r) {
+    match counts_room(d, r) {
         Room::Short(wanted) => ReceiveAnswer::Refused(Refusal::NoRoom(wanted)),
         Room::Enough => ReceiveAnswer::Took(received_session(flagged, d)),
     }

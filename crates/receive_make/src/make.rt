@@ -2,7 +2,7 @@
 use bloom::have::HAVE_WORDS;
 use message_items::haves::put_haves;
 use message_read::parse::Places;
-use receive_decide::decide::Receipt;
+use receive_decide::decide::ReceivedCounts;
 use receive_haves::haves::laid_size;
 use receive_parts::heads::heads_before;
 use receive_parts::left::count_left;
@@ -20,7 +20,7 @@ ghost use Rattle.table_index.specs.Index.{Indexed};
 ghost use Rattle.rules.specs.Hash.{hashesAt};
 ghost use Rattle.rules.specs.Sizes.{sizes};
 ghost use Rattle.table.specs.TableBytes.{rowsAt};
-ghost use Rattle.receive_make.specs.Internal.ReceiveMake.{wordsRoom, toldHeads, lastSentCount, keptHashes, Prepared, Makes, WordsMade, ReceiptMade};
+ghost use Rattle.receive_make.specs.Internal.ReceiveMake.{wordsRoom, toldHeads, lastSentCount, keptHashes, Prepared, Makes, WordsMade, CountsMade};
 
 // Whether a message's changes are loaded: it has some, and this unit takes them.
 pub fn loads_changes(chunks: usize, read_only: bool) -> bool
@@ -109,11 +109,11 @@ pub fn count_received(
     shared: &[u8],
     sent: &[u8],
     words: &mut [u64],
-) -> Receipt
+) -> ReceivedCounts
     requires { ⌜ Makes flagged (now table) (now index) n before (now message) places (now shared) (now sent)
         × Prepared (now table) n (now message) places (flagged .«sent_hashes») (now marks) all
         × (length (now words) ≡ wordsRoom) ⌝ }
-    ensures { λ d. ⌜ ReceiptMade all loads flagged (now (table .entry)) n before (now (message .entry)) places (now (shared .entry)) (now (sent .entry))
+    ensures { λ d. ⌜ CountsMade all loads flagged (now (table .entry)) n before (now (message .entry)) places (now (shared .entry)) (now (sent .entry))
         (now (words .exit)) d ⌝ }
 {
     let heads = places.heads;
@@ -147,10 +147,10 @@ pub fn count_received(
         heads.count,
     );
     let last_sent = last_sent_after(heads.count, told, flagged.last_sent_heads);
-    Receipt {
+    ReceivedCounts {
         shared: count,
         last_sent,
-        told,
+        last_sent_from_message: told,
         sent: left,
         heads: heads.count,
         need: need.count,

@@ -26,19 +26,19 @@ pub fn mark_known(
     table: &[u8],
     index: &[u8],
     n: usize,
-    bytes: &[u8],
+    message: &[u8],
     place: usize,
     many: usize,
     sent: usize,
     marks: &mut [bool],
 ) -> bool
-    requires { ⌜ Indexed (now table) (now index) n × (place + sizes .hash * many ≤ length (now bytes)) × (n ≤ length (now marks)) × Blank n (now marks) ⌝ }
-    ensures { λ r. ⌜ HeadsMarked (now (table .entry)) n (hashesAt (now (bytes .entry)) place many) sent (now (marks .exit)) r ⌝ }
+    requires { ⌜ Indexed (now table) (now index) n × (place + sizes .hash * many ≤ length (now message)) × (n ≤ length (now marks)) × Blank n (now marks) ⌝ }
+    ensures { λ r. ⌜ HeadsMarked (now (table .entry)) n (hashesAt (now (message .entry)) place many) sent (now (marks .exit)) r ⌝ }
 {
     let mut all = true;
     let mut k = 0;
     while k < many {
-        let row = look_up(table, index, n, bytes, place + HASH_SIZE * k);
+        let row = look_up(table, index, n, message, place + HASH_SIZE * k);
         k += 1;
         if n <= row {
             all = false;
@@ -55,14 +55,14 @@ pub fn mark_known(
 
 // Whether a message's heads have the last of a table's first rows, if there is one. It is always a head, as rows depend on rows before them: one look
 // tells most other heads apart.
-fn has_last(table: &[u8], before: usize, bytes: &[u8], place: usize, many: usize) -> bool
-    requires { ⌜ GoodRows (now table) before × (place + sizes .hash * many ≤ length (now bytes)) ⌝ }
-    ensures { λ r. ⌜ (r ≡ false → same (hashesAt (now (bytes .entry)) place many) (heads (rowsAt (now (table .entry)) 0 before)) ≡ false) ⌝ }
+fn has_last(table: &[u8], before: usize, message: &[u8], place: usize, many: usize) -> bool
+    requires { ⌜ GoodRows (now table) before × (place + sizes .hash * many ≤ length (now message)) ⌝ }
+    ensures { λ r. ⌜ (r ≡ false → same (hashesAt (now (message .entry)) place many) (heads (rowsAt (now (table .entry)) 0 before)) ≡ false) ⌝ }
 {
     if before == 0 {
         return true;
     }
-    is_in(table, (before - 1) * ROW_SIZE, bytes, place, many)
+    is_in(table, (before - 1) * ROW_SIZE, message, place, many)
 }
 
 // Whether a message's heads are those of a table's first rows.
@@ -71,17 +71,17 @@ pub fn heads_before(
     index: &[u8],
     n: usize,
     before: usize,
-    bytes: &[u8],
+    message: &[u8],
     place: usize,
     many: usize,
 ) -> bool
-    requires { ⌜ Indexed (now table) (now index) n × (before ≤ n) × (place + sizes .hash * many ≤ length (now bytes)) ⌝ }
-    ensures { λ r. ⌜ r ≡ same (hashesAt (now (bytes .entry)) place many) (heads (rowsAt (now (table .entry)) 0 before)) ⌝ }
+    requires { ⌜ Indexed (now table) (now index) n × (before ≤ n) × (place + sizes .hash * many ≤ length (now message)) ⌝ }
+    ensures { λ r. ⌜ r ≡ same (hashesAt (now (message .entry)) place many) (heads (rowsAt (now (table .entry)) 0 before)) ⌝ }
 {
-    if !has_last(table, before, bytes, place, many) {
+    if !has_last(table, before, message, place, many) {
         return false;
     }
     let mut marks = [false; ROWS];
     mark_heads(table, before, &mut marks);
-    same_marked(table, index, n, before, &marks, bytes, place, many)
+    same_marked(table, index, n, before, &marks, message, place, many)
 }

@@ -22,7 +22,7 @@ use Rattle.session.specs.Laid.{laidBytes}
 use Rattle.session_state.specs.declared.session.Session.{Session}
 use Rattle.table.specs.TableBytes.{rowsAt}
 use Rattle.receive_shared.specs.Internal.Shared.{sharedThen, Counted}
-use Rattle.receive_decide.specs.declared.decide.Receipt.{Receipt}
+use Rattle.receive_decide.specs.declared.decide.ReceivedCounts.{ReceivedCounts}
 
 -- ---- what a message says, by its places
 
@@ -82,12 +82,12 @@ abbrev pub leftOf : List ℕ → ℕ → List ℕ → Places → List ℕ → �
 leftOf table n message p sent keeps = keep (λ h. not (below (rowsAt table 0 n) (saidAt message p .heads) h)) (hashesAt sent 0 keeps)
 
 -- The numbers of a session after a message, the counts of before having the message's flags taken; and the words of its haves.
-pub record ReceiptMade (all loads : Bool) (s : Session) (table : List ℕ) (n before : ℕ) (message : List ℕ) (p : Places) (oldShared oldSent ready : List ℕ)
-    (d : Receipt) : Type 0 where
+pub record CountsMade (all loads : Bool) (s : Session) (table : List ℕ) (n before : ℕ) (message : List ℕ) (p : Places) (oldShared oldSent ready : List ℕ)
+    (d : ReceivedCounts) : Type 0 where
   pub shared : Counted (sharedThen all loads before (rowsAt table 0 n) (saidAt message p .heads) (hashesAt oldShared 0 (s .«shared_heads»))) (d .shared)
   pub sent : d .sent ≡ length (leftOf table n message p oldSent (keptHashes (p .heads .count) (s .«sent_hashes»)))
-  pub told : d .told ≡ toldHeads (p .chunks .count) (p .heads .count) (saidAt message p .heads) (heads (rowsAt table 0 before))
-  pub lastSent : d .«last_sent» ≡ lastSentCount (p .heads .count) (d .told) (s .«last_sent_heads»)
+  pub told : d .«last_sent_from_message» ≡ toldHeads (p .chunks .count) (p .heads .count) (saidAt message p .heads) (heads (rowsAt table 0 before))
+  pub lastSent : d .«last_sent» ≡ lastSentCount (p .heads .count) (d .«last_sent_from_message») (s .«last_sent_heads»)
   pub heads : d .heads ≡ p .heads .count
   pub need : d .need ≡ p .need .count
   pub haves : d .haves ≡ p .haves .count

@@ -19,20 +19,20 @@ use Rattle.receive_haves.specs.Internal.HavesLaid.{Layable}
 use Rattle.session.specs.declared.receive_answer.ReceiveAnswer.{ReceiveAnswer}
 use Rattle.session.specs.declared.receive_answer.ReceiveAnswer.the-variants.{Took, Failed, Refused}
 use Rattle.session.specs.declared.receive_answer.SessionRooms.{SessionRooms}
-use Rattle.receive_decide.specs.declared.decide.Receipt.{Receipt}
+use Rattle.receive_decide.specs.declared.decide.ReceivedCounts.{ReceivedCounts}
 
 -- ---- what is decided
 
 -- Small enough for its bytes to be counted. How many heads are shared is tested before.
-pub record SmallReceipt (d : Receipt) : Type 0 where
+pub record SmallCounts (d : ReceivedCounts) : Type 0 where
   pub lastSent : d .«last_sent» ≤ sizes .hashes
   pub heads : d .heads ≤ sizes .hashes
   pub need : d .need ≤ sizes .hashes
   pub haves : d .haves ≤ sizes .haves
 
 -- The counts of the session after a message whose flags were taken.
-abbrev pub receivedCounts : Session → Receipt → Session
-receivedCounts s d =
+abbrev pub sessionCounts : Session → ReceivedCounts → Session
+sessionCounts s d =
     record {
       «shared_heads» = d .shared;
       «last_sent_heads» = d .«last_sent»;
@@ -50,8 +50,8 @@ receivedCounts s d =
     }
 
 -- Whether the lists have room, in the order in which they are tested.
-unfoldable pub receiptRoom : Receipt → SessionRooms → Room
-receiptRoom d r =
+unfoldable pub countsRoom : ReceivedCounts → SessionRooms → Room
+countsRoom d r =
     orShort (r .shared) (sizes .hash * d .shared)
     (orShort (r .«last_sent») (sizes .hash * d .«last_sent»)
     (orShort (r .«their_heads») (sizes .hash * d .heads)
@@ -60,13 +60,13 @@ receiptRoom d r =
     (orShort (r .bytes) (d .bytes) Enough)))))
 
 -- What is decided from the numbers, in the order of the refusals.
-unfoldable pub receiptDecided : Session → Bool → Receipt → SessionRooms → ReceiveAnswer
-receiptDecided flagged failed d r =
+unfoldable pub countsDecided : Session → Bool → ReceivedCounts → SessionRooms → ReceiveAnswer
+countsDecided flagged failed d r =
     cond failed
     (Failed flagged)
     (cond (ltb (sizes .hashes) (d .shared))
     (Refused (PastSize 0))
-    (ifRoom Refused (receiptRoom d r) (Took (receivedCounts flagged d))))
+    (ifRoom Refused (countsRoom d r) (Took (sessionCounts flagged d))))
 
 -- ---- what is put
 
@@ -84,9 +84,9 @@ pub record LaidFit (message words : List ℕ) (count : ℕ) (records bytes : Lis
   pub bytesRoom : length (laidBytes (havesOf message (keptHaves words count))) ≤ length bytes
 
 -- What a message says has room. Heads and need stand in it from these places on.
-pub record HeardFits (d : Receipt) (message : List ℕ) (atHeads atNeed : ℕ) (words lastSent theirHeads theirNeed records bytes : List ℕ) : Type 0 where
-  pub told : atHeads + sizes .hash * d .told ≤ length message
-  pub toldRoom : sizes .hash * d .told ≤ length lastSent
+pub record HeardFits (d : ReceivedCounts) (message : List ℕ) (atHeads atNeed : ℕ) (words lastSent theirHeads theirNeed records bytes : List ℕ) : Type 0 where
+  pub told : atHeads + sizes .hash * d .«last_sent_from_message» ≤ length message
+  pub toldRoom : sizes .hash * d .«last_sent_from_message» ≤ length lastSent
   pub heads : atHeads + sizes .hash * d .heads ≤ length message
   pub headsRoom : sizes .hash * d .heads ≤ length theirHeads
   pub need : atNeed + sizes .hash * d .need ≤ length message

@@ -1,8 +1,8 @@
--- `receive_decide::decide::receipt_room` meets its contract: one way out for each list. Assumes nothing.
+-- `receive_decide::decide::counts_room` meets its contract: one way out for each list. Assumes nothing.
 use borrow.Author.Needs.{needs}
 use Rattle.receive_decide.proofs.DecideLaws.{shared-short, last-short, heads-short, need-short, haves-short, bytes-short, enough}
-use Rattle.receive_decide.proofs.decide.receipt_room.Statement.{statement}
-use Rattle.receive_decide.proofs.decide.receipt_room.Tie as tie
+use Rattle.receive_decide.proofs.decide.counts_room.Statement.{statement}
+use Rattle.receive_decide.proofs.decide.counts_room.Tie as tie
 
 mul-shared : tie.Need-mul-shared
 mul-shared c = search needs
@@ -66,8 +66,8 @@ returns-7 c =
     let e1 = e2 .before .before .before in
     enough _ _ (e1 .if1 .left) (e2 .if2 .left) (e3 .if3 .left) (e4 .if4 .left) (e5 .if5 .left) (c .if6 .left)
 
-pub receipt-room-spec : {M : Type 1} → statement M
-receipt-room-spec =
+pub counts-room-spec : {M : Type 1} → statement M
+counts-room-spec =
     tie.close
     (tie.spec
     mul-shared
