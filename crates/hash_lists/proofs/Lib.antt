@@ -1,4 +1,3 @@
 pub mod CompareLaws
-pub mod JoinLaws
 pub mod Lists
 pub mod Promises

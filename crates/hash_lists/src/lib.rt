@@ -1,4 +1,3 @@
-// Lists of hashes beside each other: whether two are equal, whether one lies in another or in a table, and hashes joined to an ascending list.
+// Lists of hashes beside each other: whether two are equal, and whether one lies in another or in a table.
 pub mod compare;
 pub mod few;
-pub mod join;

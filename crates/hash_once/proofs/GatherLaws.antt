@@ -8,7 +8,7 @@ use native.Mathlib.Omega.{arith}
 use lib.ListN.{length, getD, take, drop, set, length-append}
 use lib.Seq.{sets, slice, sets-eq, take-set-le, take-at, drop-at, length-take-le, ext-getD}
 use Rattle.hash_lists.proofs.CompareLaws.{onward, onward-starts, onward-first, onward-ends}
-use Rattle.hash_order.proofs.Insert.{hashes-same, hashes-split}
+use Rattle.hash_order.proofs.HashBytes.{hashes-same, hashes-split}
 use Rattle.hash_order.proofs.KeepLaws.{index-once, once-index}
 use Rattle.hash_order.proofs.OrderLaws.{member-index, ascending-unique, ascend-ascends, ascend-members}
 use Rattle.hash_order.specs.Order.{member, keep, Once, ascend}

@@ -1,5 +1,5 @@
 pub mod Compare
-pub mod Insert
+pub mod HashBytes
 pub mod KeepLaws
 pub mod OrderLaws
 pub mod Promises

@@ -1,4 +1,4 @@
-// Hashes in their order: compared by ascending bytes, and kept in ascending lists.
+// Hashes in their order: compared by ascending bytes, and put.
 //
 // Here stands also what is said of lists of hashes without bytes (members, each once, ascending), and what is reached over steps.
 pub mod hashes;

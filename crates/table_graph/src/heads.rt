@@ -14,15 +14,12 @@ ghost use Prim.Native.Nat.{_*_, _≤_};
 ghost use lib.ListN.{length};
 ghost use Rattle.table_index.specs.Index.{Indexed};
 ghost use Rattle.rules.specs.Hash.{hashesBytes};
-ghost use Rattle.rules.specs.Output.{Written, Output, Gathered};
+ghost use Rattle.rules.specs.Output.{Written, Output};
 ghost use Rattle.rules.specs.Sizes.{sizes};
 ghost use Rattle.table.specs.TableBytes.{rowsAt, GoodRows};
 ghost use Rattle.table_graph.specs.GraphCalls.{headsOutput};
 ghost use Rattle.table_graph.specs.Graph.{needed, heads};
 ghost use Rattle.table_graph.specs.Internal.Marks.{Marks, Blank};
-
-// Room for the hash of every row.
-pub const ROWS_SIZE: usize = HASH_SIZE * ROWS;
 
 // Marks the heads of the first rows, where none is marked.
 pub fn mark_heads(table: &[u8], before: usize, marks: &mut [bool])
@@ -31,16 +28,6 @@ pub fn mark_heads(table: &[u8], before: usize, marks: &mut [bool])
 {
     mark_needed(table, before, marks);
     flip(before, marks);
-}
-
-// The heads of the first rows of a table that has been checked, put at the start of a list that has room for them all.
-pub fn collect_heads(table: &[u8], index: &[u8], n: usize, before: usize, list: &mut [u8]) -> usize
-    requires { ⌜ Indexed (now table) (now index) n × (before ≤ n) × (sizes .hash * before ≤ length (now list)) ⌝ }
-    ensures { λ r. ⌜ Gathered (heads (rowsAt (now (table .entry)) 0 before)) (now (list .exit)) r ⌝ }
-{
-    let mut marks = [false; ROWS];
-    mark_heads(table, before, &mut marks);
-    collect_marked(table, index, n, before, &marks, list)
 }
 
 // Writes the heads of a table's first rows, ascending, or refuses a buffer that is too short for them.
