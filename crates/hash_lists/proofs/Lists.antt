@@ -1,21 +1,13 @@
 -- Lists are the same just where they are equal. Hashes joined to an ascending list are those of both, ascending, as far as there is room: a list
 -- that isn't full has all of them.
-use Prim.Native.Nat.{ℕ, _*_, _/_, _≤_, _<_}
+use Prim.Native.Nat.{ℕ}
 use mathlib.Core.Bool.{true, false}
-use mathlib.Core.List.{List, [], _∷_, _++_}
-use mathlib.Core.Path.{_≡_, refl, sym, ap, _∙_}
-use native.Mathlib.Omega.{arith}
-use borrow.Author.Tests.{ltb-true, ltb-false, eq-eqb, eqb-true}
-use lib.Dec.{ltb, eqb}
-use lib.ListN.{length}
-use Rattle.hash_order.proofs.OrderLaws.{insert-full, insert-room, insert-grows, up-to-fits, ascend-same}
-use Rattle.hash_order.specs.Order.{ascends, ascend, insertOnce, insertUpTo}
-use Rattle.rules.proofs.Cases.{split, both, true-false}
-use Rattle.rules.proofs.Hash.{length-hashes-at}
-use Rattle.rules.specs.Hash.{hashesAt}
-use Rattle.rules.specs.Output.{Gathered}
-use Rattle.rules.specs.Sizes.{sizes}
-use Rattle.hash_lists.specs.Internal.Lists.{same, insertAll, Joined, UpTo}
+use mathlib.Core.List.{List, [], _∷_}
+use mathlib.Core.Path.{_≡_, refl}
+use borrow.Author.Tests.{eq-eqb, eqb-true}
+use lib.Dec.{eqb}
+use Rattle.rules.proofs.Cases.{both, true-false}
+use Rattle.hash_lists.specs.Internal.Lists.{same}
 
 -- ---- the same hashes in the same order
 

@@ -25,7 +25,7 @@ use Rattle.table_index.proofs.ByteLaws.{u16s-next, u16s-none}
 use Rattle.table_index.proofs.HalveLaws.{length-hashes-from, hash-from, entry-below, look-ordered}
 use Rattle.table_index.proofs.IndexLaws.{FittingNumbers, Apart, fits-has, each-named, hashes-once, index-fits, fits-is, index-same}
 use Rattle.table_index.proofs.ListLaws.{map-member, member-map}
-use Rattle.table_index.specs.Index.{indexed, fitsBy, hashesFrom, recordHash}
+use Rattle.table_index.specs.Index.{indexed, hashesFrom, recordHash}
 use Rattle.hash_once.specs.Internal.Once.{addOnce, addAll, OnceList, Added}
 use Rattle.hash_once.proofs.OnceLaws.{add-full, add-there, add-new, once-one}
 

@@ -8,7 +8,7 @@ use borrow.Author.Tests.{ltb-true, ltb-false, lt-ltb, le-ltb, eqb-true, eq-eqb}
 use lib.Dec.{ltb, eqb}
 use lib.ListN.{length, length-append}
 use Rattle.hash_order.proofs.KeepLaws.{once-none, once-cons, once-append, once-ascends, once-inside}
-use Rattle.hash_order.proofs.OrderLaws.{member-append, ascend-ascends, ascend-members, ascend-most}
+use Rattle.hash_order.proofs.OrderLaws.{member-append, ascend-ascends, ascend-members}
 use Rattle.hash_order.specs.Order.{member, Once, ascend}
 use Rattle.rules.proofs.Cases.{split, same-truth, either, true-false, or-left, or-right}
 use Rattle.rules.specs.Sizes.{sizes}

@@ -1,13 +1,10 @@
 -- Lists of hashes beside each other. 01, Session: heads are compared as lists, order and repeats included.
-use Prim.Native.Nat.{ℕ, _/_, _≤_, _<_}
+use Prim.Native.Nat.{ℕ, _≤_, _<_}
 use mathlib.Core.Bool.{Bool, true, false, _&&_}
 use mathlib.Core.List.{List, [], _∷_}
 use mathlib.Core.Path.{_≡_}
 use lib.Dec.{eqb}
 use lib.ListN.{length}
-use Rattle.hash_order.specs.Order.{insertUpTo}
-use Rattle.rules.specs.Hash.{hashesAt}
-use Rattle.rules.specs.Sizes.{sizes}
 
 -- Whether two lists have the same hashes in the same order.
 unfoldable pub same : List ℕ → List ℕ → Bool

@@ -1,5 +1,4 @@
 -- `hash_once::gather::add_once` meets its contract: one law for each way out (GatherLaws). Assumes nothing.
-use Prim.Native.Nat.{_+_}
 use native.Mathlib.Omega.{arith}
 use Rattle.hash_once.proofs.GatherLaws.{added-full, added-there, order-stays, added-new}
 use borrow.Author.Needs.{needs}

@@ -1,6 +1,6 @@
 -- `receive_shared::advance::count_advanced` meets its contract: as many as are marked (AdvanceLaws). Assumes nothing.
 use mathlib.Core.Bool.{false}
-use mathlib.Core.Path.{sym, _∙_}
+use mathlib.Core.Path.{_∙_}
 use native.Mathlib.Omega.{arith}
 use lib.ListN.{length-replicate}
 use Rattle.rules.specs.Sizes.{sizes}

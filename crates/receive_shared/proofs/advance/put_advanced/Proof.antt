@@ -1,6 +1,5 @@
 -- `receive_shared::advance::put_advanced` meets its contract: the marked rows are put along the index (AdvanceLaws). Assumes nothing.
 use mathlib.Core.Bool.{false}
-use mathlib.Core.Path.{sym, _∙_}
 use native.Mathlib.Omega.{arith}
 use lib.ListN.{length-replicate}
 use Rattle.rules.specs.Sizes.{sizes}

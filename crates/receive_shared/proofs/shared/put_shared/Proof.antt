@@ -1,5 +1,4 @@
 -- `receive_shared::shared::put_shared` meets its contract: one law for each way through the two tests (SharedLaws). Assumes nothing.
-use native.Mathlib.Omega.{arith}
 use Rattle.receive_shared.proofs.SharedLaws.{is-held, is-advanced, is-joined, few-same, room-same, put-same, copy-room, all-copied}
 use borrow.Author.Needs.{needs}
 use Rattle.receive_shared.proofs.shared.put_shared.Statement.{statement}
