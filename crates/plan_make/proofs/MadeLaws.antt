@@ -37,7 +37,7 @@ use Rattle.plan_decide.specs.Internal.Draft.{PlanParts, PutLists, SmallDraft, u
 use Rattle.session.specs.declared.plan_answer.PlanAnswer.{PlanAnswer}
 use Rattle.plan_decide.specs.declared.decide.Draft.{Draft}
 use Rattle.session.proofs.PlanLaws.{list-few}
-use Rattle.plan_make.specs.Internal.PlanMake.{DraftCounted, partsOf, Finished}
+use Rattle.plan_make.specs.Internal.PlanMake.{DraftCounted, planPartsOf, Finished}
 use Rattle.plan_make.proofs.Decided.{found-many, found-all, have-given, have-none, plan-decided}
 use Rattle.plan_decide.proofs.PutLaws.{Starts, all-said, listsOf, changed, lists-change, put-as-said, refused-starts, silent-starts, roomed-starts}
 
@@ -83,7 +83,7 @@ module _ (bits probes : ℕ) (t : List Row) (w : List Waiting) (s : Session) (l 
     (m : DraftCounted t (stateOf s l) readyNeed asked d)
     (f : FoundUpTo (needOf t w (s .«read_only») (heard (stateOf s l .theirHeads))) (sizes .hashes + 1) readyNeed (d .need)) where
   abbrev parts : PlanParts
-  parts = partsOf bits probes t (stateOf s l) readyNeed (l .shared)
+  parts = planPartsOf bits probes t (stateOf s l) readyNeed (l .shared)
 
   shared-start : hashesAt (l .shared) 0 (length (stateOf s l .sharedHeads)) ≡ stateOf s l .sharedHeads
   shared-start = ap (hashesAt (l .shared) 0) (length-hashes-at (l .shared) 0 (s .«shared_heads»))

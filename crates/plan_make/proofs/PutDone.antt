@@ -43,7 +43,7 @@ use Rattle.session_state.specs.declared.session.Session.{Session}
 use Rattle.table.proofs.TableLaws.{length-rows-at}
 use Rattle.table.specs.TableBytes.{rowsAt}
 use Rattle.table.specs.Table.{Row, rows as hashes, hashOf}
-use Rattle.plan_make.specs.Internal.PlanMake.{BlankMarks, PlanMarked, DraftCounted, partsOf, Finished, NeedRoom, AskedCalled}
+use Rattle.plan_make.specs.Internal.PlanMake.{BlankMarks, PlanMarked, DraftCounted, planPartsOf, Finished, NeedRoom, AskedCalled}
 use Rattle.plan_make.proofs.MadeLaws.{entries-few, small-made, plan-called}
 use Rattle.plan_parts.proofs.HeardLaws.{heard-there}
 
@@ -188,7 +188,7 @@ module _ {table index : List ℕ} {n : ℕ} (s : Session) (l : Lent) (rows : Ind
         chosen-is = ap (λ (z : ℕ). chosenBy t marks (hashesAt (l .theirNeed) 0 z) needs) e ∙ m .list
 
         pub put-finished : {a : PlanAnswer} → a ≡ decided s d bits probes (putRooms (listsOf before l)) → p ≡ putsOf a
-            → Finished s d bits probes (partsOf bits probes t (stateOf s l) readyNeed (l .shared)) (listsOf before l)
+            → Finished s d bits probes (planPartsOf bits probes t (stateOf s l) readyNeed (l .shared)) (listsOf before l)
             (listsOf after (changed l lastSent sent)) a
         unfolding sentAfter
         put-finished {a} is q =

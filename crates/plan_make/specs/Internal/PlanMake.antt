@@ -107,8 +107,8 @@ pub record DraftCounted (t : List Row) (s : State) (readyNeed : List ℕ) (asked
   pub sent : d .sent ≡ length (sentAfter t s)
 
 -- The parts that a plan is put from.
-abbrev pub partsOf : ℕ → ℕ → List Row → State → List ℕ → List ℕ → PlanParts
-partsOf bits probes t s readyNeed shared =
+abbrev pub planPartsOf : ℕ → ℕ → List Row → State → List ℕ → List ℕ → PlanParts
+planPartsOf bits probes t s readyNeed shared =
     record {
       heads = heads t;
       need = readyNeed;
