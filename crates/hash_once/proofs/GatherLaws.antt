@@ -26,7 +26,7 @@ use Rattle.table_index.proofs.HalveLaws.{length-hashes-from, hash-from, entry-b
 use Rattle.table_index.proofs.IndexLaws.{FittingNumbers, Apart, fits-has, each-named, hashes-once, index-fits, fits-is, index-same}
 use Rattle.table_index.proofs.ListLaws.{map-member, member-map}
 use Rattle.table_index.specs.Index.{indexed, hashesFrom, recordHash}
-use Rattle.hash_once.specs.Internal.Once.{addOnce, addAll, OnceList, Added}
+use Rattle.hash_once.specs.Internal.Once.{addOnce, addAll, OnceList, OnceAdded}
 use Rattle.hash_once.proofs.OnceLaws.{add-full, add-there, add-new, once-one}
 
 -- ---- hashes of a list as records
@@ -90,14 +90,14 @@ module _ (list order : List ℕ) (count : ℕ) (so : OnceList list order count) 
   long : length there ≡ count
   long = length-hashes-at list 0 count
 
-  pub added-full : sizes .hashes < count → Added (addOnce h there) list order count
+  pub added-full : sizes .hashes < count → OnceAdded (addOnce h there) list order count
   added-full f = record { once = so; are = add-full h there (omega (arith, long)) }
 
   module _ (few : count ≤ sizes .hashes) (r : ℕ) (found : r ≡ indexIn (hashesFrom (recorded list) 0 count) h) where
     found-in : r ≡ indexIn there h
     found-in = found ∙ ap (λ (l : List ℕ). indexIn l h) (records-are list count)
 
-    pub added-there : r < count → Added (addOnce h there) list order count
+    pub added-there : r < count → OnceAdded (addOnce h there) list order count
     added-there f = record { once = so; are = add-there h there (omega (arith, long)) (member-of-index there h (omega (arith, found-in, long))) }
 
     module _ (new : count ≤ r) (list′ : List ℕ) (put : list′ ≡ sets list (sizes .hash * count) (slice at (at + sizes .hash) bytes)) where
@@ -143,7 +143,7 @@ module _ (list order : List ℕ) (count : ℕ) (so : OnceList list order count) 
 
       pub added-new : (order′ : List ℕ) → length list′ ≡ length list → length order′ ≡ length order
           → u16sAt order′ 0 (count + 1) ≡ indexed (recorded list′) (count + 1)
-          → Added (addOnce h there) list′ order′ (count + 1)
+          → OnceAdded (addOnce h there) list′ order′ (count + 1)
       added-new order′ same same′ extended =
           let o : Once (hashesAt list′ 0 (count + 1)) = rw one-more (once-one h there (list-once so) unknown) in
           record {
@@ -181,7 +181,7 @@ module _ (p : ℕ → Bool) (bytes : List ℕ) (place m : ℕ) (list₀ : List �
         record { upto = omega arith; once = so .once; rest = rw e at q }
 
     pub adding-taken : (list′ order′ : List ℕ) (next′ : ℕ) → k < m → p (hashAt bytes (place + sizes .hash * k)) ≡ true
-        → Added (addOnce (hashAt bytes (place + sizes .hash * k)) (hashesAt list 0 next)) list′ order′ next′
+        → OnceAdded (addOnce (hashAt bytes (place + sizes .hash * k)) (hashesAt list 0 next)) list′ order′ next′
         → Adding list′ order′ next′ (k + 1)
     unfolding keep addAll
     adding-taken list′ order′ next′ l e a =
@@ -190,7 +190,7 @@ module _ (p : ℕ → Bool) (bytes : List ℕ) (place m : ℕ) (list₀ : List �
         let r : addAll (keep p (onward bytes place m (k + 1))) (addOnce (hashAt bytes (place + sizes .hash * k)) (hashesAt list 0 next)) ≡ whole = rw e at q in
         record { upto = omega arith; once = a .once; rest = rw (a .are) r }
 
-    pub adding-ends : m ≤ k → Added whole list order next
+    pub adding-ends : m ≤ k → OnceAdded whole list order next
     unfolding keep addAll
     adding-ends l = record { once = so .once; are = rw (onward-ends bytes place m k l) at (so .rest) }
 
@@ -201,8 +201,8 @@ keep-each [] = refl
 keep-each (h ∷ l) = ap (λ (r : List ℕ). h ∷ r) (keep-each l)
 
 pub all-added : (bytes : List ℕ) (place m : ℕ) (there list order : List ℕ) (count : ℕ)
-    → Added (addAll (keep (λ h. true) (hashesAt bytes place m)) there) list order count
-    → Added (addAll (hashesAt bytes place m) there) list order count
+    → OnceAdded (addAll (keep (λ h. true) (hashesAt bytes place m)) there) list order count
+    → OnceAdded (addAll (hashesAt bytes place m) there) list order count
 all-added bytes place m there list order count a = rw (keep-each (hashesAt bytes place m)) at a
 
 -- ---- put along the order

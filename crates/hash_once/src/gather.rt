@@ -13,12 +13,12 @@ ghost use Rattle.rules.specs.Sizes.{sizes};
 ghost use Rattle.table.specs.Table.{held};
 ghost use Rattle.table.specs.TableBytes.{rowsAt};
 ghost use Rattle.table_index.specs.Index.{Indexed};
-ghost use Rattle.hash_once.specs.Internal.Once.{addOnce, addAll, OnceList, Added};
+ghost use Rattle.hash_once.specs.Internal.Once.{addOnce, addAll, OnceList, OnceAdded};
 
 // Adds the hash at a place of some bytes. One more than a list may have is enough to show that they are too many, so no more are added then.
 pub fn add_once(list: &mut [u8], order: &mut [u8], count: usize, bytes: &[u8], at: usize) -> usize
     requires { ⌜ OnceList (now list) (now order) count × (at + sizes .hash ≤ length (now bytes)) ⌝ }
-    ensures { λ r. ⌜ Added (addOnce (hashAt (now (bytes .entry)) at) (hashesAt (now (list .entry)) 0 count)) (now (list .exit)) (now (order .exit)) r ⌝ }
+    ensures { λ r. ⌜ OnceAdded (addOnce (hashAt (now (bytes .entry)) at) (hashesAt (now (list .entry)) 0 count)) (now (list .exit)) (now (order .exit)) r ⌝ }
 {
     if HASHES < count {
         return count;
@@ -41,7 +41,7 @@ pub fn add_list(
     m: usize,
 ) -> usize
     requires { ⌜ OnceList (now list) (now order) count × (place + sizes .hash * m ≤ length (now bytes)) ⌝ }
-    ensures { λ r. ⌜ Added (addAll (hashesAt (now (bytes .entry)) place m) (hashesAt (now (list .entry)) 0 count)) (now (list .exit)) (now (order .exit)) r ⌝ }
+    ensures { λ r. ⌜ OnceAdded (addAll (hashesAt (now (bytes .entry)) place m) (hashesAt (now (list .entry)) 0 count)) (now (list .exit)) (now (order .exit)) r ⌝ }
 {
     let mut next = count;
     let mut k = 0;
@@ -66,7 +66,7 @@ pub fn add_held(
     m: usize,
 ) -> usize
     requires { ⌜ Indexed (now table) (now index) n × OnceList (now list) (now order) count × (place + sizes .hash * m ≤ length (now bytes)) ⌝ }
-    ensures { λ r. ⌜ Added (addAll (keep (held (rowsAt (now (table .entry)) 0 n)) (hashesAt (now (bytes .entry)) place m))
+    ensures { λ r. ⌜ OnceAdded (addAll (keep (held (rowsAt (now (table .entry)) 0 n)) (hashesAt (now (bytes .entry)) place m))
         (hashesAt (now (list .entry)) 0 count)) (now (list .exit)) (now (order .exit)) r ⌝ }
 {
     let mut next = count;

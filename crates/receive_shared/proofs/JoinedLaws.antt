@@ -9,7 +9,7 @@ use lib.Dec.{ltb}
 use lib.ListN.{length, replicate, length-replicate}
 use lib.Seq.{sets}
 use Rattle.hash_once.proofs.OnceLaws.{Gathering, gathering-none, gathering-all, gathered-few, gathered-many, gathered-members}
-use Rattle.hash_once.specs.Internal.Once.{addAll, OnceList, Added}
+use Rattle.hash_once.specs.Internal.Once.{addAll, OnceList, OnceAdded}
 use Rattle.hash_order.proofs.OrderLaws.{ascend-ascends, ascend-members, ascending-unique}
 use Rattle.hash_order.specs.Order.{keep, every, ascends, ascend}
 use Rattle.rules.proofs.Cases.{split}
@@ -38,8 +38,8 @@ none-gathered =
 
 -- one list after the other
 pub both-gathered : (t : List Row) (theirs shared list₀ list₁ order₁ list order : List ℕ) (first count : ℕ)
-    → Added (addAll (keep (held t) theirs) (hashesAt list₀ 0 0)) list₁ order₁ first
-    → Added (addAll shared (hashesAt list₁ 0 first)) list order count
+    → OnceAdded (addAll (keep (held t) theirs) (hashesAt list₀ 0 0)) list₁ order₁ first
+    → OnceAdded (addAll shared (hashesAt list₁ 0 first)) list order count
     → Gathers t theirs shared list order count
 unfolding hashesAt
 both-gathered t theirs shared list₀ list₁ order₁ list order first count a b = record { once = b .once; are = rw (a .are) at (b .are) }

@@ -19,7 +19,7 @@ ghost use Rattle.receive_shared.specs.Internal.Shared.{Counted, Gathers}
 // Room for one hash more than a list may have, so that too many show.
 const LIST_SIZE: usize = HASH_SIZE * (HASHES + 1);
 
-const ORDER_SIZE: usize = 2 * (HASHES + 1);
+const PLACES_SIZE: usize = 2 * (HASHES + 1);
 
 // Gathers the message's heads that are held and the heads that were shared, each once, where none is gathered yet.
 fn gather_joined(
@@ -58,7 +58,7 @@ pub fn count_joined(
     ensures { λ r. ⌜ Counted (join (rowsAt (now (table .entry)) 0 n) (hashesAt (now (message .entry)) place many) (hashesAt (now (shared .entry)) 0 count)) r ⌝ }
 {
     let mut list = [0u8; LIST_SIZE];
-    let mut order = [0u8; ORDER_SIZE];
+    let mut order = [0u8; PLACES_SIZE];
     gather_joined(
         table,
         index,
@@ -92,7 +92,7 @@ pub fn put_joined(
         (hashesBytes (join (rowsAt (now (table .entry)) 0 n) (hashesAt (now (message .entry)) place many) (hashesAt (now (shared .entry)) 0 count))) ⌝ }
 {
     let mut list = [0u8; LIST_SIZE];
-    let mut order = [0u8; ORDER_SIZE];
+    let mut order = [0u8; PLACES_SIZE];
     let gathered = gather_joined(
         table,
         index,

@@ -28,6 +28,6 @@ pub record OnceList (list order : List ℕ) (count : ℕ) : Type 0 where
   pub fit : fitsBy (recordHash list (sizes .hash)) count (u16sAt order 0 count) ≡ true
 
 -- These hashes stand there then.
-pub record Added (hs list order : List ℕ) (count : ℕ) : Type 0 where
+pub record OnceAdded (hs list order : List ℕ) (count : ℕ) : Type 0 where
   pub once : OnceList list order count
   pub are : hashesAt list 0 count ≡ hs
