@@ -23,7 +23,7 @@ pub fn check_plan(
     their_heads: &[u8],
     their_need: &[u8],
     haves: &[u64],
-    bytes: &[u8],
+    have_bytes: &[u8],
     sent: &[u8],
     table: &[u8],
     index: &[u8],
@@ -31,7 +31,7 @@ pub fn check_plan(
 ) -> PlanChecks
     ensures { λ r. ⌜ r ≡ checkedPlan session
         (lentOf (now (shared .entry)) (now («last_sent» .entry)) (now («their_heads» .entry)) (now («their_need» .entry)) (now (haves .entry))
-        (now (bytes .entry)) (now (sent .entry)))
+        (now («have_bytes» .entry)) (now (sent .entry)))
         (now (table .entry)) (now (index .entry)) (now (waiting .entry)) ⌝ }
 {
     if !session_good(
@@ -41,7 +41,7 @@ pub fn check_plan(
         their_heads,
         their_need,
         haves,
-        bytes,
+        have_bytes,
         sent,
     ) {
         return PlanChecks::Refused(Refusal::BadNumbers);

@@ -25,7 +25,7 @@ pub fn plan(
     their_heads: &[u8],
     their_need: &[u8],
     haves: &[u64],
-    bytes: &[u8],
+    have_bytes: &[u8],
     sent: &mut [u8],
     heads: &mut [u8],
     need: &mut [u8],
@@ -35,12 +35,12 @@ pub fn plan(
     requires { ⌜ SettingGood bits probes ⌝ }
     ensures { λ r. ⌜ PlanCalled (planWith bits probes session
         (lentOf (now (shared .entry)) (now («last_sent» .entry)) (now («their_heads» .entry)) (now («their_need» .entry)) (now (haves .entry))
-        (now (bytes .entry)) (now (sent .entry)))
+        (now («have_bytes» .entry)) (now (sent .entry)))
         (now (table .entry)) (now (index .entry)) (now (waiting .entry)))
         (lentOf (now (shared .entry)) (now («last_sent» .entry)) (now («their_heads» .entry)) (now («their_need» .entry)) (now (haves .entry))
-        (now (bytes .entry)) (now (sent .entry)))
+        (now («have_bytes» .entry)) (now (sent .entry)))
         (lentOf (now (shared .entry)) (now («last_sent» .exit)) (now («their_heads» .entry)) (now («their_need» .entry)) (now (haves .entry))
-        (now (bytes .entry)) (now (sent .exit)))
+        (now («have_bytes» .entry)) (now (sent .exit)))
         (buffersOf (now (heads .entry)) (now (need .entry)) (now (have .entry)) (now (list .entry)))
         (buffersOf (now (heads .exit)) (now (need .exit)) (now (have .exit)) (now (list .exit))) r ⌝ }
 {
@@ -51,7 +51,7 @@ pub fn plan(
         their_heads,
         their_need,
         haves,
-        bytes,
+        have_bytes,
         sent,
         table,
         index,
@@ -71,7 +71,7 @@ pub fn plan(
             their_heads,
             their_need,
             haves,
-            bytes,
+            have_bytes,
             sent,
             heads,
             need,
@@ -92,7 +92,7 @@ pub fn generate_sync_message(
     their_heads: &[u8],
     their_need: &[u8],
     haves: &[u64],
-    bytes: &[u8],
+    have_bytes: &[u8],
     sent: &mut [u8],
     heads: &mut [u8],
     need: &mut [u8],
@@ -101,12 +101,12 @@ pub fn generate_sync_message(
 ) -> PlanAnswer
     ensures { λ r. ⌜ PlanCalled (planWith defaultBits defaultProbes session
         (lentOf (now (shared .entry)) (now («last_sent» .entry)) (now («their_heads» .entry)) (now («their_need» .entry)) (now (haves .entry))
-        (now (bytes .entry)) (now (sent .entry)))
+        (now («have_bytes» .entry)) (now (sent .entry)))
         (now (table .entry)) (now (index .entry)) (now (waiting .entry)))
         (lentOf (now (shared .entry)) (now («last_sent» .entry)) (now («their_heads» .entry)) (now («their_need» .entry)) (now (haves .entry))
-        (now (bytes .entry)) (now (sent .entry)))
+        (now («have_bytes» .entry)) (now (sent .entry)))
         (lentOf (now (shared .entry)) (now («last_sent» .exit)) (now («their_heads» .entry)) (now («their_need» .entry)) (now (haves .entry))
-        (now (bytes .entry)) (now (sent .exit)))
+        (now («have_bytes» .entry)) (now (sent .exit)))
         (buffersOf (now (heads .entry)) (now (need .entry)) (now (have .entry)) (now (list .entry)))
         (buffersOf (now (heads .exit)) (now (need .exit)) (now (have .exit)) (now (list .exit))) r ⌝ }
 {
@@ -122,7 +122,7 @@ pub fn generate_sync_message(
         their_heads,
         their_need,
         haves,
-        bytes,
+        have_bytes,
         sent,
         heads,
         need,

@@ -2,7 +2,7 @@
 use Prim.Native.Nat.{ℕ, _+_, _-_, _*_, _≤_}
 use mathlib.Core.Bool.{Bool}
 use mathlib.Core.List.{List, [], _++_, append-assoc}
-use mathlib.Core.Path.{_≡_, refl, sym, ap, _∙_}
+use mathlib.Core.Path.{_≡_, sym, ap, _∙_}
 use native.Mathlib.Omega.{arith}
 use borrow.Author.Tests.{eq-eqb, ne-eqb}
 use lib.ListN.{length, take, drop, replicate, length-drop, length-replicate}
@@ -10,11 +10,8 @@ use lib.Seq.{sets, sets-eq, drop-drop, length-take-le}
 use Rattle.bloom_probe.proofs.FieldLaws.{length-add-hashes}
 use Rattle.bloom_probe.specs.Build.{addHashes}
 use Rattle.table_graph.specs.Internal.Marks.{marked}
-use Rattle.plan_decide.specs.Internal.Draft.{unlessNone, startPut}
-use Rattle.rules.proofs.Outputs.{gathered-bytes}
-use Rattle.rules.proofs.Hash.{length-hashes-at}
-use Rattle.rules.specs.Hash.{Bytes, hashesAt, hashesBytes}
-use Rattle.rules.specs.Output.{Gathered}
+use Rattle.plan_decide.specs.Internal.Draft.{unlessNone}
+use Rattle.rules.specs.Hash.{hashesBytes}
 use Rattle.rules.specs.Sizes.{sizes}
 
 module _ (n : ℕ) (l : List ℕ) where
@@ -35,13 +32,6 @@ module _ (n : ℕ) (l : List ℕ) where
 
   pub no-bytes : n ≡ 0 → (place : ℕ) (buffer : List ℕ) → buffer ≡ sets buffer place (unlessNone n l)
   no-bytes e place buffer = rw (none-of e)
-
--- the bytes of the first hashes of a part
-pub first-put : (part buffer next : List ℕ) (n : ℕ) → Bytes part → sizes .hash * n ≤ length part → next ≡ sets buffer 0 (take (sizes .hash * n) part)
-    → next ≡ startPut n part buffer
-first-put part buffer next n b h e =
-    let g : Gathered (hashesAt part 0 n) part n = record { many = sym (length-hashes-at part 0 n); list = refl } in
-    rw (gathered-bytes g b h) e
 
 -- ---- a field that is filled where it stands
 

@@ -1,8 +1,8 @@
 // The parts of a plan, each put into its buffer where some of it is counted.
 use crate::field::fill_marked;
 use crate::merge::merge_marked;
+use hash_order::hashes::put_hashes;
 use plan_decide::puts::Puts;
-use rules::put::copy_into;
 use rules::sizes::HASH_SIZE;
 use send::chosen::put_chosen;
 use table_graph::marked::collect_marked;
@@ -20,7 +20,7 @@ ghost use Rattle.rules.specs.Sizes.{sizes};
 ghost use Rattle.send.specs.Internal.Chosen.{chosenBy};
 ghost use Rattle.table.specs.TableBytes.{rowSize, rowsAt, GoodRows};
 ghost use Rattle.table.specs.Table.{rows};
-ghost use Rattle.plan_decide.specs.Internal.Draft.{unlessNone, listPut, startPut, havePut};
+ghost use Rattle.plan_decide.specs.Internal.Draft.{unlessNone, listPut, havePut};
 ghost use Rattle.plan_put.specs.Internal.PlanPut.{MergeReady, FieldReady, HaveReady, MessageReady, MessagePut, SessionReady, SessionPut};
 
 // Puts the marked rows, ascending.
@@ -32,14 +32,6 @@ fn put_ascending(table: &[u8], index: &[u8], n: usize, marks: &[bool], count: us
         return;
     }
     collect_marked(table, index, n, n, marks, out);
-}
-
-// Copies the first hashes of one buffer to the start of another.
-fn put_hashes(part: &[u8], n: usize, out: &mut [u8])
-    requires { ⌜ (sizes .hash * n ≤ length (now part)) × (sizes .hash * n ≤ length (now out)) ⌝ }
-    ensures { λ _. ⌜ now (out .exit) ≡ startPut n (now (part .entry)) (now (out .entry)) ⌝ }
-{
-    copy_into(out, 0, &part[..HASH_SIZE * n]);
 }
 
 // Fills the field of the filter over the marked rows where it stands.
@@ -78,7 +70,7 @@ fn put_have(
     ensures { λ _. ⌜ now (out .exit) ≡ havePut syncs (now (shared .entry)) size
         (addHashes probes (replicate size 0) (picked (rows (rowsAt (now (table .entry)) 0 n)) (now (marks .entry)))) (now (out .entry)) ⌝ }
 {
-    put_hashes(shared, syncs, out);
+    put_hashes(shared, 0, syncs, out);
     put_field(probes, table, n, marks, HASH_SIZE * syncs, size, out);
 }
 
@@ -153,7 +145,7 @@ pub fn put_message(
         (now (heads .exit)) (now (need .exit)) (now (have .exit)) (now (list .exit)) ⌝ }
 {
     put_ascending(table, index, n, head_marks, p.heads, heads);
-    put_hashes(ready_need, p.need, need);
+    put_hashes(ready_need, 0, p.need, need);
     put_have(probes, table, n, have_marks, shared, p.syncs, p.field, have);
     put_body(table, n, marks, their_need, asked, needs, p.hashes, list);
 }

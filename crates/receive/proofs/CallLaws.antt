@@ -7,7 +7,7 @@ use native.Mathlib.Omega.{arith}
 use borrow.Author.Tests.{ltb-false}
 use lib.Dec.{ltb}
 use lib.ListN.{length, replicate, length-replicate}
-use lib.Seq.{sets, slice}
+use lib.Seq.{sets}
 use Rattle.message_read.specs.MessageRead.{Reading, messageAt, decodedOf}
 use Rattle.message_read.specs.declared.parse.Decoded.{Decoded}
 use Rattle.message_read.specs.declared.parse.Decoded.the-variants.{Message as Placed, Refused as NotRead}
@@ -264,9 +264,9 @@ module _ (s : Session) (l : Lent) (table index : List ℕ) (n before : ℕ) (mes
                 pub taken-called : {shared lastSent theirHeads theirNeed records bytes sent : List ℕ} → Bytes message → Bytes (l .lastSent)
                     → shared ≡ sets (l .shared) 0
                     (hashesBytes (sharedThen known loads before (rowsAt table 0 n) (saidAt message p .heads) (hashesAt (l .shared) 0 (s .«shared_heads»))))
-                    → (lastSent ≡ sets (l .lastSent) 0 (slice (p .heads .start) (p .heads .start + sizes .hash * d .«last_sent_from_message») message))
-                    × (theirHeads ≡ sets (l .theirHeads) 0 (slice (p .heads .start) (p .heads .start + sizes .hash * d .heads) message))
-                    × (theirNeed ≡ sets (l .theirNeed) 0 (slice (p .need .start) (p .need .start + sizes .hash * d .need) message))
+                    → (lastSent ≡ sets (l .lastSent) 0 (hashesBytes (hashesAt message (p .heads .start) (d .«last_sent_from_message»))))
+                    × (theirHeads ≡ sets (l .theirHeads) 0 (hashesBytes (hashesAt message (p .heads .start) (d .heads))))
+                    × (theirNeed ≡ sets (l .theirNeed) 0 (hashesBytes (hashesAt message (p .need .start) (d .need))))
                     × LaidPut (havesOf message (keptHaves ready (d .haves))) (l .haves) (l .bytes) records bytes
                     → sent ≡ sets (l .sent) 0
                     (hashesBytes (keep (λ h. not (heldMarked (rowsAt table 0 n) marks h)) (hashesAt (l .sent) 0 keeps)))

@@ -2,13 +2,13 @@
 use Prim.Native.Nat.{ℕ, zero, suc, _+_, _*_, _≤_}
 use mathlib.Core.Bool.{Bool, true, false, cond, not, _&&_}
 use mathlib.Core.List.{List, [], _++_}
-use mathlib.Core.Path.{_≡_, sym, ap, _∙_}
-use native.Mathlib.Nat.{add-zero, zero-add}
+use mathlib.Core.Path.{_≡_, refl, sym, _∙_}
+use native.Mathlib.Nat.{zero-add}
 use native.Mathlib.Omega.{arith}
 use borrow.Author.Tests.{ltb-false}
 use lib.Dec.{ltb}
 use lib.ListN.{length, take, drop, take-append-drop}
-use lib.Seq.{sets, slice, sets-eq, slice-empty, length-take-le}
+use lib.Seq.{sets, slice, sets-eq, length-take-le}
 use Rattle.bloom.specs.Have.{haveWords, havesOf}
 use Rattle.message_read.specs.MessageRead.{messageAt, decodedOf}
 use Rattle.message_read.specs.declared.parse.Decoded.the-variants.{Message as Placed}
@@ -41,11 +41,6 @@ use Rattle.receive.proofs.DraftLaws.{Drafted, shared-count, told-made, 
 use Rattle.receive_make.proofs.SaidLaws.{read-words, read-layable}
 use Rattle.receive_decide.proofs.PutLaws.{lents-same}
 
--- ---- no hashes
-
-none-at : (place : ℕ) (s : List ℕ) → slice place (place + 0) s ≡ []
-none-at place s = rw (add-zero, slice-empty)
-
 -- ---- heads sent last that stay
 
 -- the first hashes of a buffer put at its start are the buffer
@@ -59,15 +54,14 @@ stays s n b h =
     let end : 0 + length (take k s) ≡ k = zero-add _ ∙ long in
     rw is (all ∙ rw end (take-append-drop k s))
 
-last-put : (message : List ℕ) (place count : ℕ) (b : Bool) (lastSent : List ℕ) (n : ℕ) → Bytes message → place + sizes .hash * count ≤ length message
-    → Bytes lastSent → sizes .hash * n ≤ length lastSent
-    → sets lastSent 0 (slice place (place + sizes .hash * cond b count 0) message)
+last-put : (message : List ℕ) (place count : ℕ) (b : Bool) (lastSent : List ℕ) (n : ℕ) → Bytes lastSent → sizes .hash * n ≤ length lastSent
+    → sets lastSent 0 (hashesBytes (hashesAt message place (cond b count 0)))
     ≡ sets lastSent 0 (hashesBytes (cond (empty (hashesAt message place count)) [] (cond b (hashesAt message place count) (hashesAt lastSent 0 n))))
 unfolding hashesAt hashesBytes
-last-put message place zero true lastSent n c h d k = rw (none-at place message)
-last-put message place zero false lastSent n c h d k = rw (none-at place message)
-last-put message place (suc count) true lastSent n c h d k = ap (sets lastSent 0) (sym (hashes-at-bytes message place (suc count) c h))
-last-put message place (suc count) false lastSent n c h d k = rw (none-at place message) (sym (stays lastSent n d k))
+last-put message place zero true lastSent n d k = refl
+last-put message place zero false lastSent n d k = refl
+last-put message place (suc count) true lastSent n d k = refl
+last-put message place (suc count) false lastSent n d k = sym (stays lastSent n d k)
 
 -- ---- room
 
@@ -151,22 +145,21 @@ module _ (s : Session) (l : Lent) (good : sessionGood s l ≡ true) (table : Lis
     -- all parts put are what is kept
     pub parts-kept : {shared lastSent theirHeads theirNeed records bytes sent : List ℕ} → Bytes (l .lastSent)
         → shared ≡ sets (l .shared) 0 (hashesBytes (sharedAfter before t v m))
-        → lastSent ≡ sets (l .lastSent) 0 (slice (p .heads .start) (p .heads .start + sizes .hash * d .«last_sent_from_message») message)
-        → theirHeads ≡ sets (l .theirHeads) 0 (slice (p .heads .start) (p .heads .start + sizes .hash * d .heads) message)
-        → theirNeed ≡ sets (l .theirNeed) 0 (slice (p .need .start) (p .need .start + sizes .hash * d .need) message)
+        → lastSent ≡ sets (l .lastSent) 0 (hashesBytes (hashesAt message (p .heads .start) (d .«last_sent_from_message»)))
+        → theirHeads ≡ sets (l .theirHeads) 0 (hashesBytes (hashesAt message (p .heads .start) (d .heads)))
+        → theirNeed ≡ sets (l .theirNeed) 0 (hashesBytes (hashesAt message (p .need .start) (d .need)))
         → LaidPut (havesOf message (keptHaves ready (d .haves))) (l .haves) (l .bytes) records bytes
         → sent ≡ sets (l .sent) 0 (hashesBytes (sentLeft t v m))
         → lentOf shared lastSent theirHeads theirNeed records bytes sent ≡ receivedLists (Received.took (received before t v m)) l
     unfolding receivedLists received lastSentAfter
     parts-kept lastBytes a b c e laid g =
-        let w = read-words message p read in
         let tells : Bool = not (ltb 0 (p .chunks .count)) && same (m .heads) (heads (take before t)) in
         lents-same a
         (b
         ∙ rw (told-made s l good table n before inside message p read ready d made)
-        (last-put message (p .heads .start) (p .heads .count) tells (l .lastSent) (s .«last_sent_heads») all (w .headsThere) lastBytes (session-parts s l good .lastSent .there)))
-        (c ∙ rw (made .heads) (ap (sets (l .theirHeads) 0) (sym (hashes-at-bytes message (p .heads .start) (p .heads .count) all (w .headsThere)))))
-        (e ∙ rw (made .need) (ap (sets (l .theirNeed) 0) (sym (hashes-at-bytes message (p .need .start) (p .need .count) all (w .needThere)))))
+        (last-put message (p .heads .start) (p .heads .count) tells (l .lastSent) (s .«last_sent_heads») lastBytes (session-parts s l good .lastSent .there)))
+        (c ∙ rw (made .heads))
+        (e ∙ rw (made .need))
         (laid .records ∙ rw words-ready)
         (laid .bytes ∙ rw words-ready)
         g

@@ -145,16 +145,16 @@ pub fn receive_sync_message(
     their_heads: &mut [u8],
     their_need: &mut [u8],
     haves: &mut [u64],
-    bytes: &mut [u8],
+    have_bytes: &mut [u8],
     sent: &mut [u8],
 ) -> ReceiveAnswer
     ensures { λ r. ⌜ ReceiveCalled (receiveWith loaded before session
         (lentOf (now (shared .entry)) (now («last_sent» .entry)) (now («their_heads» .entry)) (now («their_need» .entry))
-        (now (haves .entry)) (now (bytes .entry)) (now (sent .entry))) (now (table .entry)) (now (index .entry)) (now (message .entry)))
+        (now (haves .entry)) (now («have_bytes» .entry)) (now (sent .entry))) (now (table .entry)) (now (index .entry)) (now (message .entry)))
         (lentOf (now (shared .entry)) (now («last_sent» .entry)) (now («their_heads» .entry)) (now («their_need» .entry))
-        (now (haves .entry)) (now (bytes .entry)) (now (sent .entry)))
+        (now (haves .entry)) (now («have_bytes» .entry)) (now (sent .entry)))
         (lentOf (now (shared .exit)) (now («last_sent» .exit)) (now («their_heads» .exit)) (now («their_need» .exit))
-        (now (haves .exit)) (now (bytes .exit)) (now (sent .exit))) r ⌝ }
+        (now (haves .exit)) (now («have_bytes» .exit)) (now (sent .exit))) r ⌝ }
 {
     match check_receive(
         session,
@@ -163,7 +163,7 @@ pub fn receive_sync_message(
         their_heads,
         their_need,
         haves,
-        bytes,
+        have_bytes,
         sent,
         table,
         index,
@@ -185,7 +185,7 @@ pub fn receive_sync_message(
             their_heads,
             their_need,
             haves,
-            bytes,
+            have_bytes,
             sent,
         ),
     }

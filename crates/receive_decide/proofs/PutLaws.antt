@@ -1,20 +1,15 @@
 -- Copies one after the other are all of what is put. Assumes nothing.
-use Prim.Native.Nat.{ℕ, _+_, _-_, _*_, _≤_}
+use Prim.Native.Nat.{ℕ, _-_, _*_, _≤_}
 use mathlib.Core.List.{List}
-use mathlib.Core.Path.{_≡_, ap, _∙_}
-use lib.ListN.{take, drop, length}
-use lib.Seq.{sets, slice, length-take-le}
-use native.Mathlib.Nat.{add-sub-cancel-left}
+use mathlib.Core.Path.{_≡_}
+use lib.ListN.{length}
+use lib.Seq.{length-take-le}
 use Rattle.bloom.specs.Have.{haveWords, haveCount, havesOf}
-use Rattle.rules.proofs.Hash.{take-drop}
 use Rattle.session_state.specs.Value.{Lent, keptHaves}
 use native.Mathlib.Omega.{arith}
 use Rattle.session.specs.Laid.{laidBytes}
 use Rattle.receive_haves.specs.Internal.HavesLaid.{Layable}
 use Rattle.receive_decide.specs.Internal.ReceivedCounts.{LaidFit}
-
-pub part-put : (out s next : List ℕ) (a k : ℕ) → next ≡ sets out 0 (take (a + k - a) (drop a s)) → next ≡ sets out 0 (slice a (a + k) s)
-part-put out s next a k e = e ∙ ap (sets out 0) (ap (λ (j : ℕ). take j (drop a s)) (add-sub-cancel-left a k) ∙ take-drop k a s)
 
 -- what laying out asks
 pub laid-fits : (message words : List ℕ) (count : ℕ) (records bytes : List ℕ) → LaidFit message words count records bytes

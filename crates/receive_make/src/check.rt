@@ -25,7 +25,7 @@ pub fn check_receive(
     their_heads: &[u8],
     their_need: &[u8],
     haves: &[u64],
-    bytes: &[u8],
+    have_bytes: &[u8],
     sent: &[u8],
     table: &[u8],
     index: &[u8],
@@ -33,7 +33,7 @@ pub fn check_receive(
     message: &[u8],
 ) -> ReceiptChecks
     ensures { λ r. ⌜ r ≡ checked session (lentOf (now (shared .entry)) (now («last_sent» .entry)) (now («their_heads» .entry)) (now («their_need» .entry))
-        (now (haves .entry)) (now (bytes .entry)) (now (sent .entry))) (now (table .entry)) (now (index .entry)) before (now (message .entry)) ⌝ }
+        (now (haves .entry)) (now («have_bytes» .entry)) (now (sent .entry))) (now (table .entry)) (now (index .entry)) before (now (message .entry)) ⌝ }
 {
     if !session_good(
         session,
@@ -42,7 +42,7 @@ pub fn check_receive(
         their_heads,
         their_need,
         haves,
-        bytes,
+        have_bytes,
         sent,
     ) {
         return ReceiptChecks::Refused(Refusal::BadNumbers);

@@ -86,7 +86,7 @@ pub fn find_in_order(
     )
 }
 
-// The same with the hashes themselves: there are as many numbers as the buffer has room for hashes.
+// Puts what is missing from some hashes into a buffer, found by its numbers first: there are as many of these as the buffer has room for hashes.
 fn find_by_refs(
     table: &[u8],
     index: &[u8],

@@ -30,7 +30,7 @@ use Rattle.walk.proofs.Walk01.{walk01-walks}
 use Rattle.walk.specs.Round.{Part, Loads, trim}
 use Rattle.walk.specs.Walk.{At, accepted, Walk01, heardIn}
 use Rattle.wire.specs.Item.{prefixedBytes}
-use Rattle.walk_sessions.specs.Talk.{bytesFor, goes, Pair, asked, toA, answered, toB, pairAt, carried, Reached, Granted, Underway, Tables, Agrees, Statement2, Theorem2, }
+use Rattle.walk_sessions.specs.Talk.{bytesFor, goes, Pair, asked, toA, answered, toB, pairAt, carried, Reached, Granted, Underway, Tables, Agrees, Statement2, Theorem2}
 use Rattle.walk_sessions.proofs.Answers.{Answers, answers}
 use Rattle.walk_sessions.proofs.Asks.{Asks, asks}
 use Rattle.walk_sessions.proofs.Returns.{Returns, returns}

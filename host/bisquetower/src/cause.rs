@@ -59,7 +59,7 @@ pub(crate) enum Rule {
     Row { table: Rows, row: usize, rule: Row },
     /// The sent hashes of a session ascend: the one at an index doesn't.
     SentOrder(usize),
-    /// A list that a step makes, by the name of its items, has at most so many.
+    /// A list that a step makes, by the name of its items, has at most `most`.
     Made { items: &'static str, most: u64 },
 }
 

@@ -254,6 +254,30 @@ fn every_definition_is_told() {
 /// The table of what crates cost has a row for each, in their order, with as many functions
 /// and edits as it has. `make costs` writes it.
 #[test]
+fn every_proof_names_its_function() {
+    for krate in crates() {
+        let proofs = root().join("crates").join(&krate).join("proofs");
+        for path in files(&proofs, "/Proof.antt") {
+            let folder = path
+                .parent()
+                .and_then(|folder| folder.strip_prefix(&proofs).ok());
+            let folder = folder
+                .expect("a proof's folder")
+                .to_string_lossy()
+                .replace('/', "::");
+            // Of functions that call each other the folder has the names of all, each behind a plus.
+            let name = format!("-- `{krate}::{folder}` ");
+            let text = read(&path);
+            assert!(
+                folder.contains('+') || text.starts_with(&name),
+                "{}",
+                path.display()
+            );
+        }
+    }
+}
+
+#[test]
 fn every_crate_has_its_costs() {
     let (crates, functions, edits) = (crates(), functions::all(), edits::all());
     let page = document("WORKING.md");

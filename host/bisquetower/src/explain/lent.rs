@@ -86,12 +86,12 @@ fn made(refusal: Refusal, list: impl FnOnce(Limits) -> (&'static str, u64)) -> R
     refusal.because(Cause::new(Rule::Made { items, most }, None))
 }
 
-/// The refusal of so many hashes that are asked about.
+/// The refusal of a list of `hashes` hashes that are asked about.
 pub(crate) fn passed(hashes: usize, refusal: Refusal) -> Refusal {
     selecting(&[], hashes, refusal)
 }
 
-/// The refusal of haves and so many needs to which hashes are to be sent.
+/// The refusal of haves and `hashes` needs to which hashes are to be sent.
 pub(crate) fn selecting(haves: &[Have], hashes: usize, refusal: Refusal) -> Refusal {
     if refusal.number != LIMIT {
         return refusal;

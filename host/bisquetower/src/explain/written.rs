@@ -39,7 +39,7 @@ pub(crate) fn saved(heads: usize, refusal: Refusal) -> Refusal {
     long.map_or(refusal, |cause| refusal.because(cause))
 }
 
-/// The refusal of a filter that was to be built of so many hashes.
+/// The refusal of a filter that was to be built of `entries` hashes.
 pub(crate) fn building(entries: usize, bits: u64, probes: u64, refusal: Refusal) -> Refusal {
     let cause = match refusal.number {
         BAD_NUMBERS => numbers(entries as u64, bits, probes),

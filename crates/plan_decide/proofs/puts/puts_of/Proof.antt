@@ -1,4 +1,4 @@
--- `plan_decide::put::puts_of` meets its contract, case by case. Assumes nothing.
+-- `plan_decide::puts::puts_of` meets its contract, case by case. Assumes nothing.
 use Rattle.plan_decide.proofs.DecideLaws.{refused-puts, silent-puts, reset-puts, says-puts}
 use borrow.Author.Needs.{needs}
 use Rattle.plan_decide.proofs.puts.puts_of.Statement.{statement}

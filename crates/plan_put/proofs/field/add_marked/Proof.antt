@@ -1,4 +1,4 @@
--- `plan_parts::field::add_marked` meets its contract: adding the marked rows that are left to the field as it is gives what adding all of them to the
+-- `plan_put::field::add_marked` meets its contract: adding the marked rows that are left to the field as it is gives what adding all of them to the
 -- field as it was gives, and the start that is held is that of the first of them. Assumes nothing.
 use Prim.Native.Nat.{_-_, ℕ, _*_, _≤_, _<_}
 use mathlib.Core.Bool.{true, false}

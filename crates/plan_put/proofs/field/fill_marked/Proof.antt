@@ -1,4 +1,4 @@
--- `plan_parts::field::fill_marked` meets its contract: the field that the marked rows are added to is the cleared one. Assumes nothing.
+-- `plan_put::field::fill_marked` meets its contract: the field that the marked rows are added to is the cleared one. Assumes nothing.
 use borrow.Author.Needs.{needs}
 use Rattle.bloom_probe.proofs.StartLaws.{added-to}
 use Rattle.plan_put.proofs.field.fill_marked.Statement.{statement}

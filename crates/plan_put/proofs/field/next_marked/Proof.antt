@@ -1,4 +1,4 @@
--- `planning::field::next_marked` meets its contract: no mark that was passed is set, and the one at which it stops is. Assumes nothing.
+-- `plan_put::field::next_marked` meets its contract: no mark that was passed is set, and the one at which it stops is. Assumes nothing.
 use Prim.Native.Nat.{_-_, ℕ, _≤_, _<_}
 use mathlib.Core.Bool.{false}
 use mathlib.Core.Path.{_≡_}

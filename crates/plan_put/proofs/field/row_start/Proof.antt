@@ -1,4 +1,4 @@
--- `plan_parts::field::row_start` meets its contract: a row's hash stands at its start, inside the table. Assumes nothing.
+-- `plan_put::field::row_start` meets its contract: a row's hash stands at its start, inside the table. Assumes nothing.
 use native.Mathlib.Omega.{arith}
 use borrow.Author.Needs.{needs}
 use Rattle.plan_put.proofs.field.row_start.Statement.{statement}

@@ -1,4 +1,4 @@
--- `graph::marked::same_marked` meets its contract: the rest of both lists decides what the whole ones do, and the index has the rows in ascending
+-- `table_graph::marked::same_marked` meets its contract: the rest of both lists decides what the whole ones do, and the index has the rows in ascending
 -- order of hash (SameLaws). Assumes nothing.
 use Prim.Native.Nat.{_-_, _<_}
 use mathlib.Core.Path.{sym, _∙_}

@@ -1,4 +1,4 @@
--- `graph::marks::copy_marks` meets its contract: the marks before the i-th are the others', the rest are as they were. Assumes nothing.
+-- `table_graph::marks::copy_marks` meets its contract: the marks before the i-th are the others', the rest are as they were. Assumes nothing.
 use Prim.Native.Nat.{_-_, _≤_}
 use mathlib.Core.Bool.{false}
 use mathlib.Core.Path.{_≡_, refl, _∙_}

@@ -1,4 +1,4 @@
--- `graph::marks::mark_picked` meets its contract: the picked hashes that are left, marked after those that were, are all of them marked (PickedMarks).
+-- `table_graph::marks::mark_picked` meets its contract: the picked hashes that are left, marked after those that were, are all of them marked (PickedMarks).
 -- Assumes nothing.
 use Prim.Native.Nat.{_-_}
 use borrow.Author.Tests.{not-true, not-false}

@@ -1,4 +1,4 @@
--- `indexing::build::build_index` meets its contract: 4 goes first; then the entries of all rows are made, and written where the table is good.
+-- `table_index_build::build::build_index` meets its contract: 4 goes first; then the entries of all rows are made, and written where the table is good.
 -- Assumes nothing.
 use mathlib.Core.Path.{sym, _∙_}
 use Rattle.rules.proofs.Outputs.{refused}

@@ -1,4 +1,4 @@
--- `indexing::build::extend_index` meets its contract: one law of BuildLaws for each answer. Assumes nothing.
+-- `table_index_build::build::extend_index` meets its contract: one law of BuildLaws for each answer. Assumes nothing.
 use mathlib.Core.Path.{refl, sym, _∙_}
 use Rattle.rules.proofs.Outputs.{refused}
 use Rattle.table_index_build.proofs.BuildLaws.{extend-past, extend-refused, extend-unfit, extend-written}

@@ -1,4 +1,4 @@
--- `indexing::build::fits_but_last` meets its contract: of no row there is no last one. Assumes nothing.
+-- `table_index_build::build::fits_but_last` meets its contract: of no row there is no last one. Assumes nothing.
 use mathlib.Core.Path.{sym, _∙_}
 use Rattle.table_index_build.proofs.BuildLaws.{last-none, last-some}
 use borrow.Author.Needs.{needs}

@@ -1,4 +1,4 @@
--- `indexing::build::put_built` meets its contract: the check's refusal, or the entries, which are the table's index. Assumes nothing.
+-- `table_index_build::build::put_built` meets its contract: the check's refusal, or the entries, which are the table's index. Assumes nothing.
 use mathlib.Core.Path.{sym, _∙_}
 use Rattle.rules.proofs.Outputs.{refused}
 use Rattle.table_index_build.proofs.BuildLaws.{built-refused, built-written, index-order}

@@ -1,4 +1,4 @@
--- `indexing::build::put_extended` meets its contract: what fits all rows but the last is their index, so with the last row put in it is the
+-- `table_index_build::build::put_extended` meets its contract: what fits all rows but the last is their index, so with the last row put in it is the
 -- table's. Assumes nothing.
 use Prim.Native.Nat.{ℕ, _-_, _*_, _≤_, _<_}
 use mathlib.Core.Path.{_≡_, sym, _∙_}

@@ -1,4 +1,4 @@
--- `indexing::build::put_index` meets its contract: the bytes of the first entries are the index's first bytes (BuildLaws). Assumes nothing.
+-- `table_index_build::build::put_index` meets its contract: the bytes of the first entries are the index's first bytes (BuildLaws). Assumes nothing.
 use lib.ListN.{length-take}
 use Rattle.rules.proofs.Outputs.{written-bytes, no-room}
 use Rattle.table_index_build.proofs.BuildLaws.{index-size, index-put}

@@ -1,4 +1,4 @@
--- The proof of the cycle of calls {ask_change, ask_list}. EachAsked way through ask_change is a constructor of the relation `Asks`. ask_list's loop has for
+-- The proof of the cycle of calls {ask_change, ask_list}. Each way through ask_change is a constructor of the relation `Asks`. ask_list's loop has for
 -- its invariant that whatever the rest of the list leads to, the whole list leads to from the start; each turn puts one change before the rest.
 -- The measure is twice the number of unmarked rows, and one more for a list: a change marks its row before it asks its list, and no call takes a
 -- mark off. Assumes nothing.

@@ -1,4 +1,4 @@
--- `missing::missing::missing` meets its contract: the change table's refusal or its index's, or what follows good ones, the rows being all those
+-- `waiting_missing::missing::missing` meets its contract: the change table's refusal or its index's, or what follows good ones, the rows being all those
 -- found. Assumes nothing.
 use mathlib.Core.Path.{sym, _∙_}
 use Rattle.table_index.proofs.CheckLaws.{checked-indexed}

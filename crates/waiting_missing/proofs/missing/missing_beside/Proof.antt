@@ -1,4 +1,4 @@
--- `missing::missing::missing_beside` meets its contract: the waiting table's refusal, or what follows a good one, whose rows the check put in
+-- `waiting_missing::missing::missing_beside` meets its contract: the waiting table's refusal, or what follows a good one, whose rows the check put in
 -- order. Assumes nothing.
 use mathlib.Core.Path.{sym, _∙_}
 use Rattle.waiting_missing.proofs.MissingCalls.{beside-refused, beside-good}
