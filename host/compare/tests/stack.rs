@@ -119,8 +119,10 @@ fn too_small_a_stack_ends_the_linked_program() {
     if let Ok(told) = std::env::var(CHILD) {
         return call_as_child(&told);
     }
+    let promised = promised();
     for name in DEEP {
-        for size in [4 << 10, 16 << 10, 40 << 10, 80 << 10] {
+        for part in [16, 8, 4] {
+            let size = promised[name] / part;
             let ended = child("too_small_a_stack_ends_the_linked_program", name, size);
             let said = String::from_utf8_lossy(&ended.stderr);
             let overflowed = said.contains("has overflowed its stack");

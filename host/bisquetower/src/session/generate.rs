@@ -33,7 +33,7 @@ impl Session {
     /// 4, as are tables and lists past their limits. It stays refused as long as the same
     /// changes are to be sent and take as many bytes.
     ///
-    /// Where the library is linked this takes up to 512 KiB of the thread's stack.
+    /// Where the library is linked this takes up to 256 KiB of the thread's stack.
     pub fn next_message<H: Host>(&mut self, host: &H) -> Result<Option<Vec<u8>>, Error<H::Error>> {
         self.say(host, |message| message.encode())
     }
