@@ -19,6 +19,11 @@ const BAD_INDEX: u64 = 12;
 #[derive(Clone, Debug, Default, PartialEq, Eq)]
 pub(crate) struct Index(Vec<u8>);
 
+/// The row that an entry names.
+fn row_of(entry: &[u8; ENTRY]) -> usize {
+    usize::from(u16::from_le_bytes(*entry))
+}
+
 impl Index {
     /// A table's own, if the table is good.
     pub(crate) fn of(table: &[u8]) -> Result<Index, Refusal> {
@@ -35,10 +40,13 @@ impl Index {
     /// The row that is found by halving, for rows that come before what is looked for,
     /// are it, or come after it in ascending order of hash.
     pub(crate) fn find(&self, order: impl Fn(usize) -> Ordering) -> Option<usize> {
-        let (entries, _) = self.0.as_chunks::<ENTRY>();
-        let row = |entry: &[u8; ENTRY]| usize::from(u16::from_le_bytes(*entry));
-        let place = entries.binary_search_by(|entry| order(row(entry)));
-        place.ok().map(|place| row(&entries[place]))
+        let entries = self.entries();
+        let place = entries.binary_search_by(|entry| order(row_of(entry)));
+        place.ok().map(|place| row_of(&entries[place]))
+    }
+
+    fn entries(&self) -> &[[u8; ENTRY]] {
+        self.0.as_chunks().0
     }
 
     pub(crate) fn as_bytes(&self) -> &[u8] {
@@ -96,7 +104,7 @@ mod tests {
             raw::heads(table, index, rows, &mut out)
         });
         assert_eq!(answer[..2], [0, 32 * rows as u64]);
-        (calls, index.rows().collect())
+        (calls, index.entries().iter().map(row_of).collect())
     }
 
     #[test]
