@@ -20,6 +20,10 @@ const READ: &[(&str, &str)] = &[
         "`returns-3` of `opening::parse_opening`",
     ),
     (
+        "receive_decide/heads_as_need",
+        "`put-hashes-requires-3` of `put::put_heard`",
+    ),
+    (
         "receive_make/rows_before_beyond",
         "`returns-4` of `check::check_receive`",
     ),
