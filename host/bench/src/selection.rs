@@ -21,6 +21,9 @@ const NAMES: [(usize, &str, &str); 2] = [
     (16, "send, 16 haves", "send, 16 haves: rest"),
 ];
 
+/// In how many orders the haves are lent in turn.
+const ORDERS: usize = 256;
+
 pub fn measure_all() {
     for (haves, name, rest) in NAMES {
         let choices = SIZES.map(|(size, rows)| (size, Choice::new(rows, haves)));
@@ -40,8 +43,7 @@ struct Choice {
     table: Vec<u8>,
     index: Vec<u8>,
     s: Vec<u8>,
-    /// In as many orders as there are haves: each begins with another one, so that no
-    /// branch is learned from one order alone.
+    /// In many orders, so that the processor learns none of them.
     haves: Vec<Vec<u64>>,
     need: Hash,
     document: Automerge,
@@ -62,11 +64,12 @@ impl Choice {
         let (s, haves) = lend(&haves, &mut random);
         let document = document(&table, &[]);
         let published = published::haves(&s, &haves);
-        let turned = |k: usize| {
-            let (first, last) = haves.split_at(HAVE_WORDS * k);
-            [last, first].concat()
+        let mut records: Vec<&[u64]> = haves.chunks(HAVE_WORDS).collect();
+        let mut shuffled = || {
+            random.shuffle(&mut records);
+            records.concat()
         };
-        let haves = (0..count).map(turned).collect();
+        let haves = (0..ORDERS).map(|_| shuffled()).collect();
         let need = hashes[rows / 2];
         let chosen = hashes_to_send(&document, &published, &[ChangeHash(need)]);
         let choice = Choice {

@@ -81,7 +81,7 @@ impl Random {
         Apart { rows, held }
     }
 
-    fn shuffle<T>(&mut self, list: &mut [T]) {
+    pub fn shuffle<T>(&mut self, list: &mut [T]) {
         for k in (1..list.len()).rev() {
             list.swap(k, self.below(k + 1));
         }
