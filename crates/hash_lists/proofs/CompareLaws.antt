@@ -2,21 +2,17 @@
 use Prim.Native.Nat.{ℕ, suc, _+_, _-_, _*_, _≤_, _<_}
 use mathlib.Core.Bool.{Bool, true, false, not}
 use mathlib.Core.List.{List, [], _∷_}
-use mathlib.Core.Path.{_≡_, sym, ap, _∙_}
+use mathlib.Core.Path.{_≡_, sym, _∙_}
 use native.Mathlib.Omega.{arith}
 use borrow.Author.Tests.{not-true, not-false}
 use lib.Dec.{eqb}
 use lib.ListN.{length}
 use Rattle.hash_order.specs.Order.{member, every}
-use Rattle.rules.proofs.Cases.{split}
-use Rattle.rules.proofs.Hash.{length-hashes-at}
 use Rattle.rules.specs.Hash.{hashAt, hashesAt}
 use Rattle.rules.specs.Sizes.{sizes}
 use Rattle.table.proofs.TableLaws.{member-of-index, unknown-of-index, index-at-most, length-rows, length-rows-at}
 use Rattle.table.specs.TableBytes.{rowsAt}
 use Rattle.table.specs.Table.{rows, indexIn, held}
-use Rattle.hash_lists.specs.Internal.Lists.{same}
-use Rattle.hash_lists.proofs.Lists.{same-equal}
 
 -- ---- a list from number k on
 
@@ -100,34 +96,6 @@ module _ (p : ℕ → Bool) (s : List ℕ) (place count : ℕ) where
   pub test-ends : (k : ℕ) → count ≤ k → every p (onward s place count k) ≡ true
   unfolding every
   test-ends k l = rw (onward-ends s place count k l)
-
--- ---- whether two are the same
-
-module _ (a b : List ℕ) (i j m n : ℕ) where
-  pub counts-differ : (m ≡ n → ⊥) → same (hashesAt a i m) (hashesAt b j n) ≡ false
-  counts-differ d =
-      split (same (hashesAt a i m) (hashesAt b j n))
-      (λ e.
-      let long : length (hashesAt a i m) ≡ length (hashesAt b j n) = ap length (same-equal (hashesAt a i m) (hashesAt b j n) e) in
-      absurd (d (sym (length-hashes-at a i m) ∙ long ∙ length-hashes-at b j n)))
-      (λ e. e)
-
-  pub same-starts : same (onward a i m 0) (onward b j n 0) ≡ same (hashesAt a i m) (hashesAt b j n)
-  same-starts = rw (onward-starts a i m, onward-starts b j n)
-
-  pub same-fails : (k : ℕ) → k < m → k < n → eqb (hashAt a (i + sizes .hash * k)) (hashAt b (j + sizes .hash * k)) ≡ false
-      → same (onward a i m k) (onward b j n k) ≡ false
-  unfolding same
-  same-fails k l f e = rw (onward-first a i m k l, onward-first b j n k f, e)
-
-  pub same-on : (k : ℕ) → k < m → k < n → eqb (hashAt a (i + sizes .hash * k)) (hashAt b (j + sizes .hash * k)) ≡ true
-      → same (onward a i m k) (onward b j n k) ≡ same (onward a i m (k + 1)) (onward b j n (k + 1))
-  unfolding same
-  same-on k l f e = rw (onward-first a i m k l, onward-first b j n k f, e)
-
-  pub same-ends : (k : ℕ) → m ≤ k → n ≤ k → same (onward a i m k) (onward b j n k) ≡ true
-  unfolding same
-  same-ends k l f = rw (onward-ends a i m k l, onward-ends b j n k f)
 
 -- ---- the row of a hash tells whether it is held
 

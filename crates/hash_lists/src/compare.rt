@@ -1,4 +1,4 @@
-// Lists compared, and looked up in one another or in a table.
+// Lists looked up in one another or in a table.
 use hash_order::hashes::same_hash;
 use rules::sizes::HASH_SIZE;
 use table_index::look::look_up;
@@ -11,25 +11,6 @@ ghost use Rattle.rules.specs.Hash.{hashAt, hashesAt};
 ghost use Rattle.rules.specs.Sizes.{sizes};
 ghost use Rattle.table.specs.TableBytes.{rowsAt};
 ghost use Rattle.table.specs.Table.{held};
-ghost use Rattle.hash_lists.specs.Internal.Lists.{same};
-
-// Whether two lists have the same hashes in the same order.
-pub fn same_list(a: &[u8], i: usize, m: usize, b: &[u8], j: usize, n: usize) -> bool
-    requires { ⌜ (i + sizes .hash * m ≤ length (now a)) × (j + sizes .hash * n ≤ length (now b)) ⌝ }
-    ensures { λ r. ⌜ r ≡ same (hashesAt (now (a .entry)) i m) (hashesAt (now (b .entry)) j n) ⌝ }
-{
-    if m != n {
-        return false;
-    }
-    let mut k = 0;
-    while k < m {
-        if !same_hash(a, i + HASH_SIZE * k, b, j + HASH_SIZE * k) {
-            return false;
-        }
-        k += 1;
-    }
-    true
-}
 
 // Whether the hash at a place stands in a list.
 pub fn is_in(bytes: &[u8], at: usize, list: &[u8], place: usize, count: usize) -> bool

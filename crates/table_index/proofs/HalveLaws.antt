@@ -34,12 +34,6 @@ record-inside r n size long h all wide =
 pub last-inside : (n size long : ℕ) → (n + 1) * size ≤ long → sizes .hash ≤ size → n * size + sizes .hash ≤ long
 last-inside n size long all wide = record-inside n (n + 1) size long (omega arith) all wide
 
--- a record below the n-th ends within the n records
-pub records-inside : (i n size long : ℕ) → i < n → n * size ≤ long → (i + 1) * size ≤ long
-records-inside i n size long h all =
-    let more : (i + 1) * size ≤ n * size = mul-le-mul (omega arith) (omega arith) in
-    omega (arith, more)
-
 pub fewer-records : (n size long : ℕ) → (n + 1) * size ≤ long → n * size ≤ long
 fewer-records n size long all =
     let less : n * size ≤ (n + 1) * size = mul-le-mul (omega arith) (omega arith) in
