@@ -9,7 +9,7 @@ use Rattle.message_read.specs.MessageRead.{headsAt, openingAt, sectionAt, after
 use Rattle.message_read.specs.declared.parse.Places.{Places}
 use Rattle.table_graph.specs.Graph.{heads, beyond}
 use Rattle.message_items.specs.Items.{afterItem, haveItem, chunkItem, manyAt, afterList, listFrom, listAt, havesAt, chunksAt, chunksOf}
-use Rattle.hash_lists.specs.Internal.Lists.{same}
+use Rattle.hash_lists.specs.Lists.{same}
 use Rattle.message.specs.Flags.{flagsOf, addFlags, flagsIn, sectionBytes}
 use Rattle.message.specs.Message.{joined, counted, haveBytes, messageBytes}
 use Rattle.message.specs.declared.flags.Section.the-variants.{Absent, Present}

@@ -1,10 +1,9 @@
 -- A list from one of its hashes on, and what is found there: each law is one turn of a loop, with its test as a hypothesis.
 use Prim.Native.Nat.{ℕ, suc, _+_, _-_, _*_, _≤_, _<_}
-use mathlib.Core.Bool.{Bool, true, false, not}
+use mathlib.Core.Bool.{Bool, true, false}
 use mathlib.Core.List.{List, [], _∷_}
-use mathlib.Core.Path.{_≡_, sym, _∙_}
+use mathlib.Core.Path.{_≡_, _∙_}
 use native.Mathlib.Omega.{arith}
-use borrow.Author.Tests.{not-true, not-false}
 use lib.Dec.{eqb}
 use lib.ListN.{length}
 use Rattle.hash_order.specs.Order.{member, every}
@@ -34,11 +33,6 @@ module _ (s : List ℕ) (place count : ℕ) where
       let p : place + sizes .hash * (k + 1) ≡ place + sizes .hash * k + sizes .hash = omega arith in
       rw (d, p)
 
-  pub onward-back : (k : ℕ) → 0 < k → k ≤ count → onward (k - 1) ≡ hashAt s (place + sizes .hash * (k - 1)) ∷ onward k
-  onward-back k h f =
-      let next : k - 1 + 1 ≡ k = omega arith in
-      rw next at (onward-first (k - 1) (omega arith))
-
   pub onward-ends : (k : ℕ) → count ≤ k → onward k ≡ []
   unfolding onward hashesAt
   onward-ends k h =
@@ -63,20 +57,6 @@ module _ (h : ℕ) (s : List ℕ) (place count : ℕ) where
   pub seek-ends : (k : ℕ) → count ≤ k → member h (onward s place count k) ≡ false
   unfolding member
   seek-ends k l = rw (onward-ends s place count k l)
-
--- what was answered, as its callers test it
-module _ (h : ℕ) (l : List ℕ) (r : Bool) (told : r ≡ member h l) where
-  pub told-in : not r ≡ false → member h l ≡ true
-  told-in e = sym told ∙ not-false r e
-
-  pub told-out : not r ≡ true → member h l ≡ false
-  told-out e = sym told ∙ not-true r e
-
-  pub told-old : r ≡ true → not (member h l) ≡ false
-  told-old e = rw (sym told, e)
-
-  pub told-new : r ≡ false → not (member h l) ≡ true
-  told-new e = rw (sym told, e)
 
 -- ---- whether every one passes a test
 

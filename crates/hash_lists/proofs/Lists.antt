@@ -1,5 +1,4 @@
--- Lists are the same just where they are equal. Hashes joined to an ascending list are those of both, ascending, as far as there is room: a list
--- that isn't full has all of them.
+-- Lists are the same just where they are equal.
 use Prim.Native.Nat.{ℕ}
 use mathlib.Core.Bool.{true, false}
 use mathlib.Core.List.{List, [], _∷_}
@@ -7,7 +6,7 @@ use mathlib.Core.Path.{_≡_, refl}
 use borrow.Author.Tests.{eq-eqb, eqb-true}
 use lib.Dec.{eqb}
 use Rattle.rules.proofs.Cases.{both, true-false}
-use Rattle.hash_lists.specs.Internal.Lists.{same}
+use Rattle.hash_lists.specs.Lists.{same}
 
 -- ---- the same hashes in the same order
 

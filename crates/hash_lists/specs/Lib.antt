@@ -1,1 +1,1 @@
-pub mod Internal
+pub mod Lists

@@ -27,21 +27,6 @@ pub fn is_in(bytes: &[u8], at: usize, list: &[u8], place: usize, count: usize) -
     false
 }
 
-// Whether every hash of a list stands in another.
-pub fn all_in(bytes: &[u8], i: usize, m: usize, list: &[u8], place: usize, count: usize) -> bool
-    requires { ⌜ (i + sizes .hash * m ≤ length (now bytes)) × (place + sizes .hash * count ≤ length (now list)) ⌝ }
-    ensures { λ r. ⌜ r ≡ every (λ h. member h (hashesAt (now (list .entry)) place count)) (hashesAt (now (bytes .entry)) i m) ⌝ }
-{
-    let mut k = 0;
-    while k < m {
-        if !is_in(bytes, i + HASH_SIZE * k, list, place, count) {
-            return false;
-        }
-        k += 1;
-    }
-    true
-}
-
 // Whether a table holds every hash of a list.
 pub fn all_held(
     table: &[u8],

@@ -1,3 +1,2 @@
-// Lists of hashes beside each other: whether two are equal, and whether one lies in another or in a table.
+// Lists of hashes beside each other: whether two are equal, and whether a list or a table has a hash.
 pub mod compare;
-pub mod few;

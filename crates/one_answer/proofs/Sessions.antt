@@ -50,7 +50,6 @@ sessions-bind =
       heard-none = λ κs a x y u v p q. (once (p []) (q []), refl);
       is-silent = λ κs a x y u v p q. (once p q, refl);
       puts-of = λ κs a x y u v p q. (once p q, refl);
-      check-plan = λ κs a x y u v p q. (once p q, refl);
       take-flags = λ κs a x y u v p q. (once p q, refl);
       taken = λ κs a x y u v p q. (once p q, refl);
       check-receive = λ κs a x y u v p q. (once p q, refl);

@@ -14,7 +14,6 @@ use Rattle.session_saved.proofs.saved.encode as of-saved-encode
 use Rattle.session_saved.proofs.saved.parse as of-saved-parse
 use Rattle.session_saved.proofs.saved.decode as of-saved-decode
 use Rattle.plan.proofs.plan.generate_sync_message as of-generate-sync-message
-use Rattle.plan.proofs.check.check_plan as of-check-plan
 use Rattle.receive.proofs.receive.receive_sync_message as of-receive-sync-message
 use Rattle.plan_parts.proofs.silence.heard_none as of-heard-none
 use Rattle.plan_parts.proofs.silence.is_silent as of-is-silent
@@ -46,7 +45,6 @@ pub record SessionsBind : Type 0 where
   pub saved-decode : Binds of-saved-decode.ended of-saved-decode.Reads.Post
   -- the crate plan
   pub generate-sync-message : Binds of-generate-sync-message.ended of-generate-sync-message.Reads.Post
-  pub check-plan : Binds of-check-plan.ended of-check-plan.Reads.Post
   -- the crate receive
   pub receive-sync-message : Binds of-receive-sync-message.ended of-receive-sync-message.Reads.Post
   -- the crate plan_parts

@@ -24,44 +24,52 @@ use Rattle.table.specs.Table.{Row}
 use Rattle.table.specs.declared.check.Checked.{Checked as TableChecked}
 use Rattle.table.specs.declared.check.Checked.the-variants as tables
 use Rattle.table.proofs.TableLaws.{table-good}
-use Rattle.waiting.specs.WaitingBytes.{waitingOf, waitingChecked}
+use Rattle.waiting.specs.WaitingBytes.{waitingOf, waitingChecked, InOrder}
 use Rattle.waiting.specs.WaitingCalls.{tablesChecked}
-use Rattle.plan.specs.Internal.PlanChecks.{besideChecked, besideTable, checkedPlan}
+use Rattle.plan.specs.Internal.PlanChecks.{besideChecked, besideTable, checkedPlan, ChecksMade}
 use Rattle.plan.specs.declared.check.PlanChecks.{PlanChecks}
 use Rattle.plan.specs.declared.check.PlanChecks.the-variants.{Good, Refused}
 
 -- ---- what the code finds
 
-module _ (s : Session) (l : Lent) (table index waiting : List ℕ) {found : Bool} (is : found ≡ sessionGood s l) where
-  pub bad-session : found ≡ false → Refused BadNumbers ≡ checkedPlan s l table index waiting
+no-good : (r : Refusal) (n m : ℕ) → Refused r ≡ Good n m → ⊥
+no-good r n m e = let z : _≡_ {A = ℕ} 0 1 = cc in omega arith
+
+module _ (s : Session) (l : Lent) (table index waiting order : List ℕ) {found : Bool} (is : found ≡ sessionGood s l) where
+  -- a refusal leaves no order
+  refused-made : (r : Refusal) → Refused r ≡ checkedPlan s l table index waiting → ChecksMade s l table index waiting order (Refused r)
+  refused-made r e = record { answer = e; sorted = λ n m q. absurd (no-good r n m q) }
+
+  pub bad-session : found ≡ false → ChecksMade s l table index waiting order (Refused BadNumbers)
   unfolding checkedPlan
-  bad-session e = rw (sym is ∙ e)
+  bad-session e = refused-made _ (rw (sym is ∙ e))
 
   module _ (good : found ≡ true) {rows : TableChecked} (those : rows ≡ indexChecked table index) where
-    pub bad-table : (r : Refusal) → rows ≡ tables.Refused r → Refused r ≡ checkedPlan s l table index waiting
+    pub bad-table : (r : Refusal) → rows ≡ tables.Refused r → ChecksMade s l table index waiting order (Refused r)
     unfolding checkedPlan besideTable
-    bad-table r e = rw (sym is ∙ good, sym those ∙ e)
+    bad-table r e = refused-made r (rw (sym is ∙ good, sym those ∙ e))
 
-    module _ (n : ℕ) (there : rows ≡ tables.Good n) {beside : TableChecked} (others : beside ≡ waitingChecked (rowsAt table 0 n) waiting) where
+    module _ (n : ℕ) (there : rows ≡ tables.Good n) {beside : TableChecked} (others : InOrder (rowsAt table 0 n) waiting order beside) where
       same : tableOf table ≡ rowsAt table 0 n
       same = table-good table n (checked-table table index n (sym those ∙ there)) .is
 
-      pub bad-waiting : (r : Refusal) → beside ≡ tables.Refused r → Refused r ≡ checkedPlan s l table index waiting
+      pub bad-waiting : (r : Refusal) → beside ≡ tables.Refused r → ChecksMade s l table index waiting order (Refused r)
       unfolding checkedPlan besideTable besideChecked
-      bad-waiting r e = rw (sym is ∙ good, sym those ∙ there, same, sym others ∙ e)
+      bad-waiting r e = refused-made r (rw (sym is ∙ good, sym those ∙ there, same, sym (others .answer) ∙ e))
 
-      pub both-good : (m : ℕ) → beside ≡ tables.Good m → Good n m ≡ checkedPlan s l table index waiting
+      pub both-good : (m : ℕ) → beside ≡ tables.Good m → ChecksMade s l table index waiting order (Good n m)
       unfolding checkedPlan besideTable besideChecked
-      both-good m e = rw (sym is ∙ good, sym those ∙ there, same, sym others ∙ e)
+      both-good m e =
+          record {
+            answer = rw (sym is ∙ good, sym those ∙ there, same, sym (others .answer) ∙ e);
+            sorted = λ k j q. let that : m ≡ j = cc in rw that at (others .sorted m e);
+          }
 
 -- the rows are good and the index fits them
 pub rows-indexed : (table index : List ℕ) (n : ℕ) {rows : TableChecked} → rows ≡ indexChecked table index → rows ≡ tables.Good n → Indexed table index n
 rows-indexed table index n those there = checked-indexed table index n (sym those ∙ there)
 
 -- ---- what is planned then
-
-no-good : (r : Refusal) (n m : ℕ) → Refused r ≡ Good n m → ⊥
-no-good r n m e = let z : _≡_ {A = ℕ} 0 1 = cc in omega arith
 
 no-refusal : (r : Refusal) (n m : ℕ) → Good n m ≡ Refused r → ⊥
 no-refusal r n m e = let z : _≡_ {A = ℕ} 0 1 = cc in omega arith
@@ -103,20 +111,21 @@ good-checks : (good : Bool) (table index waiting : List ℕ) (n m : ℕ) → che
 good-checks true table index waiting n m e = (refl, after-good (indexChecked table index) (tableOf table) waiting n m e)
 good-checks false table index waiting n m e = absurd (no-good BadNumbers n m e)
 
-module _ (s : Session) (l : Lent) (table index waiting : List ℕ) (n m : ℕ) {found : PlanChecks} (is : found ≡ checkedPlan s l table index waiting)
+module _ (s : Session) (l : Lent) (table index waiting order : List ℕ) (n m : ℕ) {found : PlanChecks} (made : ChecksMade s l table index waiting order found)
     (good : found ≡ Good n m) where
   parts : (sessionGood s l ≡ true) × ((indexChecked table index ≡ tables.Good n) × (waitingChecked (tableOf table) waiting ≡ tables.Good m))
   unfolding checkedPlan
-  parts = good-checks (sessionGood s l) table index waiting n m (sym is ∙ good)
+  parts = good-checks (sessionGood s l) table index waiting n m (sym (made .answer) ∙ good)
 
   same-rows : tableOf table ≡ rowsAt table 0 n
   same-rows = table-good table n (checked-table table index n (parts .1 .0)) .is
 
-  pub checked : PlanChecked table index n waiting m s l
+  pub checked : PlanChecked table index n waiting order m s l
   checked =
       record {
         rows = checked-indexed table index n (parts .1 .0);
         waitingRows = rw same-rows at (parts .1 .1);
+        sorted = made .sorted n m good;
         session = parts .0;
       }
 

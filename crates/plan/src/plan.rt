@@ -7,6 +7,7 @@ use plan_make::make::Setting;
 use plan_make::make::plan_checked;
 use session::plan_answer::PlanAnswer;
 use session_state::session::Session;
+use waiting::find::ORDER_SIZE;
 ghost use Rattle.bloom.specs.Filter.{defaultBits, defaultProbes};
 ghost use Rattle.session_check.specs.SessionGood.{lentOf};
 ghost use Rattle.session.specs.PlanCall.{planWith, buffersOf, PlanCalled};
@@ -44,6 +45,7 @@ pub fn plan(
         (buffersOf (now (heads .entry)) (now (need .entry)) (now (have .entry)) (now (list .entry)))
         (buffersOf (now (heads .exit)) (now (need .exit)) (now (have .exit)) (now (list .exit))) r ⌝ }
 {
+    let mut order = [0u8; ORDER_SIZE];
     match check_plan(
         session,
         shared,
@@ -56,6 +58,7 @@ pub fn plan(
         table,
         index,
         waiting,
+        &mut order,
     ) {
         PlanChecks::Refused(r) => PlanAnswer::Refused(r),
         PlanChecks::Good { rows, waiting_rows } => plan_checked(
@@ -65,6 +68,7 @@ pub fn plan(
             index,
             rows,
             waiting,
+            &order,
             waiting_rows,
             shared,
             last_sent,

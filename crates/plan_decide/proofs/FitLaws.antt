@@ -71,7 +71,7 @@ module _ (s : Session) (d : Draft) (bits probes : ℕ) (r : Rooms) where
       record {
         heads = λ f. absurd (f refl);
         headsRoom = omega arith;
-        need = omega arith;
+        need = λ f. absurd (f refl);
         needRoom = omega arith;
         syncs = omega arith;
         field = λ f. absurd (f refl);
@@ -89,9 +89,9 @@ module _ (s : Session) (d : Draft) (bits probes : ℕ) (r : Rooms) where
   in-room Enough a f = f refl
   in-room (Short wanted) a f = none-fit
 
-  by-test : (t : Bool) (x y : PlanAnswer) → Fits s d bits (putsOf x) r → Fits s d bits (putsOf y) r → Fits s d bits (putsOf (cond t x y)) r
+  by-test : (t : Bool) (x y : PlanAnswer) → Fits s d bits (putsOf x) r → (t ≡ false → Fits s d bits (putsOf y) r) → Fits s d bits (putsOf (cond t x y)) r
   by-test true x y f g = f
-  by-test false x y f g = g
+  by-test false x y f g = g refl
 
   reset-fits : Fits s d bits (putsOf (ifRoom Refused (messageRoom (resetStated (d .heads)) r) (Reset (resetStated (d .heads))))) r
   unfolding putsOf
@@ -102,7 +102,7 @@ module _ (s : Session) (d : Draft) (bits probes : ℕ) (r : Rooms) where
       record {
         heads = λ _. refl;
         headsRoom = f .heads;
-        need = omega arith;
+        need = λ g. absurd (g refl);
         needRoom = omega arith;
         syncs = omega arith;
         field = λ g. absurd (g refl);
@@ -115,9 +115,9 @@ module _ (s : Session) (d : Draft) (bits probes : ℕ) (r : Rooms) where
         sentRoom = omega arith;
       })
 
-  says-fits : Fits s d bits (putsOf (saysWith s d bits probes r)) r
+  says-fits : d .need ≤ sizes .hashes → Fits s d bits (putsOf (saysWith s d bits probes r)) r
   unfolding saysWith putsOf
-  says-fits =
+  says-fits few =
       let p : Stated = drafted s d bits probes in
       let said : PlanAnswer = Says p (plannedCounts s (d .heads) (d .sent)) in
       in-room (messageRoom p r) (ifRoom Refused (sessionRoom (d .heads) (d .sent) r) said)
@@ -129,7 +129,7 @@ module _ (s : Session) (d : Draft) (bits probes : ℕ) (r : Rooms) where
       record {
         heads = some-heads (s .«needs_reset») (s .«supports_reset») (d .heads);
         headsRoom = f .heads;
-        need = omega arith;
+        need = λ _. (refl, few);
         needRoom = f .need;
         syncs = some-shared (d .gives) (s .«shared_heads»);
         field = some-field (d .gives) (s .«shared_heads») (d .entries) bits probes;
@@ -146,8 +146,9 @@ module _ (s : Session) (d : Draft) (bits probes : ℕ) (r : Rooms) where
   unfolding decided putsOf
   decided-fits =
       by-test (ltb (sizes .hashes) (d .need)) _ _ none-fit
-      (by-test (d .unknown) _ _ reset-fits
-      (by-test (d .silent) _ _ none-fit (by-test (ltb (sizes .sentHashes) (d .sent)) _ _ none-fit says-fits)))
+      (λ few.
+      by-test (d .unknown) _ _ reset-fits
+      (λ _. by-test (d .silent) _ _ none-fit (λ _. by-test (ltb (sizes .sentHashes) (d .sent)) _ _ none-fit (λ _. says-fits (ltb-false _ _ few)))))
 
 -- What an answer puts, which was decided, is what was drafted and fits.
 pub puts-fit : (s : Session) (d : Draft) (bits probes : ℕ) (r : Rooms) (a : PlanAnswer) (p : Puts) → a ≡ decided s d bits probes r → p ≡ putsOf a

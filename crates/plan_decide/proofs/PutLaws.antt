@@ -25,7 +25,7 @@ use Rattle.session.specs.Laid.{laidBytes}
 use Rattle.session.specs.Plan.{Plan, Planned, listOf}
 use Rattle.session_state.specs.Value.{Lent}
 use Rattle.plan_decide.specs.Internal.Draft.{PlanParts, PutLists, putLists, putsOf}
-use Rattle.plan_decide.specs.Internal.Draft.{unlessNone, listPut, startPut, havePut, allPut}
+use Rattle.plan_decide.specs.Internal.Draft.{unlessNone, listPut, havePut, allPut}
 
 -- ---- what is said, and what the session's lists become
 
@@ -59,7 +59,7 @@ sentPut (Planned.says p after) = after .sentHashes
 -- What is said, and what the session's lists become, is all or nothing of each part.
 pub record Starts (q : Planned) (parts : PlanParts) : Type 0 where
   pub heads : unlessNone (length (planSaid q .heads)) (parts .heads) ≡ planSaid q .heads
-  pub need : hashesAt (parts .need) 0 (length (planSaid q .need)) ≡ planSaid q .need
+  pub need : unlessNone (length (planSaid q .need)) (parts .need) ≡ planSaid q .need
   pub have : hashesBytes (hashesAt (parts .shared) 0 (syncsOf (planSaid q .haves))) ++ unlessNone (filterNumbers (planSaid q .haves) .size) (parts .field)
       ≡ laidBytes (planSaid q .haves)
   pub list : unlessNone (length (planSaid q .body .hashes)) (parts .list) ≡ planSaid q .body .hashes
@@ -80,10 +80,6 @@ buffers-same a b c d e f = rw (a, b, c, d, e, f)
 -- a list at the start of a buffer
 list-put : (buffer part hs : List ℕ) → unlessNone (length hs) part ≡ hs → listPut (length hs) part buffer ≡ sets buffer 0 (hashesBytes hs)
 list-put buffer part hs e = ap (λ (l : List ℕ). sets buffer 0 (hashesBytes l)) e
-
--- the first hashes of a buffer
-start-put : (buffer part hs : List ℕ) → hashesAt part 0 (length hs) ≡ hs → startPut (length hs) part buffer ≡ sets buffer 0 (hashesBytes hs)
-start-put buffer part hs e = ap (λ (l : List ℕ). sets buffer 0 (hashesBytes l)) e
 
 -- one part after the other
 have-put : (buffer shared field bytes : List ℕ) (k n : ℕ) → hashesBytes (hashesAt shared 0 k) ++ unlessNone n field ≡ bytes
@@ -110,7 +106,7 @@ module _ (parts : PlanParts) (b : Buffers) (l : Lent) where
   put-as-said (Planned.reset p) f =
       buffers-same
       (list-put _ _ _ (f .heads))
-      (start-put _ _ _ (f .need))
+      (list-put _ _ _ (f .need))
       (have-put (b .have) (parts .shared) (parts .field) _ (syncsOf (p .haves)) (filterNumbers (p .haves) .size) (f .have))
       (list-put _ _ _ (f .list))
       refl
@@ -118,7 +114,7 @@ module _ (parts : PlanParts) (b : Buffers) (l : Lent) where
   put-as-said (Planned.says p after) f =
       buffers-same
       (list-put _ _ _ (f .heads))
-      (start-put _ _ _ (f .need))
+      (list-put _ _ _ (f .need))
       (have-put (b .have) (parts .shared) (parts .field) _ (syncsOf (p .haves)) (filterNumbers (p .haves) .size) (f .have))
       (list-put _ _ _ (f .list))
       (list-put _ _ _ (f .lastSent))

@@ -15,11 +15,12 @@ use Rattle.table_graph.specs.Internal.Marks.{Marks, marked, picked}
 use Rattle.table_index.specs.Index.{Indexed}
 use Rattle.session_check.proofs.GoodSessions.{session-tests, session-parts}
 use Rattle.session_check.specs.SessionGood.{heardGood, havesGood, sessionGood}
-use Rattle.hash_lists.specs.Internal.Lists.{same}
+use Rattle.hash_lists.specs.Lists.{same}
 use Rattle.hash_order.specs.Order.{every, ascend}
 use Rattle.plan_parts.proofs.HeardLaws.{heard-there}
-use Rattle.plan_parts.specs.Internal.PlanParts.{BodyChosen, FreshMarked}
+use Rattle.plan_parts.specs.Internal.PlanParts.{HaveCounted, BodyChosen, FreshMarked}
 use Rattle.plan_parts.specs.declared.body.BodyCount.{BodyCount}
+use Rattle.plan_parts.specs.declared.need.Asked.{Asked}
 use Rattle.rules.proofs.Hash.{length-hashes-at}
 use Rattle.rules.specs.Hash.{hashesAt}
 use Rattle.rules.specs.Sizes.{sizes}
@@ -30,9 +31,8 @@ use Rattle.session_state.specs.Value.{Lent, heardCount, heardHashes, heardHaves
 use Rattle.session_state.specs.declared.session.Session.{Session}
 use Rattle.table.specs.TableBytes.{rowsAt}
 use Rattle.table.specs.Table.{Row, rows as hashes, held}
-use Rattle.plan_make.specs.Internal.PlanMake.{BodyReady, carriedBody, BodyCounted, HaveGiven, quietWith, PlanMarked, DraftCounted}
+use Rattle.plan_make.specs.Internal.PlanMake.{BodyReady, carriedBody, BodyCounted, quietWith, PlanMarked, DraftCounted}
 use Rattle.plan_make.specs.declared.count.Carried.{Carried}
-use Rattle.plan_make.specs.declared.count.Given.{Given}
 
 -- ---- what is carried
 
@@ -108,16 +108,16 @@ module _ {table index : List ℕ} {n : ℕ} (s : Session) (l : Lent) (rows : Ind
       let p = session-parts s l good in
       record { rows = rows; need = q .theirNeed; have = q .theirHave; there = p .sent .there; few = p .sent .few; ascending = p .sent .ascending }
 
-  module _ {headMarks haveMarks marks needs fresh : List Bool} (readyNeed : List ℕ) (asked : ℕ) {count : ℕ} {g : Given} {k : Carried} {unknown silent : Bool}
+  module _ {headMarks haveMarks marks needs fresh : List Bool} (a : Asked) {count entries : ℕ} {k : Carried} {unknown silent : Bool}
       (long : n ≤ length headMarks) (those : Marks n headMarks (λ i. not (needed (rowsAt table 0 n) i))) (many : count ≡ marked n headMarks)
-      (given : HaveGiven (rowsAt table 0 n) n (hashesAt readyNeed 0 asked) (heardHashes (l .theirHeads) (s .«their_heads»)) (hashesAt (l .shared) 0 (s .«shared_heads»)) haveMarks g)
+      (given : HaveCounted (rowsAt table 0 n) n (a .heard) (hashesAt (l .shared) 0 (s .«shared_heads»)) haveMarks entries)
       (u : unknown ≡ unknownSync (rowsAt table 0 n) (heardHaves (l .bytes) (l .haves) (s .«their_have»)))
       (carried : (theirHeads : List ℕ) → BodyCounted (rowsAt table 0 n) n (carriedBody (rowsAt table 0 n) s theirHeads (l .theirNeed) (l .haves) (l .bytes) (l .sent))
       (hashesAt (l .theirNeed) 0 (heardCount (s .«their_need»))) (hashesAt (l .sent) 0 (s .«sent_hashes»)) marks needs fresh k)
       (q : silent ≡ quietWith s (l .lastSent) (l .theirHeads) (ascend (picked (hashes (rowsAt table 0 n)) headMarks)) (k .body .hashes)) where
     abbrev drawn : Draft
     drawn =
-        record { heads = count; need = asked; unknown = unknown; gives = g .gives; entries = g .entries; body = k .body; silent = silent; sent = k .sent }
+        record { heads = count; need = a .count; unknown = unknown; gives = a .heard; entries = entries; body = k .body; silent = silent; sent = k .sent }
 
     pub plan-marked : PlanMarked (rowsAt table 0 n) n (stateOf s l) (hashesAt (l .theirNeed) 0 (heardCount (s .«their_need»))) headMarks haveMarks marks needs fresh drawn
     unfolding bodyOf
@@ -127,14 +127,14 @@ module _ {table index : List ℕ} {n : ℕ} (s : Session) (l : Lent) (rows : Ind
           headLong = long;
           heads = picked-heads table n headMarks those;
           headsMany = many;
-          have = given .counted;
+          have = given;
           rowLong = c .rowLong;
           needLong = c .needLong;
           list = c .body .hashes .list;
           new = c .new;
         }
 
-    pub draft-counted : DraftCounted (rowsAt table 0 n) (stateOf s l) readyNeed asked drawn
+    pub draft-counted : DraftCounted (rowsAt table 0 n) (stateOf s l) a drawn
     unfolding bodyOf silence quietWith sentAfter
     draft-counted =
         let t : List Row = rowsAt table 0 n in
@@ -145,9 +145,9 @@ module _ {table index : List ℕ} {n : ℕ} (s : Session) (l : Lent) (rows : Ind
           heads = many ∙ sym (heads-many table n headMarks those (rows .rows .good));
           need = refl;
           unknown = u;
-          gives = given .gives;
-          entries = λ e. given .counted .many e ∙ sym (picked-count (hashes t) haveMarks n (many-rows table n)) ∙ ap length (given .counted .those e);
-          none = given .counted .none;
+          gives = refl;
+          entries = λ e. given .many e ∙ sym (picked-count (hashes t) haveMarks n (many-rows table n)) ∙ ap length (given .those e);
+          none = given .none;
           document = c .body .document;
           hashes = c .body .hashes .many;
           silent = rw (ours, nothing) at q;

@@ -1,5 +1,5 @@
 -- What is decided from the numbers of a plan is what is planned on values, as counts: stage by stage, in the order of the refusals. Assumes nothing.
-use Prim.Native.Nat.{ℕ, _+_, _*_, _≤_, _<_}
+use Prim.Native.Nat.{ℕ, _*_, _≤_, _<_}
 use mathlib.Core.Bool.{Bool, true, false, cond, _&&_, not}
 use mathlib.Core.List.{List, [], _∷_}
 use mathlib.Core.Path.{_≡_, refl, sym, ap, _∙_}
@@ -15,7 +15,8 @@ use Rattle.plan_decide.specs.declared.decide.Draft.{Draft}
 use Rattle.table_graph.specs.Graph.{heads, beyond}
 use Rattle.message.specs.declared.flags.MessageFlags.{MessageFlags}
 use Rattle.message.specs.declared.version.MessageVersion.{MessageVersion}
-use Rattle.waiting_missing.specs.Ask.{FoundUpTo}
+use Rattle.plan_parts.specs.Internal.PlanParts.{NeedCounted}
+use Rattle.plan_parts.specs.declared.need.Asked.{Asked}
 use Rattle.hash_order.specs.Order.{member, every}
 use Rattle.session.specs.PlanCall.{syncsOf, filterNumbers, statedOf, plannedAnswer, messageRoom, sessionRoom, plannedRoomed}
 use Rattle.session.specs.declared.plan_answer.PlanAnswer.the-variants.{Refused, Reset}
@@ -29,7 +30,6 @@ use Rattle.bloom_probe.proofs.FieldLaws.{length-add-hashes}
 use Rattle.bloom_probe.specs.Build.{filterOf}
 use Rattle.rules.proofs.Cases.{split}
 use Rattle.rules.proofs.Hash.{length-hashes-at}
-use Rattle.rules.specs.Output.{Gathered}
 use Rattle.rules.specs.Sizes.{sizes}
 use Rattle.rules.specs.declared.refusal.Refusal.the-variants.{PastSize}
 use Rattle.session.specs.Plan.{Planned, heard, needOf, haveOf, havesFor, sentAfter, headsFor, planOf, planned, resetOf, plan}
@@ -64,15 +64,6 @@ pub field-long : (bits probes : ℕ) (hs : List ℕ) (entries : ℕ) → entries
 unfolding filterOf
 field-long bits probes hs entries many = length-add-hashes probes _ hs ∙ length-replicate _ _ ∙ ap (λ (n : ℕ). fieldSize n bits) (sym many)
 
--- ---- lists with room for one more than there may be
-
-module _ {l after : List ℕ} {most count : ℕ} (f : FoundUpTo l (most + 1) after count) where
-  pub found-many : most < count → most < length l
-  found-many h = omega (arith, f .full (omega (arith, f .within)))
-
-  pub found-all : count ≤ most → Gathered l after count
-  found-all h = f .all (omega arith)
-
 -- ---- the counts of a message
 
 abbrev statedCounts : MessageVersion → MessageFlags → Bool → ℕ → ℕ → ℕ → ℕ → FilterNumbers → ℕ → Stated
@@ -97,9 +88,8 @@ counted-same b h n v s f k = rw (b, h, n, v, s, f, k)
 numbers-same : {bits probes e e′ p p′ z z′ : ℕ} → e ≡ e′ → p ≡ p′ → z ≡ z′ → numbersOf e bits probes p z ≡ numbersOf e′ bits probes p′ z′
 numbers-same e p z = rw (e, p, z)
 
-module _ (bits probes : ℕ) (t : List Row) (w : List Waiting) (s : Session) (l : Lent) (readyNeed : List ℕ) (d : Draft)
-    (asked : ℕ) (m : DraftCounted t (stateOf s l) readyNeed asked d)
-    (f : FoundUpTo (needOf t w (s .«read_only») (heard (stateOf s l .theirHeads))) (sizes .hashes + 1) readyNeed (d .need)) where
+module _ (bits probes : ℕ) (t : List Row) (w : List Waiting) (s : Session) (l : Lent) (a : Asked) (d : Draft) (m : DraftCounted t (stateOf s l) a d)
+    (f : NeedCounted (needOf t w (s .«read_only») (heard (stateOf s l .theirHeads))) (stateOf s l .theirHeads) a) where
   abbrev theirs : List ℕ
   theirs = heard (stateOf s l .theirHeads)
 
@@ -109,9 +99,15 @@ module _ (bits probes : ℕ) (t : List Row) (w : List Waiting) (s : Session) (l 
   abbrev shared : List ℕ
   shared = stateOf s l .sharedHeads
 
+  pub asked-all : d .need ≤ sizes .hashes → d .need ≡ length needs
+  asked-all few = m .need ∙ f .all (omega (arith, m .need))
+
+  pub asked-many : sizes .hashes < d .need → sizes .hashes < length needs
+  asked-many more = f .many (omega (arith, m .need))
+
   module _ (few : d .need ≤ sizes .hashes) where
     gives-every : every (λ h. member h theirs) needs ≡ d .gives
-    gives-every = sym (rw (found-all f few .list) at (m .gives))
+    gives-every = sym (m .gives ∙ f .each (omega (arith, m .need)))
 
     pub have-given : d .gives ≡ true → havesFor bits probes t needs theirs shared ≡ haveOf bits probes t shared ∷ []
     unfolding havesFor
@@ -139,10 +135,10 @@ module _ (bits probes : ℕ) (t : List Row) (w : List Waiting) (s : Session) (l 
         split (d .gives)
         (λ e. rw (e, have-given e)
         (counted-same (sym (m .document)) (heads-count _ _ _ ∙ ap (headsCount (s .«needs_reset») (s .«supports_reset»)) (sym (m .heads)))
-        (sym (found-all f few .many)) refl given-syncs (given-numbers e) (sym (m .hashes))))
+        (sym (asked-all few)) refl given-syncs (given-numbers e) (sym (m .hashes))))
         (λ e. rw (e, have-none e)
         (counted-same (sym (m .document)) (heads-count _ _ _ ∙ ap (headsCount (s .«needs_reset») (s .«supports_reset»)) (sym (m .heads)))
-        (sym (found-all f few .many)) refl refl refl (sym (m .hashes))))
+        (sym (asked-all few)) refl refl refl (sym (m .hashes))))
 
   -- the counts of the session after the message
   counts-planned : sessionGood s l ≡ true → d .sent ≤ sizes .sentHashes → countsOf (planned t (stateOf s l)) ≡ plannedCounts s (d .heads) (d .sent)
@@ -191,9 +187,9 @@ module _ (bits probes : ℕ) (t : List Row) (w : List Waiting) (s : Session) (l 
     unfolding decided plan plannedRoomed plannedAnswer
     plan-decided =
         split (ltb (sizes .hashes) (d .need))
-        (λ e. rw (e, lt-ltb _ _ (found-many {most = sizes .hashes} f (ltb-true _ _ e))))
+        (λ e. rw (e, lt-ltb _ _ (asked-many (ltb-true _ _ e))))
         (λ e.
         let few : d .need ≤ sizes .hashes = ltb-false _ _ e in
-        let some : length needs ≤ sizes .hashes = omega (arith, found-all {most = sizes .hashes} f few .many) in
+        let some : length needs ≤ sizes .hashes = omega (arith, asked-all few) in
         rw (e, le-ltb _ _ some, sym (m .unknown), sym (m .silent))
         (both-ways (λ q. plannedAnswer (plannedRoomed r q)) (d .unknown) reset-decided (both-ways (λ q. plannedAnswer (plannedRoomed r q)) (d .silent) refl (sent-decided few))))

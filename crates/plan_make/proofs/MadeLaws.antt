@@ -12,11 +12,9 @@ use Rattle.table_graph.specs.Graph.{heads}
 use Rattle.table_graph.proofs.BelowLaws.{beyond-few}
 use Rattle.table_graph.proofs.HeadLaws.{heads-few}
 use Rattle.session_check.specs.SessionGood.{sessionGood}
-use Rattle.waiting_missing.specs.Ask.{FoundUpTo}
 use Rattle.session_check.proofs.GoodSessions.{session-parts, good-within}
 use Rattle.bloom_probe.proofs.BuildLaws.{rules-field}
 use Rattle.rules.specs.Hash.{hashesAt, hashesBytes}
-use Rattle.rules.specs.Output.{Gathered}
 use Rattle.rules.specs.Sizes.{sizes}
 use Rattle.rules.specs.declared.refusal.Refusal.the-variants.{PastSize}
 use Rattle.rules.proofs.Cases.{split}
@@ -31,20 +29,21 @@ use Rattle.table.specs.Table.{Row, rows}
 use Rattle.waiting.specs.Waiting.{Waiting}
 use Rattle.bloom.specs.Have.{Have}
 use mathlib.Core.Option.{none}
-use Rattle.plan_parts.specs.Internal.PlanParts.{SettingGood}
+use Rattle.plan_parts.specs.Internal.PlanParts.{SettingGood, NeedCounted}
+use Rattle.plan_parts.specs.declared.need.Asked.{Asked}
 use Rattle.session.specs.PlanCall.{Buffers, buffersOf, syncsOf, filterNumbers, plannedAnswer, plannedRoomed, plannedRooms, putInto, plannedLists, PlanCalled}
 use Rattle.plan_decide.specs.Internal.Draft.{PlanParts, PutLists, SmallDraft, unlessNone, putsOf, allPut}
 use Rattle.session.specs.declared.plan_answer.PlanAnswer.{PlanAnswer}
 use Rattle.plan_decide.specs.declared.decide.Draft.{Draft}
 use Rattle.session.proofs.PlanLaws.{list-few}
 use Rattle.plan_make.specs.Internal.PlanMake.{DraftCounted, planPartsOf, Finished}
-use Rattle.plan_make.proofs.Decided.{found-many, found-all, have-given, have-none, plan-decided}
+use Rattle.plan_make.proofs.Decided.{asked-many, have-given, have-none, plan-decided}
 use Rattle.plan_decide.proofs.PutLaws.{Starts, all-said, listsOf, changed, lists-change, put-as-said, refused-starts, silent-starts, roomed-starts}
 
 -- ---- small
 
-module _ (bits probes : ℕ) (t : List Row) (s : Session) (l : Lent) (readyNeed : List ℕ) (d : Draft) (asked : ℕ)
-    (m : DraftCounted t (stateOf s l) readyNeed asked d) (less : asked ≤ sizes .hashes + 1) where
+module _ (bits probes : ℕ) (t : List Row) (s : Session) (l : Lent) (a : Asked) (d : Draft) (m : DraftCounted t (stateOf s l) a d)
+    (less : a .count ≤ sizes .hashes + 1) where
   module _ (few : length t ≤ sizes .rows) (good : sessionGood s l ≡ true) (setting : SettingGood bits probes) where
     pub entries-few : d .entries ≤ sizes .rows
     entries-few =
@@ -68,9 +67,6 @@ module _ (bits probes : ℕ) (t : List Row) (s : Session) (l : Lent) (readyNeed 
 
 -- ---- what is said of the parts
 
-gathered-start : {hs part : List ℕ} {count : ℕ} → Gathered hs part count → hashesAt part 0 (length hs) ≡ hs
-gathered-start g = rw (← g .many) (g .list)
-
 heads-start : (needs supports : Bool) (hs : List ℕ) → unlessNone (length (headsFor needs supports hs)) hs ≡ headsFor needs supports hs
 unfolding headsFor unlessNone
 heads-start needs supports hs = split (needs && not supports) (λ b. rw b) (λ b. rw b (all-said hs))
@@ -79,11 +75,10 @@ test-starts : (b : Bool) (p q : Planned) (parts : PlanParts) → (b ≡ true →
 test-starts true p q parts f g = f refl
 test-starts false p q parts f g = g refl
 
-module _ (bits probes : ℕ) (t : List Row) (w : List Waiting) (s : Session) (l : Lent) (readyNeed : List ℕ) (d : Draft) (asked : ℕ)
-    (m : DraftCounted t (stateOf s l) readyNeed asked d)
-    (f : FoundUpTo (needOf t w (s .«read_only») (heard (stateOf s l .theirHeads))) (sizes .hashes + 1) readyNeed (d .need)) where
+module _ (bits probes : ℕ) (t : List Row) (w : List Waiting) (s : Session) (l : Lent) (a : Asked) (d : Draft) (m : DraftCounted t (stateOf s l) a d)
+    (f : NeedCounted (needOf t w (s .«read_only») (heard (stateOf s l .theirHeads))) (stateOf s l .theirHeads) a) where
   abbrev parts : PlanParts
-  parts = planPartsOf bits probes t (stateOf s l) readyNeed (l .shared)
+  parts = planPartsOf bits probes t (stateOf s l) (needOf t w (s .«read_only») (heard (stateOf s l .theirHeads))) (l .shared)
 
   shared-start : hashesAt (l .shared) 0 (length (stateOf s l .sharedHeads)) ≡ stateOf s l .sharedHeads
   shared-start = ap (hashesAt (l .shared) 0) (length-hashes-at (l .shared) 0 (s .«shared_heads»))
@@ -102,8 +97,8 @@ module _ (bits probes : ℕ) (t : List Row) (w : List Waiting) (s : Session) (l 
   unfolding haveOf hashesAt hashesBytes laidBytes unlessNone
   have-start few =
       split (d .gives)
-      (λ e. rw (have-given bits probes t w s l readyNeed d asked m f few e) (given-start (parts .field)))
-      (λ e. rw (have-none bits probes t w s l readyNeed d asked m f few e))
+      (λ e. rw (have-given bits probes t w s l a d m f few e) (given-start (parts .field)))
+      (λ e. rw (have-none bits probes t w s l a d m f few e))
 
   says-start : d .need ≤ sizes .hashes → d .sent ≤ sizes .sentHashes
       → Starts (Planned.says (planOf bits probes t w (stateOf s l)) (planned t (stateOf s l))) parts
@@ -111,7 +106,7 @@ module _ (bits probes : ℕ) (t : List Row) (w : List Waiting) (s : Session) (l 
   says-start few sent =
       record {
         heads = heads-start (s .«needs_reset») (s .«supports_reset») (heads t);
-        need = gathered-start (found-all f few);
+        need = all-said (needOf t w (s .«read_only») (heard (stateOf s l .theirHeads)));
         have = have-start few;
         list = all-said (bodyOf t (stateOf s l) .hashes);
         lastSent = all-said (heads t);
@@ -125,7 +120,7 @@ module _ (bits probes : ℕ) (t : List Row) (w : List Waiting) (s : Session) (l 
   few-asked : length (needOf t w (s .«read_only») (heard (stateOf s l .theirHeads))) ≤ sizes .hashes → d .need ≤ sizes .hashes
   few-asked h =
       split (ltb (sizes .hashes) (d .need))
-      (λ e. absurd (omega (arith, found-many {most = sizes .hashes} f (ltb-true _ _ e))))
+      (λ e. absurd (omega (arith, asked-many bits probes t w s l a d m f (ltb-true _ _ e))))
       (λ e. ltb-false _ _ e)
 
   few-sent : length (sentAfter t (stateOf s l)) ≤ sizes .sentHashes → d .sent ≤ sizes .sentHashes
@@ -157,12 +152,12 @@ module _ (bits probes : ℕ) (t : List Row) (w : List Waiting) (s : Session) (l 
       (λ e. reset-starts (few-asked (ltb-false _ _ e)))
 
   -- So a plan that is finished is what the call promises.
-  pub plan-called : sessionGood s l ≡ true → (before after : Buffers) (lastSent sent : List ℕ) (a : PlanAnswer)
-      → Finished s d bits probes parts (listsOf before l) (listsOf after (changed l lastSent sent)) a
-      → PlanCalled (plan bits probes t w (stateOf s l)) l (changed l lastSent sent) before after a
-  plan-called good before after lastSent sent a fin =
+  pub plan-called : sessionGood s l ≡ true → (before after : Buffers) (lastSent sent : List ℕ) (r : PlanAnswer)
+      → Finished s d bits probes parts (listsOf before l) (listsOf after (changed l lastSent sent)) r
+      → PlanCalled (plan bits probes t w (stateOf s l)) l (changed l lastSent sent) before after r
+  plan-called good before after lastSent sent r fin =
       let q : Planned = plannedRoomed (plannedRooms before l) (plan bits probes t w (stateOf s l)) in
-      let is : a ≡ plannedAnswer q = fin .answer ∙ plan-decided bits probes t w s l readyNeed d asked m f good (plannedRooms before l) in
+      let is : r ≡ plannedAnswer q = fin .answer ∙ plan-decided bits probes t w s l a d m f good (plannedRooms before l) in
       let put : listsOf after (changed l lastSent sent) ≡ allPut (putsOf (plannedAnswer q)) parts (listsOf before l) = rw is at (fin .buffers) in
       let all : listsOf after (changed l lastSent sent) ≡ listsOf (putInto q before) (plannedLists q l) =
       put ∙ put-as-said parts before l q (roomed-starts (plannedRooms before l) _ parts plan-starts)

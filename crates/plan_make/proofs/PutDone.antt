@@ -1,7 +1,8 @@
 -- What was counted has room where it is put, and once it is put it is what the call promises. Assumes nothing.
-use Prim.Native.Nat.{ℕ, _+_, _*_, _/_, _≤_}
+use Prim.Native.Nat.{ℕ, _+_, _*_, _≤_}
 use mathlib.Core.Bool.{Bool, true, false}
 use mathlib.Core.List.{List}
+use mathlib.Core.Option.{Option}
 use mathlib.Core.Path.{_≡_, sym, ap, _∙_}
 use native.Mathlib.Omega.{arith}
 use borrow.Author.Tests.{eqb-false, not-true}
@@ -23,13 +24,13 @@ use Rattle.table_graph.specs.Internal.Marks.{marked, picked}
 use Rattle.table_index.specs.Index.{Indexed}
 use Rattle.session_check.proofs.GoodSessions.{list-parts, session-tests, session-parts}
 use Rattle.session_check.specs.SessionGood.{heardGood, sessionGood}
-use Rattle.hash_lists.specs.Internal.Lists.{few}
 use Rattle.hash_order.specs.Order.{member}
-use Rattle.waiting_missing.specs.Ask.{FoundUpTo}
-use Rattle.session.specs.PlanCall.{Buffers}
+use Rattle.hash_refs.specs.Internal.Refs.{foundBy, FoundRefs}
+use Rattle.session.specs.PlanCall.{Buffers, buffersOf}
 use Rattle.session.specs.declared.plan_answer.PlanAnswer.{PlanAnswer}
 use Rattle.session.specs.declared.plan_answer.Rooms.{Rooms}
-use Rattle.plan_parts.specs.Internal.PlanParts.{SettingGood}
+use Rattle.plan_parts.specs.Internal.PlanParts.{SettingGood, NeedFound}
+use Rattle.plan_parts.specs.declared.need.Asked.{Asked}
 use Rattle.rules.proofs.Cases.{split, both}
 use Rattle.rules.proofs.Hash.{length-hashes-at}
 use Rattle.rules.specs.Hash.{hashesAt}
@@ -43,21 +44,9 @@ use Rattle.session_state.specs.declared.session.Session.{Session}
 use Rattle.table.proofs.TableLaws.{length-rows-at}
 use Rattle.table.specs.TableBytes.{rowsAt}
 use Rattle.table.specs.Table.{Row, rows as hashes, hashOf}
-use Rattle.plan_make.specs.Internal.PlanMake.{BlankMarks, PlanMarked, DraftCounted, planPartsOf, Finished, NeedRoom, AskedCalled}
+use Rattle.plan_make.specs.Internal.PlanMake.{BlankMarks, PlanMarked, DraftCounted, planPartsOf, Finished, AskedCalled}
 use Rattle.plan_make.proofs.MadeLaws.{entries-few, small-made, plan-called}
 use Rattle.plan_parts.proofs.HeardLaws.{heard-there}
-
--- ---- what is asked for
-
--- Few hashes that are asked for are all of them.
-pub few-found : {l after : List ℕ} {count : ℕ} (most : ℕ) → FoundUpTo l most after count → most ≡ few + 1 → count ≤ few → FoundUpTo l (sizes .hashes + 1) after count
-few-found most f e h =
-    record { within = omega arith; all = λ _. f .all (omega arith); full = λ q. absurd (omega arith) }
-
-pub need-room : {l : List ℕ} {count : ℕ} (after : List ℕ) (room : ℕ) → FoundUpTo l (room / sizes .hash) after count → length after ≡ room
-    → room / sizes .hash ≤ sizes .hashes + 1
-    → NeedRoom count (length after)
-need-room after room f e h = record { within = omega (arith, f .within); there = omega (arith, f .within) }
 
 -- ---- marks that aren't set
 
@@ -90,10 +79,10 @@ module _ {table index : List ℕ} {n : ℕ} (s : Session) (l : Lent) (rows : Ind
 
   -- ---- what was counted
 
-  module _ {bits probes : ℕ} (setting : SettingGood bits probes) {headMarks haveMarks marks needs fresh : List Bool} {readyNeed : List ℕ} {asked : ℕ} {d : Draft}
+  module _ {bits probes : ℕ} (setting : SettingGood bits probes) {headMarks haveMarks marks needs fresh : List Bool} {a : Asked} {d : Draft}
       (m : PlanMarked (rowsAt table 0 n) n (stateOf s l) (hashesAt (l .theirNeed) 0 (heardCount (s .«their_need»))) headMarks haveMarks marks needs fresh d)
-      (c : DraftCounted (rowsAt table 0 n) (stateOf s l) readyNeed asked d)
-      (need : NeedRoom asked (length readyNeed)) where
+      (c : DraftCounted (rowsAt table 0 n) (stateOf s l) a d)
+      (within : a .count ≤ sizes .hashes + 1) where
     abbrev t : List Row
     t = rowsAt table 0 n
 
@@ -112,7 +101,7 @@ module _ {table index : List ℕ} {n : ℕ} (s : Session) (l : Lent) (rows : Ind
         )
 
     pub small-counted : SmallDraft s d bits
-    small-counted = small-made bits probes t s l readyNeed d asked c (need .within) rows-few good setting sent-small
+    small-counted = small-made bits probes t s l a d c within rows-few good setting sent-small
 
     module _ {r : Rooms} {p : Puts} (f : Fits s d bits p r) where
       head-room : (count room : ℕ) → count ≡ d .heads → sizes .hash * count ≤ room → sizes .hash * marked n headMarks ≤ room
@@ -123,8 +112,8 @@ module _ {table index : List ℕ} {n : ℕ} (s : Session) (l : Lent) (rows : Ind
       body-room count room e h = omega (arith, c .hashes, ap length (m .list))
 
       pub message-ready : (k : ℕ) → k ≡ heardCount (s .«their_need»)
-          → MessageReady p table index n headMarks haveMarks marks needs (l .theirNeed) k (length readyNeed) (length (l .shared))
-          (r .heads) (r .need) (r .have) (r .list)
+          → MessageReady p table index n headMarks haveMarks marks needs (l .theirNeed) k (length (l .shared))
+          (r .heads) (r .have) (r .list)
       message-ready k e =
           record {
             rows = rows;
@@ -134,13 +123,11 @@ module _ {table index : List ℕ} {n : ℕ} (s : Session) (l : Lent) (rows : Ind
             needLong = omega (arith, m .needLong, length-hashes-at (l .theirNeed) 0 (heardCount (s .«their_need»)));
             asks = omega (arith, heard-there (l .theirNeed) (s .«their_need») k e (session-tests s l good .theirNeed));
             heads = λ q. head-room (p .heads) _ (f .heads q) (f .headsRoom);
-            needThere = omega (arith, f .need, c .need, need .there);
-            needRoom = f .needRoom;
             have = record { hashes = omega (arith, f .syncs, session-parts s l good .shared .there); fits = f .haveRoom };
             field =
                 λ q.
                 let g = f .field q in
-                let few : d .entries ≤ sizes .rows = entries-few bits probes t s l readyNeed d asked c (need .within) rows-few good setting in
+                let few : d .entries ≤ sizes .rows = entries-few bits probes t s l a d c within rows-few good setting in
                 let rule = rules-field (d .entries) bits probes (setting .each (d .entries) few) in
                 (omega (arith, g .0, m .have .many (g .1), rule .0), omega (arith, g .0, rule .1));
             list = λ q. rw e (body-room (p .hashes) _ (f .list q) (f .listRoom));
@@ -180,35 +167,74 @@ module _ {table index : List ℕ} {n : ℕ} (s : Session) (l : Lent) (rows : Ind
           in
           rw (e, m .have .those (g .1)) (ap (λ (z : ℕ). addHashes probes (replicate z 0) (beyond t (stateOf s l .sharedHeads))) size))
 
-      module _ (lastSent sent : List ℕ) (before after : Buffers) (k : ℕ) (e : k ≡ heardCount (s .«their_need»))
-          (put : MessagePut p probes t headMarks haveMarks marks needs (hashesAt (l .theirNeed) 0 k) readyNeed (l .shared)
-          (before .heads) (before .need) (before .have) (before .list) (after .heads) (after .need) (after .have) (after .list))
+      module _ (lastSent sent heads₀ have₀ list₀ heads₁ have₁ list₁ : List ℕ) (k : ℕ) (e : k ≡ heardCount (s .«their_need»))
+          (put : MessagePut p probes t headMarks haveMarks marks needs (hashesAt (l .theirNeed) 0 k) (l .shared) heads₀ have₀ list₀ heads₁ have₁ list₁)
           (kept : SessionPut p t headMarks fresh (s .«sent_hashes») (l .lastSent) (l .sent) lastSent sent) where
         chosen-is : chosenBy t marks (hashesAt (l .theirNeed) 0 k) needs ≡ bodyOf t (stateOf s l) .hashes
         chosen-is = ap (λ (z : ℕ). chosenBy t marks (hashesAt (l .theirNeed) 0 z) needs) e ∙ m .list
 
-        pub put-finished : {a : PlanAnswer} → a ≡ decided s d bits probes (putRooms (listsOf before l)) → p ≡ putsOf a
-            → Finished s d bits probes (planPartsOf bits probes t (stateOf s l) readyNeed (l .shared)) (listsOf before l)
-            (listsOf after (changed l lastSent sent)) a
-        unfolding sentAfter
-        put-finished {a} is q =
-            record {
-              answer = is;
-              buffers =
-                  rw (← q)
-                  (buffers-same
-                  (put .heads ∙ ap (λ (z : List ℕ). listPut (p .heads) z (before .heads)) (m .heads))
-                  (put .need)
-                  (put .have ∙ ap (λ (z : List ℕ). sets (startPut (p .syncs) (l .shared) (before .have)) (sizes .hash * p .syncs) z) field-is)
-                  (put .list ∙ ap (λ (z : List ℕ). listPut (p .hashes) z (before .list)) chosen-is)
-                  (kept .heads ∙ ap (λ (z : List ℕ). listPut (p .«last_sent») z (l .lastSent)) (m .heads))
-                  (kept .sent ∙ ap (λ (z : List ℕ). listPut (p .sent) z (l .sent)) (m .new .are)));
-            }
+        module _ (answer : PlanAnswer) (q : p ≡ putsOf answer) where
+          module _ (asks need₀ need₁ : List ℕ) (last : need₁ ≡ listPut (putsOf answer .need) asks need₀) where
+            abbrev before : Buffers
+            before = buffersOf heads₀ need₀ have₀ list₀
 
-        pub asked-called : {a : PlanAnswer} → a ≡ decided s d bits probes (putRooms (listsOf before l)) → p ≡ putsOf a
-            → AskedCalled bits probes s t l (changed l lastSent sent) readyNeed asked before after a
-        asked-called is q =
-            record {
-              called =
-                  λ w found. plan-called bits probes t w s l readyNeed d asked c (rw (c .need) found) good before after lastSent sent _ (put-finished is q);
-            }
+            abbrev after : Buffers
+            after = buffersOf heads₁ need₁ have₁ list₁
+
+            put-finished : answer ≡ decided s d bits probes (putRooms (listsOf before l))
+                → Finished s d bits probes (planPartsOf bits probes t (stateOf s l) asks (l .shared)) (listsOf before l)
+                (listsOf after (changed l lastSent sent)) answer
+            unfolding sentAfter
+            put-finished is =
+                record {
+                  answer = is;
+                  buffers =
+                      buffers-same
+                      (rw q at (put .heads ∙ ap (λ (z : List ℕ). listPut (p .heads) z heads₀) (m .heads)))
+                      last
+                      (rw q at (put .have ∙ ap (λ (z : List ℕ). sets (startPut (p .syncs) (l .shared) have₀) (sizes .hash * p .syncs) z) field-is))
+                      (rw q at (put .list ∙ ap (λ (z : List ℕ). listPut (p .hashes) z list₀) chosen-is))
+                      (rw q at (kept .heads ∙ ap (λ (z : List ℕ). listPut (p .«last_sent») z (l .lastSent)) (m .heads)))
+                      (rw q at (kept .sent ∙ ap (λ (z : List ℕ). listPut (p .sent) z (l .sent)) (m .new .are)));
+                }
+
+          -- What is decided and put is what the call promises, once what is asked for is put.
+          pub asked-called : (room : ℕ) → r .need ≡ room
+              → ((need₀ : List ℕ) → length need₀ ≡ room → answer ≡ decided s d bits probes (putRooms (listsOf (buffersOf heads₀ need₀ have₀ list₀) l)))
+              → AskedCalled bits probes s t l (changed l lastSent sent) a room heads₀ have₀ list₀ heads₁ have₁ list₁ answer
+          asked-called room there is =
+              record {
+                fits =
+                    λ some.
+                    let z = f .need (λ e. some (ap (λ (x : Puts). x .need) (sym q) ∙ e)) in
+                    (ap (λ (x : Puts). x .need) (sym q) ∙ z .0 ∙ c .need, (omega (arith, z .1, c .need), omega (arith, z .0, c .need, f .needRoom)));
+                called =
+                    λ w counted need₀ need₁ long last.
+                    plan-called bits probes t w s l a d c counted good _ _ lastSent sent _ (put-finished _ need₀ need₁ last (is need₀ long));
+              }
+
+-- ---- what is asked for
+
+module _ {theirHeads waiting refs l : List ℕ} {theirs : Option (List ℕ)} {a : Asked} (found : NeedFound theirHeads waiting refs l theirs a) {p : Puts} (r : PlanAnswer)
+    (q : p ≡ putsOf r) {room : ℕ}
+    (fits : (putsOf r .need ≡ 0 → ⊥) → (putsOf r .need ≡ a .count) × ((a .count ≤ sizes .hashes) × (sizes .hash * a .count ≤ room))) where
+  put-fits : (p .need ≡ 0 → ⊥) → (p .need ≡ a .count) × ((a .count ≤ sizes .hashes) × (sizes .hash * a .count ≤ room))
+  put-fits = rw q fits
+
+  -- what is put of it has room
+  pub need-ready : (p .need ≡ 0 → ⊥) → FoundRefs theirHeads 0 (a .heads) waiting refs (p .need) × (sizes .hash * p .need ≤ room)
+  need-ready some =
+      let z = put-fits some in
+      (rw (z .0) (found .found), omega (arith, z .0, z .1 .1))
+
+  -- and it is all of it, or nothing
+  pub need-put : (need₀ : List ℕ) {need₁ : List ℕ} → need₁ ≡ listPut (p .need) (foundBy theirHeads 0 (a .heads) waiting refs (p .need)) need₀
+      → need₁ ≡ listPut (putsOf r .need) l need₀
+  unfolding unlessNone
+  need-put need₀ put =
+      split (eqb (p .need) 0)
+      (λ e. rw (← q, e) (rw e at put))
+      (λ e.
+      let z = put-fits (eqb-false (p .need) 0 e) in
+      let all : foundBy theirHeads 0 (a .heads) waiting refs (p .need) ≡ l = rw (z .0) (found .are (z .1 .0)) in
+      rw (← q, e) (rw (e, all) at put))

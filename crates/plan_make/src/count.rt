@@ -2,15 +2,14 @@
 use plan_decide::decide::Draft;
 use plan_parts::body::BodyCount;
 use plan_parts::body::mark_body;
-use plan_parts::have::gives_have;
 use plan_parts::have::mark_beyond;
 use plan_parts::have::unknown_sync;
+use plan_parts::need::Asked;
 use plan_parts::sent::mark_fresh;
 use plan_parts::silence::heard_as;
 use plan_parts::silence::heard_none;
 use plan_parts::silence::is_silent;
 use plan_parts::silence::is_told;
-use session_state::session::Heard;
 use session_state::session::Session;
 use session_state::session::heard_count;
 use table_graph::heads::mark_heads;
@@ -20,21 +19,20 @@ ghost use mathlib.Core.List.{List};
 ghost use mathlib.Core.Path.{_≡_};
 ghost use Prim.Native.Nat.{ℕ, _*_, _≤_};
 ghost use lib.ListN.{length};
-ghost use Rattle.table_graph.specs.Internal.Marks.{Blank, picked};
+ghost use Rattle.table_graph.specs.Internal.Marks.{picked};
 ghost use Rattle.table_index.specs.Index.{Indexed};
 ghost use Rattle.session_check.specs.SessionGood.{heardGood, lentOf, sessionGood};
 ghost use Rattle.hash_order.specs.Order.{ascend};
 ghost use Rattle.plan_parts.specs.Internal.PlanParts.{BlankBody};
 ghost use Rattle.rules.specs.Hash.{hashesAt};
 ghost use Rattle.rules.specs.Sizes.{sizes};
-ghost use Rattle.session_state.specs.Value.{heardCount, heardHashes, stateOf};
+ghost use Rattle.session_state.specs.Value.{heardCount, stateOf};
 ghost use Rattle.table.specs.TableBytes.{rowsAt};
 ghost use Rattle.table.specs.Table.{rows};
 ghost use Rattle.plan_make.specs.Internal.PlanMake.{
   BodyReady,
   carriedBody,
   BodyCounted,
-  HaveGiven,
   quietWith,
   BlankMarks,
   PlanMarked,
@@ -45,12 +43,6 @@ ghost use Rattle.plan_make.specs.Internal.PlanMake.{
 pub struct Carried {
     pub body: BodyCount,
     pub sent: usize,
-}
-
-// Whether a have is given, and the entries of its filter.
-pub struct Given {
-    pub gives: bool,
-    pub entries: usize,
 }
 
 // Marks the needs and rows that the message carries, and the rows among them that weren't sent before.
@@ -111,29 +103,6 @@ fn count_body(
     Carried { body, sent: count }
 }
 
-// Whether a have is given for these hashes that are asked for, and the rows of its filter, marked and counted.
-fn count_have(
-    table: &[u8],
-    index: &[u8],
-    n: usize,
-    ready_need: &[u8],
-    asked: usize,
-    their_heads: &[u8],
-    heard: Heard,
-    shared: &[u8],
-    count: usize,
-    have_marks: &mut [bool],
-) -> Given
-    requires { ⌜ Indexed (now table) (now index) n × (sizes .hash * asked ≤ length (now «ready_need»)) × (heardGood (now «their_heads») heard ≡ true)
-        × (sizes .hash * count ≤ length (now shared)) × (n ≤ length (now «have_marks»)) × Blank n (now «have_marks») ⌝ }
-    ensures { λ r. ⌜ HaveGiven (rowsAt (now (table .entry)) 0 n) n (hashesAt (now («ready_need» .entry)) 0 asked)
-        (heardHashes (now («their_heads» .entry)) heard) (hashesAt (now (shared .entry)) 0 count) (now («have_marks» .exit)) r ⌝ }
-{
-    let gives = gives_have(ready_need, asked, their_heads, heard);
-    let entries = mark_beyond(gives, table, index, n, shared, count, have_marks);
-    Given { gives, entries }
-}
-
 // Whether there is nothing to say with the heads that are marked and this number of hashes to send.
 fn is_quiet(
     session: Session,
@@ -170,14 +139,13 @@ fn is_quiet(
     )
 }
 
-// The numbers of a plan with what is asked for, and the marks of what they count.
+// The numbers of a plan with what is asked for, and the marks of what they count. A have is given where nothing is asked for but heads that were heard.
 pub fn count_plan(
     session: Session,
     table: &[u8],
     index: &[u8],
     n: usize,
-    ready_need: &[u8],
-    asked: usize,
+    asked: Asked,
     shared: &[u8],
     last_sent: &[u8],
     their_heads: &[u8],
@@ -193,7 +161,6 @@ pub fn count_plan(
 ) -> Draft
     requires { ⌜ Indexed (now table) (now index) n
         × (sessionGood session (lentOf (now shared) (now «last_sent») (now «their_heads») (now «their_need») (now haves) (now «have_bytes») (now sent)) ≡ true)
-        × (sizes .hash * asked ≤ length (now «ready_need»))
         × BlankMarks n (heardCount (session .«their_need»)) (now «head_marks») (now «have_marks») (now marks) (now needs) (now fresh) ⌝ }
     ensures { λ r. ⌜ PlanMarked (rowsAt (now (table .entry)) 0 n) n
         (stateOf session (lentOf (now (shared .entry)) (now («last_sent» .entry)) (now («their_heads» .entry)) (now («their_need» .entry))
@@ -202,20 +169,16 @@ pub fn count_plan(
         (now («head_marks» .exit)) (now («have_marks» .exit)) (now (marks .exit)) (now (needs .exit)) (now (fresh .exit)) r
         × DraftCounted (rowsAt (now (table .entry)) 0 n)
         (stateOf session (lentOf (now (shared .entry)) (now («last_sent» .entry)) (now («their_heads» .entry)) (now («their_need» .entry))
-        (now (haves .entry)) (now («have_bytes» .entry)) (now (sent .entry)))) (now («ready_need» .entry)) asked r ⌝ }
+        (now (haves .entry)) (now («have_bytes» .entry)) (now (sent .entry)))) asked r ⌝ }
 {
     let have = session.their_have;
-    let heard = session.their_heads;
     mark_heads(table, n, head_marks);
     let heads = count_marked(n, head_marks);
-    let given = count_have(
+    let entries = mark_beyond(
+        asked.heard,
         table,
         index,
         n,
-        ready_need,
-        asked,
-        their_heads,
-        heard,
         shared,
         session.shared_heads,
         have_marks,
@@ -247,10 +210,10 @@ pub fn count_plan(
     );
     Draft {
         heads,
-        need: asked,
+        need: asked.count,
         unknown,
-        gives: given.gives,
-        entries: given.entries,
+        gives: asked.heard,
+        entries,
         body,
         silent,
         sent: carried.sent,

@@ -1,30 +1,33 @@
 // The plan: what is asked for, then counted, decided, put. Every refusal is decided on the numbers of a draft, and what is put is what they count.
 use crate::count::count_plan;
-use hash_lists::few::FEW;
 use plan_decide::decide::decide;
 use plan_decide::puts::puts_of;
-use plan_parts::need::make_need;
+use plan_parts::need::Asked;
+use plan_parts::need::find_need;
 use plan_put::put::put_message;
+use plan_put::put::put_need;
 use plan_put::put::put_session;
-use rules::sizes::HASH_SIZE;
 use rules::sizes::HASHES;
 use rules::sizes::ROWS;
 use session::plan_answer::PlanAnswer;
 use session::plan_answer::Rooms;
 use session_state::session::Session;
 use session_state::session::heard_count;
+use waiting::find::ORDER_SIZE;
+use waiting_missing::missing::FOUND;
 ghost use mathlib.Core.Bool.{true};
 ghost use mathlib.Core.Path.{_≡_};
-ghost use lib.ListN.{length};
+ghost use Prim.Native.Nat.{_+_, _≤_};
 ghost use Rattle.table_index.specs.Index.{Indexed};
 ghost use Rattle.session_check.specs.SessionGood.{lentOf, sessionGood};
 ghost use Rattle.session.specs.PlanCall.{buffersOf, PlanCalled};
 ghost use Rattle.plan_parts.specs.Internal.PlanParts.{SettingGood};
+ghost use Rattle.rules.specs.Sizes.{sizes};
 ghost use Rattle.session.specs.Plan.{plan as planFor};
 ghost use Rattle.session_state.specs.Value.{stateOf};
 ghost use Rattle.table.specs.TableBytes.{rowsAt};
 ghost use Rattle.waiting.specs.WaitingBytes.{waitingOf};
-ghost use Rattle.plan_make.specs.Internal.PlanMake.{PlanChecked, NeedRoom, AskedCalled};
+ghost use Rattle.plan_make.specs.Internal.PlanMake.{PlanChecked, AskedCalled};
 
 // The bits and probes of a filter.
 pub struct Setting {
@@ -32,20 +35,16 @@ pub struct Setting {
     pub probes: u64,
 }
 
-// Room for one hash more than are few, or than a list may have, so that too many show.
-const FEW_SIZE: usize = HASH_SIZE * (FEW + 1);
-
-const NEED_SIZE: usize = HASH_SIZE * (HASHES + 1);
-
-// The plan with what is asked for. Nothing that is lent is written before it is decided, the room too.
+// The plan but for the hashes asked for, which are put once it is known that they are: how many they are and the room for them decide with the rest.
+// Nothing that is lent is written before all of that is decided.
 fn plan_asked(
     setting: Setting,
     session: Session,
     table: &[u8],
     index: &[u8],
     n: usize,
-    ready_need: &[u8],
-    asked: usize,
+    asked: Asked,
+    need_room: usize,
     shared: &[u8],
     last_sent: &mut [u8],
     their_heads: &[u8],
@@ -54,22 +53,19 @@ fn plan_asked(
     have_bytes: &[u8],
     sent: &mut [u8],
     heads: &mut [u8],
-    need: &mut [u8],
     have: &mut [u8],
     list: &mut [u8],
 ) -> PlanAnswer
     requires { ⌜ Indexed (now table) (now index) n
         × (sessionGood session (lentOf (now shared) (now «last_sent») (now «their_heads») (now «their_need») (now haves) (now «have_bytes») (now sent)) ≡ true)
         × SettingGood (setting .bits) (setting .probes)
-        × NeedRoom asked (length (now «ready_need»)) ⌝ }
+        × (asked .count ≤ sizes .hashes + 1) ⌝ }
     ensures { λ r. ⌜ AskedCalled (setting .bits) (setting .probes) session (rowsAt (now (table .entry)) 0 n)
         (lentOf (now (shared .entry)) (now («last_sent» .entry)) (now («their_heads» .entry)) (now («their_need» .entry)) (now (haves .entry))
         (now («have_bytes» .entry)) (now (sent .entry)))
         (lentOf (now (shared .entry)) (now («last_sent» .exit)) (now («their_heads» .entry)) (now («their_need» .entry)) (now (haves .entry))
         (now («have_bytes» .entry)) (now (sent .exit)))
-        (now («ready_need» .entry)) asked
-        (buffersOf (now (heads .entry)) (now (need .entry)) (now (have .entry)) (now (list .entry)))
-        (buffersOf (now (heads .exit)) (now (need .exit)) (now (have .exit)) (now (list .exit))) r ⌝ }
+        asked «need_room» (now (heads .entry)) (now (have .entry)) (now (list .entry)) (now (heads .exit)) (now (have .exit)) (now (list .exit)) r ⌝ }
 {
     let mut head_marks = [false; ROWS];
     let mut have_marks = [false; ROWS];
@@ -81,7 +77,6 @@ fn plan_asked(
         table,
         index,
         n,
-        ready_need,
         asked,
         shared,
         last_sent,
@@ -98,7 +93,7 @@ fn plan_asked(
     );
     let rooms = Rooms {
         heads: heads.len(),
-        need: need.len(),
+        need: need_room,
         have: have.len(),
         list: list.len(),
         last_sent: last_sent.len(),
@@ -119,10 +114,8 @@ fn plan_asked(
         &needs,
         their_need,
         heard_count(theirs),
-        ready_need,
         shared,
         heads,
-        need,
         have,
         list,
     );
@@ -140,8 +133,7 @@ fn plan_asked(
     planned
 }
 
-// The plan for a session and tables that have been checked. What is asked for is looked for in a buffer for few hashes, and where they are more in one
-// for as many as there may be.
+// The plan for a session and tables that have been checked, the waiting rows in order. What is asked for is found by its numbers, and put last.
 pub fn plan_checked(
     setting: Setting,
     session: Session,
@@ -149,6 +141,7 @@ pub fn plan_checked(
     index: &[u8],
     n: usize,
     waiting: &[u8],
+    order: &[u8; ORDER_SIZE],
     m: usize,
     shared: &[u8],
     last_sent: &mut [u8],
@@ -162,7 +155,7 @@ pub fn plan_checked(
     have: &mut [u8],
     list: &mut [u8],
 ) -> PlanAnswer
-    requires { ⌜ PlanChecked (now table) (now index) n (now waiting) m session
+    requires { ⌜ PlanChecked (now table) (now index) n (now waiting) (now order) m session
         (lentOf (now shared) (now «last_sent») (now «their_heads») (now «their_need») (now haves) (now «have_bytes») (now sent))
         × SettingGood (setting .bits) (setting .probes) ⌝ }
     ensures { λ r. ⌜ PlanCalled (planFor (setting .bits) (setting .probes) (rowsAt (now (table .entry)) 0 n) (waitingOf (now (waiting .entry)))
@@ -177,60 +170,27 @@ pub fn plan_checked(
         (buffersOf (now (heads .exit)) (now (need .exit)) (now (have .exit)) (now (list .exit))) r ⌝ }
 {
     let heard = session.their_heads;
-    let mut few_need = [0u8; FEW_SIZE];
-    let few = make_need(
+    let mut refs = [0u32; FOUND];
+    let asked = find_need(
         table,
         index,
         n,
         waiting,
+        order,
         m,
         session.read_only,
         their_heads,
         heard,
-        &mut few_need,
+        &mut refs,
     );
-    if few <= FEW {
-        return plan_asked(
-            setting,
-            session,
-            table,
-            index,
-            n,
-            &few_need,
-            few,
-            shared,
-            last_sent,
-            their_heads,
-            their_need,
-            haves,
-            have_bytes,
-            sent,
-            heads,
-            need,
-            have,
-            list,
-        );
-    }
-    let mut ready_need = [0u8; NEED_SIZE];
-    let asked = make_need(
-        table,
-        index,
-        n,
-        waiting,
-        m,
-        session.read_only,
-        their_heads,
-        heard,
-        &mut ready_need,
-    );
-    plan_asked(
+    let planned = plan_asked(
         setting,
         session,
         table,
         index,
         n,
-        &ready_need,
         asked,
+        need.len(),
         shared,
         last_sent,
         their_heads,
@@ -239,8 +199,10 @@ pub fn plan_checked(
         have_bytes,
         sent,
         heads,
-        need,
         have,
         list,
-    )
+    );
+    let puts = puts_of(planned);
+    put_need(puts.need, their_heads, asked.heads, waiting, &refs, need);
+    planned
 }

@@ -3,17 +3,19 @@
 use Prim.Native.Nat.{ℕ, zero, suc, _+_, _*_, _≤_}
 use mathlib.Core.Bool.{Bool, true, false, cond}
 use mathlib.Core.List.{List, []}
-use mathlib.Core.Path.{_≡_, refl, _∙_}
+use mathlib.Core.Path.{_≡_, refl, ap, _∙_}
 use native.Mathlib.Omega.{arith}
 use borrow.Author.Tests.{ne-eqb}
 use lib.Dec.{eqb}
 use lib.ListN.{length}
 use Rattle.session_check.proofs.GoodSessions.{list-parts}
 use Rattle.session_check.specs.SessionGood.{heardGood}
-use Rattle.hash_lists.specs.Internal.Lists.{same}
+use Rattle.hash_lists.specs.Lists.{same}
+use Rattle.waiting_missing.proofs.FoundLaws.{found-many, refs-many, refs-all}
 use Rattle.waiting_missing.proofs.MissingLaws.{missing-of-nothing}
-use Rattle.waiting_missing.specs.Ask.{FoundUpTo}
+use Rattle.waiting_missing.specs.Internal.Take.{RefsFound}
 use Rattle.waiting_missing.specs.Missing.{missing}
+use Rattle.waiting_missing.specs.declared.missing.Found.{Found}
 use Rattle.hash_order.specs.Order.{member, every}
 use Rattle.rules.proofs.Cases.{split}
 use Rattle.rules.specs.Hash.{hashesAt}
@@ -24,6 +26,7 @@ use Rattle.session_state.specs.declared.session.Heard.the-variants.{Nothing, Co
 use Rattle.session_state.specs.declared.session.Heard.{Heard}
 use Rattle.table.specs.Table.{Row}
 use Rattle.waiting.specs.Waiting.{Waiting}
+use Rattle.plan_parts.specs.Internal.PlanParts.{NeedFound}
 
 -- ---- all of them
 
@@ -62,15 +65,35 @@ module _ (s : List ℕ) (readOnlyUnit : Bool) (h : Heard) (k : ℕ) (e : k ≡ c
   need-asked t w =
       split readOnlyUnit (λ r. rw (none-asked r, r) (missing-of-nothing t w)) (λ r. rw (r, heard-list s h k (all-asked r)))
 
-  pub need-found : (t : List Row) (w : List Waiting) (most : ℕ) (list : List ℕ) (count : ℕ) → FoundUpTo (missing t w (hashesAt s 0 k)) most list count
-      → FoundUpTo (needOf t w readOnlyUnit (heard (heardHashes s h))) most list count
-  need-found t w most list count so = rw (need-asked t w) at so
+  -- heads that aren't asked for don't count: then nothing is
+  heard-asked : (t : List Row) (w : List Waiting)
+      → every (λ x. member x (hashesAt s 0 k)) (missing t w (hashesAt s 0 k))
+      ≡ every (λ x. member x (heard (heardHashes s h))) (needOf t w readOnlyUnit (heard (heardHashes s h)))
+  unfolding needOf hashesAt every
+  heard-asked t w =
+      split readOnlyUnit
+      (λ r. rw (none-asked r, r, missing-of-nothing t w))
+      (λ r. rw (r, heard-list s h k (all-asked r)))
+
+  -- So what is found from them is the need.
+  pub need-found : (t : List Row) (w : List Waiting) (waiting refs : List ℕ) (f : Found) (b : Bool) → length refs ≡ sizes .hashes + 1
+      → RefsFound s 0 k waiting (missing t w (hashesAt s 0 k)) refs f
+      → b ≡ eqb (f .listed) (f .all)
+      → NeedFound s waiting refs (needOf t w readOnlyUnit (heard (heardHashes s h))) (heardHashes s h) (record { heads = k; count = f .all; heard = b })
+  need-found t w waiting refs f b room so is =
+      record {
+        counted =
+            record {
+              within = omega (arith, room, so .found .room);
+              all = λ few. omega (arith, found-many so, ap length (refs-all so (omega (arith, room))), ap length (need-asked t w));
+              many = λ more. omega (arith, room, refs-many so (omega (arith, room, so .found .room)), ap length (need-asked t w));
+              each = λ few. is ∙ so .own (omega (arith, room)) ∙ heard-asked t w;
+            };
+        found = so .found;
+        are = λ few. refs-all so (omega (arith, room)) ∙ need-asked t w;
+      }
 
 -- ---- compared
-
-pub all-heard : (s : List ℕ) (h : Heard) (k : ℕ) → k ≡ heardCount h → (l : List ℕ)
-    → every (λ x. member x (hashesAt s 0 k)) l ≡ every (λ x. member x (heard (heardHashes s h))) l
-all-heard s h k e l = rw (heard-list s h k e)
 
 module _ (s : List ℕ) (h : Heard) (l : List ℕ) where
   pub as-nothing : h ≡ Nothing → false ≡ heardAs l (heardHashes s h)

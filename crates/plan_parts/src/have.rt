@@ -2,7 +2,6 @@
 use bloom::have::sync_count;
 use bloom::have::sync_place;
 use hash_lists::compare::all_held;
-use hash_lists::compare::all_in;
 use session_state::session::Heard;
 use session_state::session::heard_count;
 use table_graph::beyond::mark_at_or_below;
@@ -14,22 +13,13 @@ ghost use Prim.Native.Nat.{_*_, _≤_};
 ghost use lib.ListN.{length};
 ghost use Rattle.table_graph.specs.Internal.Marks.{Blank};
 ghost use Rattle.table_index.specs.Index.{Indexed};
-ghost use Rattle.session_check.specs.SessionGood.{heardGood, havesGood};
-ghost use Rattle.hash_order.specs.Order.{member, every};
+ghost use Rattle.session_check.specs.SessionGood.{havesGood};
 ghost use Rattle.rules.specs.Hash.{hashesAt};
 ghost use Rattle.rules.specs.Sizes.{sizes};
-ghost use Rattle.session.specs.Plan.{heard, unknownSync};
-ghost use Rattle.session_state.specs.Value.{heardHashes, heardHaves};
+ghost use Rattle.session.specs.Plan.{unknownSync};
+ghost use Rattle.session_state.specs.Value.{heardHaves};
 ghost use Rattle.table.specs.TableBytes.{rowsAt};
 ghost use Rattle.plan_parts.specs.Internal.PlanParts.{HaveCounted};
-
-// Whether each hash that is asked for is a head that was heard.
-pub fn gives_have(need: &[u8], count: usize, their_heads: &[u8], heads: Heard) -> bool
-    requires { ⌜ (sizes .hash * count ≤ length (now need)) × (heardGood (now «their_heads») heads ≡ true) ⌝ }
-    ensures { λ r. ⌜ r ≡ every (λ h. member h (heard (heardHashes (now («their_heads» .entry)) heads))) (hashesAt (now (need .entry)) 0 count) ⌝ }
-{
-    all_in(need, 0, count, their_heads, 0, heard_count(heads))
-}
 
 // Marks the rows beyond the shared heads, which the filter of a have that is given is over, and returns how many they are; none where none is given.
 pub fn mark_beyond(

@@ -9,7 +9,7 @@ ghost use lib.ListN.{length};
 ghost use Rattle.session_check.specs.SessionGood.{heardGood};
 ghost use Rattle.table_graph.specs.Internal.Marks.{picked};
 ghost use Rattle.table_index.specs.Index.{Indexed};
-ghost use Rattle.hash_lists.specs.Internal.Lists.{same};
+ghost use Rattle.hash_lists.specs.Lists.{same};
 ghost use Rattle.hash_order.specs.Order.{ascend};
 ghost use Rattle.rules.specs.Hash.{hashesAt};
 ghost use Rattle.rules.specs.Sizes.{sizes};

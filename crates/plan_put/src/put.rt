@@ -2,6 +2,7 @@
 use crate::field::fill_marked;
 use crate::merge::merge_marked;
 use hash_order::hashes::put_hashes;
+use hash_refs::found::put_found;
 use plan_decide::puts::Puts;
 use rules::sizes::HASH_SIZE;
 use send::chosen::put_chosen;
@@ -15,6 +16,7 @@ ghost use Rattle.bloom_probe.specs.Build.{addHashes};
 ghost use Rattle.table_graph.specs.Internal.Marks.{marked, picked};
 ghost use Rattle.table_index.specs.Index.{Indexed};
 ghost use Rattle.hash_order.specs.Order.{ascend};
+ghost use Rattle.hash_refs.specs.Internal.Refs.{foundBy, FoundRefs};
 ghost use Rattle.rules.specs.Hash.{hashesAt};
 ghost use Rattle.rules.specs.Sizes.{sizes};
 ghost use Rattle.send.specs.Internal.Chosen.{chosenBy};
@@ -117,7 +119,26 @@ fn put_sent(
     merge_marked(table, index, n, fresh, sent, before, count);
 }
 
-// Puts the message's lists: the heads, what is asked for, the have, the hashes of the body.
+// Puts what is asked for, which was found by its numbers.
+pub fn put_need(
+    count: usize,
+    their_heads: &[u8],
+    entries: usize,
+    waiting: &[u8],
+    refs: &[u32],
+    need: &mut [u8],
+)
+    requires { ⌜ ((count ≡ 0 → ⊥) → FoundRefs (now «their_heads») 0 entries (now waiting) (now refs) count × (sizes .hash * count ≤ length (now need))) ⌝ }
+    ensures { λ _. ⌜ now (need .exit) ≡ listPut count
+        (foundBy (now («their_heads» .entry)) 0 entries (now (waiting .entry)) (now (refs .entry)) count) (now (need .entry)) ⌝ }
+{
+    if count == 0 {
+        return;
+    }
+    put_found(their_heads, 0, entries, waiting, refs, count, need);
+}
+
+// Puts the message's other lists: the heads, the have, the hashes of the body.
 pub fn put_message(
     p: Puts,
     probes: u64,
@@ -130,22 +151,18 @@ pub fn put_message(
     needs: &[bool],
     their_need: &[u8],
     asked: usize,
-    ready_need: &[u8],
     shared: &[u8],
     heads: &mut [u8],
-    need: &mut [u8],
     have: &mut [u8],
     list: &mut [u8],
 )
     requires { ⌜ MessageReady p (now table) (now index) n (now «head_marks») (now «have_marks») (now marks) (now needs) (now «their_need») asked
-        (length (now «ready_need»)) (length (now shared)) (length (now heads)) (length (now need)) (length (now have)) (length (now list)) ⌝ }
+        (length (now shared)) (length (now heads)) (length (now have)) (length (now list)) ⌝ }
     ensures { λ _. ⌜ MessagePut p probes (rowsAt (now (table .entry)) 0 n) (now («head_marks» .entry)) (now («have_marks» .entry)) (now (marks .entry))
-        (now (needs .entry)) (hashesAt (now («their_need» .entry)) 0 asked) (now («ready_need» .entry)) (now (shared .entry))
-        (now (heads .entry)) (now (need .entry)) (now (have .entry)) (now (list .entry))
-        (now (heads .exit)) (now (need .exit)) (now (have .exit)) (now (list .exit)) ⌝ }
+        (now (needs .entry)) (hashesAt (now («their_need» .entry)) 0 asked) (now (shared .entry))
+        (now (heads .entry)) (now (have .entry)) (now (list .entry)) (now (heads .exit)) (now (have .exit)) (now (list .exit)) ⌝ }
 {
     put_ascending(table, index, n, head_marks, p.heads, heads);
-    put_hashes(ready_need, 0, p.need, need);
     put_have(probes, table, n, have_marks, shared, p.syncs, p.field, have);
     put_body(table, n, marks, their_need, asked, needs, p.hashes, list);
 }

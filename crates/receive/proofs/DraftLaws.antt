@@ -14,7 +14,7 @@ use Rattle.table_graph.specs.Graph.{heads, below}
 use Rattle.session.specs.Receive.{Said, flagTaken, sentFlagged, flagged, loads, sharedLoaded, sharedAfter, sentLeft, lastSentAfter, received}
 use Rattle.session_check.proofs.GoodSessions.{session-parts}
 use Rattle.session_check.specs.SessionGood.{sessionGood}
-use Rattle.hash_lists.specs.Internal.Lists.{same}
+use Rattle.hash_lists.specs.Lists.{same}
 use Rattle.message.specs.Flags.{syncReset, hasFlag}
 use Rattle.message.specs.declared.flags.Section.{Section}
 use Rattle.hash_order.specs.Order.{keep, every}

@@ -16,7 +16,7 @@ use Rattle.message_read.specs.declared.parse.Places.{Places}
 use Rattle.table_graph.specs.Graph.{heads}
 use Rattle.session_check.specs.SessionGood.{sessionGood, lentOf}
 use Rattle.session_check.proofs.GoodSessions.{session-parts}
-use Rattle.hash_lists.specs.Internal.Lists.{same}
+use Rattle.hash_lists.specs.Lists.{same}
 use Rattle.rules.specs.Hash.{Bytes, hashesAt, hashesBytes}
 use Rattle.rules.specs.Sizes.{sizes}
 use Rattle.rules.proofs.Cases.{split}

@@ -9,7 +9,7 @@ use lib.ListN.{length}
 use lib.Seq.{sets}
 use Rattle.table_graph.specs.Graph.{belowRow, below}
 use Rattle.table_graph.specs.Internal.Marks.{Marks}
-use Rattle.hash_lists.specs.Internal.Lists.{same}
+use Rattle.hash_lists.specs.Lists.{same}
 use Rattle.rules.specs.Sizes.{sizes}
 use native.Mathlib.Omega.{arith}
 use Rattle.hash_order.specs.Order.{keep}

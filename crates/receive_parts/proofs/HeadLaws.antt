@@ -14,7 +14,7 @@ use Rattle.table_graph.specs.Graph.{needed, heads}
 use Rattle.table_graph.specs.Internal.Marks.{Marks, Blank, picked}
 use Rattle.hash_lists.proofs.CompareLaws.{onward, test-starts, test-fails, test-on, test-ends, found-held, found-unknown}
 use Rattle.hash_lists.proofs.Lists.{same-equal}
-use Rattle.hash_lists.specs.Internal.Lists.{same}
+use Rattle.hash_lists.specs.Lists.{same}
 use Rattle.hash_order.proofs.ReachLaws.{some-witness}
 use Rattle.hash_order.specs.Order.{every, member, ascend}
 use Rattle.hash_order.specs.Reach.{someBelow, reach}

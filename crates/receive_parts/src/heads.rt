@@ -14,7 +14,7 @@ ghost use lib.ListN.{length};
 ghost use Rattle.table_graph.specs.Graph.{heads};
 ghost use Rattle.table_graph.specs.Internal.Marks.{Blank};
 ghost use Rattle.table_index.specs.Index.{Indexed};
-ghost use Rattle.hash_lists.specs.Internal.Lists.{same};
+ghost use Rattle.hash_lists.specs.Lists.{same};
 ghost use Rattle.rules.specs.Hash.{hashesAt};
 ghost use Rattle.rules.specs.Sizes.{sizes};
 ghost use Rattle.table.specs.TableBytes.{rowsAt, GoodRows};

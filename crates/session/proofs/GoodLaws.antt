@@ -19,7 +19,7 @@ use Rattle.message_read.specs.declared.parse.Places.{Places}
 use Rattle.table_graph.proofs.BelowLaws.{beyond-few}
 use Rattle.table_graph.proofs.HeadLaws.{heads-few, heads-hashes}
 use Rattle.table_graph.specs.Graph.{heads, beyond}
-use Rattle.hash_lists.specs.Internal.Lists.{same}
+use Rattle.hash_lists.specs.Lists.{same}
 use Rattle.message.specs.Sound.{Each, SoundHashes, SoundHave, FilterReadsBack, HaveReadsBack}
 use Rattle.message.specs.declared.flags.Section.{Section}
 use Rattle.waiting_missing.specs.Missing.{missing}

@@ -11,7 +11,7 @@ use lib.Dec.{ltb}
 use lib.ListN.{length}
 use Rattle.bloom.specs.Have.{Have}
 use Rattle.table_graph.specs.Graph.{heads}
-use Rattle.hash_lists.specs.Internal.Lists.{same}
+use Rattle.hash_lists.specs.Lists.{same}
 use Rattle.waiting_missing.specs.Missing.{missing}
 use Rattle.hash_order.proofs.KeepLaws.{every-one}
 use Rattle.hash_order.proofs.OrderLaws.{ascend-ascends, ascend-members, member-append}

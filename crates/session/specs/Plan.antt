@@ -9,7 +9,7 @@ use lib.ListN.{length}
 use Rattle.bloom.specs.Filter.{filterOf4, defaultBits, defaultProbes}
 use Rattle.bloom.specs.Have.{Have}
 use Rattle.table_graph.specs.Graph.{heads, beyond}
-use Rattle.hash_lists.specs.Internal.Lists.{same}
+use Rattle.hash_lists.specs.Lists.{same}
 use Rattle.message.specs.Flags.{syncReset, readOnlyFlag, supportsSyncReset, flagsOf}
 use Rattle.message.specs.declared.flags.MessageFlags.{MessageFlags}
 use Rattle.message.specs.declared.version.MessageVersion.the-variants.{V1, V2}

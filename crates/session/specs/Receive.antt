@@ -9,7 +9,7 @@ use lib.ListN.{length, take}
 use Rattle.bloom.specs.Have.{Have}
 use Rattle.message_read.specs.MessageRead.{Reading, messageAt, messageIn}
 use Rattle.table_graph.specs.Graph.{heads, below}
-use Rattle.hash_lists.specs.Internal.Lists.{same}
+use Rattle.hash_lists.specs.Lists.{same}
 use Rattle.message.specs.Flags.{syncReset, readOnlyFlag, supportsSyncReset, hasFlag}
 use Rattle.message.specs.Message.{Message}
 use Rattle.message.specs.declared.flags.MessageFlags.{MessageFlags}

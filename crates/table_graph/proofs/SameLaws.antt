@@ -9,7 +9,7 @@ use borrow.Author.Tests.{ltb-true, ltb-false, eq-eqb, ne-eqb}
 use lib.Dec.{ltb, eqb}
 use Rattle.table_index.specs.Index.{fits}
 use Rattle.hash_lists.proofs.CompareLaws.{onward, onward-starts, onward-first, onward-ends}
-use Rattle.hash_lists.specs.Internal.Lists.{same}
+use Rattle.hash_lists.specs.Lists.{same}
 use Rattle.hash_order.specs.Order.{ascend}
 use Rattle.rules.proofs.Cases.{split}
 use Rattle.rules.specs.Hash.{hashAt, hashesAt}

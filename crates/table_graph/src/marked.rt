@@ -9,7 +9,7 @@ ghost use Prim.Native.Nat.{_+_, _*_, _≤_};
 ghost use lib.ListN.{length};
 ghost use lib.Seq.{sets};
 ghost use Rattle.table_index.specs.Index.{Indexed};
-ghost use Rattle.hash_lists.specs.Internal.Lists.{same};
+ghost use Rattle.hash_lists.specs.Lists.{same};
 ghost use Rattle.hash_order.specs.Order.{ascend};
 ghost use Rattle.rules.specs.Hash.{hashesAt, hashesBytes};
 ghost use Rattle.rules.specs.Sizes.{sizes};

@@ -3,20 +3,16 @@
 use Prim.Native.Nat.{ℕ, zero, suc, _+_, _-_, _*_, _/_, _≤_, _<_}
 use mathlib.Core.Bool.{Bool, true, false, cond, not}
 use mathlib.Core.List.{List, [], _∷_, _++_, append-nil, append-assoc}
-use mathlib.Core.Path.{_≡_, refl, sym, _∙_}
+use mathlib.Core.Path.{_≡_, refl, sym, ap, _∙_}
 use native.Mathlib.Nat.{add-zero, zero-add}
 use native.Mathlib.Omega.{arith}
-use lib.ListN.{length, getD, take, replicate, length-replicate}
-use lib.Seq.{sets, length-take-le}
-use Rattle.hash_lists.specs.Internal.Lists.{UpTo}
+use lib.ListN.{length, getD, replicate, length-replicate}
 use Rattle.hash_order.proofs.OrderLaws.{member-none}
 use Rattle.hash_order.specs.Order.{ascends, ascend, keep}
-use Rattle.hash_refs.proofs.RefLaws.{of-list, of-further, long-found, found-hashes}
+use Rattle.hash_refs.proofs.RefLaws.{of-list, of-further, long-found}
 use Rattle.hash_refs.specs.Internal.Refs.{refHash, refEnd, foundBy, FoundRefs, Added}
 use Rattle.rules.proofs.Cases.{split, and-false}
-use Rattle.rules.proofs.Outputs.{written-gathered}
-use Rattle.rules.specs.Hash.{Bytes, hashesAt, hashesBytes}
-use Rattle.rules.specs.Output.{Gathered}
+use Rattle.rules.specs.Hash.{hashesAt}
 use Rattle.rules.specs.Sizes.{sizes}
 use Rattle.table_index.specs.Index.{hashesFrom}
 use Rattle.table.proofs.TableLaws.{length-rows, length-rows-at, index-at-most, member-of-index, unknown-of-index}
@@ -27,11 +23,11 @@ use Rattle.waiting.proofs.WaitingLaws.{length-waiting, length-waitings-at, Good
 use Rattle.waiting.specs.WaitingBytes.{waitingSize, waitingRowOf, waitingRowsOf, waitingsAt, waitingOf, asksCount, asksPlaceOf, asksCountOf, Sorted}
 use Rattle.waiting.specs.Waiting.{Waiting, waiting}
 use Rattle.waiting_asked.specs.Asking.{Request, Asks, Askable}
-use Rattle.waiting_missing.specs.Ask.{FoundUpTo}
-use Rattle.waiting_missing.specs.Internal.Take.{takeOne, taking, Took, RefsFound}
+use Rattle.waiting_missing.specs.Internal.Take.{takeOne, taking, UpTo, Took, RefsFound}
 use Rattle.waiting_missing.specs.Missing.{unknown, asksFrom, missing}
+use Rattle.waiting_missing.specs.declared.missing.Found.{Found}
 use Rattle.waiting_missing.proofs.AskedLaws.{blank, marks-missing}
-use Rattle.waiting_missing.proofs.TakeLaws.{taking-append, taken-up-to}
+use Rattle.waiting_missing.proofs.TakeLaws.{taking-append, taken-up-to, taken-own}
 
 -- ---- taken in turn
 
@@ -253,7 +249,8 @@ module _ (table : List ℕ) (n : ℕ) (waitings : List ℕ) (m : ℕ) (d : Waiti
       → length refs″ ≡ length refs′
       → Took list place entries waitings (unknown (rowsAt table 0 n) (waitingsAt waitings 0 m))
       (asksFrom 0 (waitingsAt waitings 0 m) (λ k. getD marks k false)) refs′ count refs″ count′
-      → RefsFound list place entries waitings (missing (rowsAt table 0 n) (waitingOf waitings) (hashesAt list place entries)) refs″ count′
+      → RefsFound list place entries waitings (missing (rowsAt table 0 n) (waitingOf waitings) (hashesAt list place entries)) refs″
+      (record { listed = count; all = count′ })
   refs-found list place entries {refs} {refs′} {refs″} {count} {count′} {marks} asked long x same y =
       let t : List Row = rowsAt table 0 n in
       let w : List Waiting = waitingsAt waitings 0 m in
@@ -266,43 +263,38 @@ module _ (table : List ℕ) (n : ℕ) (waitings : List ℕ) (m : ℕ) (d : Waiti
       let good : GoodWaiting t w = rw (d .is) at (d .good) in
       let upTo : UpTo (length refs) (ascend (keep (unknown t w) all)) (taking (length refs) (unknown t w) all []) = taken-up-to (length refs) (unknown t w) all in
       let whole : length refs″ ≡ length refs = same ∙ long in
+      let up : UpTo (length refs″) (missing t (waitingOf waitings) hs) (foundBy list place entries waitings refs″ count′) =
+      rw (d .is, whole, is) (rw (marks-missing t w good hs asked (blank (sizes .waitingRows))) at upTo)
+      in
       record {
         found = y .found;
-        upTo = rw (d .is, whole, is) (rw (marks-missing t w good hs asked (blank (sizes .waitingRows))) at upTo);
-      }
-
--- ---- put
-
-module _ {list : List ℕ} {place entries : ℕ} {further l refs : List ℕ} {count : ℕ} (f : RefsFound list place entries further l refs count) where
-  pub found-many : length (foundBy list place entries further refs count) ≡ count
-  found-many = long-found (refHash list place entries further) refs count (f .found .room)
-
-  -- they have room where there is room for as many as there are numbers
-  pub found-room : (out : List ℕ) → length refs ≡ length out / sizes .hash → sizes .hash * count ≤ length out
-  found-room out most = omega (arith, f .found .room)
-
-  -- The hashes put at the start of a buffer that has room for as many as there are numbers.
-  pub found-put : (out out′ : List ℕ) → Bytes list → Bytes further → length refs ≡ length out / sizes .hash
-      → out′ ≡ sets out 0 (hashesBytes (foundBy list place entries further refs count))
-      → FoundUpTo l (length out / sizes .hash) out′ count
-  found-put out out′ p q most put =
-      record {
-        within = omega (arith, f .found .room, most);
-        all =
+        upTo = up;
+        own =
             λ b.
-            let is : foundBy list place entries further refs count ≡ l = f .upTo .all (omega (arith, found-many, most)) in
-            let whole = written-gathered (foundBy list place entries further refs count) out (found-hashes (f .found) p q) (omega (arith, found-many, f .found .room, most)) in
-            let there : Gathered (foundBy list place entries further refs count) out′ count = rw put (rw found-many at whole) in
-            rw is at there;
-        full = λ e. omega (arith, f .upTo .full (omega (arith, found-many, most)), most);
+            let more : List ℕ = asksFrom 0 w (λ k. getD marks k false) in
+            let few : length (foundBy list place entries waitings refs′ count) ≡ count = long-found (refHash list place entries waitings) refs′ count (x .found .room) in
+            let many : length (foundBy list place entries waitings refs″ count′) ≡ count′ = long-found (refHash list place entries waitings) refs″ count′ (y .found .room) in
+            let first : foundBy list place entries waitings refs′ count ≡ taking (length refs) (unknown t w) hs [] =
+            rw (numbers-of-list list place entries waitings) at (x .is)
+            in
+            let both : foundBy list place entries waitings refs″ count′ ≡ taking (length refs) (unknown t w) more (taking (length refs) (unknown t w) hs []) =
+            is ∙ taking-append (length refs) (unknown t w) hs more []
+            in
+            let some : length (taking (length refs) (unknown t w) more (taking (length refs) (unknown t w) hs [])) < length refs =
+            omega (arith, ap length both, many, whole)
+            in
+            let own = taken-own (length refs) (unknown t w) hs more some in
+            rw (← (up .all (omega (arith, many)))) (rw (← both, ← first, few, many) at own);
       }
 
-  pub refs-many : count ≡ length refs → length refs ≤ length l
+-- ---- all of it, or as much as there is room for
+
+module _ {list : List ℕ} {place entries : ℕ} {further l refs : List ℕ} {found : Found} (f : RefsFound list place entries further l refs found) where
+  pub found-many : length (foundBy list place entries further refs (found .all)) ≡ found .all
+  found-many = long-found (refHash list place entries further) refs (found .all) (f .found .room)
+
+  pub refs-many : found .all ≡ length refs → length refs ≤ length l
   refs-many e = f .upTo .full (omega (arith, found-many))
 
-  pub refs-all : count < length refs → foundBy list place entries further refs count ≡ l
+  pub refs-all : found .all < length refs → foundBy list place entries further refs (found .all) ≡ l
   refs-all b = f .upTo .all (omega (arith, found-many))
-
--- the first numbers of an array that has one more than a list may have hashes
-pub first-numbers : (most : ℕ) → most ≤ sizes .hashes + 1 → length (take most (replicate {A = ℕ} (sizes .hashes + 1) 0)) ≡ most
-first-numbers most b = length-take-le most (replicate {A = ℕ} (sizes .hashes + 1) 0) (rw (length-replicate {A = ℕ} (sizes .hashes + 1) 0) b)

@@ -1,7 +1,7 @@
 -- What the call for missing hashes writes: one law for each way out, with the code's tests as hypotheses.
 use Prim.Native.Nat.{ℕ, _+_, _≤_, _<_}
 use mathlib.Core.List.{List}
-use mathlib.Core.Path.{_≡_, refl}
+use mathlib.Core.Path.{_≡_}
 use native.Mathlib.Omega.{arith}
 use borrow.Author.Tests.{lt-ltb, le-ltb}
 use lib.ListN.{length}
@@ -28,12 +28,11 @@ use Rattle.table.specs.declared.check.Checked.the-variants as checked
 use Rattle.table.proofs.TableLaws.{table-good}
 use Rattle.waiting.specs.WaitingBytes.{waitingOf, waitingChecked}
 use Rattle.waiting.specs.Waiting.{Waiting}
-use Rattle.waiting_missing.specs.Ask.{FoundUpTo}
 use Rattle.waiting_missing.specs.Internal.Take.{RefsFound}
 use Rattle.waiting_missing.specs.MissingCalls.{missingOf, missingFrom, missingBeside, missingOutput}
 use Rattle.waiting_missing.specs.Missing.{missing}
+use Rattle.waiting_missing.specs.declared.missing.Found.{Found}
 use Rattle.waiting_missing.proofs.FoundLaws.{found-many, refs-many, refs-all}
-use Rattle.waiting_missing.proofs.MissingLaws.{missing-of-nothing}
 
 -- ---- a list that was found
 
@@ -47,20 +46,20 @@ module _ (t : List Row) (w : List Waiting) (l out : List ℕ) where
     unfolding missingFrom
     from-list = after-hashes _ _ _ n e
 
-    module _ {further refs : List ℕ} {count : ℕ} (room : length refs ≡ sizes .hashes + 1)
-        (f : RefsFound l 0 n further (missing t w (hashesAt l 0 n)) refs count) where
-      pub too-many : sizes .hashes < count → Written (missingFrom t w l) out out (Refused (PastSize 0))
+    module _ {further refs : List ℕ} {found : Found} (room : length refs ≡ sizes .hashes + 1)
+        (f : RefsFound l 0 n further (missing t w (hashesAt l 0 n)) refs found) where
+      pub too-many : sizes .hashes < found .all → Written (missingFrom t w l) out out (Refused (PastSize 0))
       unfolding missingOf
       too-many h =
           let many : sizes .hashes < length (missing t w (hashesAt l 0 n)) = omega (arith, room, refs-many f (omega (arith, room, f .found .room))) in
           rw (from-list, lt-ltb _ _ many) (refused _ _)
 
-      pub few-enough : {out′ : List ℕ} {r : Write} → count ≤ sizes .hashes
-          → Written (Output.bytes (hashesBytes (foundBy l 0 n further refs count))) out out′ r
+      pub few-enough : {out′ : List ℕ} {r : Write} → found .all ≤ sizes .hashes
+          → Written (Output.bytes (hashesBytes (foundBy l 0 n further refs (found .all)))) out out′ r
           → Written (missingFrom t w l) out out′ r
       unfolding missingOf
       few-enough h v =
-          let is : foundBy l 0 n further refs count ≡ missing t w (hashesAt l 0 n) = refs-all f (omega (arith, room)) in
+          let is : foundBy l 0 n further refs (found .all) ≡ missing t w (hashesAt l 0 n) = refs-all f (omega (arith, room)) in
           let few : length (missing t w (hashesAt l 0 n)) ≤ sizes .hashes = rw (← is) (omega (arith, found-many f)) in
           rw (from-list, le-ltb _ _ few) (rw is at v)
 
@@ -85,11 +84,3 @@ module _ (s x w l out : List ℕ) where
       → Written (missingOutput s x w l) out out′ r
   unfolding missingOutput afterCheck
   call-good n e v = rw (e, table-good s n (checked-table s x n e) .is) v
-
--- nothing is found where nothing is asked
-pub nothing-found : (t : List Row) (w : List Waiting) (s : List ℕ) (place entries most : ℕ) (after : List ℕ) → entries ≡ 0
-    → FoundUpTo (missing t w (hashesAt s place entries)) most after 0
-unfolding hashesAt
-nothing-found t w s place entries most after e =
-    rw (e, missing-of-nothing t w)
-    (record { within = omega arith; all = λ _. record { many = refl; list = refl }; full = λ q. omega arith })

@@ -1,6 +1,6 @@
 -- Hashes taken one after the other: the list keeps ascending and what it has; what it has in the end was there or was wanted; and while it isn't full it
 -- has all that was wanted. So it is the wanted hashes, each once, ascending, or it is full and those are no fewer.
-use Prim.Native.Nat.{ℕ, _≤_, _<_}
+use Prim.Native.Nat.{ℕ, suc, _≤_, _<_}
 use mathlib.Core.Bool.{Bool, true, false}
 use mathlib.Core.List.{List, [], _∷_, _++_}
 use mathlib.Core.Path.{_≡_, refl, sym, _∙_}
@@ -8,12 +8,11 @@ use native.Mathlib.Omega.{arith}
 use borrow.Author.Tests.{ltb-false, eqb-true, eq-eqb}
 use lib.Dec.{ltb, eqb}
 use lib.ListN.{length}
-use Rattle.hash_lists.specs.Internal.Lists.{UpTo}
-use Rattle.hash_order.proofs.KeepLaws.{keep-member}
-use Rattle.hash_order.proofs.OrderLaws.{insert-member, insert-grows, up-to-fits, up-to-ascends, member-here, member-there, member-none, ascend-ascends, ascend-members, ascending-unique, ascending-shorter}
-use Rattle.hash_order.specs.Order.{member, ascends, keep, ascend, insertUpTo}
+use Rattle.hash_order.proofs.KeepLaws.{keep-member, every-member, every-one}
+use Rattle.hash_order.proofs.OrderLaws.{insert-member, insert-ascends, insert-longer, insert-grows, up-to-fits, up-to-ascends, member-here, member-there, member-none, ascend-ascends, ascend-members, ascending-unique, ascending-shorter}
+use Rattle.hash_order.specs.Order.{member, every, ascends, keep, ascend, insertOnce, insertUpTo}
 use Rattle.rules.proofs.Cases.{split, both, true-false, same-truth, either, or-right, and-true}
-use Rattle.waiting_missing.specs.Internal.Take.{takeOne, taking}
+use Rattle.waiting_missing.specs.Internal.Take.{takeOne, taking, UpTo}
 
 -- ---- one hash
 
@@ -134,3 +133,51 @@ module _ (most : ℕ) (p : ℕ → Bool) where
               λ q.
               omega (arith, q, ascending-shorter (taking most p hs []) (ascend (keep p hs)) taken-ascends (ascend-ascends (keep p hs)) taken-wanted);
         }
+
+  -- ---- more hashes in turn
+
+  module _ (hs more : List ℕ) where
+    abbrev first : List ℕ
+    first = taking most p hs []
+
+    abbrev whole : List ℕ
+    whole = taking most p more first
+
+    first-ascends : ascends first ≡ true
+    first-ascends = taken-ascends hs
+
+    -- one that the first don't have makes them longer
+    one-longer : (x : ℕ) → member x first ≡ false → member x whole ≡ true → suc (length first) ≤ length whole
+    one-longer x n m =
+        let longer = ascending-shorter (insertOnce x first) whole (insert-ascends x first first-ascends) (take-ascends more first first-ascends)
+        (λ y e.
+        either (eqb y x) (member y first) (sym (insert-member y x first) ∙ e)
+        (λ q. rw (eqb-true y x q) m)
+        (λ q. take-kept more first y q))
+        in
+        omega (arith, longer, insert-longer x first n)
+
+    -- where they are as many as before, none is new
+    none-new : length first ≡ length whole → (x : ℕ) → member x whole ≡ true → member x hs ≡ true
+    none-new e x m =
+        split (member x first)
+        (λ q. take-of hs [] x q (λ n. absurd (member-none x n)) (λ a n. n))
+        (λ q. absurd (omega (arith, one-longer x q m)))
+
+    wanted : (x : ℕ) → member x whole ≡ true → p x ≡ true
+    wanted x m = take-of more first x m (λ n. take-of hs [] x n (λ z. absurd (member-none x z)) (λ a _. a)) (λ a _. a)
+
+    -- and where all of them stand in the first list, they are as many as before
+    all-first : length whole < most → every (λ h. member h hs) whole ≡ true → length first ≡ length whole
+    all-first s e =
+        let shorter = ascending-shorter whole first (take-ascends more first first-ascends) first-ascends
+        (λ x m. take-has hs [] (omega (arith, take-grows more first)) x (every-member (λ h. member h hs) whole e x m) (wanted x m))
+        in
+        omega (arith, shorter, take-grows more first)
+
+    -- Hashes that are taken after those of a list are all of that list exactly if they are no more.
+    pub taken-own : length whole < most → eqb (length first) (length whole) ≡ every (λ h. member h hs) whole
+    taken-own s =
+        same-truth _ _
+        (λ e. every-one (λ h. member h hs) whole (none-new (eqb-true _ _ e)))
+        (λ e. eq-eqb _ _ (all-first s e))

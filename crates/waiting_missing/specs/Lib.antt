@@ -1,4 +1,3 @@
-pub mod Ask
 pub mod Internal
 pub mod Missing
 pub mod MissingCalls

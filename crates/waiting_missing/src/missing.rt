@@ -1,23 +1,20 @@
 // What is missing from a list of hashes, each once, ascending.
 use crate::take::take_asked;
 use crate::take::take_refs;
-use hash_refs::found::put_found;
 use hash_refs::found::write_found;
 use rules::output::Write;
 use rules::passed::Passed;
 use rules::passed::passed_hashes;
 use rules::refusal::Refusal;
-use rules::sizes::HASH_SIZE;
 use rules::sizes::HASHES;
 use rules::sizes::WAITING_ROWS;
 use table::check::Checked;
 use table_check::check::check_indexed;
 use waiting::check::check_in_order;
 use waiting::find::ORDER_SIZE;
-use waiting::find::order_waiting;
 use waiting_asked::ask::ask_hashes;
 ghost use mathlib.Core.Path.{_≡_};
-ghost use Prim.Native.Nat.{_+_, _*_, _/_, _≤_};
+ghost use Prim.Native.Nat.{_+_, _*_, _≤_};
 ghost use lib.ListN.{length};
 ghost use Rattle.table_index.specs.Index.{Indexed};
 ghost use Rattle.rules.specs.Hash.{hashesAt};
@@ -26,16 +23,21 @@ ghost use Rattle.rules.specs.Sizes.{sizes};
 ghost use Rattle.table.specs.TableBytes.{rowsAt};
 ghost use Rattle.table.specs.declared.check.Checked.the-variants.{Good};
 ghost use Rattle.waiting.specs.WaitingBytes.{waitingOf, waitingChecked, Sorted};
-ghost use Rattle.waiting_missing.specs.Ask.{FoundUpTo};
 ghost use Rattle.waiting_missing.specs.Internal.Take.{RefsFound};
 ghost use Rattle.waiting_missing.specs.MissingCalls.{missingFrom, missingBeside, missingOutput};
 ghost use Rattle.waiting_missing.specs.Missing.{missing};
 
 // Numbers of one hash more than a list may have, so that too many show.
-const FOUND: usize = HASHES + 1;
+pub const FOUND: usize = HASHES + 1;
+
+// How many hashes are missing, and how many of them stand in the list that was asked about.
+pub struct Found {
+    pub listed: usize,
+    pub all: usize,
+}
 
 // What is missing from some hashes, for callers that have checked both tables and put the waiting rows in order: puts the numbers of the hashes in
-// ascending order of these and returns how many they are, or fills the numbers.
+// ascending order of these and returns how many they are, or fills the numbers. Those of the list are found first.
 pub fn find_in_order(
     table: &[u8],
     index: &[u8],
@@ -47,7 +49,7 @@ pub fn find_in_order(
     place: usize,
     entries: usize,
     refs: &mut [u32],
-) -> usize
+) -> Found
     requires { ⌜ Indexed (now table) (now index) n × (waitingChecked (rowsAt (now table) 0 n) (now waiting) ≡ Good m)
         × Sorted (now waiting) (now order) m × (place + sizes .hash * entries ≤ length (now list)) × (entries ≤ sizes .hashes) ⌝ }
     ensures { λ r. ⌜ RefsFound (now (list .entry)) place entries (now (waiting .entry))
@@ -55,7 +57,7 @@ pub fn find_in_order(
 {
     let mut marks = [false; WAITING_ROWS];
     ask_hashes(waiting, order, m, &mut marks, list, place, entries);
-    let count = take_refs(
+    let listed = take_refs(
         table,
         index,
         n,
@@ -70,7 +72,7 @@ pub fn find_in_order(
         0,
         entries,
     );
-    take_asked(
+    let all = take_asked(
         table,
         index,
         n,
@@ -82,85 +84,9 @@ pub fn find_in_order(
         place,
         entries,
         refs,
-        count,
-    )
-}
-
-// Puts what is missing from some hashes into a buffer, found by its numbers first: there are as many of these as the buffer has room for hashes.
-fn find_by_refs(
-    table: &[u8],
-    index: &[u8],
-    n: usize,
-    waiting: &[u8],
-    order: &[u8; ORDER_SIZE],
-    m: usize,
-    list: &[u8],
-    place: usize,
-    entries: usize,
-    refs: &mut [u32],
-    out: &mut [u8],
-) -> usize
-    requires { ⌜ Indexed (now table) (now index) n × (waitingChecked (rowsAt (now table) 0 n) (now waiting) ≡ Good m)
-        × Sorted (now waiting) (now order) m × (place + sizes .hash * entries ≤ length (now list)) × (entries ≤ sizes .hashes)
-        × (length (now refs) ≡ length (now out) / sizes .hash) ⌝ }
-    ensures { λ r. ⌜ FoundUpTo (missing (rowsAt (now (table .entry)) 0 n) (waitingOf (now (waiting .entry))) (hashesAt (now (list .entry)) place entries))
-        (length (now (out .entry)) / sizes .hash) (now (out .exit)) r ⌝ }
-{
-    let count = find_in_order(
-        table,
-        index,
-        n,
-        waiting,
-        order,
-        m,
-        list,
-        place,
-        entries,
-        refs,
+        listed,
     );
-    put_found(list, place, entries, waiting, refs, count, out);
-    count
-}
-
-// Puts what is missing from some hashes into the buffer and returns how much it is, or fills the buffer. It puts the waiting rows in order itself, for
-// callers that have checked both tables.
-pub fn find_missing(
-    table: &[u8],
-    index: &[u8],
-    n: usize,
-    waiting: &[u8],
-    m: usize,
-    list: &[u8],
-    place: usize,
-    entries: usize,
-    out: &mut [u8],
-) -> usize
-    requires { ⌜ Indexed (now table) (now index) n
-        × ((waitingChecked (rowsAt (now table) 0 n) (now waiting) ≡ Good m) × (place + sizes .hash * entries ≤ length (now list))
-        × (entries ≤ sizes .hashes) × (length (now out) / sizes .hash ≤ sizes .hashes + 1)) ⌝ }
-    ensures { λ r. ⌜ FoundUpTo (missing (rowsAt (now (table .entry)) 0 n) (waitingOf (now (waiting .entry))) (hashesAt (now (list .entry)) place entries))
-        (length (now (out .entry)) / sizes .hash) (now (out .exit)) r ⌝ }
-{
-    if entries == 0 {
-        return 0;
-    }
-    let mut order = [0u8; ORDER_SIZE];
-    order_waiting(waiting, m, &mut order);
-    let mut refs = [0u32; FOUND];
-    let most = out.len() / HASH_SIZE;
-    find_by_refs(
-        table,
-        index,
-        n,
-        waiting,
-        &order,
-        m,
-        list,
-        place,
-        entries,
-        &mut refs[..most],
-        out,
-    )
+    Found { listed, all }
 }
 
 // What is missing from a list, for tables that are good: the list's own refusals, then 4 for too many hashes, then 7.
@@ -183,11 +109,11 @@ fn missing_from(
         Passed::Refused(refusal) => Write::Refused(refusal),
         Passed::Hashes(entries) => {
             let mut refs = [0u32; FOUND];
-            let count = find_in_order(table, index, n, waiting, order, m, l, 0, entries, &mut refs);
-            if HASHES < count {
+            let found = find_in_order(table, index, n, waiting, order, m, l, 0, entries, &mut refs);
+            if HASHES < found.all {
                 return Write::Refused(Refusal::PastSize(0));
             }
-            write_found(l, 0, entries, waiting, &refs, count, out)
+            write_found(l, 0, entries, waiting, &refs, found.all, out)
         }
     }
 }

@@ -13,7 +13,7 @@ use Rattle.bloom.specs.Have.{Have}
 use Rattle.table_graph.proofs.HeadLaws.{head-held}
 use Rattle.table_graph.specs.Graph.{heads, below}
 use Rattle.session.specs.GoodState.{GoodState}
-use Rattle.hash_lists.specs.Internal.Lists.{same}
+use Rattle.hash_lists.specs.Lists.{same}
 use Rattle.message.specs.Message.{counted, messageBytes}
 use Rattle.message.specs.Sound.{SoundHashes}
 use Rattle.waiting_missing.proofs.MissingLaws.{missing-held}

@@ -10,7 +10,7 @@ use Rattle.bloom.specs.Have.{Have}
 use Rattle.table_graph.specs.Graph.{heads}
 use Rattle.session.specs.GoodState.{SoundTable, GoodState}
 use Rattle.hash_lists.proofs.Lists.{same-equal}
-use Rattle.hash_lists.specs.Internal.Lists.{same}
+use Rattle.hash_lists.specs.Lists.{same}
 use Rattle.hash_order.proofs.KeepLaws.{every-one}
 use Rattle.hash_order.specs.Order.{member}
 use Rattle.rules.proofs.Cases.{split, true-false}

@@ -2,6 +2,7 @@
 use Prim.Native.Nat.{ℕ}
 use mathlib.Core.Bool.{cond, not}
 use mathlib.Core.List.{List}
+use mathlib.Core.Path.{_≡_}
 use Rattle.table_index.specs.Index.{indexChecked}
 use Rattle.session_check.specs.SessionGood.{sessionGood}
 use Rattle.rules.specs.declared.refusal.Refusal.the-variants.{BadNumbers}
@@ -11,7 +12,7 @@ use Rattle.table.specs.TableBytes.{tableOf}
 use Rattle.table.specs.Table.{Row}
 use Rattle.table.specs.declared.check.Checked.{Checked as TableChecked}
 use Rattle.table.specs.declared.check.Checked.the-variants as tables
-use Rattle.waiting.specs.WaitingBytes.{waitingChecked}
+use Rattle.waiting.specs.WaitingBytes.{waitingChecked, Sorted}
 use Rattle.plan.specs.declared.check.PlanChecks.{PlanChecks}
 use Rattle.plan.specs.declared.check.PlanChecks.the-variants.{Good, Refused}
 
@@ -29,3 +30,8 @@ besideTable (tables.Refused r) t waiting = Refused r
 unfoldable pub checkedPlan : Session → Lent → List ℕ → List ℕ → List ℕ → PlanChecks
 checkedPlan s l table index waiting =
     cond (not (sessionGood s l)) (Refused BadNumbers) (besideTable (indexChecked table index) (tableOf table) waiting)
+
+-- What the tests find, and where they find nothing bad the order of the waiting rows.
+pub record ChecksMade (s : Session) (l : Lent) (table index waiting order : List ℕ) (r : PlanChecks) : Type 0 where
+  pub answer : r ≡ checkedPlan s l table index waiting
+  pub sorted : (n m : ℕ) → r ≡ Good n m → Sorted waiting order m

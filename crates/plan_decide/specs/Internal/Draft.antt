@@ -132,7 +132,7 @@ decided s d bits probes r =
 unfoldable pub unlessNone : ℕ → List ℕ → List ℕ
 unlessNone n l = cond (eqb n 0) [] l
 
--- What an answer is put from: the heads; the hashes asked for and the shared heads as they stand in their buffers; the field of the have's filter; the
+-- What an answer is put from: the heads; the hashes asked for; the shared heads as they stand in their buffer; the field of the have's filter; the
 -- hashes of the body; and those that are sent then.
 pub record PlanParts : Type 0 where
   pub heads : List ℕ
@@ -196,7 +196,7 @@ putsOf (Says p s) = putsFor p (s .«last_sent_heads») (s .«sent_hashes»)
 pub record Fits (s : Session) (d : Draft) (bits : ℕ) (p : Puts) (r : Rooms) : Type 0 where
   pub heads : (p .heads ≡ 0 → ⊥) → p .heads ≡ d .heads
   pub headsRoom : sizes .hash * p .heads ≤ r .heads
-  pub need : p .need ≤ d .need
+  pub need : (p .need ≡ 0 → ⊥) → (p .need ≡ d .need) × (d .need ≤ sizes .hashes)
   pub needRoom : sizes .hash * p .need ≤ r .need
   pub syncs : p .syncs ≤ s .«shared_heads»
   pub field : (p .field ≡ 0 → ⊥) → (p .field ≡ fieldSize (d .entries) bits) × (d .gives ≡ true)
@@ -225,7 +225,7 @@ abbrev pub allPut : Puts → PlanParts → PutLists → PutLists
 allPut p parts b =
     record {
       heads = listPut (p .heads) (parts .heads) (b .heads);
-      need = startPut (p .need) (parts .need) (b .need);
+      need = listPut (p .need) (parts .need) (b .need);
       have = havePut (p .syncs) (parts .shared) (p .field) (parts .field) (b .have);
       list = listPut (p .hashes) (parts .list) (b .list);
       lastSent = listPut (p .«last_sent») (parts .heads) (b .lastSent);

@@ -1,24 +1,23 @@
 -- What internal contracts speak of: a plan as marks and numbers, and what the call ensures once it is known what is asked for. No rule of 01 stands here.
-use Prim.Native.Nat.{ℕ, _+_, _*_, _≤_}
+use Prim.Native.Nat.{ℕ, _*_, _≤_}
 use mathlib.Core.Bool.{Bool, true, false, _&&_, _||_}
 use mathlib.Core.List.{List, []}
-use mathlib.Core.Option.{Option}
 use mathlib.Core.Path.{_≡_}
 use lib.Dec.{eqb}
 use lib.ListN.{length}
 use Rattle.bloom_probe.specs.Build.{filterOf}
-use Rattle.plan_decide.specs.Internal.Draft.{PutLists, putRooms, PlanParts, decided, putsOf, allPut}
+use Rattle.plan_decide.specs.Internal.Draft.{PutLists, putRooms, PlanParts, decided, putsOf, listPut, allPut}
 use Rattle.plan_decide.specs.declared.decide.Draft.{Draft}
 use Rattle.table_graph.specs.Graph.{heads, beyond}
 use Rattle.table_graph.specs.Internal.Marks.{Blank, marked, picked}
 use Rattle.table_index.specs.Index.{Indexed}
 use Rattle.session_check.specs.SessionGood.{heardGood, havesGood, lentOf, sessionGood}
-use Rattle.hash_lists.specs.Internal.Lists.{same}
-use Rattle.hash_order.specs.Order.{member, every, ascend, ascends}
-use Rattle.waiting_missing.specs.Ask.{FoundUpTo}
-use Rattle.session.specs.PlanCall.{Buffers, PlanCalled}
+use Rattle.hash_lists.specs.Lists.{same}
+use Rattle.hash_order.specs.Order.{ascend, ascends}
+use Rattle.session.specs.PlanCall.{buffersOf, PlanCalled}
 use Rattle.session.specs.declared.plan_answer.PlanAnswer.{PlanAnswer}
-use Rattle.plan_parts.specs.Internal.PlanParts.{HaveCounted, BlankBody, BodyChosen, FreshMarked}
+use Rattle.plan_parts.specs.Internal.PlanParts.{NeedCounted, HaveCounted, BlankBody, BodyChosen, FreshMarked}
+use Rattle.plan_parts.specs.declared.need.Asked.{Asked}
 use Rattle.rules.specs.Hash.{hashesAt}
 use Rattle.rules.specs.Sizes.{sizes}
 use Rattle.send.specs.Internal.Chosen.{chosenBy}
@@ -29,10 +28,9 @@ use Rattle.session_state.specs.declared.session.Session.{Session}
 use Rattle.table.specs.TableBytes.{rowsAt}
 use Rattle.table.specs.Table.{Row, rows}
 use Rattle.table.specs.declared.check.Checked.the-variants.{Good}
-use Rattle.waiting.specs.WaitingBytes.{waitingChecked}
+use Rattle.waiting.specs.WaitingBytes.{waitingChecked, Sorted}
 use Rattle.waiting.specs.Waiting.{Waiting}
 use Rattle.plan_make.specs.declared.count.Carried.{Carried}
-use Rattle.plan_make.specs.declared.count.Given.{Given}
 
 -- ---- what is carried
 
@@ -55,13 +53,6 @@ pub record BodyCounted (t : List Row) (n : ℕ) (b : Body) (need sent : List ℕ
   pub needLong : length need ≤ length needs
   pub body : BodyChosen b t marks need needs (k .body)
   pub new : FreshMarked t n (b .hashes) sent fresh (k .sent)
-
--- ---- the have that is given
-
--- Whether a have is given, and the rows of its filter.
-pub record HaveGiven (t : List Row) (n : ℕ) (need : List ℕ) (theirs : Option (List ℕ)) (lastSync : List ℕ) (marks : List Bool) (g : Given) : Type 0 where
-  pub gives : g .gives ≡ every (λ h. member h (heard theirs)) need
-  pub counted : HaveCounted t n (g .gives) lastSync marks (g .entries)
 
 -- ---- silence
 
@@ -93,12 +84,12 @@ pub record PlanMarked (t : List Row) (n : ℕ) (s : State) (need : List ℕ) (he
   pub list : chosenBy t marks need needs ≡ bodyOf t s .hashes
   pub new : FreshMarked t n (bodyOf t s .hashes) (s .sentHashes) fresh (d .sent)
 
--- The numbers of a plan, where `asked` hashes are asked for, which stand at the start of a buffer.
-pub record DraftCounted (t : List Row) (s : State) (readyNeed : List ℕ) (asked : ℕ) (d : Draft) : Type 0 where
+-- The numbers of a plan that asks for this.
+pub record DraftCounted (t : List Row) (s : State) (a : Asked) (d : Draft) : Type 0 where
   pub heads : d .heads ≡ length (heads t)
-  pub need : d .need ≡ asked
+  pub need : d .need ≡ a .count
   pub unknown : d .unknown ≡ unknownSync t (s .theirHave)
-  pub gives : d .gives ≡ every (λ h. member h (heard (s .theirHeads))) (hashesAt readyNeed 0 (d .need))
+  pub gives : d .gives ≡ a .heard
   pub entries : d .gives ≡ true → d .entries ≡ length (beyond t (s .sharedHeads))
   pub none : d .gives ≡ false → d .entries ≡ 0
   pub document : d .body .document ≡ bodyOf t s .document
@@ -108,10 +99,10 @@ pub record DraftCounted (t : List Row) (s : State) (readyNeed : List ℕ) (asked
 
 -- The parts that a plan is put from.
 abbrev pub planPartsOf : ℕ → ℕ → List Row → State → List ℕ → List ℕ → PlanParts
-planPartsOf bits probes t s readyNeed shared =
+planPartsOf bits probes t s need shared =
     record {
       heads = heads t;
-      need = readyNeed;
+      need = need;
       shared = shared;
       field = filterOf bits probes (beyond t (s .sharedHeads)) .field;
       list = bodyOf t s .hashes;
@@ -125,19 +116,19 @@ pub record Finished (s : Session) (d : Draft) (bits probes : ℕ) (parts : PlanP
 
 -- ---- the call
 
--- What was checked: a table of n rows and a waiting table of m, an index that fits, beside a session that is good.
-pub record PlanChecked (table index : List ℕ) (n : ℕ) (waiting : List ℕ) (m : ℕ) (s : Session) (l : Lent) : Type 0 where
+-- What was checked: a table of n rows and a waiting table of m, an index that fits and the waiting rows' order, beside a session that is good.
+pub record PlanChecked (table index : List ℕ) (n : ℕ) (waiting order : List ℕ) (m : ℕ) (s : Session) (l : Lent) : Type 0 where
   pub rows : Indexed table index n
   pub waitingRows : waitingChecked (rowsAt table 0 n) waiting ≡ Good m
+  pub sorted : Sorted waiting order m
   pub session : sessionGood s l ≡ true
 
--- What is asked for stands in its buffer, and is no more than there may be and one.
-pub record NeedRoom (asked room : ℕ) : Type 0 where
-  pub within : asked ≤ sizes .hashes + 1
-  pub there : sizes .hash * asked ≤ room
-
--- What the call ensures, whatever waits, if this is what is asked for then.
-pub record AskedCalled (bits probes : ℕ) (s : Session) (t : List Row) (l l′ : Lent) (ready : List ℕ) (asked : ℕ) (before after : Buffers) (r : PlanAnswer) : Type 0
+-- What the call ensures, whatever waits, if this is what is asked for then and it is put as it is counted; there is room for what is put of it.
+pub record AskedCalled (bits probes : ℕ) (s : Session) (t : List Row) (l l′ : Lent) (a : Asked) (room : ℕ)
+    (heads₀ have₀ list₀ heads₁ have₁ list₁ : List ℕ) (r : PlanAnswer) : Type 0
   where
-    pub called : (w : List Waiting) → FoundUpTo (needOf t w (s .«read_only») (heard (stateOf s l .theirHeads))) (sizes .hashes + 1) ready asked
-        → PlanCalled (plan bits probes t w (stateOf s l)) l l′ before after r
+    pub fits : (putsOf r .need ≡ 0 → ⊥) → (putsOf r .need ≡ a .count) × ((a .count ≤ sizes .hashes) × (sizes .hash * a .count ≤ room))
+    pub called : (w : List Waiting) → NeedCounted (needOf t w (s .«read_only») (heard (stateOf s l .theirHeads))) (stateOf s l .theirHeads) a
+        → (need₀ need₁ : List ℕ) → length need₀ ≡ room
+        → need₁ ≡ listPut (putsOf r .need) (needOf t w (s .«read_only») (heard (stateOf s l .theirHeads))) need₀
+        → PlanCalled (plan bits probes t w (stateOf s l)) l l′ (buffersOf heads₀ need₀ have₀ list₀) (buffersOf heads₁ need₁ have₁ list₁) r

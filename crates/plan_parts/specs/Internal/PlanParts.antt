@@ -1,22 +1,38 @@
 -- What internal contracts speak of: parts of a plan as marks and numbers. No rule of 01 stands here.
-use Prim.Native.Nat.{ℕ, _+_, _≤_}
+use Prim.Native.Nat.{ℕ, _+_, _≤_, _<_}
 use mathlib.Core.Bool.{Bool, true, false, not, _&&_}
 use mathlib.Core.List.{List, _++_}
+use mathlib.Core.Option.{Option}
 use mathlib.Core.Path.{_≡_}
 use lib.ListN.{length}
 use Rattle.bloom.specs.Filter.{fieldSize, filterRules}
 use Rattle.table_graph.specs.Graph.{beyond}
 use Rattle.table_graph.specs.Internal.Marks.{Marks, Blank, marked, picked}
-use Rattle.hash_order.specs.Order.{member, ascend}
+use Rattle.hash_order.specs.Order.{member, every, ascend}
+use Rattle.hash_refs.specs.Internal.Refs.{foundBy, FoundRefs}
 use Rattle.rules.specs.Sizes.{sizes}
 use Rattle.send.specs.Internal.Chosen.{Chosen}
-use Rattle.session.specs.Plan.{Body}
+use Rattle.session.specs.Plan.{Body, heard}
 use Rattle.table.specs.Table.{Row, rows, hashOf}
 use Rattle.plan_parts.specs.declared.body.BodyCount.{BodyCount}
+use Rattle.plan_parts.specs.declared.need.Asked.{Asked}
 
 -- Bits and probes with which a filter over any rows of a table keeps the filter rules.
 pub record SettingGood (bits probes : ℕ) : Type 0 where
   pub each : (n : ℕ) → n ≤ sizes .rows → filterRules n bits probes (fieldSize n bits) ≡ true
+
+-- What is asked for was counted: all of it where it is no more than a list may have, and then whether each hash is a head that was heard.
+pub record NeedCounted (l : List ℕ) (theirs : Option (List ℕ)) (a : Asked) : Type 0 where
+  pub within : a .count ≤ sizes .hashes + 1
+  pub all : a .count ≤ sizes .hashes → a .count ≡ length l
+  pub many : sizes .hashes < a .count → sizes .hashes < length l
+  pub each : a .count ≤ sizes .hashes → a .heard ≡ every (λ h. member h (heard theirs)) l
+
+-- And it was found by its numbers.
+pub record NeedFound (theirHeads waiting refs l : List ℕ) (theirs : Option (List ℕ)) (a : Asked) : Type 0 where
+  pub counted : NeedCounted l theirs a
+  pub found : FoundRefs theirHeads 0 (a .heads) waiting refs (a .count)
+  pub are : a .count ≤ sizes .hashes → foundBy theirHeads 0 (a .heads) waiting refs (a .count) ≡ l
 
 -- The rows beyond some hashes are marked and counted where a have is given; else none is counted.
 pub record HaveCounted (t : List Row) (n : ℕ) (given : Bool) (lastSync : List ℕ) (marks : List Bool) (entries : ℕ) : Type 0 where

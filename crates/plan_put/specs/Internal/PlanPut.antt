@@ -13,7 +13,7 @@ use Rattle.rules.specs.Sizes.{sizes}
 use Rattle.send.specs.Internal.Chosen.{chosenBy}
 use Rattle.table.specs.TableBytes.{rowsAt}
 use Rattle.table.specs.Table.{Row, rows, hashOf}
-use Rattle.plan_decide.specs.Internal.Draft.{listPut, startPut, havePut}
+use Rattle.plan_decide.specs.Internal.Draft.{listPut, havePut}
 use Rattle.plan_decide.specs.declared.puts.Puts.{Puts}
 
 -- The first mark of n from place i on that is set stands at r; r is n if there is none.
@@ -39,9 +39,9 @@ pub record HaveReady (there syncs size room : ℕ) : Type 0 where
   pub hashes : sizes .hash * syncs ≤ there
   pub fits : sizes .hash * syncs + size ≤ room
 
--- What putting a message's lists needs: marks for all rows, and room for what is counted.
+-- What putting a message's lists needs, but for the hashes asked for: marks for all rows, and room for what is counted.
 pub record MessageReady (p : Puts) (table index : List ℕ) (n : ℕ) (headMarks haveMarks marks needs : List Bool) (theirNeed : List ℕ)
-    (asked readyNeed shared heads₀ need₀ have₀ list₀ : ℕ) : Type 0
+    (asked shared heads₀ have₀ list₀ : ℕ) : Type 0
   where
     pub rows : Indexed table index n
     pub headLong : n ≤ length headMarks
@@ -50,18 +50,15 @@ pub record MessageReady (p : Puts) (table index : List ℕ) (n : ℕ) (headMarks
     pub needLong : asked ≤ length needs
     pub asks : sizes .hash * asked ≤ length theirNeed
     pub heads : (p .heads ≡ 0 → ⊥) → sizes .hash * marked n headMarks ≤ heads₀
-    pub needThere : sizes .hash * p .need ≤ readyNeed
-    pub needRoom : sizes .hash * p .need ≤ need₀
     pub have : HaveReady shared (p .syncs) (p .field) have₀
     pub field : FieldReady n haveMarks (p .field)
     pub list : (p .hashes ≡ 0 → ⊥) → sizes .hash * length (chosenBy (rowsAt table 0 n) marks (hashesAt theirNeed 0 asked) needs) ≤ list₀
 
 -- The message's lists as they are put.
-pub record MessagePut (p : Puts) (probes : ℕ) (t : List Row) (headMarks haveMarks marks needs : List Bool) (asked readyNeed shared : List ℕ)
-    (heads₀ need₀ have₀ list₀ heads₁ need₁ have₁ list₁ : List ℕ) : Type 0
+pub record MessagePut (p : Puts) (probes : ℕ) (t : List Row) (headMarks haveMarks marks needs : List Bool) (asked shared : List ℕ)
+    (heads₀ have₀ list₀ heads₁ have₁ list₁ : List ℕ) : Type 0
   where
     pub heads : heads₁ ≡ listPut (p .heads) (ascend (picked (rows t) headMarks)) heads₀
-    pub need : need₁ ≡ startPut (p .need) readyNeed need₀
     pub have : have₁ ≡ havePut (p .syncs) shared (p .field) (addHashes probes (replicate (p .field) 0) (picked (rows t) haveMarks)) have₀
     pub list : list₁ ≡ listPut (p .hashes) (chosenBy t marks asked needs) list₀
 

@@ -13,7 +13,7 @@ use Rattle.table_graph.specs.Graph.{heads, below}
 use Rattle.session.specs.Receive.{Said}
 use Rattle.table_index.specs.Index.{Indexed}
 use Rattle.message_items.specs.Items.{haveItem, manyAt, wordsOf}
-use Rattle.hash_lists.specs.Internal.Lists.{same}
+use Rattle.hash_lists.specs.Lists.{same}
 use Rattle.hash_order.specs.Order.{keep}
 use Rattle.receive_parts.specs.Internal.ReceiveParts.{HeadsMarked}
 use Rattle.rules.specs.Hash.{hashesAt}

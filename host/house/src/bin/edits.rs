@@ -36,8 +36,8 @@ const READ: &[(&str, &str)] = &[
         "`loop-again` of `fit::entries_fit`",
     ),
     (
-        "hash_lists/all_in_itself",
-        "`loop-again` of `compare::all_in`",
+        "hash_lists/all_held_first",
+        "`loop-again` of `compare::all_held`",
     ),
     (
         "message/flag_read_only",

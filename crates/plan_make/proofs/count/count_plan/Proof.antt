@@ -12,27 +12,27 @@ mark-heads-requires c κs = search needs
 count-marked-requires : tie.Need-count-marked-requires
 count-marked-requires c κs = search needs
 
-count-have-requires : tie.Need-count-have-requires
-count-have-requires c κs =
-    let start = c .before .before .before .before .before .before .before .before .before .before .before .before .before .before .before .before .before .before .before .before .before .before in
+mark-beyond-requires : tie.Need-mark-beyond-requires
+mark-beyond-requires c κs =
+    let start = c .before .before .before .before .before .before .before .before .before .before .before .before .before .before .before .before .before .before .before .before .before in
     let pre = start .pre in
-    (pre .0, pre .2, heads-good _ _ (pre .0) (pre .1), shared-there _ _ (pre .0) (pre .1), pre .3 .haveLong, pre .3 .noHave)
+    (pre .0, shared-there _ _ (pre .0) (pre .1), pre .2 .haveLong, pre .2 .noHave)
 
 unknown-sync-requires : tie.Need-unknown-sync-requires
 unknown-sync-requires c κs =
-    let pre = c .before .before .before .before .before .before .before .before .before .before .before .before .before .before .before .before .before .before .before .before .before .before .before .before .before .pre in
+    let pre = c .before .before .before .before .before .before .before .before .before .before .before .before .before .before .before .before .before .before .before .before .before .before .before .before .pre in
     (pre .0, have-good _ _ (pre .0) (pre .1))
 
 count-body-requires : tie.Need-count-body-requires
 count-body-requires c κs =
-    let pre = c .before .before .before .before .before .before .before .before .before .before .before .before .before .before .before .before .before .before .before .before .before .before .before .before .before .before .before .before .before .pre in
-    (body-ready _ _ (pre .0) (pre .1), pre .3 .body, pre .3 .freshLong)
+    let pre = c .before .before .before .before .before .before .before .before .before .before .before .before .before .before .before .before .before .before .before .before .before .before .before .before .before .before .before .before .pre in
+    (body-ready _ _ (pre .0) (pre .1), pre .2 .body, pre .2 .freshLong)
 
 is-quiet-requires : tie.Need-is-quiet-requires
 is-quiet-requires c κs =
     let heads = c .before .before .before .before .before .before .before .before .before .before .before .before .before .before .before .before .before .before .before .before .before in
-    let pre = heads .before .before .before .before .before .before .before .before .before .before .before .before .before .before .before .before .before .pre in
-    (pre .0, omega (arith, pre .3 .headLong, heads .mark-heads .kept .1 .1 .0), last-there _ _ (pre .0) (pre .1), heads-good _ _ (pre .0) (pre .1))
+    let pre = heads .before .before .before .before .before .before .before .before .before .before .before .before .before .before .before .before .pre in
+    (pre .0, omega (arith, pre .2 .headLong, heads .mark-heads .kept .1 .1 .0), last-there _ _ (pre .0) (pre .1), heads-good _ _ (pre .0) (pre .1))
 
 same-length : tie.Need-same-length
 same-length c = c .before .before .before .before .before .before .before .before .before .before .before .before .before .before .before .before .before .before .before .before .before .before .mark-heads .kept .1 .1 .0
@@ -56,10 +56,11 @@ returns c =
     let have = unknown .before .before .before in
     let count = have .before .before in
     let heads = count .before .before .before .before in
-    let pre = heads .before .before .before .before .before .before .before .before .before .before .before .before .before .before .before .before .before .pre in (
-      plan-marked _ _ (pre .0) (pre .1) _ _ (omega (arith, pre .3 .headLong, heads .mark-heads .kept .1 .1 .0)) (heads .mark-heads .ensures) (count .count-marked .ensures) (have .count-have .ensures)
+    let start = heads .before .before .before .before .before .before .before .before .before .before .before .before .before .before .before .before in
+    let pre = start .pre in (
+      plan-marked _ _ (pre .0) (pre .1) (start .args .asked) (omega (arith, pre .2 .headLong, heads .mark-heads .kept .1 .1 .0)) (heads .mark-heads .ensures) (count .count-marked .ensures) (have .mark-beyond .ensures)
           (unknown .unknown-sync .ensures) (body .count-body .ensures) (c .is-quiet .ensures),
-      draft-counted _ _ (pre .0) (pre .1) _ _ (omega (arith, pre .3 .headLong, heads .mark-heads .kept .1 .1 .0)) (heads .mark-heads .ensures) (count .count-marked .ensures) (have .count-have .ensures)
+      draft-counted _ _ (pre .0) (pre .1) (start .args .asked) (omega (arith, pre .2 .headLong, heads .mark-heads .kept .1 .1 .0)) (heads .mark-heads .ensures) (count .count-marked .ensures) (have .mark-beyond .ensures)
           (unknown .unknown-sync .ensures) (body .count-body .ensures) (c .is-quiet .ensures),
     )
 
@@ -69,7 +70,7 @@ count-plan-spec =
     (tie.spec
     mark-heads-requires
     count-marked-requires
-    count-have-requires
+    mark-beyond-requires
     unknown-sync-requires
     count-body-requires
     is-quiet-requires

@@ -1,5 +1,6 @@
 -- `plan_make::make::plan_asked` meets its contract: what was counted is small, what was decided of it fits, and what is put is what the call promises
 -- (PutDone). Assumes nothing.
+use mathlib.Core.Path.{refl}
 use native.Mathlib.Omega.{arith}
 use borrow.Author.Needs.{needs}
 use Rattle.plan_decide.proofs.FitLaws.{puts-fit}
@@ -24,13 +25,13 @@ slice-aggregate-count-plan-5 c = search needs
 
 count-plan-requires : tie.Need-count-plan-requires
 count-plan-requires c κs =
-    let pre = c .before .before .before .before .before .before .before .before .before .before .before .before .before .before .before .before .before .before .before .before .before .pre in
-    (pre .0, pre .1, pre .3 .there, blank-marks _ _ (pre .0) (pre .1))
+    let pre = c .before .before .before .before .before .before .before .before .before .before .before .before .before .before .before .before .before .before .before .pre in
+    (pre .0, pre .1, blank-marks _ _ (pre .0) (pre .1))
 
 decide-requires : tie.Need-decide-requires
 decide-requires c κs =
     let count = c .before .before .before .before .before in
-    let pre = count .before .before .before .before .before .before .before .before .before .before .before .before .before .before .before .before .before .before .before .before .before .before .pre in
+    let pre = count .before .before .before .before .before .before .before .before .before .before .before .before .before .before .before .before .before .before .before .before .pre in
     let e = count .count-plan .ensures in
     small-counted _ _ (pre .0) (pre .1) (pre .2) (e .0) (e .1) (pre .3)
 
@@ -54,11 +55,11 @@ heard-count-requires c κs = search needs
 
 put-message-requires : tie.Need-put-message-requires
 put-message-requires c κs =
-    let heard = c .before .before .before .before in
+    let heard = c .before .before .before in
     let puts = heard .before .before .before .before .before in
     let dec = puts .before in
     let count = dec .before .before .before .before .before .before in
-    let pre = count .before .before .before .before .before .before .before .before .before .before .before .before .before .before .before .before .before .before .before .before .before .before .pre in
+    let pre = count .before .before .before .before .before .before .before .before .before .before .before .before .before .before .before .before .before .before .before .before .pre in
     let e = count .count-plan .ensures in
     message-ready _ _ (pre .0) (pre .1) (pre .2) (e .0) (e .1) (pre .3) (puts-fit _ _ _ _ _ _ _ (dec .decide .ensures) (puts .puts-of .ensures)) _ (heard .heard-count .ensures)
 
@@ -70,10 +71,10 @@ slice-aggregate-put-session-2 c = search needs
 
 put-session-requires : tie.Need-put-session-requires
 put-session-requires c κs =
-    let puts = c .before .before .before .before .before .before .before .before .before .before .before .before .before .before .before .before .before .before .before .before .before .before in
+    let puts = c .before .before .before .before .before .before .before .before .before .before .before .before .before .before .before .before .before .before .before in
     let dec = puts .before in
     let count = dec .before .before .before .before .before .before in
-    let pre = count .before .before .before .before .before .before .before .before .before .before .before .before .before .before .before .before .before .before .before .before .before .before .pre in
+    let pre = count .before .before .before .before .before .before .before .before .before .before .before .before .before .before .before .before .before .before .before .before .pre in
     let e = count .count-plan .ensures in
     session-ready _ _ (pre .0) (pre .1) (pre .2) (e .0) (e .1) (pre .3) (puts-fit _ _ _ _ _ _ _ (dec .decide .ensures) (puts .puts-of .ensures)) (omega arith)
 
@@ -92,21 +93,18 @@ same-length-4 c = search needs
 same-length-5 : tie.Need-same-length-5
 same-length-5 c = search needs
 
-same-length-6 : tie.Need-same-length-6
-same-length-6 c = search needs
-
 returns : tie.Need-returns
 returns c =
     let kept = c .before .before .before .before in
-    let put = kept .before .before .before .before .before .before .before .before .before .before .before .before .before in
-    let heard = put .before .before .before .before .before in
+    let put = kept .before .before .before .before .before .before .before .before .before .before .before in
+    let heard = put .before .before .before .before in
     let puts = heard .before .before .before .before .before in
     let dec = puts .before in
     let count = dec .before .before .before .before .before .before in
-    let pre = count .before .before .before .before .before .before .before .before .before .before .before .before .before .before .before .before .before .before .before .before .before .before .pre in
+    let pre = count .before .before .before .before .before .before .before .before .before .before .before .before .before .before .before .before .before .before .before .before .pre in
     let e = count .count-plan .ensures in
-    asked-called _ _ (pre .0) (pre .1) (pre .2) (e .0) (e .1) (pre .3) (puts-fit _ _ _ _ _ _ _ (dec .decide .ensures) (puts .puts-of .ensures)) _ _ _ _ _ (heard .heard-count .ensures)
-    (put .put-message .ensures) (kept .put-session .ensures) (dec .decide .ensures) (puts .puts-of .ensures)
+    asked-called _ _ (pre .0) (pre .1) (pre .2) (e .0) (e .1) (pre .3) (puts-fit _ _ _ _ _ _ _ (dec .decide .ensures) (puts .puts-of .ensures)) _ _ _ _ _ _ _ _ _
+    (heard .heard-count .ensures) (put .put-message .ensures) (kept .put-session .ensures) _ (puts .puts-of .ensures) _ refl (λ need₀ long. rw long (dec .decide .ensures))
 
 pub plan-asked-spec : {M : Type 1} → statement M
 plan-asked-spec =
@@ -134,5 +132,4 @@ plan-asked-spec =
     same-length-3
     same-length-4
     same-length-5
-    same-length-6
     returns)

@@ -6,16 +6,12 @@ use Rattle.plan_put.proofs.put.put_message.Tie as tie
 put-ascending-requires : tie.Need-put-ascending-requires
 put-ascending-requires c κs = search needs
 
-put-hashes-requires : tie.Need-put-hashes-requires
-put-hashes-requires c κs = search needs
-
 put-have-requires : tie.Need-put-have-requires
 put-have-requires c κs = search needs
 
 put-body-requires : tie.Need-put-body-requires
 put-body-requires c κs =
-    let first = c .before .before .before .before .before .before .before .before .before .before .before .before in
-    let r = first .before .before .before .before .before .before .before .before .before .before .before .before .before .before .pre in
+    let r = c .before .before .before .before .before .before .before .before .before .before .before .before .before .before .before .before .before .before .before .before .pre in
     (r .rows .rows, r .rowLong, r .asks, r .needLong, r .list)
 
 same-length : tie.Need-same-length
@@ -27,9 +23,6 @@ same-length-2 c = search needs
 same-length-3 : tie.Need-same-length-3
 same-length-3 c = search needs
 
-same-length-4 : tie.Need-same-length-4
-same-length-4 c = search needs
-
 returns : tie.Need-returns
 returns c = search needs
 
@@ -38,11 +31,9 @@ put-message-spec =
     tie.close
     (tie.spec
     put-ascending-requires
-    put-hashes-requires
     put-have-requires
     put-body-requires
     same-length
     same-length-2
     same-length-3
-    same-length-4
     returns)

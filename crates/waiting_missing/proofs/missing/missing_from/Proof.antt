@@ -39,7 +39,7 @@ find-in-order-requires c κs =
 
 returns : tie.Need-returns
 returns c =
-    let f = c .before .before in
+    let f = c .before .before .before in
     too-many _ _ _ _ (listed (f .before .before .before)) (f .find-in-order .kept .1 .1 .1 .1 .1 .1 .1 .1 .1 .0 ∙ length-replicate {A = ℕ} (sizes .hashes + 1) 0) (f .find-in-order .ensures)
     (c .if1 .taken)
 
@@ -61,7 +61,7 @@ returns-3 : tie.Need-returns-3
 returns-3 c =
     let p = c .before .before in
     let g = p .before .before .before in
-    let f = g .before .before in
+    let f = g .before .before .before in
     few-enough _ _ _ _ (listed (f .before .before .before)) (f .find-in-order .kept .1 .1 .1 .1 .1 .1 .1 .1 .1 .0 ∙ length-replicate {A = ℕ} (sizes .hashes + 1) 0) (f .find-in-order .ensures)
     (g .if1 .left)
     (p .write-found .ensures)
