@@ -10,19 +10,19 @@ pub contracts : Contracts
 contracts =
     record {
       plan = λ κs a x u p bytes. record { call = plan-tied κs a x u p; bytes = bytes };
-      write = λ κs a x u p host plan o version heads need have haves flags lends whole room.
+      write = λ κs a x u p host plan o l.
           record {
             chunks = _;
             lengths = _;
-            lends = lends;
-            whole = whole;
+            lends = l .lends;
+            whole = l .whole;
             before = _;
             after = _;
-            room = room;
-            call = rw (version, heads, need, have, haves, flags) at (write-tied κs a x u p);
+            room = l .room;
+            call = rw (l .version-is, l .heads-are, l .need-is, l .have-is, l .haves-are, l .flags-are) at (write-tied κs a x u p);
             message-is = refl;
           };
-      receive = λ κs a x u p loaded said bytes.
-          (record { answer = _; call = rw loaded at (receive-tied κs a x u p); said = said; bytes = bytes }, refl);
+      receive = λ κs a x u p l.
+          (record { answer = _; call = rw (l .good) at (receive-tied κs a x u p); said = l .said; bytes = l .bytes }, refl);
       fresh = λ κs a x u p lists bytes room. record { words = fresh-tied κs a x u p; bytes = bytes; room = room };
     }

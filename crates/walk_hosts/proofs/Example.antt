@@ -1,15 +1,16 @@
 -- The walk's example as bytes: its tables are good, so the hosts can make these calls, and what is granted holds of them. So the corollary of the calls is
--- about something. Assumes nothing.
+-- about something, and so are the contracts' ties: what they ask of a lender is lent here. Assumes nothing.
 use Prim.Native.Nat.{ℕ, zero, suc, _+_, _-_, _*_}
+use mathlib.Core.Bool.{true}
 use mathlib.Core.List.{List, [], _∷_, _++_}
 use mathlib.Core.Path.{_≡_, refl, sym, subst, fun-ext}
 use native.Mathlib.Omega.{arith}
-use lib.ListN.{replicate}
+use lib.ListN.{getD, take, replicate}
 use Rattle.bloom.specs.Filter.{defaultBits, defaultProbes}
 use Rattle.table_index.specs.Index.{fitsBy, fits, indexFits, indexChecked}
 use Rattle.walk_hosts.proofs.AllBytes.{bytes-none, bytes-cons, bytes-append, zeros-bytes}
 use Rattle.walk_hosts.proofs.Zeroed.{zeroes, zeroes-room, zeroed, zeroed-fresh, zeroed-out, zeroed-wide}
-use Rattle.walk_hosts.specs.Memory.{Tabled, Beside}
+use Rattle.walk_hosts.specs.Memory.{Memory, Tabled, Beside}
 use Rattle.hash_order.specs.Order.{member, every, ascends}
 use Rattle.rules.proofs.Hash.{big-endian-bytes-bytes}
 use Rattle.rules.specs.Hash.{Bytes, bigEndian, bigEndianBytes, hashAt, hashesAt, hashBytes}
@@ -35,9 +36,12 @@ use Rattle.waiting.specs.WaitingBytes.{
   waitingChecked,
 }
 use Rattle.waiting.specs.Waiting.{Waiting, waiting}
+use Rattle.session.specs.PlanCall.{Buffers}
+use Rattle.session.specs.Written.{Host}
 use Rattle.walk.specs.Round.{Part}
 use Rattle.walk.proofs.Example.{a, b, c, one, three, cWaits, part-one}
-use Rattle.walk_hosts.specs.Calls.{TalkOfCalls, AllGranted, CallsEnd, Lends}
+use Rattle.walk_hosts.specs.Calls.{speaks, haveWordsIn, WriteMade, Hears, Both, SaidSo, CallsRound, TalkOfCalls, AllGranted, CallsEnd, Lends}
+use Rattle.walk_hosts.specs.Contracts.{WriteLent, ReceiveLent}
 use Rattle.walk_hosts.proofs.Goes.{calls-go}
 use Rattle.walk_hosts.proofs.Talk.{calls-corollary}
 
@@ -205,3 +209,56 @@ pub calls-example : (n : ℕ) → (talk : TalkOfCalls all-rows at-b waits-b wait
 calls-example n =
     let talk = calls-go all-rows at-b waits-b waits-a lent lends (record { atA = zeroed; atB = zeroed }) zeroed-fresh zeroed-fresh n in
     (talk, calls-corollary all-rows at-b waits-b waits-a lent n talk tabled-three part (none-waits [] .0) granted)
+
+-- ---- what the calls are lent
+
+-- A plan's parts, lent as they stand, with some chunks and some buffer.
+abbrev pub WriteMet : Host → List ℕ → Buffers → Type 0
+WriteMet host plan o =
+    (chunks : List ℕ) × (lengths : List ℕ) × (out : List ℕ)
+    × WriteLent host plan o (getD plan 2 0) (take (sizes .hash * getD plan 5 0) (o .heads)) (take (sizes .hash * getD plan 6 0) (o .need)) (o .have)
+    (haveWordsIn plan) chunks lengths (getD plan 3 0) out
+
+write-met : {host : Host} {plan : List ℕ} {o : Buffers} {answer message : List ℕ} → WriteMade host plan o answer message → WriteMet host plan o
+write-met w =
+    (
+      w .chunks,
+      w .lengths,
+      w .before,
+      record {
+        version-is = refl;
+        heads-are = refl;
+        need-is = refl;
+        have-is = refl;
+        haves-are = refl;
+        flags-are = refl;
+        lends = w .lends;
+        whole = w .whole;
+        room = w .room;
+      },
+    )
+
+hears-met : {table index : List ℕ} {before : ℕ} {message : List ℕ} {m m′ : Memory} → Hears table index before message m m′ → ReceiveLent 1 message (m′ .lists)
+hears-met h = record { good = refl; said = h .said; bytes = h .bytes }
+
+said-speaks : {answer written : List ℕ} {o : Buffers} {hashes : List ℕ} → SaidSo answer written o hashes → speaks answer ≡ true
+said-speaks s = rw (s .planned, s .message)
+
+-- The premises of the contracts of bt_write_message and bt_receive, for both ends of a round.
+pub record RoundLends (k : ℕ) {s s′ : Both} (r : CallsRound all-rows at-b waits-b waits-a lent k s s′) : Type 0 where
+  pub asks : WriteMet (lent k) (r .asks .answer) (r .asks .out′)
+  pub hears : ReceiveLent 1 (r .question) (r .midA .lists)
+  pub answers : WriteMet (lent k) (r .answers .answer) (r .answers .out′)
+  pub takes : ReceiveLent 1 (r .reply) (s′ .atB .lists)
+
+-- They are met in the first round of the talk above, in which both ends speak.
+pub contracts-example : RoundLends 0 (calls-example 1 .0 .made 0 (omega arith))
+contracts-example =
+    let r = calls-example 1 .0 .made 0 (omega arith) in
+    let so = calls-example 1 .1 .all 0 (omega arith) (omega arith) in
+    record {
+      asks = write-met (r .asks .writes (said-speaks (so .asks)));
+      hears = hears-met (r .hears);
+      answers = write-met (r .answers .writes (said-speaks (so .answers)));
+      takes = hears-met (r .takes);
+    }

@@ -46,7 +46,20 @@ PlanSaid κs
     (record { heads = now heads′; need = now need′; have = now have′; list = now list′ })
     (now answer′)
 
--- bt_write_message, lent the parts of a plan as they stand, the chunks that the host has for it and a buffer of limit size: what it leaves is WriteMade.
+-- What a host lends to bt_write_message for a plan: its parts as they stand, the chunks that the host has for it, and a buffer of limit size.
+pub record WriteLent (host : Host) (plan : List ℕ) (o : Buffers) (version : ℕ) (heads need have haves chunks lengths : List ℕ) (flags : ℕ) (out : List ℕ) : Type 0
+  where
+    pub version-is : version ≡ getD plan 2 0
+    pub heads-are : heads ≡ take (sizes .hash * getD plan 5 0) (o .heads)
+    pub need-is : need ≡ take (sizes .hash * getD plan 6 0) (o .need)
+    pub have-is : have ≡ o .have
+    pub haves-are : haves ≡ haveWordsIn plan
+    pub flags-are : flags ≡ getD plan 3 0
+    pub lends : chunksFrom chunks 0 lengths ≡ chunksFor host (planIn plan o)
+    pub whole : total lengths ≤ length chunks
+    pub room : sizes .message ≤ length out
+
+-- bt_write_message, lent this for a plan: what it leaves is WriteMade.
 abbrev pub WriteSaid : (κs : Lfts (of-bt-write-message.ended .signature .lifetimes)) → Args (of-bt-write-message.ended .signature) κs
     → AtExit of-bt-write-message.ended κs
     → Type 0
@@ -54,28 +67,23 @@ WriteSaid κs
     (version, (heads, (need, (bytes, (haves, (chunks, (lengths, (flags, (out, (answer, _))))))))))
     (_, (_, (_, (_, (_, (_, (_, (_, (out′, (answer′, _)))))))))) =
     (host : Host) (plan : List ℕ) (o : Buffers)
-    → version ≡ getD plan 2 0
-    → now heads ≡ take (sizes .hash * getD plan 5 0) (o .heads)
-    → now need ≡ take (sizes .hash * getD plan 6 0) (o .need)
-    → now bytes ≡ o .have
-    → now haves ≡ haveWordsIn plan
-    → flags ≡ getD plan 3 0
-    → chunksFrom (now chunks) 0 (now lengths) ≡ chunksFor host (planIn plan o)
-    → total (now lengths) ≤ length (now chunks)
-    → sizes .message ≤ length (now out)
+    → WriteLent host plan o version (now heads) (now need) (now bytes) (now haves) (now chunks) (now lengths) flags (now out)
     → WriteMade host plan o (now answer′) (cond (eqb (getD (now answer′) 0 0) 0) (take (getD (now answer′) 1 0) (now out′)) [])
 
--- bt_receive, over a host's memory, its table after loading and a message whose changes have loaded: what it leaves is Hears, with
--- its answer.
+-- What bt_receive is told and lent: that the message's changes have loaded, and bytes in the message and in the lists.
+pub record ReceiveLent (loaded : ℕ) (message : List ℕ) (lists : Lent) : Type 0 where
+  pub good : flagOf loaded ≡ true
+  pub said : Bytes message
+  pub bytes : OfBytes lists
+
+-- bt_receive, over a host's memory and its table after loading, told and lent this: what it leaves is Hears, with its answer.
 abbrev pub ReceiveSaid : (κs : Lfts (of-bt-receive.ended .signature .lifetimes)) → Args (of-bt-receive.ended .signature) κs
     → AtExit of-bt-receive.ended κs
     → Type 0
 ReceiveSaid κs
     (session, (shared, (last-sent, (their-heads, (their-need, (haves, (bytes, (sent, (table, (index, (before, (message, (loaded, (answer, _))))))))))))))
     (session′, (shared′, (last-sent′, (their-heads′, (their-need′, (haves′, (bytes′, (sent′, (_, (_, (_, (_, (_, (answer′, _)))))))))))))) =
-    flagOf loaded ≡ true
-    → Bytes (now message)
-    → OfBytes (lentOf (now shared′) (now last-sent′) (now their-heads′) (now their-need′) (now haves′) (now bytes′) (now sent′))
+    ReceiveLent loaded (now message) (lentOf (now shared′) (now last-sent′) (now their-heads′) (now their-need′) (now haves′) (now bytes′) (now sent′))
     → (h : Hears (now table) (now index) before (now message)
     (record {
       words = now session;
