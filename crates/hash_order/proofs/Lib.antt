@@ -4,3 +4,4 @@ pub mod KeepLaws
 pub mod OrderLaws
 pub mod Promises
 pub mod ReachLaws
+pub mod Words

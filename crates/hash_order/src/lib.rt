@@ -2,3 +2,4 @@
 //
 // Here stands also what is said of lists of hashes without bytes (members, each once, ascending), and what is reached over steps.
 pub mod hashes;
+pub mod word;
