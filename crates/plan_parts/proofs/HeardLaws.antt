@@ -15,7 +15,7 @@ use Rattle.waiting_missing.proofs.FoundLaws.{found-many, refs-many, refs-all}
 use Rattle.waiting_missing.proofs.MissingLaws.{missing-of-nothing}
 use Rattle.waiting_missing.specs.Internal.Take.{RefsFound}
 use Rattle.waiting_missing.specs.Missing.{missing}
-use Rattle.waiting_missing.specs.declared.missing.Found.{Found}
+use Rattle.waiting_missing.specs.declared.missing.FoundCount.{FoundCount}
 use Rattle.hash_order.specs.Order.{member, every}
 use Rattle.rules.proofs.Cases.{split}
 use Rattle.rules.specs.Hash.{hashesAt}
@@ -76,7 +76,7 @@ module _ (s : List ℕ) (readOnlyUnit : Bool) (h : Heard) (k : ℕ) (e : k ≡ c
       (λ r. rw (r, heard-list s h k (all-asked r)))
 
   -- So what is found from them is the need.
-  pub need-found : (t : List Row) (w : List Waiting) (waiting refs : List ℕ) (f : Found) (b : Bool) → length refs ≡ sizes .hashes + 1
+  pub need-found : (t : List Row) (w : List Waiting) (waiting refs : List ℕ) (f : FoundCount) (b : Bool) → length refs ≡ sizes .hashes + 1
       → RefsFound s 0 k waiting (missing t w (hashesAt s 0 k)) refs f
       → b ≡ eqb (f .listed) (f .all)
       → NeedFound s waiting refs (needOf t w readOnlyUnit (heard (heardHashes s h))) (heardHashes s h) (record { heads = k; count = f .all; heard = b })

@@ -25,7 +25,7 @@ use Rattle.waiting.specs.Waiting.{Waiting, waiting}
 use Rattle.waiting_asked.specs.Asking.{Request, Asks, Askable}
 use Rattle.waiting_missing.specs.Internal.Take.{takeOne, taking, UpTo, Took, RefsFound}
 use Rattle.waiting_missing.specs.Missing.{unknown, asksFrom, missing}
-use Rattle.waiting_missing.specs.declared.missing.Found.{Found}
+use Rattle.waiting_missing.specs.declared.missing.FoundCount.{FoundCount}
 use Rattle.waiting_missing.proofs.AskedLaws.{blank, marks-missing}
 use Rattle.waiting_missing.proofs.TakeLaws.{taking-append, taken-up-to, taken-own}
 
@@ -289,7 +289,7 @@ module _ (table : List ℕ) (n : ℕ) (waitings : List ℕ) (m : ℕ) (d : Waiti
 
 -- ---- all of it, or as much as there is room for
 
-module _ {list : List ℕ} {place entries : ℕ} {further l refs : List ℕ} {found : Found} (f : RefsFound list place entries further l refs found) where
+module _ {list : List ℕ} {place entries : ℕ} {further l refs : List ℕ} {found : FoundCount} (f : RefsFound list place entries further l refs found) where
   pub found-many : length (foundBy list place entries further refs (found .all)) ≡ found .all
   found-many = long-found (refHash list place entries further) refs (found .all) (f .found .room)
 

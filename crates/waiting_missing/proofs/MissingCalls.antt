@@ -31,7 +31,7 @@ use Rattle.waiting.specs.Waiting.{Waiting}
 use Rattle.waiting_missing.specs.Internal.Take.{RefsFound}
 use Rattle.waiting_missing.specs.MissingCalls.{missingOf, missingFrom, missingBeside, missingOutput}
 use Rattle.waiting_missing.specs.Missing.{missing}
-use Rattle.waiting_missing.specs.declared.missing.Found.{Found}
+use Rattle.waiting_missing.specs.declared.missing.FoundCount.{FoundCount}
 use Rattle.waiting_missing.proofs.FoundLaws.{found-many, refs-many, refs-all}
 
 -- ---- a list that was found
@@ -46,7 +46,7 @@ module _ (t : List Row) (w : List Waiting) (l out : List ℕ) where
     unfolding missingFrom
     from-list = after-hashes _ _ _ n e
 
-    module _ {further refs : List ℕ} {found : Found} (room : length refs ≡ sizes .hashes + 1)
+    module _ {further refs : List ℕ} {found : FoundCount} (room : length refs ≡ sizes .hashes + 1)
         (f : RefsFound l 0 n further (missing t w (hashesAt l 0 n)) refs found) where
       pub too-many : sizes .hashes < found .all → Written (missingFrom t w l) out out (Refused (PastSize 0))
       unfolding missingOf

@@ -31,7 +31,7 @@ ghost use Rattle.waiting_missing.specs.Missing.{missing};
 pub const FOUND: usize = HASHES + 1;
 
 // How many hashes are missing, and how many of them stand in the list that was asked about.
-pub struct Found {
+pub struct FoundCount {
     pub listed: usize,
     pub all: usize,
 }
@@ -49,7 +49,7 @@ pub fn find_in_order(
     place: usize,
     entries: usize,
     refs: &mut [u32],
-) -> Found
+) -> FoundCount
     requires { ⌜ Indexed (now table) (now index) n × (waitingChecked (rowsAt (now table) 0 n) (now waiting) ≡ Good m)
         × Sorted (now waiting) (now order) m × (place + sizes .hash * entries ≤ length (now list)) × (entries ≤ sizes .hashes) ⌝ }
     ensures { λ r. ⌜ RefsFound (now (list .entry)) place entries (now (waiting .entry))
@@ -86,7 +86,7 @@ pub fn find_in_order(
         refs,
         listed,
     );
-    Found { listed, all }
+    FoundCount { listed, all }
 }
 
 // What is missing from a list, for tables that are good: the list's own refusals, then 4 for too many hashes, then 7.

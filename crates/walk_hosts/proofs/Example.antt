@@ -220,23 +220,22 @@ WriteMet host plan o =
     (haveWordsIn plan) chunks lengths (getD plan 3 0) out
 
 write-met : {host : Host} {plan : List ℕ} {o : Buffers} {answer message : List ℕ} → WriteMade host plan o answer message → WriteMet host plan o
-write-met w =
-    (
-      w .chunks,
-      w .lengths,
-      w .before,
-      record {
-        version-is = refl;
-        heads-are = refl;
-        need-is = refl;
-        have-is = refl;
-        haves-are = refl;
-        flags-are = refl;
-        lends = w .lends;
-        whole = w .whole;
-        room = w .room;
-      },
-    )
+write-met w = (
+  w .chunks,
+  w .lengths,
+  w .before,
+  record {
+    version-is = refl;
+    heads-are = refl;
+    need-is = refl;
+    have-is = refl;
+    haves-are = refl;
+    flags-are = refl;
+    lends = w .lends;
+    whole = w .whole;
+    room = w .room;
+  },
+)
 
 hears-met : {table index : List ℕ} {before : ℕ} {message : List ℕ} {m m′ : Memory} → Hears table index before message m m′ → ReceiveLent 1 message (m′ .lists)
 hears-met h = record { good = refl; said = h .said; bytes = h .bytes }

@@ -9,7 +9,7 @@ use lib.ListN.{length}
 use Rattle.hash_order.specs.Order.{member, every, insertUpTo}
 use Rattle.hash_refs.specs.Internal.Refs.{foundBy, FoundRefs}
 use Rattle.rules.specs.Hash.{hashesAt}
-use Rattle.waiting_missing.specs.declared.missing.Found.{Found}
+use Rattle.waiting_missing.specs.declared.missing.FoundCount.{FoundCount}
 
 -- A hash goes into the list if p holds for it.
 unfoldable pub takeOne : ℕ → (ℕ → Bool) → ℕ → List ℕ → List ℕ
@@ -32,7 +32,7 @@ pub record Took (list : List ℕ) (place entries : ℕ) (further : List ℕ) (p 
   pub is : foundBy list place entries further refs′ count′ ≡ taking (length refs) p hs (foundBy list place entries further refs count)
 
 -- A list found by the numbers of its hashes, as much of it as there is room for; and whether all of it stands in the list that was asked about.
-pub record RefsFound (list : List ℕ) (place entries : ℕ) (further l refs : List ℕ) (f : Found) : Type 0 where
+pub record RefsFound (list : List ℕ) (place entries : ℕ) (further l refs : List ℕ) (f : FoundCount) : Type 0 where
   pub found : FoundRefs list place entries further refs (f .all)
   pub upTo : UpTo (length refs) l (foundBy list place entries further refs (f .all))
   pub own : f .all < length refs → eqb (f .listed) (f .all) ≡ every (λ h. member h (hashesAt list place entries)) l
