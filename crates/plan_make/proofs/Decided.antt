@@ -41,7 +41,7 @@ use Rattle.session_state.specs.Value.{Lent, stateOf, countsOf}
 use Rattle.session_state.specs.declared.session.Session.{Session}
 use Rattle.table.specs.Table.{Row}
 use Rattle.waiting.specs.Waiting.{Waiting}
-use Rattle.plan_make.specs.Internal.PlanMake.{DraftCounted}
+use Rattle.plan_count.specs.Internal.PlanCount.{DraftCounted}
 
 -- ---- counts of parts
 

@@ -1,4 +1,3 @@
-pub mod CountLaws
 pub mod Decided
 pub mod MadeLaws
 pub mod PutDone

@@ -36,7 +36,8 @@ use Rattle.plan_decide.specs.Internal.Draft.{PlanParts, PutLists, SmallDraft, u
 use Rattle.session.specs.declared.plan_answer.PlanAnswer.{PlanAnswer}
 use Rattle.plan_decide.specs.declared.decide.Draft.{Draft}
 use Rattle.session.proofs.PlanLaws.{list-few}
-use Rattle.plan_make.specs.Internal.PlanMake.{DraftCounted, planPartsOf, Finished}
+use Rattle.plan_count.specs.Internal.PlanCount.{DraftCounted}
+use Rattle.plan_make.specs.Internal.PlanMake.{planPartsOf, Finished}
 use Rattle.plan_make.proofs.Decided.{asked-many, have-given, have-none, plan-decided}
 use Rattle.plan_decide.proofs.PutLaws.{Starts, all-said, listsOf, changed, lists-change, put-as-said, refused-starts, silent-starts, roomed-starts}
 

@@ -44,7 +44,8 @@ use Rattle.session_state.specs.declared.session.Session.{Session}
 use Rattle.table.proofs.TableLaws.{length-rows-at}
 use Rattle.table.specs.TableBytes.{rowsAt}
 use Rattle.table.specs.Table.{Row, rows as hashes, hashOf}
-use Rattle.plan_make.specs.Internal.PlanMake.{BlankMarks, PlanMarked, DraftCounted, planPartsOf, Finished, AskedCalled}
+use Rattle.plan_count.specs.Internal.PlanCount.{BlankMarks, PlanMarked, DraftCounted}
+use Rattle.plan_make.specs.Internal.PlanMake.{planPartsOf, Finished, AskedCalled}
 use Rattle.plan_make.proofs.MadeLaws.{entries-few, small-made, plan-called}
 use Rattle.plan_parts.proofs.HeardLaws.{heard-there}
 

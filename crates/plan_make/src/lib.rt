@@ -1,3 +1,2 @@
 // A plan for a session and tables that have been checked: counted, decided on the numbers, put.
-pub mod count;
 pub mod make;

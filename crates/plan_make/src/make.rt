@@ -1,5 +1,5 @@
 // The plan: what is asked for, then counted, decided, put. Every refusal is decided on the numbers of a draft, and what is put is what they count.
-use crate::count::count_plan;
+use plan_count::count::count_plan;
 use plan_decide::decide::decide;
 use plan_decide::puts::puts_of;
 use plan_parts::need::Asked;

@@ -5,7 +5,7 @@ use mathlib.Core.Path.{refl}
 use lib.ListN.{length-replicate}
 use borrow.Author.Needs.{needs}
 use Rattle.rules.specs.Sizes.{sizes}
-use Rattle.plan_make.proofs.CountLaws.{heads-good}
+use Rattle.plan_count.proofs.CountLaws.{heads-good}
 use Rattle.plan_make.proofs.PutDone.{need-ready, need-put}
 use Rattle.plan_make.proofs.make.plan_checked.Statement.{statement}
 use Rattle.plan_make.proofs.make.plan_checked.Tie as tie

@@ -31,8 +31,8 @@ use Rattle.session_state.specs.Value.{Lent, heardCount, heardHashes, heardHaves
 use Rattle.session_state.specs.declared.session.Session.{Session}
 use Rattle.table.specs.TableBytes.{rowsAt}
 use Rattle.table.specs.Table.{Row, rows as hashes, held}
-use Rattle.plan_make.specs.Internal.PlanMake.{BodyReady, carriedBody, BodyCounted, quietWith, PlanMarked, DraftCounted}
-use Rattle.plan_make.specs.declared.count.Carried.{Carried}
+use Rattle.plan_count.specs.Internal.PlanCount.{BodyReady, carriedBody, BodyCounted, quietWith, PlanMarked, DraftCounted}
+use Rattle.plan_count.specs.declared.count.Carried.{Carried}
 
 -- ---- what is carried
 

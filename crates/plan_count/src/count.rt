@@ -29,7 +29,7 @@ ghost use Rattle.rules.specs.Sizes.{sizes};
 ghost use Rattle.session_state.specs.Value.{heardCount, stateOf};
 ghost use Rattle.table.specs.TableBytes.{rowsAt};
 ghost use Rattle.table.specs.Table.{rows};
-ghost use Rattle.plan_make.specs.Internal.PlanMake.{
+ghost use Rattle.plan_count.specs.Internal.PlanCount.{
   BodyReady,
   carriedBody,
   BodyCounted,

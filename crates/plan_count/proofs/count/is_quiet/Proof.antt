@@ -1,8 +1,8 @@
--- `plan_make::count::is_quiet` meets its contract: the tests in turn. Assumes nothing.
+-- `plan_count::count::is_quiet` meets its contract: the tests in turn. Assumes nothing.
 use borrow.Author.Needs.{needs}
-use Rattle.plan_make.proofs.CountLaws.{quiet-is}
-use Rattle.plan_make.proofs.count.is_quiet.Statement.{statement}
-use Rattle.plan_make.proofs.count.is_quiet.Tie as tie
+use Rattle.plan_count.proofs.CountLaws.{quiet-is}
+use Rattle.plan_count.proofs.count.is_quiet.Statement.{statement}
+use Rattle.plan_count.proofs.count.is_quiet.Tie as tie
 
 is-told-requires : tie.Need-is-told-requires
 is-told-requires c κs = search needs

@@ -1,9 +1,9 @@
--- `plan_make::count::count_body` meets its contract: what was chosen is what goes in a message, and its hashes are rows (CountLaws). Assumes nothing.
+-- `plan_count::count::count_body` meets its contract: what was chosen is what goes in a message, and its hashes are rows (CountLaws). Assumes nothing.
 use native.Mathlib.Omega.{arith}
 use borrow.Author.Needs.{needs}
-use Rattle.plan_make.proofs.CountLaws.{chosen-held, need-there, body-counted}
-use Rattle.plan_make.proofs.count.count_body.Statement.{statement}
-use Rattle.plan_make.proofs.count.count_body.Tie as tie
+use Rattle.plan_count.proofs.CountLaws.{chosen-held, need-there, body-counted}
+use Rattle.plan_count.proofs.count.count_body.Statement.{statement}
+use Rattle.plan_count.proofs.count.count_body.Tie as tie
 
 heard-none-requires : tie.Need-heard-none-requires
 heard-none-requires c κs = search needs

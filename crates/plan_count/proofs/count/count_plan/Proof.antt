@@ -1,10 +1,10 @@
--- `plan_make::count::count_plan` meets its contract: what each part asks for was tested before, and together they are the plan (CountLaws). Assumes
+-- `plan_count::count::count_plan` meets its contract: what each part asks for was tested before, and together they are the plan (CountLaws). Assumes
 -- nothing.
 use native.Mathlib.Omega.{arith}
 use borrow.Author.Needs.{needs}
-use Rattle.plan_make.proofs.CountLaws.{have-good, heads-good, shared-there, last-there, body-ready, plan-marked, draft-counted}
-use Rattle.plan_make.proofs.count.count_plan.Statement.{statement}
-use Rattle.plan_make.proofs.count.count_plan.Tie as tie
+use Rattle.plan_count.proofs.CountLaws.{have-good, heads-good, shared-there, last-there, body-ready, plan-marked, draft-counted}
+use Rattle.plan_count.proofs.count.count_plan.Statement.{statement}
+use Rattle.plan_count.proofs.count.count_plan.Tie as tie
 
 mark-heads-requires : tie.Need-mark-heads-requires
 mark-heads-requires c κs = search needs
