@@ -5,3 +5,4 @@ pub mod Promises
 pub mod RowLaws
 pub mod TableLaws
 pub mod Today
+pub mod WidthLaws

@@ -2,3 +2,4 @@ pub mod Internal
 pub mod Table
 pub mod TableBytes
 pub mod TableCalls
+pub mod Widths

@@ -109,7 +109,7 @@ entries-copied x d next n long room e =
 -- ---- the table's check
 
 -- the index of a table is the order of its rows
-pub index-order : (s x : List ℕ) (n : ℕ) → n ≡ length s / rowSize → 2 * n ≤ length x → u16sAt x 0 n ≡ indexOf (rowsAt s 0 n) → RowOrder s x n
+pub index-order : (s x : List ℕ) (n : ℕ) → n ≡ length s / rowSize → 2 * n ≤ length x → u16sAt x 0 n ≡ indexOf (rowsAt s 0 n) → RowOrder (sizes .dependencies) s x n
 index-order s x n e room is = record { inside = omega arith; entries = room; order = is ∙ index-records s n }
 
 module _ (s : List ℕ) where

@@ -6,6 +6,7 @@ use rules::refusal::Refusal;
 use rules::sizes::ROWS;
 use table::check::Checked;
 use table::row::ROW_SIZE;
+use table::width::WIDE;
 use table_check::check::check_alone;
 use table_check::check::check_ordered;
 use table_index::fit::index_fits;
@@ -40,7 +41,7 @@ fn put_built(table: &[u8], index: &[u8], n: usize, out: &mut [u8]) -> Write
         × (u16sAt (now index) 0 n ≡ indexOf (rowsAt (now table) 0 n)) ⌝ }
     ensures { λ r. ⌜ Written (builtOutput (now (table .entry))) (now (out .entry)) (now (out .exit)) r ⌝ }
 {
-    match check_ordered(table, index, n) {
+    match check_ordered(WIDE, table, index, n) {
         Checked::Refused(r) => Write::Refused(r),
         Checked::Good(_) => put_index(index, n, out),
     }
