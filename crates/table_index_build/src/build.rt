@@ -18,14 +18,14 @@ ghost use Prim.Native.Nat.{_*_, _/_, _≤_};
 ghost use lib.ListN.{length};
 ghost use Rattle.rules.specs.Output.{Written, Output};
 ghost use Rattle.rules.specs.Sizes.{sizes};
-ghost use Rattle.table.specs.TableBytes.{rowSize, rowsAt, u16sAt};
+ghost use Rattle.table.specs.TableBytes.{rowSize, rowsAt, u16sAt, u16sBytes};
 ghost use Rattle.table_index.specs.Index.{indexOf};
-ghost use Rattle.table_index_build.specs.Indexing.{indexBytes, builtOutput, fitsButLast, extendedOutput};
+ghost use Rattle.table_index_build.specs.Indexing.{builtOutput, fitsButLast, extendedOutput};
 
 // Writes the first n entries of an index.
 fn put_index(index: &[u8], n: usize, out: &mut [u8]) -> Write
     requires { ⌜ 2 * n ≤ length (now index) ⌝ }
-    ensures { λ r. ⌜ Written (Output.bytes (indexBytes (u16sAt (now (index .entry)) 0 n))) (now (out .entry)) (now (out .exit)) r ⌝ }
+    ensures { λ r. ⌜ Written (Output.bytes (u16sBytes (u16sAt (now (index .entry)) 0 n))) (now (out .entry)) (now (out .exit)) r ⌝ }
 {
     let size = 2 * n;
     if out.len() < size {
