@@ -49,7 +49,7 @@ module _ (good : ℕ → Bool) where
       rw d (omega arith)
 
   -- where no row is bad all are good, and the other way round
-  first-bad-all : (i n j : ℕ) → i + n ≤ firstBad good i n → i ≤ j → j < i + n → good j ≡ true
+  pub first-bad-all : (i n j : ℕ) → i + n ≤ firstBad good i n → i ≤ j → j < i + n → good j ≡ true
   unfolding firstBad
   first-bad-all i zero j h l b = absurd (omega arith)
   first-bad-all i (suc n) j h l b =
@@ -62,7 +62,7 @@ module _ (good : ℕ → Bool) where
       first-bad-all (suc i) n j (let k = rw e at h in omega (arith, k)) (omega arith) (omega arith)))
       (λ e. absurd (let k = rw e at h in omega (arith, k)))
 
-  all-first-bad : (i n : ℕ) → ((j : ℕ) → i ≤ j → j < i + n → good j ≡ true) → firstBad good i n ≡ i + n
+  pub all-first-bad : (i n : ℕ) → ((j : ℕ) → i ≤ j → j < i + n → good j ≡ true) → firstBad good i n ≡ i + n
   unfolding firstBad
   all-first-bad i zero h = omega arith
   all-first-bad i (suc n) h =

@@ -86,7 +86,7 @@ used-front : (l x : List ℕ) → u16sAt (u16sBytes (length l ∷ l) ++ x) 2 (le
 unfolding u16sBytes
 used-front l x = u16s-behind (length l % 256 ∷ length l / 256 ∷ []) (u16sBytes l ++ x) 0 (length l) ∙ twos-front l x
 
-row-long : (d : ℕ) (r : Row) → length (r .deps) ≤ d → length (rowBytesOf d r) ≡ rowSizeOf d
+pub row-long : (d : ℕ) (r : Row) → length (r .deps) ≤ d → length (rowBytesOf d r) ≡ rowSizeOf d
 unfolding rowBytesOf
 row-long d r h =
     let n : ℕ = length (r .deps) in

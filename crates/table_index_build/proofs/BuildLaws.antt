@@ -1,24 +1,21 @@
 -- What building and extending write: entries and their bytes, and one law for each way through the tests.
-use Prim.Native.Nat.{ℕ, zero, suc, _+_, _-_, _*_, _/_, _%_, _≤_, _<_}
+use Prim.Native.Nat.{ℕ, _+_, _-_, _*_, _/_, _≤_, _<_}
 use mathlib.Core.Bool.{true, false}
-use mathlib.Core.List.{List, [], _∷_}
+use mathlib.Core.List.{List}
 use mathlib.Core.Path.{_≡_, refl, sym, ap, _∙_}
-use native.Mathlib.Nat.{add-zero, zero-add}
+use native.Mathlib.Nat.{zero-add}
 use native.Mathlib.Omega.{arith}
 use borrow.Author.Tests.{ltb-true, lt-ltb, eq-eqb}
 use lib.Dec.{ltb}
 use lib.ListN.{length, getD, take, drop, List·getD-append}
-use lib.Seq.{sets, slice, sets-eq, slice-empty, slice-cons, ext-getD}
+use lib.Seq.{sets, sets-eq, ext-getD}
 use Rattle.table_index.proofs.ByteLaws.{length-u16s, entry}
 use Rattle.table_index.proofs.FitLaws.{index-fitting}
 use Rattle.table_index.proofs.IndexLaws.{index-length, index-member-below}
 use Rattle.table_index.proofs.LookLaws.{good-fits, fits-is-index}
 use Rattle.table_index.specs.Index.{put, indexed, indexOf, indexFits, indexChecked}
-use Rattle.hash_order.proofs.OrderLaws.{member-here, member-there}
-use Rattle.hash_order.specs.Order.{member}
 use Rattle.rules.proofs.Cases.{both}
 use Rattle.rules.specs.Hash.{Bytes}
-use Rattle.rules.specs.LittleEndian.{u16At}
 use Rattle.rules.specs.Output.{Output}
 use Rattle.rules.specs.Sizes.{sizes}
 use Rattle.rules.specs.declared.refusal.Refusal.the-variants.{PastSize, BadIndex}
@@ -36,7 +33,6 @@ use Rattle.table_index_build.specs.Indexing.{builtOutput, fitsButLast, e
 use Rattle.table_index_build.proofs.ExtendLaws.{index-next, index-records}
 use Rattle.table_check.specs.Internal.Repeats.{RowOrder}
 use Rattle.table_order.proofs.EntryLaws.{u16-same}
-use Rattle.table_order.specs.Internal.Merging.{entryLimit}
 
 -- ---- entries and their bytes
 
