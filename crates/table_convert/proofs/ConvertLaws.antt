@@ -5,7 +5,7 @@ use mathlib.Core.List.{List}
 use mathlib.Core.Path.{_≡_, refl, sym, ap, _∙_}
 use native.Mathlib.Nat.{mul-le-mul}
 use native.Mathlib.Omega.{arith}
-use borrow.Author.Tests.{ltb-false, lt-ltb, le-ltb, leb-true, lt-leb, le-leb}
+use borrow.Author.Tests.{ltb-true, ltb-false, lt-ltb, le-ltb, leb-true, lt-leb, le-leb}
 use lib.Dec.{ltb, leb}
 use lib.ListN.{length}
 use Rattle.rules.proofs.Cases.{split}
@@ -16,6 +16,7 @@ use Rattle.rules.specs.declared.refusal.Refusal.{Refusal}
 use Rattle.table.proofs.CheckLaws.{first-bad-all, all-first-bad}
 use Rattle.table.proofs.GoodLaws.{row-hashes-of}
 use Rattle.table.proofs.TableLaws.{DecodedOf, row-deps-of, good-row-has, good-table-of, length-used-of}
+use Rattle.table.proofs.WidthLaws.{wide-sized, narrow-sized}
 use Rattle.table.proofs.WrittenLaws.{round-trip}
 use Rattle.table.specs.Table.{Row, depsOf}
 use Rattle.table.specs.TableBytes.{rowSizeOf, countOf, wholeRowsOf, rowsOf, usedOf, firstBad}
@@ -57,35 +58,54 @@ pub has-table : (w : Width) (s : List ℕ) (n : ℕ) (k : List Row → Output) �
 unfolding tableAs afterCheck
 has-table w s n k q = rw q
 
+-- ---- a table as bytes
+
+module _ (w : Width) (t : List Row) where
+  many-refused : w .rows < length t → bytesAs w t ≡ Output.refuse (PastSize 0)
+  unfolding bytesAs
+  many-refused h = rw (lt-ltb (w .rows) (length t) h)
+
+  module _ (few : length t ≤ w .rows) where
+    wide-refused : firstWide (w .dependencies) t < length t → bytesAs w t ≡ Output.refuse (TooWide (firstWide (w .dependencies) t))
+    unfolding bytesAs
+    wide-refused h = rw (le-ltb (w .rows) (length t) few, lt-ltb (firstWide (w .dependencies) t) (length t) h)
+
+    fits-written : length t ≤ firstWide (w .dependencies) t → bytesAs w t ≡ Output.bytes (tableBytesOf (w .dependencies) t)
+    unfolding bytesAs
+    fits-written h = rw (le-ltb (w .rows) (length t) few, le-ltb (firstWide (w .dependencies) t) (length t) h)
+
+  -- no row is too wide just if each has no more dependencies than there is room for
+  none-wide : length t ≤ firstWide (w .dependencies) t → (i : ℕ) → i < length t → length (depsOf t i) ≤ w .dependencies
+  unfolding firstWide rowFits
+  none-wide h i l =
+      leb-true _ _ (first-bad-all (λ k. leb (length (depsOf t k)) (w .dependencies)) 0 (length t) i (omega arith) (omega arith) (omega arith))
+
+  all-narrow : ((i : ℕ) → i < length t → length (depsOf t i) ≤ w .dependencies) → length t ≤ firstWide (w .dependencies) t
+  unfolding firstWide rowFits
+  all-narrow narrow =
+      let first = all-first-bad (λ k. leb (length (depsOf t k)) (w .dependencies)) 0 (length t) (λ k a b. le-leb _ _ (narrow k (omega arith))) in
+      omega arith
+
 record BytesOf (w : Width) (t : List Row) (r : List ℕ) : Type 0 where
   few : length t ≤ w .rows
   narrow : (i : ℕ) → i < length t → length (depsOf t i) ≤ w .dependencies
   is : r ≡ tableBytesOf (w .dependencies) t
 
 bytes-has : (w : Width) (t : List Row) (r : List ℕ) → bytesAs w t ≡ Output.bytes r → BytesOf w t r
-unfolding bytesAs firstWide rowFits
 bytes-has w t r e =
     split (ltb (w .rows) (length t))
-    (λ x. absurd (not-bytes (PastSize 0) r (rw x at e)))
+    (λ x. absurd (not-bytes (PastSize 0) r (sym (many-refused w t (ltb-true (w .rows) (length t) x)) ∙ e)))
     (λ x.
-    let e₁ = rw x at e in
-    split (ltb (firstBad (λ i. leb (length (depsOf t i)) (w .dependencies)) 0 (length t)) (length t))
-    (λ y. absurd (not-bytes (TooWide _) r (rw y at e₁)))
+    let few : length t ≤ w .rows = ltb-false (w .rows) (length t) x in
+    split (ltb (firstWide (w .dependencies) t) (length t))
+    (λ y. absurd (not-bytes _ r (sym (wide-refused w t few (ltb-true (firstWide (w .dependencies) t) (length t) y)) ∙ e)))
     (λ y.
-    record {
-      few = ltb-false (w .rows) (length t) x;
-      narrow =
-          λ i l.
-          leb-true _ _ (first-bad-all (λ i. leb (length (depsOf t i)) (w .dependencies)) 0 (length t) i (let z = ltb-false _ (length t) y in omega arith) (omega arith) (omega arith));
-      is = sym (same-bytes _ r (rw y at e₁));
-    }))
+    let all : length t ≤ firstWide (w .dependencies) t = ltb-false (firstWide (w .dependencies) t) (length t) y in
+    record { few = few; narrow = none-wide w t all; is = sym (same-bytes _ r (sym (fits-written w t few all) ∙ e)) }))
 
 has-bytes : (w : Width) (t : List Row) → length t ≤ w .rows → ((i : ℕ) → i < length t → length (depsOf t i) ≤ w .dependencies)
     → bytesAs w t ≡ Output.bytes (tableBytesOf (w .dependencies) t)
-unfolding bytesAs firstWide rowFits
-has-bytes w t few narrow =
-    let first = all-first-bad (λ i. leb (length (depsOf t i)) (w .dependencies)) 0 (length t) (λ k a b. le-leb _ _ (narrow k (omega arith))) in
-    rw (le-ltb (w .rows) (length t) few, le-ltb (firstBad (λ i. leb (length (depsOf t i)) (w .dependencies)) 0 (length t)) (length t) (omega arith))
+has-bytes w t few narrow = fits-written w t few (all-narrow w t narrow)
 
 -- ---- the converter
 
@@ -181,7 +201,7 @@ widens s n e =
     )
 
 pub m106 : M106
-m106 = (converts, widens)
+m106 = (narrow-sized, wide-sized, converts, widens)
 
 -- ---- each answer
 
@@ -227,18 +247,20 @@ module _ (from to : Width) (s : List ℕ) (n : ℕ) (good : checkedAs from s ≡
       ap (λ (m : ℕ). leb m (to .dependencies)) (ap length deps ∙ length-used-of (from .dependencies) s k)))
 
   pub bytes-many : to .rows < n → bytesAs to (wholeRowsOf (from .dependencies) s) ≡ Output.refuse (PastSize 0)
-  unfolding bytesAs
-  bytes-many h = rw (table .long, lt-ltb (to .rows) n h)
+  bytes-many h = many-refused to (wholeRowsOf (from .dependencies) s) (rw (table .long) h)
 
   module _ (few : n ≤ to .rows) (wide : ℕ) (e : wide ≡ firstBad (countFits (from .dependencies) (to .dependencies) s) 0 n) where
+    first : wide ≡ firstWide (to .dependencies) (wholeRowsOf (from .dependencies) s)
+    first = e ∙ sym wide-is
+
     pub bytes-wide : wide < n → bytesAs to (wholeRowsOf (from .dependencies) s) ≡ Output.refuse (TooWide wide)
-    unfolding bytesAs
-    bytes-wide h = rw (table .long, le-ltb (to .rows) n few, wide-is, ← e, lt-ltb wide n h)
+    bytes-wide h = wide-refused to (wholeRowsOf (from .dependencies) s) (omega (arith, table .long)) (omega (arith, first, table .long)) ∙ ap (λ (k : ℕ). Output.refuse (TooWide k)) (sym first)
 
     module _ (all : n ≤ wide) where
       pub bytes-fit : bytesAs to (wholeRowsOf (from .dependencies) s) ≡ Output.bytes (tableBytesOf (to .dependencies) (rowsOf (from .dependencies) s 0 n))
-      unfolding bytesAs
-      bytes-fit = rw (table .long, le-ltb (to .rows) n few, wide-is, ← e, le-ltb wide n all, table .is)
+      bytes-fit =
+          fits-written to (wholeRowsOf (from .dependencies) s) (omega (arith, table .long)) (omega (arith, first, table .long))
+          ∙ ap (λ (t : List Row). Output.bytes (tableBytesOf (to .dependencies) t)) (table .is)
 
       pub rows-fit : Fitting (from .dependencies) (to .dependencies) s n
       unfolding countFits

@@ -73,6 +73,7 @@ pub record Converts (from to : Width) : Type 0 where
 abbrev pub Widens : Type 0
 Widens = (s : List ℕ) (n : ℕ) → checkedAs narrowRows s ≡ Good n → (r : List ℕ) × (widened s ≡ Output.bytes r)
 
--- All that is shown of the converter: both ways round, since it holds of any two widths. What is written has counts and row numbers of two bytes.
+-- All that is shown of the converter, both ways round, since it holds of any two widths of which the one that is written has counts and row numbers
+-- of two bytes, as both widths have.
 abbrev pub M106 : Type 0
-M106 = ((from to : Width) → Sized to → Converts from to) × Widens
+M106 = Sized narrowRows × Sized wideRows × ((from to : Width) → Sized to → Converts from to) × Widens
