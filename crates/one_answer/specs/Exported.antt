@@ -25,6 +25,8 @@ use Rattle.table_calls.proofs.calls.bt_check_table as of-bt-check-table
 use Rattle.table_calls.proofs.calls.bt_check_tables as of-bt-check-tables
 use Rattle.table_calls.proofs.calls.bt_build_index as of-bt-build-index
 use Rattle.table_calls.proofs.calls.bt_extend_index as of-bt-extend-index
+use Rattle.table_calls.proofs.calls.bt_widen_rows as of-bt-widen-rows
+use Rattle.table_calls.proofs.calls.bt_narrow_rows as of-bt-narrow-rows
 use Rattle.table_calls.proofs.calls.bt_heads as of-bt-heads
 use Rattle.table_calls.proofs.calls.bt_beyond as of-bt-beyond
 use Rattle.table_calls.proofs.calls.bt_missing as of-bt-missing
@@ -86,6 +88,8 @@ pub record ExportedBind : Type 0 where
   pub bt-check-tables : Binds of-bt-check-tables.ended of-bt-check-tables.Reads.Post
   pub bt-build-index : Binds of-bt-build-index.ended of-bt-build-index.Reads.Post
   pub bt-extend-index : Binds of-bt-extend-index.ended of-bt-extend-index.Reads.Post
+  pub bt-widen-rows : Binds of-bt-widen-rows.ended of-bt-widen-rows.Reads.Post
+  pub bt-narrow-rows : Binds of-bt-narrow-rows.ended of-bt-narrow-rows.Reads.Post
   pub bt-heads : Binds of-bt-heads.ended of-bt-heads.Reads.Post
   pub bt-beyond : Binds of-bt-beyond.ended of-bt-beyond.Reads.Post
   pub bt-missing : Binds of-bt-missing.ended of-bt-missing.Reads.Post

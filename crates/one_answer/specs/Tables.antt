@@ -4,6 +4,8 @@ use Rattle.table_check.proofs.check.check_alone as of-check-alone
 use Rattle.table_check.proofs.check.check_indexed as of-check-indexed
 use Rattle.table_index_build.proofs.build.build_index as of-build-index
 use Rattle.table_index_build.proofs.build.extend_index as of-extend-index
+use Rattle.table_convert.proofs.convert.widen_rows as of-widen-rows
+use Rattle.table_convert.proofs.convert.narrow_rows as of-narrow-rows
 use Rattle.waiting.proofs.check.check_tables as of-check-tables
 use Rattle.table_graph.proofs.beyond.beyond as of-beyond
 use Rattle.table_graph.proofs.heads.heads as of-heads
@@ -19,6 +21,9 @@ pub record TablesBind : Type 0 where
   -- the crate table_index_build
   pub build-index : Binds of-build-index.ended of-build-index.Reads.Post
   pub extend-index : Binds of-extend-index.ended of-extend-index.Reads.Post
+  -- the crate table_convert
+  pub widen-rows : Binds of-widen-rows.ended of-widen-rows.Reads.Post
+  pub narrow-rows : Binds of-narrow-rows.ended of-narrow-rows.Reads.Post
   -- the crate waiting
   pub check-tables : Binds of-check-tables.ended of-check-tables.Reads.Post
   -- the crate table_graph

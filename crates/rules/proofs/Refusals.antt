@@ -6,9 +6,9 @@ use mathlib.Core.Path.{_≡_, refl, sym, ap₂, _∙_}
 use lib.Dec.{eqb}
 use Rattle.rules.specs.Refusal.{numberOf, valueOf}
 use Rattle.rules.specs.declared.refusal.Refusal.{Refusal}
-use Rattle.rules.specs.declared.refusal.Refusal.the-variants.{Cut, WrongType, BadNumber, PastSize, NoBits, BadRow, NoRoom, LoadFailed, BadWaitingRow, BadNumbers, BadRowsBefore, BadIndex}
+use Rattle.rules.specs.declared.refusal.Refusal.the-variants.{Cut, WrongType, BadNumber, PastSize, NoBits, BadRow, NoRoom, LoadFailed, BadWaitingRow, BadNumbers, BadRowsBefore, BadIndex, TooWide}
 
--- A number that no refusal has is read as 12.
+-- A number that no refusal has is read as 13.
 unfoldable pub refusalOf : ℕ → ℕ → Refusal
 refusalOf n v =
     cond (eqb n 1) (Cut v)
@@ -21,7 +21,8 @@ refusalOf n v =
     (cond (eqb n 8) LoadFailed
     (cond (eqb n 9) (BadWaitingRow v)
     (cond (eqb n 10) BadNumbers
-    (cond (eqb n 11) BadRowsBefore BadIndex))))))))))
+    (cond (eqb n 11) BadRowsBefore
+    (cond (eqb n 12) BadIndex (TooWide v))))))))))))
 
 pub refusal-told : (r : Refusal) → refusalOf (numberOf r) (valueOf r) ≡ r
 unfolding refusalOf
@@ -37,6 +38,7 @@ refusal-told (BadWaitingRow row) = refl
 refusal-told BadNumbers = refl
 refusal-told BadRowsBefore = refl
 refusal-told BadIndex = refl
+refusal-told (TooWide row) = refl
 
 pub refusals-differ : (a b : Refusal) → numberOf a ≡ numberOf b → valueOf a ≡ valueOf b → a ≡ b
 refusals-differ a b n v = sym (refusal-told a) ∙ ap₂ refusalOf n v ∙ refusal-told b

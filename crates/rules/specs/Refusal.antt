@@ -1,5 +1,5 @@
--- 01, Refusal numbers, and 02, M-100, for 12: the number of each refusal, and the value that it returns. Every promise about a refusal speaks of these
--- two.
+-- 01, Refusal numbers, and 02, M-100 for 12 and M-106 for 13: the number of each refusal, and the value that it returns. Every promise about a refusal
+-- speaks of these two.
 use Prim.Native.Nat.{ℕ}
 use Rattle.rules.specs.declared.refusal.Refusal.{Refusal}
 use Rattle.rules.specs.declared.refusal.Refusal.the-variants.{
@@ -15,6 +15,7 @@ use Rattle.rules.specs.declared.refusal.Refusal.the-variants.{
   BadNumbers,
   BadRowsBefore,
   BadIndex,
+  TooWide,
 }
 
 -- The column "No.".
@@ -31,6 +32,7 @@ numberOf (BadWaitingRow row) = 9
 numberOf BadNumbers = 10
 numberOf BadRowsBefore = 11
 numberOf BadIndex = 12
+numberOf (TooWide row) = 13
 
 -- The column "Returns".
 abbrev pub valueOf : Refusal → ℕ
@@ -46,3 +48,4 @@ valueOf (BadWaitingRow row) = row
 valueOf BadNumbers = 0
 valueOf BadRowsBefore = 0
 valueOf BadIndex = 0
+valueOf (TooWide row) = row

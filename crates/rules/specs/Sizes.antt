@@ -1,4 +1,4 @@
--- 01, Sizes. One record names every limit; definitions read its fields, and no numeral of a limit stands anywhere else.
+-- 01, Sizes, and 02, M-106. One record names every limit; definitions read its fields, and no numeral of a limit stands anywhere else.
 use Prim.Native.Nat.{ℕ}
 use mathlib.Core.List.{List, [], _∷_}
 
@@ -29,22 +29,22 @@ pub record Sizes : Type 0 where
   -- hashes to send at once
   pub hashesToSend : ℕ
 
--- The numbers that 01 gives.
+-- The numbers that 01 gives, and those that M-106 gives in their place.
 abbrev pub sizes : Sizes
 sizes =
     record {
       hash = 32;
       message = 4194304;
-      rows = 1024;
+      rows = 8192;
       waitingRows = 1024;
-      dependencies = 15;
-      hashes = 1024;
-      sentHashes = 1024;
+      dependencies = 111;
+      hashes = 8192;
+      sentHashes = 8192;
       haves = 16;
-      chunks = 4096;
-      field = 8192;
+      chunks = 16384;
+      field = 32768;
       probes = 64;
-      hashesToSend = 2048;
+      hashesToSend = 16384;
     }
 
 -- Every limit in the record's order, as a host is told them.

@@ -1,4 +1,4 @@
-// 01, Refusal numbers. An enum, so that a refusal carries just the value that its number returns.
+// 01, Refusal numbers, and those that 02 adds. An enum, so that a refusal carries just the value that its number returns.
 ghost use mathlib.Core.Path.{_≡_};
 ghost use Rattle.rules.specs.Refusal.{numberOf, valueOf};
 
@@ -27,6 +27,8 @@ pub enum Refusal {
     BadRowsBefore,
     // 12: the index doesn't fit its change table.
     BadIndex,
+    // 13: the first row that has more dependencies than a row of the old width has room for.
+    TooWide(usize),
 }
 
 impl Refusal {
@@ -46,6 +48,7 @@ impl Refusal {
             Refusal::BadNumbers => 10,
             Refusal::BadRowsBefore => 11,
             Refusal::BadIndex => 12,
+            Refusal::TooWide(_) => 13,
         }
     }
 
@@ -65,6 +68,7 @@ impl Refusal {
             Refusal::BadNumbers => 0,
             Refusal::BadRowsBefore => 0,
             Refusal::BadIndex => 0,
+            Refusal::TooWide(row) => row as u64,
         }
     }
 }

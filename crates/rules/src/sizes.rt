@@ -1,4 +1,4 @@
-// 01, Sizes: every limit has its name and number here. Limits that are equal today keep names of their own.
+// 01, Sizes, as 02, M-106 has them: every limit has its name and number here. Limits that are equal today keep names of their own.
 ghost use mathlib.Core.Path.{_≡_};
 ghost use Rattle.rules.specs.Sizes.{sizes, limitsOf};
 
@@ -7,25 +7,25 @@ pub const HASH_SIZE: usize = 32;
 // Bytes of a message.
 pub const MESSAGE_SIZE: usize = 4_194_304;
 // Rows of a change table.
-pub const ROWS: usize = 1_024;
+pub const ROWS: usize = 8_192;
 // Rows of a waiting table.
 pub const WAITING_ROWS: usize = 1_024;
 // Dependencies of a change.
-pub const DEPENDENCIES: usize = 15;
+pub const DEPENDENCIES: usize = 111;
 // Hashes of a list.
-pub const HASHES: usize = 1_024;
+pub const HASHES: usize = 8_192;
 // Hashes that a session remembers as sent.
-pub const SENT_HASHES: usize = 1_024;
+pub const SENT_HASHES: usize = 8_192;
 // Haves of a message or a session.
 pub const HAVES: usize = 16;
 // Chunks of a message.
-pub const CHUNKS: usize = 4_096;
+pub const CHUNKS: usize = 16_384;
 // Bytes of a filter's bit field.
-pub const FIELD_SIZE: usize = 8_192;
+pub const FIELD_SIZE: usize = 32_768;
 // Probes of a filter that has entries.
 pub const PROBES: usize = 64;
 // Hashes to send at once.
-pub const HASHES_TO_SEND: usize = 2_048;
+pub const HASHES_TO_SEND: usize = 16_384;
 
 // Every limit, in the order above, for a host that sizes its buffers by them.
 pub fn limits() -> [u64; 12]

@@ -13,10 +13,9 @@ use lib.ListN.{length}
 use Rattle.rules.specs.Sizes.{sizes}
 use Rattle.rules.specs.declared.refusal.Refusal.the-variants.{PastSize, BadRow}
 use Rattle.rules.proofs.Cases.{split}
-use Rattle.table.specs.TableBytes.{rowSize, firstBad, checkedWith, tableCheckedOf, tableChecked}
+use Rattle.table.specs.TableBytes.{rowSizeOf, rowGoodOf, firstBad, checkedWith, tableCheckedOf, rowSize, tableChecked}
 use Rattle.table.specs.declared.check.Checked.{Checked}
 use Rattle.table.specs.declared.check.Checked.the-variants.{Good, Refused}
-use Rattle.table.proofs.Today.{rowGood}
 
 -- ---- rows
 
@@ -50,7 +49,7 @@ module _ (good : ℕ → Bool) where
       rw d (omega arith)
 
   -- where no row is bad all are good, and the other way round
-  first-bad-all : (i n j : ℕ) → i + n ≤ firstBad good i n → i ≤ j → j < i + n → good j ≡ true
+  pub first-bad-all : (i n j : ℕ) → i + n ≤ firstBad good i n → i ≤ j → j < i + n → good j ≡ true
   unfolding firstBad
   first-bad-all i zero j h l b = absurd (omega arith)
   first-bad-all i (suc n) j h l b =
@@ -63,7 +62,7 @@ module _ (good : ℕ → Bool) where
       first-bad-all (suc i) n j (let k = rw e at h in omega (arith, k)) (omega arith) (omega arith)))
       (λ e. absurd (let k = rw e at h in omega (arith, k)))
 
-  all-first-bad : (i n : ℕ) → ((j : ℕ) → i ≤ j → j < i + n → good j ≡ true) → firstBad good i n ≡ i + n
+  pub all-first-bad : (i n : ℕ) → ((j : ℕ) → i ≤ j → j < i + n → good j ≡ true) → firstBad good i n ≡ i + n
   unfolding firstBad
   all-first-bad i zero h = omega arith
   all-first-bad i (suc n) h =
@@ -146,21 +145,25 @@ fewer n most size h b =
 
 -- ---- a change table
 
-module _ (s : List ℕ) where
-  pub table-past : sizes .rows * rowSize < length s → tableChecked s ≡ Refused (PastSize 0)
+module _ (d most : ℕ) (s : List ℕ) where
+  pub table-past-of : most * rowSizeOf d < length s → tableCheckedOf d most s ≡ Refused (PastSize 0)
   unfolding tableCheckedOf
-  table-past h = check-past _ (rowGood s) rowSize (sizes .rows) (length s) h
+  table-past-of h = check-past _ (rowGoodOf d s) (rowSizeOf d) most (length s) h
 
-  module _ (few : length s ≤ sizes .rows * rowSize) where
-    pub table-bad : (r : ℕ) → r ≡ firstBad (rowGood s) 0 (length s / rowSize) → r < length s / rowSize → tableChecked s ≡ Refused (BadRow r)
+  module _ (few : length s ≤ most * rowSizeOf d) where
+    pub table-bad-of : (r : ℕ) → r ≡ firstBad (rowGoodOf d s) 0 (length s / rowSizeOf d) → r < length s / rowSizeOf d
+        → tableCheckedOf d most s ≡ Refused (BadRow r)
     unfolding tableCheckedOf
-    table-bad r e h = check-bad _ (rowGood s) rowSize (sizes .rows) (length s) few r e h
+    table-bad-of r e h = check-bad _ (rowGoodOf d s) (rowSizeOf d) most (length s) few r e h
 
-    module _ (r : ℕ) (e : r ≡ firstBad (rowGood s) 0 (length s / rowSize)) (none : length s / rowSize ≤ r) where
-      pub table-partial : (length s % rowSize ≡ 0 → ⊥) → tableChecked s ≡ Refused (BadRow (length s / rowSize))
+    module _ (r : ℕ) (e : r ≡ firstBad (rowGoodOf d s) 0 (length s / rowSizeOf d)) (none : length s / rowSizeOf d ≤ r) where
+      pub table-partial-of : (length s % rowSizeOf d ≡ 0 → ⊥) → tableCheckedOf d most s ≡ Refused (BadRow (length s / rowSizeOf d))
       unfolding tableCheckedOf
-      table-partial h = check-partial _ (rowGood s) rowSize (sizes .rows) (length s) few r e none h
+      table-partial-of h = check-partial _ (rowGoodOf d s) (rowSizeOf d) most (length s) few r e none h
 
-      pub table-fine : length s % rowSize ≡ 0 → tableChecked s ≡ Good (length s / rowSize)
+      pub table-fine-of : length s % rowSizeOf d ≡ 0 → tableCheckedOf d most s ≡ Good (length s / rowSizeOf d)
       unfolding tableCheckedOf
-      table-fine h = check-good _ (rowGood s) rowSize (sizes .rows) (length s) few r e none h
+      table-fine-of h = check-good _ (rowGoodOf d s) (rowSizeOf d) most (length s) few r e none h
+
+pub table-past : (s : List ℕ) → sizes .rows * rowSize < length s → tableChecked s ≡ Refused (PastSize 0)
+table-past = table-past-of (sizes .dependencies) (sizes .rows)

@@ -5,3 +5,6 @@ pub mod Promises
 pub mod RowLaws
 pub mod TableLaws
 pub mod Today
+pub mod TwoBytes
+pub mod WidthLaws
+pub mod WrittenLaws

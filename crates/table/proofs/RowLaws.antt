@@ -3,7 +3,7 @@ use Prim.Native.Nat.{ℕ, zero, suc, _+_, _-_, _*_, _≤_, _<_}
 use mathlib.Core.Bool.{Bool, true, false, _&&_}
 use mathlib.Core.List.{List, [], _∷_}
 use mathlib.Core.Path.{_≡_, refl, _∙_, ap}
-use native.Mathlib.Nat.{zero-add, add-zero, suc-add}
+use native.Mathlib.Nat.{zero-add, add-zero, suc-add, mul-le-mul-right}
 use native.Mathlib.Numerals.{add-one}
 use native.Mathlib.Omega.{arith}
 use borrow.Author.Tests.{ltb-true, leb-true, eqb-true, eqb-false, lt-ltb, le-ltb, le-leb, lt-leb, eq-eqb, ne-eqb}
@@ -15,10 +15,9 @@ use Rattle.rules.proofs.Cases.{split, both, same-truth, and-true}
 use Rattle.rules.specs.Hash.{Bytes}
 use Rattle.rules.specs.LittleEndian.{u16At}
 use Rattle.rules.specs.Sizes.{sizes}
-use Rattle.table.specs.Internal.OwnBytes.{rowSound}
-use Rattle.table.specs.TableBytes.{u16sAt, usedOf, unusedOf, rowSize, depCount, usedAt, numbersGood, zeros}
-use Rattle.table.proofs.Today.{unusedAt}
-use Rattle.table.proofs.TableLaws.{numberPlace}
+use Rattle.table.specs.Internal.OwnBytes.{rowSoundOf}
+use Rattle.table.specs.TableBytes.{u16sAt, rowSizeOf, countOf, usedOf, unusedOf, numbersGood, zeros}
+use Rattle.table.proofs.TableLaws.{numberPlaceOf}
 
 -- ---- numbers that climb
 
@@ -69,71 +68,71 @@ climbs-good i l =
 
 -- ---- a row's numbers
 
-number-next : (i j : ℕ) → numberPlace i j + 2 ≡ numberPlace i (j + 1)
-number-next i j = omega arith
+number-next : (d i j : ℕ) → numberPlaceOf d i j + 2 ≡ numberPlaceOf d i (j + 1)
+number-next d i j = omega arith
 
-module _ (s : List ℕ) (i count : ℕ) where
+module _ (d : ℕ) (s : List ℕ) (i count : ℕ) where
   -- what the numbers from the j-th on say, of those in use
   pub climbing : ℕ → ℕ → Bool
-  climbing least j = climbs least i (u16sAt s (numberPlace i j) (count - j))
+  climbing least j = climbs least i (u16sAt s (numberPlaceOf d i j) (count - j))
 
-  pub climb-starts : count ≡ depCount s i → climbing 0 0 ≡ numbersGood i (usedAt s i)
+  pub climb-starts : count ≡ countOf d s i → climbing 0 0 ≡ numbersGood i (usedOf d s i)
   unfolding climbing usedOf
   climb-starts e =
-      let d : count - 0 ≡ depCount s i = omega arith in
-      let p : numberPlace i 0 ≡ i * rowSize + sizes .hash + 2 = omega arith in
-      rw (d, p) (climbs-good i (usedAt s i))
+      let all : count - 0 ≡ countOf d s i = omega arith in
+      let p : numberPlaceOf d i 0 ≡ i * rowSizeOf d + sizes .hash + 2 = omega arith in
+      rw (all, p) (climbs-good i (usedOf d s i))
 
-  module _ (least j d : ℕ) (inside : j < count) (read : d ≡ u16At s (numberPlace i j)) where
+  module _ (least j k : ℕ) (inside : j < count) (read : k ≡ u16At s (numberPlaceOf d i j)) where
     left : count - j ≡ suc (count - (j + 1))
     left = omega arith
 
-    pub climb-low : d < least → climbing least j ≡ false
+    pub climb-low : k < least → climbing least j ≡ false
     unfolding climbing climbs u16sAt
-    climb-low h = rw (left, ← read, lt-leb least d h)
+    climb-low h = rw (left, ← read, lt-leb least k h)
 
-    pub climb-high : least ≤ d → i ≤ d → climbing least j ≡ false
+    pub climb-high : least ≤ k → i ≤ k → climbing least j ≡ false
     unfolding climbing climbs u16sAt
-    climb-high l h = rw (left, ← read, le-leb least d l, le-ltb d i h)
+    climb-high l h = rw (left, ← read, le-leb least k l, le-ltb k i h)
 
-    pub climb-on : least ≤ d → d < i → climbing least j ≡ climbing (d + 1) (j + 1)
+    pub climb-on : least ≤ k → k < i → climbing least j ≡ climbing (k + 1) (j + 1)
     unfolding climbing climbs u16sAt
-    climb-on l h = rw (left, ← read, le-leb least d l, lt-ltb d i h, number-next, add-one d)
+    climb-on l h = rw (left, ← read, le-leb least k l, lt-ltb k i h, number-next d i j, add-one k)
 
   pub climb-ends : (least j : ℕ) → count ≤ j → climbing least j ≡ true
   unfolding climbing climbs u16sAt
   climb-ends least j h =
-      let d : count - j ≡ 0 = omega arith in
-      rw d
+      let none : count - j ≡ 0 = omega arith in
+      rw none
 
-module _ (s : List ℕ) (i : ℕ) where
+module _ (d : ℕ) (s : List ℕ) (i : ℕ) where
   -- whether the numbers from the j-th on, which aren't in use, are zeros
   pub zeroing : ℕ → Bool
-  zeroing j = zeros (u16sAt s (numberPlace i j) (sizes .dependencies - j))
+  zeroing j = zeros (u16sAt s (numberPlaceOf d i j) (d - j))
 
-  pub zero-starts : (count : ℕ) → count ≡ depCount s i → zeroing count ≡ zeros (unusedAt s i)
+  pub zero-starts : (count : ℕ) → count ≡ countOf d s i → zeroing count ≡ zeros (unusedOf d s i)
   unfolding zeroing unusedOf
   zero-starts count e = rw e
 
-  module _ (j d : ℕ) (inside : j < sizes .dependencies) (read : d ≡ u16At s (numberPlace i j)) where
-    remain : sizes .dependencies - j ≡ suc (sizes .dependencies - (j + 1))
+  module _ (j k : ℕ) (inside : j < d) (read : k ≡ u16At s (numberPlaceOf d i j)) where
+    remain : d - j ≡ suc (d - (j + 1))
     remain = omega arith
 
-    pub zero-fails : (d ≡ 0 → ⊥) → zeroing j ≡ false
+    pub zero-fails : (k ≡ 0 → ⊥) → zeroing j ≡ false
     unfolding zeroing zeros u16sAt
-    zero-fails h = rw (remain, ← read, ne-eqb d 0 h)
+    zero-fails h = rw (remain, ← read, ne-eqb k 0 h)
 
-    pub zero-on : d ≡ 0 → zeroing j ≡ zeroing (j + 1)
+    pub zero-on : k ≡ 0 → zeroing j ≡ zeroing (j + 1)
     unfolding zeroing zeros u16sAt
-    zero-on h = rw (remain, ← read, eq-eqb d 0 h, number-next)
+    zero-on h = rw (remain, ← read, eq-eqb k 0 h, number-next d i j)
 
-  pub zero-ends : (j : ℕ) → sizes .dependencies ≤ j → zeroing j ≡ true
+  pub zero-ends : (j : ℕ) → d ≤ j → zeroing j ≡ true
   unfolding zeroing zeros u16sAt
   zero-ends j h =
-      let d : sizes .dependencies - j ≡ 0 = omega arith in
-      rw d
+      let none : d - j ≡ 0 = omega arith in
+      rw none
 
-  pub zeroing-is : (j : ℕ) → zeroing j ≡ zeros (u16sAt s (numberPlace i j) (sizes .dependencies - j))
+  pub zeroing-is : (j : ℕ) → zeroing j ≡ zeros (u16sAt s (numberPlaceOf d i j) (d - j))
   unfolding zeroing
   zeroing-is j = refl
 
@@ -150,18 +149,18 @@ zeros-parts s at (suc n) rest =
     let e : at + 2 * suc n ≡ at + 2 + 2 * n = omega arith in
     rw (suc-add n rest, e, zeros-parts s (at + 2) n rest) (and-parts (eqb (u16At s at) 0) (zeros (u16sAt s (at + 2) n)) (zeros (u16sAt s (at + 2 + 2 * n) rest)))
 
-module _ (s : List ℕ) (i j : ℕ) (inside : j + 4 ≤ sizes .dependencies) where
-  four-parts : zeroing s i j ≡ (zeros (u16sAt s (numberPlace i j) 4) && zeroing s i (j + 4))
+module _ (d : ℕ) (s : List ℕ) (i j : ℕ) (inside : j + 4 ≤ d) where
+  four-parts : zeroing d s i j ≡ (zeros (u16sAt s (numberPlaceOf d i j) 4) && zeroing d s i (j + 4))
   unfolding zeroing
   four-parts =
-      let long : sizes .dependencies - j ≡ 4 + (sizes .dependencies - (j + 4)) = omega arith in
-      let next : numberPlace i (j + 4) ≡ numberPlace i j + 2 * 4 = omega arith in
-      rw (long, next) (zeros-parts s (numberPlace i j) 4 (sizes .dependencies - (j + 4)))
+      let long : d - j ≡ 4 + (d - (j + 4)) = omega arith in
+      let next : numberPlaceOf d i (j + 4) ≡ numberPlaceOf d i j + 2 * 4 = omega arith in
+      rw (long, next) (zeros-parts s (numberPlaceOf d i j) 4 (d - (j + 4)))
 
-  pub four-fail : zeros (u16sAt s (numberPlace i j) 4) ≡ false → zeroing s i j ≡ false
+  pub four-fail : zeros (u16sAt s (numberPlaceOf d i j) 4) ≡ false → zeroing d s i j ≡ false
   four-fail e = four-parts ∙ rw e refl
 
-  pub four-on : zeros (u16sAt s (numberPlace i j) 4) ≡ true → zeroing s i j ≡ zeroing s i (j + 4)
+  pub four-on : zeros (u16sAt s (numberPlaceOf d i j) 4) ≡ true → zeroing d s i j ≡ zeroing d s i (j + 4)
   four-on e = four-parts ∙ rw e refl
 
 four-sum : (a b c d : ℕ) → eqb (a + b + c + d) 0 ≡ (eqb a 0 && (eqb b 0 && (eqb c 0 && (eqb d 0 && true))))
@@ -179,34 +178,60 @@ four-sum a b c d =
     (λ eb. rw (ea, eb) (ne-eqb (a + b + c + d) 0 (λ z. eqb-false b 0 eb (omega arith)))))
     (λ ea. rw ea (ne-eqb (a + b + c + d) 0 (λ z. eqb-false a 0 ea (omega arith))))
 
-pub sum-zeros : (s : List ℕ) (i j a b c d : ℕ) → a ≡ u16At s (numberPlace i j) → b ≡ u16At s (numberPlace i (j + 1)) → c ≡ u16At s (numberPlace i (j + 2))
-    → d ≡ u16At s (numberPlace i (j + 3))
-    → eqb (a + b + c + d) 0 ≡ zeros (u16sAt s (numberPlace i j) 4)
+pub sum-zeros : (w : ℕ) (s : List ℕ) (i j a b c d : ℕ) → a ≡ u16At s (numberPlaceOf w i j) → b ≡ u16At s (numberPlaceOf w i (j + 1))
+    → c ≡ u16At s (numberPlaceOf w i (j + 2)) → d ≡ u16At s (numberPlaceOf w i (j + 3))
+    → eqb (a + b + c + d) 0 ≡ zeros (u16sAt s (numberPlaceOf w i j) 4)
 unfolding zeros u16sAt
-sum-zeros s i j a b c d ea eb ec ed =
-    let p : ℕ = numberPlace i j in
+sum-zeros w s i j a b c d ea eb ec ed =
+    let p : ℕ = numberPlaceOf w i j in
     let fb : u16At s (p + 2) ≡ b = rw eb (ap (u16At s) (omega arith)) in
     let fc : u16At s (p + 2 + 2) ≡ c = rw ec (ap (u16At s) (omega arith)) in
     let fd : u16At s (p + 2 + 2 + 2) ≡ d = rw ed (ap (u16At s) (omega arith)) in
     four-sum a b c d ∙ rw (fb, fc, fd, ← ea) refl
 
 -- a number of two bytes
-pub u16-small : (s : List ℕ) (at d : ℕ) → Bytes s → d ≡ u16At s at → d < 65536
+pub u16-small : (s : List ℕ) (at k : ℕ) → Bytes s → k ≡ u16At s at → k < 65536
 unfolding u16At
-u16-small s at d bytes e = omega (arith, bytes at, bytes (at + 1))
+u16-small s at k bytes e = omega (arith, bytes at, bytes (at + 1))
 
 -- ---- a row
 
-module _ (s : List ℕ) (i count : ℕ) (is : count ≡ depCount s i) where
-  pub sound-many : sizes .dependencies < count → rowSound s i ≡ false
-  unfolding rowSound
-  sound-many h = rw (← is, lt-leb count (sizes .dependencies) h)
+module _ (d : ℕ) (s : List ℕ) (i count : ℕ) (is : count ≡ countOf d s i) where
+  pub sound-many : d < count → rowSoundOf d s i ≡ false
+  unfolding rowSoundOf
+  sound-many h = rw (← is, lt-leb count d h)
 
-  module _ (few : count ≤ sizes .dependencies) where
-    pub sound-numbers : numbersGood i (usedAt s i) ≡ false → rowSound s i ≡ false
-    unfolding rowSound
-    sound-numbers e = rw (← is, le-leb count (sizes .dependencies) few, e)
+  module _ (few : count ≤ d) where
+    pub sound-numbers : numbersGood i (usedOf d s i) ≡ false → rowSoundOf d s i ≡ false
+    unfolding rowSoundOf
+    sound-numbers e = rw (← is, le-leb count d few, e)
 
-    pub sound-zeros : numbersGood i (usedAt s i) ≡ true → rowSound s i ≡ zeros (unusedAt s i)
-    unfolding rowSound
-    sound-zeros e = rw (← is, le-leb count (sizes .dependencies) few, e)
+    pub sound-zeros : numbersGood i (usedOf d s i) ≡ true → rowSoundOf d s i ≡ zeros (unusedOf d s i)
+    unfolding rowSoundOf
+    sound-zeros e = rw (← is, le-leb count d few, e)
+
+-- ---- places in a table
+
+module _ (d i : ℕ) where
+  -- where row i starts, its size told by a number
+  module _ (size : ℕ) (is : size ≡ rowSizeOf d) where
+    pub row-starts : i * size ≡ i * rowSizeOf d
+    row-starts = rw is
+
+    pub row-start-fits : (most : ℕ) → (i + 1) * rowSizeOf d < most → i * size < most
+    row-start-fits most h = rw is (omega arith)
+
+  -- what is read of a row, its start told by a number
+  module _ (s : List ℕ) (start r : ℕ) (is : start ≡ i * rowSizeOf d) where
+    pub count-read : r ≡ u16At s (start + sizes .hash) → r ≡ countOf d s i
+    unfolding countOf
+    count-read e = rw is at e
+
+    pub number-read : (j : ℕ) → r ≡ u16At s (start + sizes .hash + 2 + 2 * j) → r ≡ u16At s (numberPlaceOf d i j)
+    number-read j e = rw is at e
+
+  -- a row of the first n
+  pub row-within : (n long : ℕ) → i < n → n * rowSizeOf d ≤ long → (i + 1) * rowSizeOf d ≤ long
+  row-within n long h inside =
+      let rows : (i + 1) * rowSizeOf d ≤ n * rowSizeOf d = mul-le-mul-right (rowSizeOf d) (omega arith) in
+      omega arith

@@ -20,6 +20,7 @@ use Rattle.table.specs.declared.check.Checked.the-variants.{Good, Refuse
 use Rattle.table.proofs.Today.{rowAt, rowGood}
 use Rattle.rules.specs.declared.refusal.Refusal.the-variants.{BadRow}
 use Rattle.table.proofs.CheckLaws.{fewer, accepted, good-is-accepted}
+use Rattle.table.proofs.TwoBytes.{length-twos-at}
 
 -- ---- places in a list
 
@@ -197,11 +198,6 @@ numberPlaceOf d i j = i * rowSizeOf d + sizes .hash + 2 + 2 * j
 
 abbrev pub numberPlace : ℕ → ℕ → ℕ
 numberPlace i j = numberPlaceOf (sizes .dependencies) i j
-
-length-twos-at : (s : List ℕ) (at count : ℕ) → length (u16sAt s at count) ≡ count
-unfolding u16sAt
-length-twos-at s at zero = refl
-length-twos-at s at (suc count) = ap suc (length-twos-at s (at + 2) count)
 
 twos-index : (s : List ℕ) (at count j : ℕ) → j < count → getD (u16sAt s at count) j 0 ≡ u16At s (at + 2 * j)
 unfolding u16sAt

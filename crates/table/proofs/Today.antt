@@ -3,11 +3,8 @@ use Prim.Native.Nat.{ℕ}
 use mathlib.Core.Bool.{Bool}
 use mathlib.Core.List.{List}
 use Rattle.rules.specs.Sizes.{sizes}
-use Rattle.table.specs.TableBytes.{unusedOf, rowOf, rowGoodOf}
+use Rattle.table.specs.TableBytes.{rowOf, rowGoodOf}
 use Rattle.table.specs.Table.{Row}
-
-abbrev pub unusedAt : List ℕ → ℕ → List ℕ
-unusedAt s i = unusedOf (sizes .dependencies) s i
 
 abbrev pub rowAt : List ℕ → ℕ → Row
 rowAt s i = rowOf (sizes .dependencies) s i

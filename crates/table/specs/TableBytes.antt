@@ -21,6 +21,11 @@ unfoldable pub u16sAt : List ℕ → ℕ → ℕ → List ℕ
 u16sAt s at zero = []
 u16sAt s at (suc count) = u16At s at ∷ u16sAt s (at + 2) count
 
+-- Numbers as bytes: two for each, the lower first.
+unfoldable pub u16sBytes : List ℕ → List ℕ
+u16sBytes [] = []
+u16sBytes (x ∷ xs) = (x % 256) ∷ (x / 256) ∷ u16sBytes xs
+
 -- Change row: hash, count (two bytes), and d row numbers (two bytes each).
 abbrev pub rowSizeOf : ℕ → ℕ
 rowSizeOf d = sizes .hash + 2 * (1 + d)

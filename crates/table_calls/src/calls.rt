@@ -1,4 +1,4 @@
-// Calls of the crates `table_check`, `table_index_build`, `waiting`, `table_graph` and `waiting_missing`.
+// Calls of the crates `table_check`, `table_index_build`, `table_convert`, `waiting`, `table_graph` and `waiting_missing`.
 use crate::answer::checked_words;
 use call_words::answer::write_words;
 ghost use mathlib.Core.Path.{_≡_};
@@ -6,6 +6,7 @@ ghost use Rattle.call_words.specs.Answer.{Answered};
 ghost use Rattle.table_calls.specs.TableWords.{checkedWords};
 ghost use Rattle.table.specs.TableBytes.{tableChecked};
 ghost use Rattle.table_index_build.specs.Indexing.{builtOutput, extendedOutput};
+ghost use Rattle.table_convert.specs.Rows.{widened, narrowed};
 ghost use Rattle.waiting.specs.WaitingCalls.{tablesChecked};
 ghost use Rattle.table_graph.specs.GraphCalls.{headsOutput, beyondOutput};
 ghost use Rattle.waiting_missing.specs.MissingCalls.{missingOutput};
@@ -43,6 +44,26 @@ pub extern "C" fn bt_extend_index(table: &[u8], index: &[u8], out: &mut [u8], an
     ensures { λ _. ⌜ Answered (extendedOutput (now (table .entry)) (now (index .entry))) (now (out .entry)) (now (out .exit)) (now (answer .exit)) ⌝ }
 {
     *answer = write_words(table_index_build::build::extend_index(table, index, out));
+}
+
+// Writes the change table of old rows in `table`, 64 bytes each with room for 15 dependencies, at the start of `out` as rows of 256 bytes with room
+// for 111: the same rows in the same order, so an index of the one is an index of the other. Answer: 0, the bytes written; or 4 and 0 for more than
+// 1,024 rows, 6 and the first row that is bad by the rules of the old rows, 7 and the bytes wanted.
+#[no_mangle]
+pub extern "C" fn bt_widen_rows(table: &[u8], out: &mut [u8], answer: &mut [u64; 4])
+    ensures { λ _. ⌜ Answered (widened (now (table .entry))) (now (out .entry)) (now (out .exit)) (now (answer .exit)) ⌝ }
+{
+    *answer = write_words(table_convert::convert::widen_rows(table, out));
+}
+
+// Writes the change table in `table` at the start of `out` as old rows, 64 bytes each with room for 15 dependencies; widened again they are the same
+// bytes. Answer: 0, the bytes written; or 4 and 0 for a table past its size, 6 and its first bad row, 4 and 0 for a good table of more than 1,024
+// rows, 13 and the first row of more than 15 dependencies, 7 and the bytes wanted.
+#[no_mangle]
+pub extern "C" fn bt_narrow_rows(table: &[u8], out: &mut [u8], answer: &mut [u64; 4])
+    ensures { λ _. ⌜ Answered (narrowed (now (table .entry))) (now (out .entry)) (now (out .exit)) (now (answer .exit)) ⌝ }
+{
+    *answer = write_words(table_convert::convert::narrow_rows(table, out));
 }
 
 // Writes the heads of the first `before` rows of the change table in `table` at the start of `out`, ascending, 32 bytes each. `index` is the index

@@ -1,9 +1,10 @@
 -- A row is good if its own bytes are and no earlier row has its hash; so the first bad row is the lesser of the first that fails the one and the
 -- first that fails the other. Beside an index that fits no hash stands twice, and the rows' own bytes decide.
-use Prim.Native.Nat.{ℕ, zero, suc, _+_, _*_, _/_, _≤_, _<_, min}
+use Prim.Native.Nat.{ℕ, zero, suc, _+_, _*_, _/_, _%_, _^_, _≤_, _<_, min}
 use mathlib.Core.Bool.{true, false}
 use mathlib.Core.List.{List}
 use mathlib.Core.Path.{_≡_, refl, sym, _∙_}
+use native.Mathlib.Nat.{div-add-mod', mul-le-mul}
 use native.Mathlib.Omega.{arith}
 use borrow.Author.Tests.{ltb-true, ltb-false, leb-true, le-leb, lt-leb}
 use lib.Dec.{ltb, leb}
@@ -13,43 +14,46 @@ use Rattle.hash_order.specs.Order.{member}
 use Rattle.rules.proofs.Cases.{split, both}
 use Rattle.rules.specs.Hash.{hashAt}
 use Rattle.rules.specs.Sizes.{sizes}
-use Rattle.rules.specs.declared.refusal.Refusal.the-variants.{BadIndex}
+use Rattle.rules.specs.declared.refusal.Refusal.the-variants.{PastSize, BadRow, BadIndex}
 use Rattle.rules.specs.declared.refusal.Refusal.{Refusal}
-use Rattle.table.proofs.CheckLaws.{table-past}
+use Rattle.table.proofs.CheckLaws.{fewer, table-past, table-past-of, table-bad-of, table-partial-of, table-fine-of}
 use Rattle.table.proofs.TableLaws.{length-rows, length-rows-at, hash-of-row}
 use Rattle.table.proofs.Today.{rowGood}
-use Rattle.table.specs.Internal.OwnBytes.{rowSound}
-use Rattle.table.specs.TableBytes.{rowSize, rowGoodOf, rowsAt, firstBad, tableChecked}
+use Rattle.table.specs.Internal.OwnBytes.{rowSoundOf}
+use Rattle.table.specs.TableBytes.{u16sAt, rowSizeOf, rowGoodOf, rowSize, rowsAt, firstBad, tableChecked}
 use Rattle.table.specs.TableCalls.{passedOn}
 use Rattle.table.specs.Table.{rows, hashOf}
+use Rattle.table.specs.Widths.{Sized, Within, checkedAs}
+use Rattle.table.specs.declared.width.Width.{Width}
 use Rattle.table.specs.declared.check.Checked.the-variants.{Good, Refused}
 use Rattle.table_index.proofs.CheckLaws.{unfit-decides}
 use Rattle.table_index.proofs.FitLaws.{index-fitting}
 use Rattle.table_index.proofs.LookLaws.{hash-once}
-use Rattle.table_index.specs.Index.{indexFits, indexChecked}
-use Rattle.table_check.specs.Internal.Repeats.{newHash, fitsWithin}
+use Rattle.table_index.specs.Index.{indexed, indexFits, indexChecked, recordHash}
+use Rattle.table_check.specs.Internal.Repeats.{RowOrder, newHash, fitsWithin}
 use Rattle.table_check.proofs.RepeatLaws.{first-both, first-within}
 
 -- ---- the first bad row
 
-good-both : (s : List ℕ) (n : ℕ) → firstBad (rowGood s) 0 n ≡ min (firstBad (rowSound s) 0 n) (firstBad (newHash s) 0 n)
-unfolding rowGoodOf rowSound newHash
-good-both s n = first-both (rowSound s) (newHash s) 0 n
+module _ (d : ℕ) (s : List ℕ) (n : ℕ) where
+  good-both : firstBad (rowGoodOf d s) 0 n ≡ min (firstBad (rowSoundOf d s) 0 n) (firstBad (newHash d s) 0 n)
+  unfolding rowGoodOf rowSoundOf newHash
+  good-both = first-both (rowSoundOf d s) (newHash d s) 0 n
 
-module _ (s : List ℕ) (n unsound repeat : ℕ) (p : unsound ≡ firstBad (rowSound s) 0 n) (q : repeat ≡ firstBad (newHash s) 0 n) where
-  pub bad-repeat : repeat < unsound → repeat ≡ firstBad (rowGood s) 0 n
-  bad-repeat h = rw (good-both s n, ← p, ← q) (omega arith)
+  module _ (unsound repeat : ℕ) (p : unsound ≡ firstBad (rowSoundOf d s) 0 n) (q : repeat ≡ firstBad (newHash d s) 0 n) where
+    pub bad-repeat : repeat < unsound → repeat ≡ firstBad (rowGoodOf d s) 0 n
+    bad-repeat h = rw (good-both, ← p, ← q) (omega arith)
 
-  pub bad-unsound : unsound ≤ repeat → unsound ≡ firstBad (rowGood s) 0 n
-  bad-unsound h = rw (good-both s n, ← p, ← q) (omega arith)
+    pub bad-unsound : unsound ≤ repeat → unsound ≡ firstBad (rowGoodOf d s) 0 n
+    bad-unsound h = rw (good-both, ← p, ← q) (omega arith)
 
-pub bad-whole : (s : List ℕ) (n bad : ℕ) → n ≡ length s / rowSize → bad ≡ firstBad (rowGood s) 0 n → bad ≡ firstBad (rowGood s) 0 (length s / rowSize)
-bad-whole s n bad e is = rw e at is
+  pub bad-whole : (bad : ℕ) → n ≡ length s / rowSizeOf d → bad ≡ firstBad (rowGoodOf d s) 0 n → bad ≡ firstBad (rowGoodOf d s) 0 (length s / rowSizeOf d)
+  bad-whole bad e is = rw e at is
 
 -- ---- beside an index that fits
 
 module _ (s x : List ℕ) (n : ℕ) (ok : indexFits (rowsAt s 0 n) x ≡ true) where
-  hash-new : (i : ℕ) → i < n → newHash s i ≡ true
+  hash-new : (i : ℕ) → i < n → newHash (sizes .dependencies) s i ≡ true
   unfolding newHash hashOf
   hash-new i b =
       split (member (hashAt s (i * rowSize)) (rows (rowsAt s 0 i)))
@@ -64,7 +68,7 @@ module _ (s x : List ℕ) (n : ℕ) (ok : indexFits (rowsAt s 0 n) x ≡ true) w
       absurd (omega (arith, once)))
       (λ e. rw e)
 
-  all-new : (i m : ℕ) → i + m ≤ n → firstBad (newHash s) i m ≡ i + m
+  all-new : (i m : ℕ) → i + m ≤ n → firstBad (newHash (sizes .dependencies) s) i m ≡ i + m
   unfolding firstBad
   all-new i zero b = omega arith
   all-new i (suc m) b =
@@ -72,8 +76,47 @@ module _ (s x : List ℕ) (n : ℕ) (ok : indexFits (rowsAt s 0 n) x ≡ true) w
       rw (hash-new i (omega arith)) (all-new (suc i) m (omega arith) ∙ next)
 
   -- the rows' own bytes decide
-  pub fit-sound : (unsound : ℕ) → unsound ≡ firstBad (rowSound s) 0 n → unsound ≡ firstBad (rowGood s) 0 n
-  fit-sound unsound e = bad-unsound s n unsound (firstBad (newHash s) 0 n) e refl (omega (arith, all-new 0 n (omega arith), first-within (rowSound s) 0 n))
+  pub fit-sound : (unsound : ℕ) → unsound ≡ firstBad (rowSoundOf (sizes .dependencies) s) 0 n → unsound ≡ firstBad (rowGood s) 0 n
+  fit-sound unsound e = bad-unsound (sizes .dependencies) s n unsound (firstBad (newHash (sizes .dependencies) s) 0 n) e refl (omega (arith, all-new 0 n (omega arith), first-within (rowSoundOf (sizes .dependencies) s) 0 n))
+
+-- ---- a table of a width
+
+-- whole records stand inside, and are no more than a limit if all bytes aren't
+pub whole-inside : (long size : ℕ) → long / size * size ≤ long
+whole-inside long size = omega (arith, div-add-mod' long size)
+
+pub whole-few : (most long size : ℕ) → 0 < size → long ≤ most * size → long / size ≤ most
+whole-few most long size some h = fewer (long / size) most size some (let inside = whole-inside long size in omega arith)
+
+-- an order of all whole rows
+pub rows-ordered : (d : ℕ) (s x : List ℕ) (n size : ℕ) → size ≡ rowSizeOf d → n ≡ length s / size → 2 * n ≤ length x
+    → u16sAt x 0 n ≡ indexed (recordHash s size) n
+    → (n ≡ length s / rowSizeOf d) × RowOrder d s x n
+rows-ordered d s x n size is e room order =
+    (rw is at e, record { inside = rw (e, ← is) (whole-inside (length s) size); entries = room; order = rw is at order })
+
+module _ (w : Width) (size : ℕ) (is : size ≡ rowSizeOf (w .dependencies)) where
+  pub limit-fits : Sized w → w .rows * size < 2 ^ 64
+  limit-fits sized =
+      let most : w .rows * size ≤ 65536 * 131104 = mul-le-mul {m₂ = 131104} (sized .numbers) (omega (arith, sized .counts)) in
+      omega arith
+
+  pub within-limit : (long : ℕ) → long ≤ w .rows * size → long ≤ w .rows * rowSizeOf (w .dependencies)
+  within-limit long h = rw is at h
+
+module _ (w : Width) (s : List ℕ) (size : ℕ) (is : size ≡ rowSizeOf (w .dependencies)) where
+  pub past-limit : w .rows * size < length s → Refused (PastSize 0) ≡ checkedAs w s
+  past-limit h = sym (table-past-of (w .dependencies) (w .rows) s (rw is at h))
+
+  module _ (few : Within w s) (bad : ℕ) (e : bad ≡ firstBad (rowGoodOf (w .dependencies) s) 0 (length s / rowSizeOf (w .dependencies))) where
+    pub answer-bad : bad < length s / size → Refused (BadRow bad) ≡ checkedAs w s
+    answer-bad h = sym (table-bad-of (w .dependencies) (w .rows) s few bad e (rw is at h))
+
+    pub answer-partial : length s / size ≤ bad → (length s % size ≡ 0 → ⊥) → Refused (BadRow (length s / size)) ≡ checkedAs w s
+    answer-partial h rest = rw is (sym (table-partial-of (w .dependencies) (w .rows) s few bad e (rw is at h) (rw is at rest)))
+
+    pub answer-good : length s / size ≤ bad → length s % size ≡ 0 → Good (length s / size) ≡ checkedAs w s
+    answer-good h rest = rw is (sym (table-fine-of (w .dependencies) (w .rows) s few bad e (rw is at h) (rw is at rest)))
 
 -- ---- each answer
 

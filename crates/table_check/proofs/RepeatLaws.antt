@@ -12,9 +12,12 @@ use lib.ListN.{length, getD}
 use Rattle.hash_order.proofs.OrderLaws.{member-here, member-behind, member-index, index-member}
 use Rattle.hash_order.specs.Order.{member}
 use Rattle.rules.proofs.Cases.{split, same-truth}
-use Rattle.table.proofs.TableLaws.{length-rows, length-rows-at, hash-of-row}
+use Rattle.table.proofs.TableLaws.{length-rows, length-rows-of, row-hash-of}
+use Rattle.rules.specs.Hash.{hashAt}
 use Rattle.rules.specs.LittleEndian.{u16At}
-use Rattle.table.specs.TableBytes.{u16sAt, firstBad, rowSize, rowsAt}
+use Rattle.rules.specs.Sizes.{sizes}
+use Rattle.table.proofs.RowLaws.{row-within}
+use Rattle.table.specs.TableBytes.{u16sAt, firstBad, rowSizeOf, rowsOf}
 use Rattle.table.specs.Table.{rows, hashOf}
 use Rattle.table_index.proofs.ByteLaws.{length-u16s, u16s-next, u16s-none, entry}
 use Rattle.table_index.proofs.IndexLaws.{index-rises, index-has, index-member-below}
@@ -174,48 +177,48 @@ first-both p q i (suc m) =
     (λ d. rw (e, d) (omega (arith, first-least p (suc i) m))))
     (λ e. rw e (split (q i) (λ d. rw d (omega (arith, first-least q (suc i) m))) (λ d. rw d (omega arith))))
 
-module _ (s : List ℕ) where
+module _ (d : ℕ) (s : List ℕ) where
   -- an order of rows has the rows' hashes
-  hashes-same : (m h : ℕ) → member h (map (recordHash s rowSize) (indexed (recordHash s rowSize) m)) ≡ member h (rows (rowsAt s 0 m))
+  hashes-same : (m h : ℕ) → member h (map (recordHash s (rowSizeOf d)) (indexed (recordHash s (rowSizeOf d)) m)) ≡ member h (rows (rowsOf d s 0 m))
   unfolding hashOf
   hashes-same m h =
-      let f : ℕ → ℕ = recordHash s rowSize in
-      let long : length (rows (rowsAt s 0 m)) ≡ m = length-rows (rowsAt s 0 m) ∙ length-rows-at s 0 m in
-      same-truth (member h (map (recordHash s rowSize) (indexed (recordHash s rowSize) m))) (member h (rows (rowsAt s 0 m)))
+      let f : ℕ → ℕ = recordHash s (rowSizeOf d) in
+      let long : length (rows (rowsOf d s 0 m)) ≡ m = length-rows (rowsOf d s 0 m) ∙ length-rows-of d s 0 m in
+      same-truth (member h (map (recordHash s (rowSizeOf d)) (indexed (recordHash s (rowSizeOf d)) m))) (member h (rows (rowsOf d s 0 m)))
       (λ e.
       let r = member-map f (indexed f m) h e in
       let b : r .0 < m = index-member-below f m (r .0) (r .1) in
-      let is : getD (rows (rowsAt s 0 m)) (r .0) 0 ≡ h = hash-of-row s m (r .0) b ∙ r .2 in
-      rw is at (index-member (rows (rowsAt s 0 m)) (r .0) (omega arith)))
+      let is : getD (rows (rowsOf d s 0 m)) (r .0) 0 ≡ h = row-hash-of d s m (r .0) b ∙ r .2 in
+      rw is at (index-member (rows (rowsOf d s 0 m)) (r .0) (omega arith)))
       (λ e.
-      let r = member-index h (rows (rowsAt s 0 m)) e in
+      let r = member-index h (rows (rowsOf d s 0 m)) e in
       let b : r .0 < m = omega (arith, r .1) in
-      let is : f (r .0) ≡ h = sym (hash-of-row s m (r .0) b) ∙ r .2 in
+      let is : f (r .0) ≡ h = sym (row-hash-of d s m (r .0) b) ∙ r .2 in
       rw is at (map-member f (indexed f m) (r .0) (index-has f m (r .0) b)))
 
   one-more : (n m : ℕ) → m < n
-      → leastRepeat (recordHash s rowSize) n (indexed (recordHash s rowSize) m) ≡ cond (ltb (firstBad (newHash s) 0 m) m) (firstBad (newHash s) 0 m) n
-      → leastRepeat (recordHash s rowSize) n (put (recordHash s rowSize) m (indexed (recordHash s rowSize) m))
-      ≡ cond (ltb (firstBad (newHash s) 0 (suc m)) (suc m)) (firstBad (newHash s) 0 (suc m)) n
+      → leastRepeat (recordHash s (rowSizeOf d)) n (indexed (recordHash s (rowSizeOf d)) m) ≡ cond (ltb (firstBad (newHash d s) 0 m) m) (firstBad (newHash d s) 0 m) n
+      → leastRepeat (recordHash s (rowSizeOf d)) n (put (recordHash s (rowSizeOf d)) m (indexed (recordHash s (rowSizeOf d)) m))
+      ≡ cond (ltb (firstBad (newHash d s) 0 (suc m)) (suc m)) (firstBad (newHash d s) 0 (suc m)) n
   unfolding added newHash
   one-more n m b before =
-      put-repeat (recordHash s rowSize) m n (indexed (recordHash s rowSize) m) (index-rises (recordHash s rowSize) m)
-      ∙ rw (hashes-same m (recordHash s rowSize m), before, first-last (newHash s) m)
-      (settled (member (recordHash s rowSize m) (rows (rowsAt s 0 m))) (firstBad (newHash s) 0 m) m n b)
+      put-repeat (recordHash s (rowSizeOf d)) m n (indexed (recordHash s (rowSizeOf d)) m) (index-rises (recordHash s (rowSizeOf d)) m)
+      ∙ rw (hashes-same m (recordHash s (rowSizeOf d) m), before, first-last (newHash d s) m)
+      (settled (member (recordHash s (rowSizeOf d) m) (rows (rowsOf d s 0 m))) (firstBad (newHash d s) 0 m) m n b)
 
   repeats-so-far : (n m : ℕ) → m ≤ n
-      → leastRepeat (recordHash s rowSize) n (indexed (recordHash s rowSize) m)
-      ≡ cond (ltb (firstBad (newHash s) 0 m) m) (firstBad (newHash s) 0 m) n
+      → leastRepeat (recordHash s (rowSizeOf d)) n (indexed (recordHash s (rowSizeOf d)) m)
+      ≡ cond (ltb (firstBad (newHash d s) 0 m) m) (firstBad (newHash d s) 0 m) n
   unfolding indexed leastRepeat firstBad
   repeats-so-far n zero b = refl
   repeats-so-far n (suc m) b = one-more n m b (repeats-so-far n m (omega arith))
 
-  pub least-repeat : (n : ℕ) → leastRepeat (recordHash s rowSize) n (indexed (recordHash s rowSize) n) ≡ firstBad (newHash s) 0 n
+  pub least-repeat : (n : ℕ) → leastRepeat (recordHash s (rowSizeOf d)) n (indexed (recordHash s (rowSizeOf d)) n) ≡ firstBad (newHash d s) 0 n
   least-repeat n =
       repeats-so-far n n (omega arith)
-      ∙ split (ltb (firstBad (newHash s) 0 n) n)
+      ∙ split (ltb (firstBad (newHash d s) 0 n) n)
       (λ e. rw e)
-      (λ e. rw e (omega (arith, ltb-false (firstBad (newHash s) 0 n) n e, first-within (newHash s) 0 n)))
+      (λ e. rw e (omega (arith, ltb-false (firstBad (newHash d s) 0 n) n e, first-within (newHash d s) 0 n)))
 
 -- ---- each turn
 
@@ -232,27 +235,35 @@ module _ (f : ℕ → ℕ) (first a b x y : ℕ) (p : a ≡ x) (q : b ≡ y) whe
   pub or-first : eqb (f a) (f b) ≡ true → first ≤ a → first ≡ orRepeat f first x y
   or-first e h = rw (same-or f first x y (both-same e)) (omega arith)
 
-module _ (s x : List ℕ) (n : ℕ) (o : RowOrder s x n) where
+-- rows' hashes compared, the rows' starts told by numbers
+pub same-rows : (s : List ℕ) (size a b start next : ℕ) (r : Bool) → start ≡ a * size → next ≡ b * size → r ≡ eqb (hashAt s start) (hashAt s next)
+    → r ≡ eqb (recordHash s size a) (recordHash s size b)
+same-rows s size a b start next r p q e = rw (p, q) at e
+
+pub start-stands : (d row n start long : ℕ) → row < n → n * rowSizeOf d ≤ long → start ≡ row * rowSizeOf d → start + sizes .hash ≤ long
+start-stands d row n start long h inside e = rw e (omega (arith, row-within d row n long h inside))
+
+module _ (d : ℕ) (s x : List ℕ) (n : ℕ) (o : RowOrder d s x n) where
   pub entry-row : (k r : ℕ) → k < n → r ≡ u16At x (2 * k) → r < n
   entry-row k r b read =
       let long : length (u16sAt x 0 n) ≡ n = length-u16s x 0 n in
-      let named : member (getD (u16sAt x 0 n) k 0) (indexed (recordHash s rowSize) n) ≡ true =
+      let named : member (getD (u16sAt x 0 n) k 0) (indexed (recordHash s (rowSizeOf d)) n) ≡ true =
       rw (← (o .order)) (index-member (u16sAt x 0 n) k (omega arith))
       in
-      omega (arith, index-member-below (recordHash s rowSize) n (getD (u16sAt x 0 n) k 0) named, entry x n k b)
+      omega (arith, index-member-below (recordHash s (rowSizeOf d)) n (getD (u16sAt x 0 n) k 0) named, entry x n k b)
 
   -- what is found along the entries from the k-th on
   unfoldable pub seeking : ℕ → ℕ → ℕ
-  seeking first k = leastRepeat (recordHash s rowSize) first (u16sAt x (2 * k) (n - k))
+  seeking first k = leastRepeat (recordHash s (rowSizeOf d)) first (u16sAt x (2 * k) (n - k))
 
-  pub seek-starts : seeking n 0 ≡ firstBad (newHash s) 0 n
+  pub seek-starts : seeking n 0 ≡ firstBad (newHash d s) 0 n
   unfolding seeking
   seek-starts =
       let start : 2 * 0 ≡ 0 = omega arith in
       let all : n - 0 ≡ n = omega arith in
-      rw (start, all, o .order) (least-repeat s n)
+      rw (start, all, o .order) (least-repeat d s n)
 
-  pub seek-on : (first r k : ℕ) → k + 1 < n → r ≡ orRepeat (recordHash s rowSize) first (u16At x (2 * k)) (u16At x (2 * (k + 1)))
+  pub seek-on : (first r k : ℕ) → k + 1 < n → r ≡ orRepeat (recordHash s (rowSizeOf d)) first (u16At x (2 * k)) (u16At x (2 * (k + 1)))
       → seeking first k ≡ seeking r (k + 1)
   unfolding seeking leastRepeat
   seek-on first r k b e =

@@ -1,47 +1,53 @@
 // A change table checked: beside an index, or by an order that is made of its rows.
 use crate::repeat::first_repeat;
 use rules::refusal::Refusal;
+use rules::sizes::DEPENDENCIES;
 use rules::sizes::ROWS;
 use table::check::Checked;
 use table::check::first_unsound;
 use table::row::ROW_SIZE;
+use table::row::row_size;
+use table::width::WIDE;
+use table::width::Width;
 use table_index::fit::index_fits;
 use table_order::entry::INDEX_SIZE;
 use table_order::merge::build_by_rows;
 ghost use mathlib.Core.Path.{_≡_};
-ghost use Prim.Native.Nat.{_*_, _/_, _≤_};
+ghost use Prim.Native.Nat.{_/_, _≤_};
 ghost use lib.ListN.{length};
 ghost use Rattle.rules.specs.Sizes.{sizes};
 ghost use Rattle.rules.specs.declared.refusal.Refusal.the-variants.{BadIndex};
-ghost use Rattle.table.specs.TableBytes.{rowSize, rowGoodOf, firstBad, tableChecked};
+ghost use Rattle.table.specs.TableBytes.{rowSizeOf, rowGoodOf, firstBad, tableChecked};
 ghost use Rattle.table.specs.TableCalls.{passedOn};
+ghost use Rattle.table.specs.Widths.{Sized, Within, checkedAs};
 ghost use Rattle.table.specs.declared.check.Checked.the-variants.{Refused};
 ghost use Rattle.table_index.specs.Index.{indexChecked};
 ghost use Rattle.table_check.specs.Internal.Repeats.{RowOrder, fitsWithin};
 
 // What is answered of a table within its limit, by the first of its whole rows that isn't good. A partial row at its end is a bad one.
-fn answer(table: &[u8], bad: usize) -> Checked
-    requires { ⌜ (length (now table) ≤ sizes .rows * rowSize)
-        × (bad ≡ firstBad (rowGoodOf (sizes .dependencies) (now table)) 0 (length (now table) / rowSize)) ⌝ }
-    ensures { λ r. ⌜ r ≡ tableChecked (now (table .entry)) ⌝ }
+fn answer(width: Width, table: &[u8], bad: usize) -> Checked
+    requires { ⌜ Sized width × Within width (now table)
+        × (bad ≡ firstBad (rowGoodOf (width .dependencies) (now table)) 0 (length (now table) / rowSizeOf (width .dependencies))) ⌝ }
+    ensures { λ r. ⌜ r ≡ checkedAs width (now (table .entry)) ⌝ }
 {
-    let n = table.len() / ROW_SIZE;
+    let size = row_size(width.dependencies);
+    let n = table.len() / size;
     if bad < n {
         return Checked::Refused(Refusal::BadRow(bad));
     }
-    if table.len() % ROW_SIZE != 0 {
+    if table.len() % size != 0 {
         return Checked::Refused(Refusal::BadRow(n));
     }
     Checked::Good(n)
 }
 
 // The first of the first n rows that isn't good, or n.
-fn first_bad(table: &[u8], order: &[u8], n: usize) -> usize
-    requires { ⌜ RowOrder (now table) (now order) n ⌝ }
-    ensures { λ r. ⌜ r ≡ firstBad (rowGoodOf (sizes .dependencies) (now (table .entry))) 0 n ⌝ }
+fn first_bad(d: usize, table: &[u8], order: &[u8], n: usize) -> usize
+    requires { ⌜ RowOrder d (now table) (now order) n ⌝ }
+    ensures { λ r. ⌜ r ≡ firstBad (rowGoodOf d (now (table .entry))) 0 n ⌝ }
 {
-    let unsound = first_unsound(table, n);
-    let repeat = first_repeat(table, order, n);
+    let unsound = first_unsound(d, table, n);
+    let repeat = first_repeat(d, table, order, n);
     if repeat < unsound {
         return repeat;
     }
@@ -49,24 +55,34 @@ fn first_bad(table: &[u8], order: &[u8], n: usize) -> usize
 }
 
 // The check of a table within its limit, by the order of its n whole rows.
-pub fn check_ordered(table: &[u8], order: &[u8], n: usize) -> Checked
-    requires { ⌜ (length (now table) ≤ sizes .rows * rowSize) × (n ≡ length (now table) / rowSize) × RowOrder (now table) (now order) n ⌝ }
-    ensures { λ r. ⌜ r ≡ tableChecked (now (table .entry)) ⌝ }
+pub fn check_ordered(width: Width, table: &[u8], order: &[u8], n: usize) -> Checked
+    requires { ⌜ Sized width × Within width (now table) × (n ≡ length (now table) / rowSizeOf (width .dependencies))
+        × RowOrder (width .dependencies) (now table) (now order) n ⌝ }
+    ensures { λ r. ⌜ r ≡ checkedAs width (now (table .entry)) ⌝ }
 {
-    answer(table, first_bad(table, order, n))
+    answer(width, table, first_bad(width.dependencies, table, order, n))
 }
 
-// The check of a table that is lent with no index: its rows are put in order in memory of the call's own.
+// The check of a table of a width that is lent with no index: its rows are put in order in memory of the call's own.
+pub fn check_as(width: Width, table: &[u8]) -> Checked
+    requires { ⌜ Sized width × (width .rows ≤ sizes .rows) ⌝ }
+    ensures { λ r. ⌜ r ≡ checkedAs width (now (table .entry)) ⌝ }
+{
+    let size = row_size(width.dependencies);
+    if width.rows * size < table.len() {
+        return Checked::Refused(Refusal::PastSize(0));
+    }
+    let n = table.len() / size;
+    let mut order = [0u8; INDEX_SIZE];
+    build_by_rows(table, size, &mut order, n);
+    check_ordered(width, table, &order, n)
+}
+
+// The check of a table as rows are.
 pub fn check_alone(table: &[u8]) -> Checked
     ensures { λ r. ⌜ r ≡ tableChecked (now (table .entry)) ⌝ }
 {
-    if ROWS * ROW_SIZE < table.len() {
-        return Checked::Refused(Refusal::PastSize(0));
-    }
-    let n = table.len() / ROW_SIZE;
-    let mut order = [0u8; INDEX_SIZE];
-    build_by_rows(table, ROW_SIZE, &mut order, n);
-    check_ordered(table, &order, n)
+    check_as(WIDE, table)
 }
 
 // What is answered beside an index that doesn't fit: the table alone decides between its own refusals and the index's.
@@ -96,5 +112,9 @@ pub fn check_indexed(table: &[u8], index: &[u8]) -> Checked
     if !fits_within(table, index) {
         return check_unfit(table);
     }
-    answer(table, first_unsound(table, table.len() / ROW_SIZE))
+    answer(
+        WIDE,
+        table,
+        first_unsound(DEPENDENCIES, table, table.len() / ROW_SIZE),
+    )
 }

@@ -1,24 +1,21 @@
 -- What building and extending write: entries and their bytes, and one law for each way through the tests.
-use Prim.Native.Nat.{ℕ, zero, suc, _+_, _-_, _*_, _/_, _%_, _≤_, _<_}
+use Prim.Native.Nat.{ℕ, _+_, _-_, _*_, _/_, _≤_, _<_}
 use mathlib.Core.Bool.{true, false}
-use mathlib.Core.List.{List, [], _∷_}
+use mathlib.Core.List.{List}
 use mathlib.Core.Path.{_≡_, refl, sym, ap, _∙_}
-use native.Mathlib.Nat.{add-zero, zero-add}
+use native.Mathlib.Nat.{zero-add}
 use native.Mathlib.Omega.{arith}
 use borrow.Author.Tests.{ltb-true, lt-ltb, eq-eqb}
 use lib.Dec.{ltb}
 use lib.ListN.{length, getD, take, drop, List·getD-append}
-use lib.Seq.{sets, slice, sets-eq, slice-empty, slice-cons, ext-getD}
+use lib.Seq.{sets, sets-eq, ext-getD}
 use Rattle.table_index.proofs.ByteLaws.{length-u16s, entry}
 use Rattle.table_index.proofs.FitLaws.{index-fitting}
 use Rattle.table_index.proofs.IndexLaws.{index-length, index-member-below}
 use Rattle.table_index.proofs.LookLaws.{good-fits, fits-is-index}
 use Rattle.table_index.specs.Index.{put, indexed, indexOf, indexFits, indexChecked}
-use Rattle.hash_order.proofs.OrderLaws.{member-here, member-there}
-use Rattle.hash_order.specs.Order.{member}
 use Rattle.rules.proofs.Cases.{both}
 use Rattle.rules.specs.Hash.{Bytes}
-use Rattle.rules.specs.LittleEndian.{u16At}
 use Rattle.rules.specs.Output.{Output}
 use Rattle.rules.specs.Sizes.{sizes}
 use Rattle.rules.specs.declared.refusal.Refusal.the-variants.{PastSize, BadIndex}
@@ -26,72 +23,26 @@ use Rattle.rules.specs.declared.refusal.Refusal.{Refusal}
 use Rattle.table.proofs.CheckLaws.{table-past}
 use Rattle.table.proofs.GoodLaws.{accepted-rows, good-part}
 use Rattle.table.proofs.TableLaws.{table-good}
-use Rattle.table.specs.TableBytes.{u16sAt, rowSize, rowsAt, tableOf, wholeRowsOf, tableChecked}
+use Rattle.table.proofs.TwoBytes.{length-twos-bytes, twos-at-bytes, twos-back, twos-bytes}
+use Rattle.table.specs.TableBytes.{u16sAt, u16sBytes, rowSize, rowsAt, tableOf, wholeRowsOf, tableChecked}
 use Rattle.table.specs.TableCalls.{afterCheck, passedOn}
 use Rattle.table.specs.Table.{Row, GoodTable, hashOf}
 use Rattle.table.specs.declared.check.Checked.the-variants.{Good, Refused}
 use Rattle.table.specs.declared.check.Checked.{Checked}
-use Rattle.table_index_build.specs.Indexing.{indexBytes, builtOutput, fitsButLast, extendedOutput}
+use Rattle.table_index_build.specs.Indexing.{builtOutput, fitsButLast, extendedOutput}
 use Rattle.table_index_build.proofs.ExtendLaws.{index-next, index-records}
 use Rattle.table_check.specs.Internal.Repeats.{RowOrder}
 use Rattle.table_order.proofs.EntryLaws.{u16-same}
-use Rattle.table_order.specs.Internal.Merging.{entryLimit}
 
 -- ---- entries and their bytes
 
-pub length-index-bytes : (l : List ℕ) → length (indexBytes l) ≡ 2 * length l
-unfolding indexBytes
-length-index-bytes [] = refl
-length-index-bytes (i ∷ l) = omega (arith, length-index-bytes l)
+pub index-size : (s : List ℕ) (n : ℕ) → 2 * n ≡ length (u16sBytes (u16sAt s 0 n))
+index-size s n = sym (length-twos-bytes (u16sAt s 0 n) ∙ ap (λ (k : ℕ). 2 * k) (length-u16s s 0 n))
 
-pub index-size : (s : List ℕ) (n : ℕ) → 2 * n ≡ length (indexBytes (u16sAt s 0 n))
-index-size s n = sym (length-index-bytes (u16sAt s 0 n) ∙ ap (λ (k : ℕ). 2 * k) (length-u16s s 0 n))
-
--- entries that are read are the bytes they are read from
-index-at-bytes : (s : List ℕ) (at count : ℕ) → Bytes s → at + 2 * count ≤ length s → indexBytes (u16sAt s at count) ≡ slice at (at + 2 * count) s
-unfolding indexBytes u16sAt u16At
-index-at-bytes s at zero b h = rw (add-zero, slice-empty)
-index-at-bytes s at (suc count) b h =
-    let e : at + 2 * suc count ≡ at + 2 + 2 * count = omega arith in
-    let two : suc (suc at) ≡ at + 2 = omega arith in
-    let one : suc at ≡ at + 1 = omega arith in
-    let low : (getD s at 0 + 256 * getD s (at + 1) 0) % 256 ≡ getD s at 0 = omega (arith, b at) in
-    let high : (getD s at 0 + 256 * getD s (at + 1) 0) / 256 ≡ getD s (at + 1) 0 = omega (arith, b at) in
-    let first : slice at (at + 2 + 2 * count) s ≡ getD s at 0 ∷ slice (suc at) (at + 2 + 2 * count) s = slice-cons at (at + 2 + 2 * count) s 0 (omega arith) (omega arith) in
-    let second : slice (suc at) (at + 2 + 2 * count) s ≡ getD s (suc at) 0 ∷ slice (suc (suc at)) (at + 2 + 2 * count) s = slice-cons (suc at) (at + 2 + 2 * count) s 0 (omega arith) (omega arith) in
-    rw (low, high, e, index-at-bytes s (at + 2) count b (omega arith), first, second, two, one)
-
-pub index-put : (s out next : List ℕ) (n : ℕ) → Bytes s → 2 * n ≤ length s → next ≡ sets out 0 (take (2 * n) s) → next ≡ sets out 0 (indexBytes (u16sAt s 0 n))
+pub index-put : (s out next : List ℕ) (n : ℕ) → Bytes s → 2 * n ≤ length s → next ≡ sets out 0 (take (2 * n) s) → next ≡ sets out 0 (u16sBytes (u16sAt s 0 n))
 index-put s out next n b h e =
-    let same : indexBytes (u16sAt s 0 n) ≡ take (2 * n) s = rw zero-add at (index-at-bytes s 0 n b (omega arith)) in
+    let same : u16sBytes (u16sAt s 0 n) ≡ take (2 * n) s = rw zero-add at (twos-at-bytes s 0 n b (omega arith)) in
     rw same e
-
--- bytes of entries are read back
-entries-behind : (x y : ℕ) (s : List ℕ) (at count : ℕ) → u16sAt (x ∷ y ∷ s) (at + 2) count ≡ u16sAt s at count
-unfolding u16sAt u16At
-entries-behind x y s at zero = refl
-entries-behind x y s at (suc count) =
-    let e : at + 2 ≡ suc (suc at) = omega arith in
-    let f : at + 2 + 1 ≡ suc (suc (at + 1)) = omega arith in
-    let first : getD (x ∷ y ∷ s) (at + 2) 0 ≡ getD s at 0 = ap (λ (i : ℕ). getD (x ∷ y ∷ s) i 0) e in
-    let second : getD (x ∷ y ∷ s) (at + 2 + 1) 0 ≡ getD s (at + 1) 0 = ap (λ (i : ℕ). getD (x ∷ y ∷ s) i 0) f in
-    rw (first, second, entries-behind x y s (at + 2) count)
-
-pub entries-back : (l : List ℕ) → u16sAt (indexBytes l) 0 (length l) ≡ l
-unfolding indexBytes u16sAt u16At
-entries-back [] = refl
-entries-back (i ∷ l) =
-    let whole : i % 256 + 256 * (i / 256) ≡ i = omega arith in
-    let rest : u16sAt (i % 256 ∷ i / 256 ∷ indexBytes l) 2 (length l) ≡ l = entries-behind (i % 256) (i / 256) (indexBytes l) 0 (length l) ∙ entries-back l in
-    rw (whole, rest)
-
--- and are bytes where the entries are numbers of two
-pub entries-bytes : (l : List ℕ) → ((x : ℕ) → member x l ≡ true → x < entryLimit) → Bytes (indexBytes l)
-unfolding indexBytes
-entries-bytes [] h k = omega arith
-entries-bytes (i ∷ l) h zero = omega arith
-entries-bytes (i ∷ l) h (suc zero) = omega (arith, h i (member-here i l))
-entries-bytes (i ∷ l) h (suc (suc k)) = entries-bytes l (λ x m. h x (member-there x i l m)) k
 
 -- bytes that were copied to the start of others have the same entries
 pub entries-copied : (x d next : List ℕ) (n : ℕ) → length x ≡ 2 * n → length x ≤ length d → next ≡ sets d 0 x → u16sAt next 0 n ≡ u16sAt x 0 n
@@ -109,7 +60,7 @@ entries-copied x d next n long room e =
 -- ---- the table's check
 
 -- the index of a table is the order of its rows
-pub index-order : (s x : List ℕ) (n : ℕ) → n ≡ length s / rowSize → 2 * n ≤ length x → u16sAt x 0 n ≡ indexOf (rowsAt s 0 n) → RowOrder s x n
+pub index-order : (s x : List ℕ) (n : ℕ) → n ≡ length s / rowSize → 2 * n ≤ length x → u16sAt x 0 n ≡ indexOf (rowsAt s 0 n) → RowOrder (sizes .dependencies) s x n
 index-order s x n e room is = record { inside = omega arith; entries = room; order = is ∙ index-records s n }
 
 module _ (s : List ℕ) where
@@ -123,7 +74,7 @@ module _ (s : List ℕ) where
   built-past h = built-refused (PastSize 0) (table-past s h)
 
   pub built-written : (n k : ℕ) (l : List ℕ) → tableChecked s ≡ Good k → n ≡ length s / rowSize → l ≡ indexOf (rowsAt s 0 n)
-      → builtOutput s ≡ Output.bytes (indexBytes l)
+      → builtOutput s ≡ Output.bytes (u16sBytes l)
   unfolding builtOutput afterCheck wholeRowsOf
   built-written n k l good e is = rw (good, is, e)
 
@@ -184,39 +135,39 @@ module _ (s : List ℕ) where
 -- ---- what is built fits
 
 -- the index of a good table fits it as bytes
-bytes-fit : (t : List Row) → GoodTable t → indexFits t (indexBytes (indexOf t)) ≡ true
+bytes-fit : (t : List Row) → GoodTable t → indexFits t (u16sBytes (indexOf t)) ≡ true
 unfolding indexFits indexOf
 bytes-fit t good =
     let long : length (indexed (hashOf t) (length t)) ≡ length t = index-length (hashOf t) (length t) in
-    let size : length (indexBytes (indexed (hashOf t) (length t))) ≡ 2 * length t =
-    length-index-bytes (indexed (hashOf t) (length t)) ∙ ap (λ (k : ℕ). 2 * k) long
+    let size : length (u16sBytes (indexed (hashOf t) (length t))) ≡ 2 * length t =
+    length-twos-bytes (indexed (hashOf t) (length t)) ∙ ap (λ (k : ℕ). 2 * k) long
     in
-    let back : u16sAt (indexBytes (indexed (hashOf t) (length t))) 0 (length t) ≡ indexed (hashOf t) (length t) =
-    rw long at (entries-back (indexed (hashOf t) (length t)))
+    let back : u16sAt (u16sBytes (indexed (hashOf t) (length t))) 0 (length t) ≡ indexed (hashOf t) (length t) =
+    rw long at (twos-back (indexed (hashOf t) (length t)))
     in
-    rw (eq-eqb (length (indexBytes (indexed (hashOf t) (length t)))) (2 * length t) size, back) (good-fits t good)
+    rw (eq-eqb (length (u16sBytes (indexed (hashOf t) (length t)))) (2 * length t) size, back) (good-fits t good)
 
 -- so the index of all rows but the last is extended, never refused, and gives the index that is built of them all
 pub built-extends : (s : List ℕ) (n : ℕ) → tableChecked s ≡ Good n → 0 < n
-    → extendedOutput s (indexBytes (indexOf (rowsAt s 0 (n - 1)))) ≡ builtOutput s
+    → extendedOutput s (u16sBytes (indexOf (rowsAt s 0 (n - 1)))) ≡ builtOutput s
 unfolding fitsButLast
 built-extends s n good some =
     let part = good-part s n (n - 1) (accepted-rows s n good) (omega arith) in
-    extended-is-built s (indexBytes (indexOf (rowsAt s 0 (n - 1)))) n good
+    extended-is-built s (u16sBytes (indexOf (rowsAt s 0 (n - 1)))) n good
     (rw (lt-ltb 0 n some) (bytes-fit (rowsAt s 0 (n - 1)) (part .good)))
 
 module _ (s : List ℕ) (n : ℕ) (good : tableChecked s ≡ Good n) where
-  pub built-fits : indexFits (tableOf s) (indexBytes (indexOf (tableOf s))) ≡ true
+  pub built-fits : indexFits (tableOf s) (u16sBytes (indexOf (tableOf s))) ≡ true
   built-fits = bytes-fit (tableOf s) (table-good s n good .good)
 
-  pub built-bytes : Bytes (indexBytes (indexOf (tableOf s)))
+  pub built-bytes : Bytes (u16sBytes (indexOf (tableOf s)))
   unfolding indexOf
   built-bytes =
       let t : List Row = tableOf s in
       let d = table-good s n good in
-      entries-bytes (indexed (hashOf t) (length t)) (λ x m. omega (arith, index-member-below (hashOf t) (length t) x m, d .long, d .few))
+      twos-bytes (indexed (hashOf t) (length t)) (λ x m. omega (arith, index-member-below (hashOf t) (length t) x m, d .long, d .few))
 
   -- so the table is accepted beside it
-  pub built-accepted : indexChecked s (indexBytes (indexOf (tableOf s))) ≡ Good n
+  pub built-accepted : indexChecked s (u16sBytes (indexOf (tableOf s))) ≡ Good n
   unfolding indexChecked passedOn
   built-accepted = rw (good, built-fits)

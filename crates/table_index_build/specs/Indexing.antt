@@ -1,25 +1,20 @@
 -- What building and extending an index write. 02, M-100: built from any good table, extended by one row at a time with the same result.
-use Prim.Native.Nat.{ℕ, _-_, _/_, _%_, _+_, _≤_, _<_}
+use Prim.Native.Nat.{ℕ, _-_, _+_, _≤_, _<_}
 use mathlib.Core.Bool.{Bool, cond, _&&_}
-use mathlib.Core.List.{List, [], _∷_}
+use mathlib.Core.List.{List}
 use mathlib.Core.Path.{_≡_}
 use lib.Dec.{ltb}
 use lib.ListN.{getD}
 use Rattle.table_index.specs.Index.{put, indexOf, indexFits}
 use Rattle.rules.specs.Output.{Output}
 use Rattle.rules.specs.declared.refusal.Refusal.the-variants.{BadIndex}
-use Rattle.table.specs.TableBytes.{u16sAt, rowsAt, tableOf, tableChecked}
+use Rattle.table.specs.TableBytes.{u16sAt, u16sBytes, rowsAt, tableOf, tableChecked}
 use Rattle.table.specs.TableCalls.{afterCheck}
 use Rattle.table.specs.Table.{hashOf}
 
--- Row numbers as bytes: two for each, the lower first.
-unfoldable pub indexBytes : List ℕ → List ℕ
-indexBytes [] = []
-indexBytes (i ∷ l) = (i % 256) ∷ (i / 256) ∷ indexBytes l
-
--- The index of a table: 4 and 6 for the table.
+-- The index of a table, two bytes for each row number, the lower first: 4 and 6 for the table.
 unfoldable pub builtOutput : List ℕ → Output
-builtOutput s = afterCheck (tableChecked s) (λ n. Output.bytes (indexBytes (indexOf (tableOf s))))
+builtOutput s = afterCheck (tableChecked s) (λ n. Output.bytes (u16sBytes (indexOf (tableOf s))))
 
 -- Whether an index fits all rows but the last; where there is no row none does.
 unfoldable pub fitsButLast : List ℕ → ℕ → List ℕ → Bool
@@ -31,7 +26,7 @@ extendedOutput s x =
     afterCheck (tableChecked s)
     (λ n.
     cond (fitsButLast s n x)
-    (Output.bytes (indexBytes (put (hashOf (tableOf s)) (n - 1) (u16sAt x 0 (n - 1)))))
+    (Output.bytes (u16sBytes (put (hashOf (tableOf s)) (n - 1) (u16sAt x 0 (n - 1)))))
     (Output.refuse BadIndex))
 
 -- ---- what internal contracts speak of

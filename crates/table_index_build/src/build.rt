@@ -6,6 +6,7 @@ use rules::refusal::Refusal;
 use rules::sizes::ROWS;
 use table::check::Checked;
 use table::row::ROW_SIZE;
+use table::width::WIDE;
 use table_check::check::check_alone;
 use table_check::check::check_ordered;
 use table_index::fit::index_fits;
@@ -17,14 +18,14 @@ ghost use Prim.Native.Nat.{_*_, _/_, _≤_};
 ghost use lib.ListN.{length};
 ghost use Rattle.rules.specs.Output.{Written, Output};
 ghost use Rattle.rules.specs.Sizes.{sizes};
-ghost use Rattle.table.specs.TableBytes.{rowSize, rowsAt, u16sAt};
+ghost use Rattle.table.specs.TableBytes.{rowSize, rowsAt, u16sAt, u16sBytes};
 ghost use Rattle.table_index.specs.Index.{indexOf};
-ghost use Rattle.table_index_build.specs.Indexing.{indexBytes, builtOutput, fitsButLast, extendedOutput};
+ghost use Rattle.table_index_build.specs.Indexing.{builtOutput, fitsButLast, extendedOutput};
 
 // Writes the first n entries of an index.
 fn put_index(index: &[u8], n: usize, out: &mut [u8]) -> Write
     requires { ⌜ 2 * n ≤ length (now index) ⌝ }
-    ensures { λ r. ⌜ Written (Output.bytes (indexBytes (u16sAt (now (index .entry)) 0 n))) (now (out .entry)) (now (out .exit)) r ⌝ }
+    ensures { λ r. ⌜ Written (Output.bytes (u16sBytes (u16sAt (now (index .entry)) 0 n))) (now (out .entry)) (now (out .exit)) r ⌝ }
 {
     let size = 2 * n;
     if out.len() < size {
@@ -40,7 +41,7 @@ fn put_built(table: &[u8], index: &[u8], n: usize, out: &mut [u8]) -> Write
         × (u16sAt (now index) 0 n ≡ indexOf (rowsAt (now table) 0 n)) ⌝ }
     ensures { λ r. ⌜ Written (builtOutput (now (table .entry))) (now (out .entry)) (now (out .exit)) r ⌝ }
 {
-    match check_ordered(table, index, n) {
+    match check_ordered(WIDE, table, index, n) {
         Checked::Refused(r) => Write::Refused(r),
         Checked::Good(_) => put_index(index, n, out),
     }

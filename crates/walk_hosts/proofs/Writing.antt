@@ -44,6 +44,7 @@ use Rattle.rules.specs.declared.refusal.Refusal.the-variants.{
   BadNumbers,
   BadRowsBefore,
   BadIndex,
+  TooWide,
 }
 use Rattle.rules.proofs.Hash.{length-hashes-bytes, hashes-there-and-back}
 use Rattle.rules.proofs.Outputs.{take-sets, written-gathered}
@@ -86,6 +87,7 @@ number-some (BadWaitingRow row) = refl
 number-some BadNumbers = refl
 number-some BadRowsBefore = refl
 number-some BadIndex = refl
+number-some (TooWide row) = refl
 
 -- the words of the have are its record
 records-read : (what : ℕ) (q : Plan) (vs : List Have) → q .haves ≡ vs → length vs ≤ 1 → haveWordsIn (statedWords what (statedOf q)) ≡ laidWords vs

@@ -9,23 +9,23 @@ use lib.ListN.{length}
 use Rattle.hash_order.specs.Order.{member}
 use Rattle.rules.specs.Hash.{hashAt}
 use Rattle.rules.specs.Sizes.{sizes}
-use Rattle.table.specs.TableBytes.{u16sAt, rowSize, rowsAt}
+use Rattle.table.specs.TableBytes.{u16sAt, rowSizeOf, rowsOf, rowSize, rowsAt}
 use Rattle.table.specs.Table.{rows}
 use Rattle.table_index.specs.Index.{indexed, indexFits, recordHash}
 
--- Whether no earlier row has row i's hash.
-unfoldable pub newHash : List ℕ → ℕ → Bool
-newHash s i = not (member (hashAt s (i * rowSize)) (rows (rowsAt s 0 i)))
+-- Whether no earlier row has row i's hash, where rows have room for d dependencies.
+unfoldable pub newHash : ℕ → List ℕ → ℕ → Bool
+newHash d s i = not (member (hashAt s (i * rowSizeOf d)) (rows (rowsOf d s 0 i)))
 
 -- The lesser of a number and an entry, if the entry's next has the same hash; else the number. f tells a row's hash.
 unfoldable pub orRepeat : (ℕ → ℕ) → ℕ → ℕ → ℕ → ℕ
 orRepeat f first x y = cond (eqb (f x) (f y)) (min x first) first
 
 -- The first n rows, and entries that are their order.
-pub record RowOrder (s x : List ℕ) (n : ℕ) : Type 0 where
-  pub inside : n * rowSize ≤ length s
+pub record RowOrder (d : ℕ) (s x : List ℕ) (n : ℕ) : Type 0 where
+  pub inside : n * rowSizeOf d ≤ length s
   pub entries : 2 * n ≤ length x
-  pub order : u16sAt x 0 n ≡ indexed (recordHash s rowSize) n
+  pub order : u16sAt x 0 n ≡ indexed (recordHash s (rowSizeOf d)) n
 
 -- Whether a table is within its limit and an index fits its whole rows.
 unfoldable pub fitsWithin : List ℕ → List ℕ → Bool

@@ -6,22 +6,23 @@ use borrow.Author.Tests.{not-true, not-false}
 use mathlib.Core.Path.{_≡_, sym, _∙_}
 use native.Mathlib.Omega.{arith}
 use Rattle.table.specs.TableBytes.{firstBad}
-use Rattle.table.specs.Internal.OwnBytes.{rowSound}
+use Rattle.table.specs.Internal.OwnBytes.{rowSoundOf}
 use Rattle.table.proofs.CheckLaws.{testing, test-starts, test-fails, test-on, test-ends}
+use Rattle.table.proofs.RowLaws.{row-within}
 use Rattle.table.proofs.check.first_unsound.Statement.{statement}
 use Rattle.table.proofs.check.first_unsound.Tie as tie
 
 abbrev Inv-loop : tie.InvT-loop
-Inv-loop table n i₀ i = record { upto : i ≤ n; rest : testing (rowSound table) n i ≡ firstBad (rowSound table) 0 n }
+Inv-loop d table n i₀ i = record { upto : i ≤ n; rest : testing (rowSoundOf d table) n i ≡ firstBad (rowSoundOf d table) 0 n }
 
 abbrev μ-loop : tie.MeasureT-loop
-μ-loop table n i₀ i = n - i
+μ-loop d table n i₀ i = n - i
 
 loop-holds : tie.Need-loop-holds Inv-loop μ-loop
 loop-holds c = record { upto = omega arith; rest = test-starts _ _ }
 
 row-sound-requires : tie.Need-row-sound-requires Inv-loop μ-loop
-row-sound-requires c κs = search needs
+row-sound-requires c κs = row-within _ _ _ _ (c .loop-test .taken) (c .before .before .before .pre)
 
 returns : tie.Need-returns Inv-loop μ-loop
 returns c =

@@ -5,26 +5,26 @@ use Rattle.table.proofs.RowLaws.{sum-zeros, u16-small}
 use Rattle.table.proofs.check.four_zeros.Statement.{statement}
 use Rattle.table.proofs.check.four_zeros.Tie as tie
 
-dep-requires : tie.Need-dep-requires
-dep-requires c κs = search needs
+dep-of-requires : tie.Need-dep-of-requires
+dep-of-requires c κs = search needs
 
-add-dep : tie.Need-add-dep
-add-dep c = search needs
+add-dep-of : tie.Need-add-dep-of
+add-dep-of c = search needs
 
-dep-requires-2 : tie.Need-dep-requires-2
-dep-requires-2 c κs = search needs
+dep-of-requires-2 : tie.Need-dep-of-requires-2
+dep-of-requires-2 c κs = search needs
 
 add-result : tie.Need-add-result
 add-result c =
     let a = c .before in
     let bytes = a .before .shared-slice-known .given in
-    omega (arith, u16-small _ _ _ (λ k. bytes k .fits) (a .dep .ensures), u16-small _ _ _ (λ k. bytes k .fits) (c .dep2 .ensures))
+    omega (arith, u16-small _ _ _ (λ k. bytes k .fits) (a .dep-of .ensures), u16-small _ _ _ (λ k. bytes k .fits) (c .dep-of2 .ensures))
 
-add-dep-2 : tie.Need-add-dep-2
-add-dep-2 c = search needs
+add-dep-of-2 : tie.Need-add-dep-of-2
+add-dep-of-2 c = search needs
 
-dep-requires-3 : tie.Need-dep-requires-3
-dep-requires-3 c κs = search needs
+dep-of-requires-3 : tie.Need-dep-of-requires-3
+dep-of-requires-3 c κs = search needs
 
 add-result-2 : tie.Need-add-result-2
 add-result-2 c =
@@ -33,16 +33,16 @@ add-result-2 c =
     let bytes = a .before .shared-slice-known .given in
     omega (
       arith,
-      u16-small _ _ _ (λ k. bytes k .fits) (a .dep .ensures),
-      u16-small _ _ _ (λ k. bytes k .fits) (b .dep2 .ensures),
-      u16-small _ _ _ (λ k. bytes k .fits) (c .dep3 .ensures),
+      u16-small _ _ _ (λ k. bytes k .fits) (a .dep-of .ensures),
+      u16-small _ _ _ (λ k. bytes k .fits) (b .dep-of2 .ensures),
+      u16-small _ _ _ (λ k. bytes k .fits) (c .dep-of3 .ensures),
     )
 
-add-dep-3 : tie.Need-add-dep-3
-add-dep-3 c = search needs
+add-dep-of-3 : tie.Need-add-dep-of-3
+add-dep-of-3 c = search needs
 
-dep-requires-4 : tie.Need-dep-requires-4
-dep-requires-4 c κs = search needs
+dep-of-requires-4 : tie.Need-dep-of-requires-4
+dep-of-requires-4 c κs = search needs
 
 add-result-3 : tie.Need-add-result-3
 add-result-3 c =
@@ -52,30 +52,30 @@ add-result-3 c =
     let bytes = a .before .shared-slice-known .given in
     omega (
       arith,
-      u16-small _ _ _ (λ k. bytes k .fits) (a .dep .ensures),
-      u16-small _ _ _ (λ k. bytes k .fits) (b .dep2 .ensures),
-      u16-small _ _ _ (λ k. bytes k .fits) (d .dep3 .ensures),
-      u16-small _ _ _ (λ k. bytes k .fits) (c .dep4 .ensures),
+      u16-small _ _ _ (λ k. bytes k .fits) (a .dep-of .ensures),
+      u16-small _ _ _ (λ k. bytes k .fits) (b .dep-of2 .ensures),
+      u16-small _ _ _ (λ k. bytes k .fits) (d .dep-of3 .ensures),
+      u16-small _ _ _ (λ k. bytes k .fits) (c .dep-of4 .ensures),
     )
 
 returns : tie.Need-returns
 returns c =
     let d = c .before in
     let b = d .before in
-    sum-zeros _ _ _ _ _ _ _ (b .before .dep .ensures) (b .dep2 .ensures) (d .dep3 .ensures) (c .dep4 .ensures)
+    sum-zeros _ _ _ _ _ _ _ _ (b .before .dep-of .ensures) (b .dep-of2 .ensures) (d .dep-of3 .ensures) (c .dep-of4 .ensures)
 
 pub four-zeros-spec : {M : Type 1} → statement M
 four-zeros-spec =
     tie.close
     (tie.spec
-    dep-requires
-    add-dep
-    dep-requires-2
+    dep-of-requires
+    add-dep-of
+    dep-of-requires-2
     add-result
-    add-dep-2
-    dep-requires-3
+    add-dep-of-2
+    dep-of-requires-3
     add-result-2
-    add-dep-3
-    dep-requires-4
+    add-dep-of-3
+    dep-of-requires-4
     add-result-3
     returns)

@@ -4,36 +4,36 @@ use Prim.Native.Nat.{_-_, _≤_}
 use borrow.Author.Needs.{needs}
 use mathlib.Core.Path.{_≡_, sym, _∙_}
 use native.Mathlib.Omega.{arith}
-use Rattle.table.specs.TableBytes.{usedAt, numbersGood}
+use Rattle.table.specs.TableBytes.{usedOf, numbersGood}
 use Rattle.table.proofs.RowLaws.{climbing, climb-starts, climb-low, climb-high, climb-on, climb-ends}
 use Rattle.table.proofs.check.numbers_good.Statement.{statement}
 use Rattle.table.proofs.check.numbers_good.Tie as tie
 
 abbrev Inv-loop : tie.InvT-loop
-Inv-loop table i count least₀ j₀ least j =
-    record { upto : j ≤ count; rest : climbing table i count least j ≡ numbersGood i (usedAt table i) }
+Inv-loop d table i count least₀ j₀ least j =
+    record { upto : j ≤ count; rest : climbing d table i count least j ≡ numbersGood i (usedOf d table i) }
 
 abbrev μ-loop : tie.MeasureT-loop
-μ-loop table i count least₀ j₀ least j = count - j
+μ-loop d table i count least₀ j₀ least j = count - j
 
-dep-count-requires : tie.Need-dep-count-requires Inv-loop μ-loop
-dep-count-requires c κs = search needs
+count-of-requires : tie.Need-count-of-requires Inv-loop μ-loop
+count-of-requires c κs = search needs
 
 loop-holds : tie.Need-loop-holds Inv-loop μ-loop
-loop-holds c = record { upto = omega arith; rest = climb-starts _ _ _ (c .dep-count .ensures) }
+loop-holds c = record { upto = omega arith; rest = climb-starts _ _ _ _ (c .count-of .ensures) }
 
-dep-requires : tie.Need-dep-requires Inv-loop μ-loop
-dep-requires c κs = search needs
+dep-of-requires : tie.Need-dep-of-requires Inv-loop μ-loop
+dep-of-requires c κs = search needs
 
 returns : tie.Need-returns Inv-loop μ-loop
 returns c =
     let t = c .before in
-    sym (climb-low _ _ _ _ _ _ (t .before .loop-test .taken) (t .dep .ensures) (c .if1 .taken)) ∙ t .before .before .loop .inv .rest
+    sym (climb-low _ _ _ _ _ _ _ (t .before .loop-test .taken) (t .dep-of .ensures) (c .if1 .taken)) ∙ t .before .before .loop .inv .rest
 
 returns-2 : tie.Need-returns-2 Inv-loop μ-loop
 returns-2 c =
     let t = c .before .before in
-    sym (climb-high _ _ _ _ _ _ (t .before .loop-test .taken) (t .dep .ensures) (c .before .if1 .left) (c .if2 .taken))
+    sym (climb-high _ _ _ _ _ _ _ (t .before .loop-test .taken) (t .dep-of .ensures) (c .before .if1 .left) (c .if2 .taken))
     ∙ t .before .before .loop .inv .rest
 
 add-least : tie.Need-add-least Inv-loop μ-loop
@@ -51,12 +51,12 @@ loop-again c =
     record {
       upto = omega (arith, t .before .loop-test .taken);
       rest =
-          sym (climb-on _ _ _ _ _ _ (t .before .loop-test .taken) (t .dep .ensures) (c .before .if1 .left) (c .if2 .left))
+          sym (climb-on _ _ _ _ _ _ _ (t .before .loop-test .taken) (t .dep-of .ensures) (c .before .if1 .left) (c .if2 .left))
           ∙ t .before .before .loop .inv .rest;
     }
 
 returns-3 : tie.Need-returns-3 Inv-loop μ-loop
-returns-3 c = sym (climb-ends _ _ _ _ _ (c .loop-test .left)) ∙ c .before .loop .inv .rest
+returns-3 c = sym (climb-ends _ _ _ _ _ _ (c .loop-test .left)) ∙ c .before .loop .inv .rest
 
 pub numbers-good-spec : {M : Type 1} → statement M
 numbers-good-spec =
@@ -64,9 +64,9 @@ numbers-good-spec =
     (tie.spec
     Inv-loop
     μ-loop
-    dep-count-requires
+    count-of-requires
     loop-holds
-    dep-requires
+    dep-of-requires
     returns
     returns-2
     add-least

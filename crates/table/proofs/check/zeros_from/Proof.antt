@@ -4,27 +4,26 @@ use Prim.Native.Nat.{_-_, _≤_}
 use borrow.Author.Needs.{needs}
 use mathlib.Core.Path.{_≡_, refl, sym, _∙_}
 use native.Mathlib.Omega.{arith}
-use Rattle.rules.specs.Sizes.{sizes}
 use Rattle.table.proofs.RowLaws.{zeroing, zeroing-is, zero-fails, zero-on, zero-ends}
 use Rattle.table.proofs.check.zeros_from.Statement.{statement}
 use Rattle.table.proofs.check.zeros_from.Tie as tie
 
 abbrev Inv-loop : tie.InvT-loop
-Inv-loop table i from j₀ j = record { upto : j ≤ sizes .dependencies; rest : zeroing table i j ≡ zeroing table i from }
+Inv-loop d table i from j₀ j = record { upto : j ≤ d; rest : zeroing d table i j ≡ zeroing d table i from }
 
 abbrev μ-loop : tie.MeasureT-loop
-μ-loop table i from j₀ j = sizes .dependencies - j
+μ-loop d table i from j₀ j = d - j
 
 loop-holds : tie.Need-loop-holds Inv-loop μ-loop
 loop-holds c = record { upto = search needs; rest = refl }
 
-dep-requires : tie.Need-dep-requires Inv-loop μ-loop
-dep-requires c κs = search needs
+dep-of-requires : tie.Need-dep-of-requires Inv-loop μ-loop
+dep-of-requires c κs = search needs
 
 returns : tie.Need-returns Inv-loop μ-loop
 returns c =
     let t = c .before in
-    sym (zero-fails _ _ _ _ (t .before .loop-test .taken) (t .dep .ensures) (c .if1 .taken)) ∙ t .before .before .loop .inv .rest ∙ zeroing-is _ _ _
+    sym (zero-fails _ _ _ _ _ (t .before .loop-test .taken) (t .dep-of .ensures) (c .if1 .taken)) ∙ t .before .before .loop .inv .rest ∙ zeroing-is _ _ _ _
 
 add-j : tie.Need-add-j Inv-loop μ-loop
 add-j c = search needs
@@ -38,11 +37,11 @@ loop-again c =
     record {
       upto = omega (arith, t .before .loop-test .taken);
       rest =
-          sym (zero-on _ _ _ _ (t .before .loop-test .taken) (t .dep .ensures) (c .if1 .left)) ∙ t .before .before .loop .inv .rest;
+          sym (zero-on _ _ _ _ _ (t .before .loop-test .taken) (t .dep-of .ensures) (c .if1 .left)) ∙ t .before .before .loop .inv .rest;
     }
 
 returns-2 : tie.Need-returns-2 Inv-loop μ-loop
-returns-2 c = sym (zero-ends _ _ _ (c .loop-test .left)) ∙ c .before .loop .inv .rest ∙ zeroing-is _ _ _
+returns-2 c = sym (zero-ends _ _ _ _ (c .loop-test .left)) ∙ c .before .loop .inv .rest ∙ zeroing-is _ _ _ _
 
 pub zeros-from-spec : {M : Type 1} → statement M
 zeros-from-spec =
@@ -51,7 +50,7 @@ zeros-from-spec =
     Inv-loop
     μ-loop
     loop-holds
-    dep-requires
+    dep-of-requires
     returns
     add-j
     loop-less

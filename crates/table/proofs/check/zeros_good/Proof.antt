@@ -5,24 +5,22 @@ use borrow.Author.Needs.{needs}
 use mathlib.Core.Path.{_≡_, sym, _∙_}
 use native.Mathlib.Omega.{arith}
 use borrow.Author.Tests.{not-true, not-false}
-use Rattle.rules.specs.Sizes.{sizes}
-use Rattle.table.specs.TableBytes.{zeros}
-use Rattle.table.proofs.Today.{unusedAt}
+use Rattle.table.specs.TableBytes.{unusedOf, zeros}
 use Rattle.table.proofs.RowLaws.{zeroing, zeroing-is, zero-starts, four-fail, four-on}
 use Rattle.table.proofs.check.zeros_good.Statement.{statement}
 use Rattle.table.proofs.check.zeros_good.Tie as tie
 
 abbrev Inv-loop : tie.InvT-loop
-Inv-loop table i j₀ j = record { upto : j ≤ sizes .dependencies; rest : zeroing table i j ≡ zeros (unusedAt table i) }
+Inv-loop d table i j₀ j = record { upto : j ≤ d; rest : zeroing d table i j ≡ zeros (unusedOf d table i) }
 
 abbrev μ-loop : tie.MeasureT-loop
-μ-loop table i j₀ j = sizes .dependencies - j
+μ-loop d table i j₀ j = d - j
 
-dep-count-requires : tie.Need-dep-count-requires Inv-loop μ-loop
-dep-count-requires c κs = search needs
+count-of-requires : tie.Need-count-of-requires Inv-loop μ-loop
+count-of-requires c κs = search needs
 
 loop-holds : tie.Need-loop-holds Inv-loop μ-loop
-loop-holds c = record { upto = search needs; rest = zero-starts _ _ _ (c .dep-count .ensures) }
+loop-holds c = record { upto = search needs; rest = zero-starts _ _ _ _ (c .count-of .ensures) }
 
 add-loop : tie.Need-add-loop Inv-loop μ-loop
 add-loop c = search needs
@@ -33,7 +31,7 @@ four-zeros-requires c κs = search needs
 returns : tie.Need-returns Inv-loop μ-loop
 returns c =
     let t = c .before in
-    sym (four-fail _ _ _ (t .before .loop-test .taken) (sym (t .four-zeros .ensures) ∙ not-true _ (c .if1 .taken))) ∙ t .before .before .loop .inv .rest
+    sym (four-fail _ _ _ _ (t .before .loop-test .taken) (sym (t .four-zeros .ensures) ∙ not-true _ (c .if1 .taken))) ∙ t .before .before .loop .inv .rest
 
 add-j : tie.Need-add-j Inv-loop μ-loop
 add-j c = search needs
@@ -46,14 +44,14 @@ loop-again c =
     let t = c .before in
     record {
       upto = omega (arith, t .before .loop-test .taken);
-      rest = sym (four-on _ _ _ (t .before .loop-test .taken) (sym (t .four-zeros .ensures) ∙ not-false _ (c .if1 .left))) ∙ t .before .before .loop .inv .rest;
+      rest = sym (four-on _ _ _ _ (t .before .loop-test .taken) (sym (t .four-zeros .ensures) ∙ not-false _ (c .if1 .left))) ∙ t .before .before .loop .inv .rest;
     }
 
 zeros-from-requires : tie.Need-zeros-from-requires Inv-loop μ-loop
 zeros-from-requires c κs = search needs
 
 returns-2 : tie.Need-returns-2 Inv-loop μ-loop
-returns-2 c = c .zeros-from .ensures ∙ sym (zeroing-is _ _ _) ∙ c .before .before .loop .inv .rest
+returns-2 c = c .zeros-from .ensures ∙ sym (zeroing-is _ _ _ _) ∙ c .before .before .loop .inv .rest
 
 pub zeros-good-spec : {M : Type 1} → statement M
 zeros-good-spec =
@@ -61,7 +59,7 @@ zeros-good-spec =
     (tie.spec
     Inv-loop
     μ-loop
-    dep-count-requires
+    count-of-requires
     loop-holds
     add-loop
     four-zeros-requires

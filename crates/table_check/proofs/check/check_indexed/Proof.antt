@@ -2,6 +2,7 @@
 -- limit, the table alone does (CheckLaws). Assumes nothing.
 use mathlib.Core.Path.{sym, _∙_}
 use borrow.Author.Tests.{not-true, not-false}
+use Rattle.table.proofs.WidthLaws.{wide-sized}
 use Rattle.table_index.proofs.CheckLaws.{fit-decides}
 use Rattle.table_check.proofs.CheckLaws.{fit-sound, within-both, within-neither}
 use borrow.Author.Needs.{needs}
@@ -26,7 +27,7 @@ answer-requires : tie.Need-answer-requires
 answer-requires c κs =
     let f = c .before in
     let w = within-both _ _ (sym (f .before .fits-within .ensures) ∙ not-false _ (f .if1 .left)) in
-    (w .0, fit-sound _ _ _ (w .1) _ (c .first-unsound .ensures))
+    (wide-sized, w .0, fit-sound _ _ _ (w .1) _ (c .first-unsound .ensures))
 
 returns-2 : tie.Need-returns-2
 returns-2 c =

@@ -10,7 +10,7 @@ first-bad-requires c κs = search needs
 answer-requires : tie.Need-answer-requires
 answer-requires c κs =
     let p = c .before .before .before .pre in
-    (p .0, bad-whole _ _ _ (p .1) (c .first-bad .ensures))
+    (p .0, p .1, bad-whole _ _ _ _ (p .2) (c .first-bad .ensures))
 
 returns : tie.Need-returns
 returns c = search needs

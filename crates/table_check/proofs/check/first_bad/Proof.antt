@@ -13,12 +13,12 @@ first-repeat-requires c κs = search needs
 returns : tie.Need-returns
 returns c =
     let r = c .before in
-    bad-repeat _ _ _ _ (r .before .first-unsound .ensures) (r .first-repeat .ensures) (c .if1 .taken)
+    bad-repeat _ _ _ _ _ (r .before .first-unsound .ensures) (r .first-repeat .ensures) (c .if1 .taken)
 
 returns-2 : tie.Need-returns-2
 returns-2 c =
     let r = c .before in
-    bad-unsound _ _ _ _ (r .before .first-unsound .ensures) (r .first-repeat .ensures) (c .if1 .left)
+    bad-unsound _ _ _ _ _ (r .before .first-unsound .ensures) (r .first-repeat .ensures) (c .if1 .left)
 
 pub first-bad-spec : {M : Type 1} → statement M
 first-bad-spec =

@@ -11,14 +11,14 @@ use Rattle.table_check.proofs.repeat.first_repeat.Statement.{statement}
 use Rattle.table_check.proofs.repeat.first_repeat.Tie as tie
 
 abbrev Inv-loop : tie.InvT-loop
-Inv-loop table order n first₀ k₀ first k =
-    record { upto : k ≤ n; rest : (o : RowOrder table order n) → seeking table order n o first k ≡ firstBad (newHash table) 0 n }
+Inv-loop d table order n first₀ k₀ first k =
+    record { upto : k ≤ n; rest : (o : RowOrder d table order n) → seeking d table order n o first k ≡ firstBad (newHash d table) 0 n }
 
 abbrev μ-loop : tie.MeasureT-loop
-μ-loop table order n first₀ k₀ first k = n - k
+μ-loop d table order n first₀ k₀ first k = n - k
 
 loop-holds : tie.Need-loop-holds Inv-loop μ-loop
-loop-holds c = record { upto = omega arith; rest = λ o. seek-starts _ _ _ o }
+loop-holds c = record { upto = omega arith; rest = λ o. seek-starts _ _ _ _ o }
 
 add-loop : tie.Need-add-loop Inv-loop μ-loop
 add-loop c = search needs
@@ -37,13 +37,13 @@ loop-again c =
     let l = c .before in
     record {
       upto = omega (arith, l .loop-test .taken);
-      rest = λ o. sym (seek-on _ _ _ o _ _ _ (l .loop-test .taken) (c .or-repeat .ensures)) ∙ l .before .loop .inv .rest o;
+      rest = λ o. sym (seek-on _ _ _ _ o _ _ _ (l .loop-test .taken) (c .or-repeat .ensures)) ∙ l .before .loop .inv .rest o;
     }
 
 returns : tie.Need-returns Inv-loop μ-loop
 returns c =
     let o = c .before .before .before .before .pre in
-    sym (seek-ends _ _ _ o _ _ (c .loop-test .left)) ∙ c .before .loop .inv .rest o
+    sym (seek-ends _ _ _ _ o _ _ (c .loop-test .left)) ∙ c .before .loop .inv .rest o
 
 pub first-repeat-spec : {M : Type 1} → statement M
 first-repeat-spec =

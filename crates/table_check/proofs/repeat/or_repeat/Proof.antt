@@ -1,14 +1,10 @@
 -- `table_check::repeat::or_repeat` meets its contract: one law of RepeatLaws for each way to end. Assumes nothing.
-use Prim.Native.Nat.{_+_, _*_, _≤_}
+use Prim.Native.Nat.{_<_}
 use mathlib.Core.Path.{sym, _∙_}
 use native.Mathlib.Omega.{arith}
 use borrow.Author.Tests.{not-true, not-false}
-use denote.Ref.{now}
-use lib.ListN.{length}
-use Rattle.rules.specs.Sizes.{sizes}
-use Rattle.table.specs.TableBytes.{rowSize}
-use Rattle.table_index.proofs.HalveLaws.{record-inside}
-use Rattle.table_check.proofs.RepeatLaws.{or-other, or-lesser, or-first, entry-row}
+use Rattle.table.proofs.RowLaws.{row-within}
+use Rattle.table_check.proofs.RepeatLaws.{or-other, or-lesser, or-first, entry-row, same-rows, start-stands}
 use borrow.Author.Needs.{needs}
 use Rattle.table_check.proofs.repeat.or_repeat.Statement.{statement}
 use Rattle.table_check.proofs.repeat.or_repeat.Tie as tie
@@ -28,44 +24,55 @@ mul-u16-at-2 c = search needs
 u16-at-requires-2 : tie.Need-u16-at-requires-2
 u16-at-requires-2 c κs = search needs
 
--- both rows' hashes stand inside
-row-stands : (c : tie.After-u16-at)
-    → let start = c .before .before .before in
-    c .u16-at .result * rowSize + sizes .hash ≤ length (now (start .args .table))
-row-stands c =
+-- both entries name rows
+row-named : (c : tie.After-u16-at) → c .u16-at .result < c .before .before .before .args .n
+row-named c =
     let p = c .before .before .before .pre in
-    record-inside _ _ _ _ (entry-row _ _ _ (p .0) _ _ (omega (arith, p .1)) (c .u16-at .ensures)) (p .0 .inside) (omega arith)
+    entry-row _ _ _ _ (p .0) _ _ (omega (arith, p .1)) (c .u16-at .ensures)
 
-next-stands : (c : tie.After-u16-at2)
-    → let start = c .before .before .before .before in
-    c .u16-at2 .result * rowSize + sizes .hash ≤ length (now (start .args .table))
-next-stands c =
+next-named : (c : tie.After-u16-at2) → c .u16-at2 .result < c .before .before .before .before .args .n
+next-named c =
     let p = c .before .before .before .before .pre in
-    record-inside _ _ _ _ (entry-row _ _ _ (p .0) _ _ (p .1) (c .u16-at2 .ensures)) (p .0 .inside) (omega arith)
+    entry-row _ _ _ _ (p .0) _ _ (p .1) (c .u16-at2 .ensures)
 
-mul-same-hash : tie.Need-mul-same-hash
-mul-same-hash c = omega (arith, row-stands (c .before))
+row-place-requires : tie.Need-row-place-requires
+row-place-requires c κs =
+    let p = c .before .before .before .before .pre in
+    omega (arith, row-within _ _ _ _ (row-named (c .before)) (p .0 .inside))
 
-mul-same-hash-2 : tie.Need-mul-same-hash-2
-mul-same-hash-2 c = omega (arith, next-stands c)
+row-place-requires-2 : tie.Need-row-place-requires-2
+row-place-requires-2 c κs =
+    let p = c .before .before .before .before .before .pre in
+    omega (arith, row-within _ _ _ _ (next-named (c .before)) (p .0 .inside))
 
 same-hash-requires : tie.Need-same-hash-requires
-same-hash-requires c κs = (row-stands (c .before), next-stands c)
+same-hash-requires c κs =
+    let u = c .before .before in
+    let p = u .before .before .before .before .pre in (
+      start-stands _ _ _ _ _ (row-named (u .before)) (p .0 .inside) (c .before .row-place .ensures),
+      start-stands _ _ _ _ _ (next-named u) (p .0 .inside) (c .row-place2 .ensures),
+    )
 
 returns : tie.Need-returns
 returns c =
     let h = c .before in
-    or-other _ _ _ _ _ _ (h .before .before .u16-at .ensures) (h .before .u16-at2 .ensures) (sym (h .same-hash .ensures) ∙ not-true _ (c .if1 .taken))
+    let u = h .before .before .before in
+    let same = same-rows _ _ _ _ _ _ _ (h .before .before .row-place .ensures) (h .before .row-place2 .ensures) (h .same-hash .ensures) in
+    or-other _ _ _ _ _ _ (u .before .u16-at .ensures) (u .u16-at2 .ensures) (sym same ∙ not-true _ (c .if1 .taken))
 
 returns-2 : tie.Need-returns-2
 returns-2 c =
     let h = c .before .before in
-    or-lesser _ _ _ _ _ _ (h .before .before .u16-at .ensures) (h .before .u16-at2 .ensures) (sym (h .same-hash .ensures) ∙ not-false _ (c .before .if1 .left)) (c .if2 .taken)
+    let u = h .before .before .before in
+    let same = same-rows _ _ _ _ _ _ _ (h .before .before .row-place .ensures) (h .before .row-place2 .ensures) (h .same-hash .ensures) in
+    or-lesser _ _ _ _ _ _ (u .before .u16-at .ensures) (u .u16-at2 .ensures) (sym same ∙ not-false _ (c .before .if1 .left)) (c .if2 .taken)
 
 returns-3 : tie.Need-returns-3
 returns-3 c =
     let h = c .before .before in
-    or-first _ _ _ _ _ _ (h .before .before .u16-at .ensures) (h .before .u16-at2 .ensures) (sym (h .same-hash .ensures) ∙ not-false _ (c .before .if1 .left)) (c .if2 .left)
+    let u = h .before .before .before in
+    let same = same-rows _ _ _ _ _ _ _ (h .before .before .row-place .ensures) (h .before .row-place2 .ensures) (h .same-hash .ensures) in
+    or-first _ _ _ _ _ _ (u .before .u16-at .ensures) (u .u16-at2 .ensures) (sym same ∙ not-false _ (c .before .if1 .left)) (c .if2 .left)
 
 pub or-repeat-spec : {M : Type 1} → statement M
 or-repeat-spec =
@@ -76,8 +83,8 @@ or-repeat-spec =
     add-u16-at
     mul-u16-at-2
     u16-at-requires-2
-    mul-same-hash
-    mul-same-hash-2
+    row-place-requires
+    row-place-requires-2
     same-hash-requires
     returns
     returns-2

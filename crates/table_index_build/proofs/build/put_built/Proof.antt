@@ -1,6 +1,7 @@
 -- `table_index_build::build::put_built` meets its contract: the check's refusal, or the entries, which are the table's index. Assumes nothing.
 use mathlib.Core.Path.{sym, _∙_}
 use Rattle.rules.proofs.Outputs.{refused}
+use Rattle.table.proofs.WidthLaws.{wide-sized}
 use Rattle.table_index_build.proofs.BuildLaws.{built-refused, built-written, index-order}
 use borrow.Author.Needs.{needs}
 use Rattle.table_index_build.proofs.build.put_built.Statement.{statement}
@@ -9,7 +10,7 @@ use Rattle.table_index_build.proofs.build.put_built.Tie as tie
 check-ordered-requires : tie.Need-check-ordered-requires
 check-ordered-requires c κs =
     let p = c .before .before .before .pre in
-    (p .0, p .1, index-order _ _ _ (p .1) (p .2) (p .3))
+    (wide-sized, p .0, p .1, index-order _ _ _ (p .1) (p .2) (p .3))
 
 enum-known-r : tie.Need-enum-known-r
 enum-known-r c = search needs

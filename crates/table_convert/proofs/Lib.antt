@@ -1,0 +1,3 @@
+pub mod ConvertLaws
+pub mod Promises
+pub mod PutLaws
