@@ -26,5 +26,5 @@ abbrev pub checkedAs : Width → List ℕ → Checked
 checkedAs w s = tableCheckedOf (w .dependencies) (w .rows) s
 
 -- Bytes within a width's limit.
-abbrev pub Within : Width → List ℕ → Type 0
-Within w s = length s ≤ w .rows * rowSizeOf (w .dependencies)
+abbrev pub WithinRows : Width → List ℕ → Type 0
+WithinRows w s = length s ≤ w .rows * rowSizeOf (w .dependencies)

@@ -23,7 +23,7 @@ use Rattle.table.specs.Internal.OwnBytes.{rowSoundOf}
 use Rattle.table.specs.TableBytes.{u16sAt, rowSizeOf, rowGoodOf, rowSize, rowsAt, firstBad, tableChecked}
 use Rattle.table.specs.TableCalls.{passedOn}
 use Rattle.table.specs.Table.{rows, hashOf}
-use Rattle.table.specs.Widths.{Sized, Within, checkedAs}
+use Rattle.table.specs.Widths.{Sized, WithinRows, checkedAs}
 use Rattle.table.specs.declared.width.Width.{Width}
 use Rattle.table.specs.declared.check.Checked.the-variants.{Good, Refused}
 use Rattle.table_index.proofs.CheckLaws.{unfit-decides}
@@ -108,7 +108,7 @@ module _ (w : Width) (s : List ℕ) (size : ℕ) (is : size ≡ rowSizeOf (w .de
   pub past-limit : w .rows * size < length s → Refused (PastSize 0) ≡ checkedAs w s
   past-limit h = sym (table-past-of (w .dependencies) (w .rows) s (rw is at h))
 
-  module _ (few : Within w s) (bad : ℕ) (e : bad ≡ firstBad (rowGoodOf (w .dependencies) s) 0 (length s / rowSizeOf (w .dependencies))) where
+  module _ (few : WithinRows w s) (bad : ℕ) (e : bad ≡ firstBad (rowGoodOf (w .dependencies) s) 0 (length s / rowSizeOf (w .dependencies))) where
     pub answer-bad : bad < length s / size → Refused (BadRow bad) ≡ checkedAs w s
     answer-bad h = sym (table-bad-of (w .dependencies) (w .rows) s few bad e (rw is at h))
 

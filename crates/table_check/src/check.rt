@@ -19,14 +19,14 @@ ghost use Rattle.rules.specs.Sizes.{sizes};
 ghost use Rattle.rules.specs.declared.refusal.Refusal.the-variants.{BadIndex};
 ghost use Rattle.table.specs.TableBytes.{rowSizeOf, rowGoodOf, firstBad, tableChecked};
 ghost use Rattle.table.specs.TableCalls.{passedOn};
-ghost use Rattle.table.specs.Widths.{Sized, Within, checkedAs};
+ghost use Rattle.table.specs.Widths.{Sized, WithinRows, checkedAs};
 ghost use Rattle.table.specs.declared.check.Checked.the-variants.{Refused};
 ghost use Rattle.table_index.specs.Index.{indexChecked};
 ghost use Rattle.table_check.specs.Internal.Repeats.{RowOrder, fitsWithin};
 
 // What is answered of a table within its limit, by the first of its whole rows that isn't good. A partial row at its end is a bad one.
 fn answer(width: Width, table: &[u8], bad: usize) -> Checked
-    requires { ⌜ Sized width × Within width (now table)
+    requires { ⌜ Sized width × WithinRows width (now table)
         × (bad ≡ firstBad (rowGoodOf (width .dependencies) (now table)) 0 (length (now table) / rowSizeOf (width .dependencies))) ⌝ }
     ensures { λ r. ⌜ r ≡ checkedAs width (now (table .entry)) ⌝ }
 {
@@ -56,7 +56,7 @@ fn first_bad(d: usize, table: &[u8], order: &[u8], n: usize) -> usize
 
 // The check of a table within its limit, by the order of its n whole rows.
 pub fn check_ordered(width: Width, table: &[u8], order: &[u8], n: usize) -> Checked
-    requires { ⌜ Sized width × Within width (now table) × (n ≡ length (now table) / rowSizeOf (width .dependencies))
+    requires { ⌜ Sized width × WithinRows width (now table) × (n ≡ length (now table) / rowSizeOf (width .dependencies))
         × RowOrder (width .dependencies) (now table) (now order) n ⌝ }
     ensures { λ r. ⌜ r ≡ checkedAs width (now (table .entry)) ⌝ }
 {

@@ -53,6 +53,7 @@ narrowed s = converted wideRows narrowRows s
 
 -- ---- what is shown of it, over any two widths
 
+-- A table that one width is converted from and the other to.
 pub record Converts (from to : Width) : Type 0 where
   -- the same values
   pub values : (s r : List ℕ) → Bytes s → converted from to s ≡ Output.bytes r → wholeRowsOf (to .dependencies) r ≡ wholeRowsOf (from .dependencies) s
