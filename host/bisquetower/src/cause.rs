@@ -57,6 +57,8 @@ pub(crate) enum Rule {
     FieldSize { bytes: u64, asked: u64 },
     /// A row keeps to what rows are.
     Row { table: Rows, row: usize, rule: Row },
+    /// A row of before has room for `most` dependencies, and this one has `count`.
+    TooWide { row: usize, count: u64, most: u64 },
     /// The sent hashes of a session ascend: the one at an index doesn't.
     SentOrder(usize),
     /// A list that a step makes, by the name of its items, has at most `most`.
@@ -156,6 +158,13 @@ impl fmt::Display for Cause {
                 write!(f, "{has}; its entries and bits ask for {asked}")
             }
             Rule::Row { table, row, rule } => write!(f, "row {} of the {table} {rule}", shown(row)),
+            Rule::TooWide { row, count, most } => {
+                let (row, count, most) = (shown(row), grouped(count), grouped(most));
+                write!(
+                    f,
+                    "row {row} has {count} dependencies; a row of before has room for {most}"
+                )
+            }
             Rule::SentOrder(k) => {
                 let above = "isn't above the one before it; sent hashes ascend";
                 write!(f, "the sent hash at index {} {above}", shown(k))

@@ -20,6 +20,18 @@ pub const ROW_SIZE: usize = HASH_SIZE + 2 * (1 + DEPENDENCIES);
 /// Bytes of a waiting row: its hash, as many for its count, and its dependencies' hashes.
 pub const WAITING_ROW_SIZE: usize = HASH_SIZE * (2 + DEPENDENCIES);
 
+/// Dependencies that a change row of before had room for.
+pub const OLD_DEPENDENCIES: usize = 15;
+
+/// Rows of a change table of before.
+pub const OLD_ROWS: usize = 1_024;
+
+/// Bytes of a change row of before.
+pub const OLD_ROW_SIZE: usize = HASH_SIZE + 2 * (1 + OLD_DEPENDENCIES);
+
+/// Bytes of a waiting row of before.
+pub const OLD_WAITING_ROW_SIZE: usize = HASH_SIZE * (2 + OLD_DEPENDENCIES);
+
 /// Bytes of a change table.
 pub const TABLE_SIZE: usize = ROWS * ROW_SIZE;
 

@@ -5,6 +5,7 @@ use crate::limits::DEPENDENCIES;
 use crate::table::Rows;
 use crate::{Host, Waiting};
 use std::borrow::Cow;
+use std::collections::HashSet;
 use std::fmt;
 
 /// The first byte of a change's record and of a saved document.
@@ -85,9 +86,9 @@ impl Memory {
     }
 
     fn take(&mut self, changes: Vec<Change>) {
+        let mut waits: HashSet<ChangeHash> = self.waiting.iter().map(|one| one.hash).collect();
         for change in changes {
-            let waits = self.waiting.iter().any(|one| one.hash == change.hash);
-            if !waits && self.rows.find(&change.hash).is_none() {
+            if self.rows.find(&change.hash).is_none() && waits.insert(change.hash) {
                 self.waiting.push(change);
             }
         }

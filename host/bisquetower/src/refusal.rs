@@ -8,7 +8,7 @@ use std::fmt;
 /// them.
 #[derive(Clone, Copy, Debug)]
 pub struct Refusal {
-    /// 1 to 12.
+    /// 1 to 13.
     pub number: u64,
     /// A place, a row, a byte, a length or 0, by the number.
     pub value: u64,
@@ -106,6 +106,7 @@ impl Refusal {
             10 => "the session is bad, or a filter passed as numbers is".to_string(),
             11 => "more rows before loading are named than there are rows".to_string(),
             12 => "the index doesn't fit the change table".to_string(),
+            13 => format!("row {value} has more dependencies than a row of before has room for"),
             number => format!("no refusal has the number {number} (its value: {value})"),
         }
     }
@@ -158,7 +159,7 @@ mod tests {
     /// Refusals 8 and 10 to 12 have the value 0 always, so theirs don't show it.
     #[test]
     fn each_sentence_is_its_own_and_shows_its_value() {
-        let sentences: Vec<String> = (1..=12).map(|number| sentence(number, 66)).collect();
+        let sentences: Vec<String> = (1..=13).map(|number| sentence(number, 66)).collect();
         for (k, one) in sentences.iter().enumerate() {
             let number = k + 1;
             let shown = if number == 2 { "42" } else { "66" };
@@ -170,8 +171,8 @@ mod tests {
             assert!(!sentences[..k].contains(one), "{one}");
         }
         assert_eq!(
-            sentence(13, 0),
-            "no refusal has the number 13 (its value: 0)"
+            sentence(14, 0),
+            "no refusal has the number 14 (its value: 0)"
         );
     }
 }

@@ -2,7 +2,9 @@
 
 use crate::hash::{bytes_of, hashes_in, ChangeHash, HASH};
 use crate::index::Index;
-use crate::limits::{DEPENDENCIES, ROW_SIZE, WAITING_ROW_SIZE};
+use crate::limits::{
+    DEPENDENCIES, OLD_DEPENDENCIES, OLD_ROW_SIZE, OLD_WAITING_ROW_SIZE, ROW_SIZE, WAITING_ROW_SIZE,
+};
 use crate::refusal::{answer, Refusal};
 use crate::{explain, raw, room};
 use std::collections::HashMap;
@@ -65,6 +67,35 @@ impl Table {
             rows.push(hash, dependencies.as_ref());
         }
         rows.bytes
+    }
+
+    /// The table of records as they were before rows had room for more than
+    /// [`OLD_DEPENDENCIES`] dependencies, if it is good by the rules of then.
+    ///
+    /// ```
+    /// use bisquetower::limits::OLD_ROW_SIZE;
+    /// use bisquetower::{ChangeHash, Table};
+    ///
+    /// let [a, b] = [b'a', b'b'].map(|name| ChangeHash([name; 32]));
+    /// let table = Table::from_changes([(a, vec![]), (b, vec![a])])?;
+    /// let old = table.to_old()?;
+    /// assert_eq!(old.len(), 2 * OLD_ROW_SIZE);
+    /// assert_eq!(Table::from_old(&old)?, table);
+    /// # Ok::<(), bisquetower::Refusal>(())
+    /// ```
+    pub fn from_old(records: &[u8]) -> Result<Table, Refusal> {
+        let room = records.len() / OLD_ROW_SIZE * Table::ROW;
+        let wide = room::written(room, |out| raw::widen_rows(records, out));
+        let wide = wide.map_err(|refusal| explain::old_table(records, refusal))?;
+        Table::new(wide)
+    }
+
+    /// Its records as they were before: refusal 4 for more rows than a table had then, 13
+    /// for a row with more dependencies.
+    pub fn to_old(&self) -> Result<Vec<u8>, Refusal> {
+        let room = self.rows() * OLD_ROW_SIZE;
+        let old = room::written(room, |out| raw::narrow_rows(&self.bytes, out));
+        old.map_err(|refusal| explain::narrowed(self, refusal))
     }
 
     /// Adds a change behind the others, if the table is good with it; if not, it stays as
@@ -198,6 +229,31 @@ impl Waiting {
         Ok(Waiting(bytes))
     }
 
+    /// The table of records as they were before rows had room for more than
+    /// [`OLD_DEPENDENCIES`] hashes, if it is good by the rules of then. A row of then is the
+    /// beginning of a row of now.
+    pub fn from_old(records: &[u8], table: &Table) -> Result<Waiting, Refusal> {
+        let mut bytes = Vec::new();
+        let mut wide = None;
+        for (row, own) in records.chunks(OLD_WAITING_ROW_SIZE).enumerate() {
+            bytes.extend(own);
+            if own.len() == OLD_WAITING_ROW_SIZE {
+                bytes.resize((row + 1) * Waiting::ROW, 0);
+                let many = usize::from(own[HASH]) > OLD_DEPENDENCIES;
+                wide = wide.or(many.then_some(Refusal::new(BAD_WAITING, row as u64)));
+            }
+        }
+        match (Waiting::new(bytes, table), wide) {
+            (Err(refusal), Some(wide))
+                if refusal.number != BAD_WAITING || refusal.value < wide.value =>
+            {
+                Err(refusal)
+            }
+            (_, Some(wide)) => Err(wide),
+            (result, None) => result,
+        }
+    }
+
     /// The table of changes and their dependencies beside a change table, if it is
     /// good: none stands twice or in the change table.
     pub fn from_changes<D: AsRef<[ChangeHash]>>(
@@ -243,6 +299,9 @@ impl Waiting {
         hash
     }
 }
+
+/// The refusal of a waiting table, with its first bad row.
+const BAD_WAITING: u64 = 9;
 
 /// The hash of a row and what stands behind it, in records of `size` bytes.
 #[track_caller]

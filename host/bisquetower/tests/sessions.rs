@@ -2,10 +2,11 @@
 
 mod units;
 
+use bisquetower::limits::{DEPENDENCIES, WAITING_ROWS};
 use bisquetower::{
-    Change, ChangeHash, Host, Memory, MemoryError, Message, MessageVersion, Session,
+    Change, ChangeHash, Error, Host, Memory, MemoryError, Message, MessageVersion, Session,
 };
-use units::{chain, change, hash, say, talk, unit};
+use units::{chain, change, hash, say, talk, unit, Unit};
 
 #[test]
 fn both_hold_what_one_of_them_held() {
@@ -142,7 +143,7 @@ fn memory_refuses_what_it_cant_keep() {
     );
     assert_eq!(memory.change(&hash(2)), Err(MemoryError::Unknown(hash(2))));
     let many = Change {
-        dependencies: (100..116).map(hash).collect(),
+        dependencies: (100..).take(DEPENDENCIES + 1).map(hash).collect(),
         ..change(50)
     };
     assert_eq!(
@@ -170,4 +171,72 @@ fn memory_makes_good_tables() {
     assert_eq!(memory.waiting_changes(), [change(9)]);
     let said = Session::new().generate(&memory).unwrap();
     assert_eq!(said.unwrap().heads, [hash(2)]);
+}
+
+/// The winter tariff (M-106): forty zones change, and one change merges them, again and
+/// again.
+fn winter(changes: u32) -> Memory {
+    let mut memory = Memory::new();
+    for n in 0..changes {
+        let on = match n % 41 {
+            0 => n.saturating_sub(40)..n,
+            k => n - k..n - k + 1,
+        };
+        let merge = Change {
+            dependencies: on.map(hash).collect(),
+            ..change(n)
+        };
+        memory.add(merge).unwrap();
+    }
+    memory
+}
+
+#[test]
+fn the_winter_tariff() {
+    for lacking in [300, 3_000, 6_000] {
+        let (mut station, mut validator) = (unit(winter(6_000)), unit(winter(6_000 - lacking)));
+        talk(&mut validator, &mut station);
+        let held = |unit: &Unit| {
+            let changes = unit.host.changes().iter();
+            let mut hashes: Vec<ChangeHash> = changes.map(|change| change.hash).collect();
+            hashes.sort();
+            hashes
+        };
+        assert_eq!(held(&validator), held(&station));
+        assert_eq!(validator.host.waiting_changes(), []);
+    }
+}
+
+/// As many changes wait as may, and a unit that would hold one more stops with refusal 4,
+/// whichever end it is, until what they wait for comes.
+#[test]
+fn more_changes_wait_than_may() {
+    let most = u32::try_from(WAITING_ROWS).unwrap();
+    let early = |n: u32| Change {
+        dependencies: vec![hash(0)],
+        ..change(n)
+    };
+    let mut validator = unit(Memory::new());
+    for n in 1..=most {
+        validator.host.add(early(n)).unwrap();
+    }
+    let first = validator.session.generate(&validator.host).unwrap();
+    assert!(first.is_some());
+    validator.host.add(early(most + 1)).unwrap();
+    let refused = |unit: &mut Unit| {
+        let before = unit.session.clone();
+        let error = unit.session.next_message(&unit.host).unwrap_err();
+        let Error::Refused(refusal) = error else {
+            panic!("{error}");
+        };
+        assert_eq!((refusal.number, refusal.value), (4, 0));
+        assert_eq!(unit.session, before);
+    };
+    refused(&mut validator);
+    let mut station = unit(validator.host.clone());
+    refused(&mut station);
+    validator.host.add(change(0)).unwrap();
+    assert_eq!(validator.host.changes().len(), WAITING_ROWS + 2);
+    let second = validator.session.generate(&validator.host).unwrap();
+    assert!(second.is_some());
 }

@@ -1,7 +1,8 @@
 //! Filters, messages, saved states and tables as values, at their bounds.
 
 use bisquetower::limits::{
-    DEPENDENCIES, FIELD_SIZE, HASHES, HASH_SIZE, MESSAGE_SIZE, PROBES, ROWS,
+    DEPENDENCIES, FIELD_SIZE, HASHES, HASH_SIZE, MESSAGE_SIZE, OLD_DEPENDENCIES, OLD_ROWS,
+    OLD_ROW_SIZE, OLD_WAITING_ROW_SIZE, PROBES, ROWS,
 };
 use bisquetower::{
     hashes_to_send, ChangeHash, Filter, Have, Memory, Message, MessageFlags, MessageVersion,
@@ -272,4 +273,73 @@ fn without_a_have_needs_alone_are_sent() {
     let need = [hash(1), hash(7), hash(1)];
     let sent = hashes_to_send(&table, &[], &need).unwrap();
     assert_eq!(sent, [hash(1), hash(1)]);
+}
+
+/// Each row on the `most` rows before it.
+fn full_table(rows: usize, most: usize) -> Table {
+    let on = |row: usize| (row.saturating_sub(most)..row).map(hash);
+    Table::from_changes((0..rows).map(|row| (hash(row), on(row).collect::<Vec<_>>()))).unwrap()
+}
+
+#[test]
+fn rows_of_before() {
+    for rows in [0, 1, 40, OLD_ROWS] {
+        let table = full_table(rows, OLD_DEPENDENCIES);
+        let old = table.to_old().unwrap();
+        assert_eq!(old.len(), rows * OLD_ROW_SIZE);
+        let again = Table::from_old(&old).unwrap();
+        assert_eq!(again, table);
+        assert_eq!(again.heads(), table.heads());
+    }
+    let old = full_table(40, OLD_DEPENDENCIES).to_old().unwrap();
+    let cut = Table::from_old(&old[..OLD_ROW_SIZE * 2 + 1]).unwrap_err();
+    assert_eq!(cut, refusal(6, 2));
+    let told = "row 2 of the change table is cut: it has 1 of 64 bytes";
+    assert_eq!(cut.cause().unwrap().to_string(), told);
+    let mut bad = old.clone();
+    bad[OLD_ROW_SIZE * 3 + 34] = 3;
+    let bad = Table::from_old(&bad).unwrap_err();
+    assert_eq!(bad, refusal(6, 3));
+    assert_eq!(bad.cause().unwrap().place(), Some(226..228));
+}
+
+#[test]
+fn what_rows_of_before_have_no_room_for() {
+    let wide = full_table(40, OLD_DEPENDENCIES + 1).to_old().unwrap_err();
+    assert_eq!(wide, refusal(13, OLD_DEPENDENCIES as u64 + 1));
+    let told = "row 16 has 16 dependencies; a row of before has room for 15";
+    assert_eq!(wide.cause().unwrap().to_string(), told);
+    let many = full_table(OLD_ROWS + 1, DEPENDENCIES).to_old().unwrap_err();
+    assert_eq!(many, refusal(4, 0));
+    let long = vec![0; OLD_ROW_SIZE * OLD_ROWS + 1];
+    assert_eq!(Table::from_old(&long).unwrap_err(), refusal(4, 0));
+}
+
+/// A waiting row of before, on some hashes, said to be on `count`.
+fn old_waiting(n: usize, on: &[ChangeHash], count: usize) -> Vec<u8> {
+    let mut row = hash(n).0.to_vec();
+    row.push(count as u8);
+    row.resize(64, 0);
+    row.extend(on.iter().flat_map(|hash| hash.0));
+    row.resize(OLD_WAITING_ROW_SIZE, 0);
+    row
+}
+
+#[test]
+fn waiting_rows_of_before() {
+    let none = Table::default();
+    let on = hashes(OLD_DEPENDENCIES);
+    let rows = [(100, &on[..0]), (101, &on[..1]), (102, &on[..])];
+    let old = rows.map(|(n, on)| old_waiting(n, on, on.len())).concat();
+    let waiting = Waiting::from_changes(rows.map(|(n, on)| (hash(n), on)), &none);
+    let waiting = waiting.unwrap();
+    assert_eq!(Waiting::from_old(&old, &none), Ok(waiting));
+    let cut = Waiting::from_old(&old[..old.len() - 1], &none);
+    assert_eq!(cut, Err(refusal(9, 2)));
+    // A count that rows of now may have.
+    let wide = old_waiting(103, &on, OLD_DEPENDENCIES + 1);
+    let bad = [&old[..], &wide, &old[..1]].concat();
+    assert_eq!(Waiting::from_old(&bad, &none), Err(refusal(9, 3)));
+    let twice = [&old[..], &old, &wide].concat();
+    assert_eq!(Waiting::from_old(&twice, &none), Err(refusal(9, 3)));
 }

@@ -2,7 +2,7 @@
 
 use crate::failure::Failure;
 use crate::sample::{LACKING, ROWS};
-use bisquetower::limits::DEPENDENCIES;
+use bisquetower::limits::{DEPENDENCIES, OLD_DEPENDENCIES, OLD_ROWS, OLD_ROW_SIZE};
 use bisquetower::refusal::grouped;
 use bisquetower::Table;
 use std::ffi::OsString;
@@ -13,6 +13,7 @@ bisquetower: messages, tables and catch-ups, through the proved sync library
   inspect FILE                what a message, saved state, filter or table holds
   table FILE                  rows, heads, widest, deepest, first bad row
   catch-up STATION VALIDATOR  two units talk until both hold the same rows
+  convert IN OUT              a table in rows of before, in rows of now; or back
   sample DIR                  tables and captures to try it on
   compare                     the library beside the crate's own code
 
@@ -84,6 +85,26 @@ Exit status: 1 if the tables contradict each other, or an end doesn't hold the
 rows of both in the end.
 ";
 
+fn convert() -> String {
+    let (now, before) = (grouped(Table::ROW as u64), grouped(OLD_ROW_SIZE as u64));
+    let (rows, most) = (grouped(OLD_ROWS as u64), grouped(OLD_DEPENDENCIES as u64));
+    format!(
+        "\
+bisquetower convert IN OUT [--to-old] [--force]
+
+Reads a change table with rows of {before} bytes, as they were before, and writes the
+same rows with {now} bytes each. Nothing but their width changes: there and back
+is the same bytes, and the same index fits.
+
+  --to-old    the other way, for a unit of before: it can't have more than
+              {rows} rows, nor one that depends on more than {most}
+  --force     write over OUT
+
+The other commands read rows of before as they are.
+"
+    )
+}
+
 fn sample() -> String {
     let rows = grouped(ROWS as u64);
     format!(
@@ -121,6 +142,7 @@ pub fn run(words: &[OsString]) -> Result<String, Failure> {
         Some("inspect") => INSPECT.to_string(),
         Some("table") => table(),
         Some("catch-up") => CATCH_UP.to_string(),
+        Some("convert") => convert(),
         Some("sample") => sample(),
         Some("compare") => COMPARE.to_string(),
         Some(other) => return Err(Failure::usage(format!("there is no command {other}"), "")),

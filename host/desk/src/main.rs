@@ -4,12 +4,14 @@
 mod args;
 mod catch_up;
 mod comparison;
+mod convert;
 mod failure;
 mod files;
 mod help;
 mod hex;
 mod inspect;
 mod paint;
+mod rows;
 mod sample;
 mod table;
 mod text;
@@ -58,6 +60,7 @@ fn run(words: &[OsString]) -> Result<String, Failure> {
         "inspect" => inspect::run,
         "table" => table::run,
         "catch-up" => catch_up::run,
+        "convert" => convert::run,
         "sample" => sample::run,
         "compare" => comparison::run,
         "help" | "--help" | "-h" => help::run,

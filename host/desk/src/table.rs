@@ -5,6 +5,7 @@ use crate::failure::Failure;
 use crate::files;
 use crate::inspect;
 use crate::paint::Paint;
+use crate::rows::Rows;
 use crate::text::{count, hashes, number, Columns};
 use bisquetower::{Refusal, Table};
 use std::ffi::{OsStr, OsString};
@@ -21,11 +22,12 @@ pub fn run(words: &[OsString]) -> Result<String, Failure> {
     let bytes = files::read(&file)?;
     let (name, full) = (file.display(), args.has("--full"));
     let paint = Paint::of_output();
-    match Table::new(&bytes[..]) {
+    let rows = Rows::of(&bytes);
+    match rows.table(&bytes) {
         Ok(table) => {
             let shown = shown(&table, "none", full);
             let good = paint.good("a good change table");
-            Ok(format!("{name}: {good}\n{shown}"))
+            Ok(format!("{name}: {good}{}\n{shown}", rows.told()))
         }
         // The rows before the first bad one are a table.
         Err(
@@ -33,20 +35,22 @@ pub fn run(words: &[OsString]) -> Result<String, Failure> {
                 number: 6, value, ..
             },
         ) => {
-            let before = Table::new(&bytes[..Table::ROW * value as usize]);
+            let before = rows.table(&bytes[..rows.size() * value as usize]);
             let before = before.expect("rows before the first bad one are good");
             let bad = paint.bad("a bad change table; of its rows before the first bad one");
             let shown = shown(&before, &number(value as usize), full);
-            Err(refused(&file, &bytes, refusal).showing(format!("{name}: {bad}\n{shown}")))
+            let shown = format!("{name}: {bad}{}\n{shown}", rows.told());
+            Err(refused(&file, &bytes, refusal).showing(shown))
         }
         Err(refusal) => Err(refused(&file, &bytes, refusal)),
     }
 }
 
-/// A table's file that has to be good.
+/// A table's file that has to be good, in rows of now or of before.
 pub fn read(file: &OsStr) -> Result<Table, Failure> {
     let bytes = files::read(file)?;
-    Table::new(bytes.clone()).map_err(|refusal| refused(file, &bytes, refusal))
+    let table = Rows::of(&bytes).table(&bytes);
+    table.map_err(|refusal| refused(file, &bytes, refusal))
 }
 
 fn refused(file: &OsStr, bytes: &[u8], refusal: Refusal) -> Failure {

@@ -7,6 +7,8 @@ mod catch_up;
 mod command;
 #[path = "desk/comparison.rs"]
 mod comparison;
+#[path = "desk/convert.rs"]
+mod convert;
 #[path = "desk/inspect.rs"]
 mod inspect;
 

@@ -1,15 +1,72 @@
 //! Tables that were lent: what is wrong with the row that a refusal names.
 
-use super::{BAD_TABLE, BAD_WAITING, LIMIT};
+use super::{BAD_TABLE, BAD_WAITING, LIMIT, TOO_WIDE};
 use crate::cause::{Cause, Row, Rows, Rule};
 use crate::hash::HASH;
+use crate::limits::{OLD_DEPENDENCIES, OLD_ROWS};
 use crate::refusal::Refusal;
 use crate::{Limits, Table, Waiting};
 use std::ops::Range;
 
+/// How many dependencies a change row has room for, and how many rows a table may have.
+#[derive(Clone, Copy)]
+struct Width {
+    dependencies: u64,
+    rows: u64,
+}
+
+impl Width {
+    fn now() -> Width {
+        let limits = Limits::told();
+        Width {
+            dependencies: limits.dependencies,
+            rows: limits.rows,
+        }
+    }
+
+    const OLD: Width = Width {
+        dependencies: OLD_DEPENDENCIES as u64,
+        rows: OLD_ROWS as u64,
+    };
+
+    /// Bytes of a row.
+    fn size(self) -> usize {
+        HASH + 2 * (1 + self.dependencies as usize)
+    }
+}
+
 /// The refusal of a change table.
 pub(crate) fn table(table: &[u8], refusal: Refusal) -> Refusal {
     tables(table, &[], refusal)
+}
+
+/// The refusal of a change table with rows of before.
+pub(crate) fn old_table(table: &[u8], refusal: Refusal) -> Refusal {
+    let cause = match (refusal.number, refusal.value) {
+        (LIMIT, 0) => too_many(Rows::Change, Width::OLD.rows),
+        (BAD_TABLE, row) => change_row(Width::OLD, table, row as usize),
+        _ => None,
+    };
+    cause.map_or(refusal, |cause| refusal.because(cause))
+}
+
+/// The refusal to write a good table in rows of before.
+pub(crate) fn narrowed(table: &Table, refusal: Refusal) -> Refusal {
+    let row = refusal.value as usize;
+    let cause = match refusal.number {
+        LIMIT => too_many(Rows::Change, Width::OLD.rows),
+        TOO_WIDE => {
+            let count = table.dependencies(row).len() as u64;
+            let most = Width::OLD.dependencies;
+            Some(Cause::new(Rule::TooWide { row, count, most }, None))
+        }
+        _ => None,
+    };
+    cause.map_or(refusal, |cause| refusal.because(cause))
+}
+
+fn too_many(table: Rows, most: u64) -> Option<Cause> {
+    Some(Cause::new(Rule::Rows { table, most }, None))
 }
 
 /// The refusal of a change table and of the waiting table beside it.
@@ -17,7 +74,7 @@ pub(crate) fn tables(table: &[u8], waiting: &[u8], refusal: Refusal) -> Refusal 
     let row = refusal.value as usize;
     let cause = match (refusal.number, refusal.value) {
         (LIMIT, 0) => long(table, waiting),
-        (BAD_TABLE, _) => change_row(table, row),
+        (BAD_TABLE, _) => change_row(Width::now(), table, row),
         (BAD_WAITING, _) => waiting_row(table, waiting, row),
         _ => None,
     };
@@ -37,21 +94,22 @@ fn long(table: &[u8], waiting: &[u8]) -> Option<Cause> {
         ),
     ];
     let long = both.into_iter().find(|(_, rows, most)| rows > most);
-    long.map(|(table, _, most)| Cause::new(Rule::Rows { table, most }, None))
+    long.and_then(|(table, _, most)| too_many(table, most))
 }
 
 /// What is wrong with a row, and which of its bytes are.
 type Wrong = (Row, Range<usize>);
 
-fn change_row(table: &[u8], row: usize) -> Option<Cause> {
-    let own = record(table, Table::ROW, row)?;
-    let wrong = cut(own, Table::ROW)
-        .or_else(|| row_numbers(own, row))
+fn change_row(width: Width, table: &[u8], row: usize) -> Option<Cause> {
+    let size = width.size();
+    let own = record(table, size, row)?;
+    let wrong = cut(own, size)
+        .or_else(|| row_numbers(own, row, width.dependencies))
         .or_else(|| {
-            let earlier = row_of(own, table, Table::ROW, row)?;
+            let earlier = row_of(own, table, size, row)?;
             Some((Row::Twice(earlier), 0..HASH))
         });
-    wrong.map(|wrong| in_row(Rows::Change, Table::ROW, row, wrong))
+    wrong.map(|wrong| in_row(Rows::Change, size, row, wrong))
 }
 
 fn waiting_row(table: &[u8], waiting: &[u8], row: usize) -> Option<Cause> {
@@ -86,14 +144,14 @@ fn cut(own: &[u8], whole: usize) -> Option<Wrong> {
     (bytes < whole).then_some((Row::Cut { bytes, whole }, 0..bytes))
 }
 
-/// The count and the row numbers of a change row.
-fn row_numbers(own: &[u8], row: usize) -> Option<Wrong> {
+/// The count and the row numbers of a change row that has room for `most`.
+fn row_numbers(own: &[u8], row: usize, most: u64) -> Option<Wrong> {
     let fields = own[HASH..].chunks_exact(2);
     let fields: Vec<u64> = fields
         .map(|f| u16::from_le_bytes([f[0], f[1]]).into())
         .collect();
     let place = |k: usize| HASH + 2 * k..HASH + 2 * (k + 1);
-    let (count, most) = (fields[0], Limits::told().dependencies);
+    let count = fields[0];
     if count > most {
         return Some((Row::Count { count, most }, place(0)));
     }

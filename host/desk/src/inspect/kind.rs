@@ -1,6 +1,7 @@
 //! What a file may hold, and how that is told when it isn't named.
 
 use super::shown;
+use crate::rows::{self, Rows};
 use bisquetower::limits::{CHUNKS, HAVES_WORDS};
 use bisquetower::message::CHUNK_WORDS;
 use bisquetower::raw;
@@ -49,7 +50,7 @@ impl Kind {
         };
         let looks = match bytes[0] {
             0x42 | 0x43 => Kind::Message,
-            _ if bytes.len() >= Table::ROW => Kind::Table,
+            _ if bytes.len() >= Rows::Before.size() => Kind::Table,
             _ => Kind::Message,
         };
         takes(true).or(takes(false)).unwrap_or(looks)
@@ -87,8 +88,8 @@ impl Kind {
                 Ok(next as usize)
             }
             Kind::Filter => Filter::parse_first(bytes).map(|(_, next)| next),
-            Kind::Table => Table::new(bytes).map(|table| table.as_bytes().len()),
-            Kind::Waiting => waiting(bytes).map(|table| table.as_bytes().len()),
+            Kind::Table => Rows::of(bytes).table(bytes).map(|_| bytes.len()),
+            Kind::Waiting => rows::waiting(bytes).map(|_| bytes.len()),
         }
     }
 
@@ -101,8 +102,14 @@ impl Kind {
             }
             Kind::State => shown::state(&SavedState::decode(bytes)?, next, full),
             Kind::Filter => shown::filter(&Filter::parse(bytes)?, next),
-            Kind::Table => shown::table(&Table::new(bytes)?, full),
-            Kind::Waiting => shown::waiting(&waiting(bytes)?, full),
+            Kind::Table => {
+                let rows = Rows::of(bytes);
+                shown::table(&rows.table(bytes)?, rows, full)
+            }
+            Kind::Waiting => {
+                let (waiting, rows) = rows::waiting(bytes)?;
+                shown::waiting(&waiting, rows, full)
+            }
         };
         if next < bytes.len() {
             text += &shown::rest(bytes.len() - next, next);
@@ -138,6 +145,7 @@ impl Kind {
             (4, _) => "look at the sender: it may not write more than that, and sending again won't help.",
             (5, _) => "look at the sender: it built a filter with 0 bits for its entries, and sending it again won't help.",
             (6, _) => "look at that row: it must be whole, its hash stand once, what it depends on ascend and come before it.",
+            (13, _) => "a unit of before can't hold that change: leave it out with all that depend on it, or keep the rows as they are.",
             (9, _) => "look at that row: it must be whole, its hash stand once, what is unused be zero.",
             _ => "the bytes break a rule of the format: have them sent or copied again.",
         }
@@ -172,9 +180,4 @@ fn ignored_in(bytes: &[u8]) -> Result<Vec<u64>, Refusal> {
     let read = message::View::read(bytes, &mut haves, &mut chunks)?;
     let ignored = read.haves().map(|have| have.ignored).collect();
     Ok(ignored)
-}
-
-/// A waiting table, beside a change table without rows.
-fn waiting(bytes: &[u8]) -> Result<Waiting, Refusal> {
-    Waiting::new(bytes, &Table::default())
 }

@@ -2,6 +2,7 @@
 
 use crate::files::most;
 use crate::paint::Paint;
+use crate::rows::Rows;
 use crate::text::{count, hashes, number, Columns};
 use bisquetower::{ChangeHash, Filter, Have, Message, MessageFlags, MessageVersion};
 use bisquetower::{SavedState, Table, Waiting};
@@ -105,7 +106,7 @@ fn told_filter(filter: &Filter) -> String {
     format!("{entries}, {bits} each, {probes}{filled}")
 }
 
-pub fn table(table: &Table, full: bool) -> String {
+pub fn table(table: &Table, rows: Rows, full: bool) -> String {
     let mut columns = Columns::default();
     let heads = table.heads();
     columns.row("rows", &number(table.rows()), "");
@@ -119,20 +120,24 @@ pub fn table(table: &Table, full: bool) -> String {
         "of all rows together",
     );
     let title = Paint::of_output().bold("a change table");
-    format!("{title}\n{columns}")
+    format!("{title}{}\n{columns}", rows.told())
 }
 
 /// Changes that wait, and what they depend on that is neither held nor waits.
-pub fn waiting(waiting: &Waiting, full: bool) -> String {
-    let rows: Vec<ChangeHash> = (0..waiting.rows()).map(|row| waiting.hash(row)).collect();
+pub fn waiting(waiting: &Waiting, rows: Rows, full: bool) -> String {
+    let own: Vec<ChangeHash> = (0..waiting.rows()).map(|row| waiting.hash(row)).collect();
     let mut columns = Columns::default();
-    columns.rows("waiting", &number(rows.len()), &hashes(&rows, full));
+    columns.rows("waiting", &number(own.len()), &hashes(&own, full));
     // More than a list has aren't told.
-    if let Ok(lacking) = Table::default().missing(waiting, &rows) {
+    if let Ok(lacking) = Table::default().missing(waiting, &own) {
         columns.rows("lacking", &number(lacking.len()), &hashes(&lacking, full));
     }
     let title = Paint::of_output().bold("a waiting table");
-    format!("{title}\n{columns}")
+    let told = match rows {
+        Rows::Now => "",
+        Rows::Before => ", with rows as they were before",
+    };
+    format!("{title}{told}\n{columns}")
 }
 
 /// Bytes that no reader looks at; how many isn't known of a file that goes on.

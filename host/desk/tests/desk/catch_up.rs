@@ -1,6 +1,7 @@
 //! Catch-ups and tables.
 
 use crate::{folder, run, run_with, samples, text};
+use bisquetower::limits::ROWS;
 use bisquetower::{ChangeHash, Filter, Table};
 use std::fs;
 use std::path::Path;
@@ -391,8 +392,9 @@ fn bad_tables_are_refused() {
 #[test]
 fn too_many_rows_together() {
     let folder = folder("catch-up-many");
-    let station: Vec<u32> = (0..1_000).collect();
-    let validator: Vec<u32> = (0..800).chain(2_000..2_200).collect();
+    let most = u32::try_from(ROWS).unwrap();
+    let station: Vec<u32> = (0..most - 24).collect();
+    let validator: Vec<u32> = (0..most - 224).chain(2 * most..2 * most + 200).collect();
     let station = chain(&folder, "station.table", &station);
     let validator = chain(&folder, "validator.table", &validator);
     let refused = run(&["catch-up", &station, &validator]).ended(1).err;

@@ -5,7 +5,9 @@ use bisquetower::Table;
 use std::fs;
 use std::process::Stdio;
 
-const COMMANDS: [&str; 5] = ["inspect", "table", "catch-up", "sample", "compare"];
+const COMMANDS: [&str; 6] = [
+    "inspect", "table", "catch-up", "convert", "sample", "compare",
+];
 
 /// Lines and columns of a screen.
 const SCREEN: (usize, usize) = (24, 80);
@@ -41,6 +43,10 @@ fn wrong_words() {
     wrong(&["inspect", "a", "--as", "fare"], "fare is no kind");
     wrong(&["inspect", "a", "--full=yes"], "--full takes no value");
     wrong(&["sample"], "one folder is wanted");
+    wrong(
+        &["convert", "a"],
+        "a file to read and one to write is wanted, not 1 names",
+    );
 }
 
 #[test]
