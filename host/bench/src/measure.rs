@@ -16,7 +16,13 @@ pub const REST: &str = ": rest";
 
 /// Rows of the tables that are measured. They are chosen so that figures can be held
 /// against earlier ones, and don't follow the limits.
-pub const SIZES: [(&str, usize); 3] = [("64 rows", 64), ("256 rows", 256), ("1,024 rows", 1_024)];
+pub const SIZES: [(&str, usize); 5] = [
+    ("64 rows", 64),
+    ("256 rows", 256),
+    ("1,024 rows", 1_024),
+    ("4,096 rows", 4_096),
+    ("8,192 rows", 8_192),
+];
 
 /// How many copies of what the crate takes away or changes are made at a time.
 pub const AT_A_TIME: usize = 8;

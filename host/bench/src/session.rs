@@ -29,13 +29,46 @@ const NARROW: Shape = Shape::Diamonds;
 /// A head in five rows: rows on up to three of the eight before them.
 const WIDE: Shape = Shape::Recent;
 
-/// Rows that a validator lacks, of what shape and of how many; more than a third would
-/// go as the document.
-const CATCH_UPS: [(&str, &str, Shape, usize, &[usize]); 4] = [
-    ("catch up 10", "catch up 10: rest", NARROW, 10, &[0, 1, 2]),
-    ("catch up 100", "catch up 100: rest", NARROW, 100, &[2]),
-    ("catch up 300", "catch up 300: rest", NARROW, 300, &[2]),
-    ("catch wide 10", "catch wide 10: rest", WIDE, 10, &[0, 1, 2]),
+/// One head or forty: forty rows on one, and one that merges them.
+const MERGED: Shape = Shape::Merges;
+
+/// The winter tariff's rows.
+const WINTER: (&str, usize) = ("6,000 rows", 6_000);
+
+/// All sizes, and those from 1,024 rows on.
+const ALL: &[(&str, usize)] = &SIZES;
+const MANY: &[(&str, usize)] = SIZES.split_at(2).1;
+
+type CatchUp = (
+    &'static str,
+    &'static str,
+    Shape,
+    usize,
+    &'static [(&'static str, usize)],
+);
+
+/// Rows that a validator lacks, of what shape and of how many; more than a third go as the
+/// document.
+const CATCH_UPS: [CatchUp; 7] = [
+    ("catch up 10", "catch up 10: rest", NARROW, 10, ALL),
+    ("catch up 100", "catch up 100: rest", NARROW, 100, MANY),
+    ("catch up 300", "catch up 300: rest", NARROW, 300, MANY),
+    ("catch wide 10", "catch wide 10: rest", WIDE, 10, ALL),
+    ("catch merged 10", "catch merged 10: rest", MERGED, 10, ALL),
+    (
+        "winter, 300 short",
+        "winter, 300 short: rest",
+        MERGED,
+        300,
+        &[WINTER],
+    ),
+    (
+        "winter, 3,000 short",
+        "winter, 3,000 short: rest",
+        MERGED,
+        3_000,
+        &[WINTER],
+    ),
 ];
 
 type Measure = fn(&Talk, &str, &str);
@@ -45,7 +78,7 @@ const REST_OF_HAVE: Measure = |talk, name, size| talk.rest_of_receive(name, size
 const RECEIVE_ROWS: Measure = |talk, name, size| talk.receive(name, size, 1);
 const REST_OF_ROWS: Measure = |talk, name, size| talk.rest_of_receive(name, size, 1);
 
-const STEPS: [(&str, Shape, Measure); 12] = [
+const STEPS: [(&str, Shape, Measure); 18] = [
     ("plan", NARROW, Talk::plan),
     ("plan: rest", NARROW, Talk::rest_of_plan),
     ("receive have", NARROW, RECEIVE_HAVE),
@@ -58,6 +91,12 @@ const STEPS: [(&str, Shape, Measure); 12] = [
     ("have wide: rest", WIDE, REST_OF_HAVE),
     ("rows wide", WIDE, RECEIVE_ROWS),
     ("rows wide: rest", WIDE, REST_OF_ROWS),
+    ("plan merged", MERGED, Talk::plan),
+    ("plan merged: rest", MERGED, Talk::rest_of_plan),
+    ("have merged", MERGED, RECEIVE_HAVE),
+    ("have merged: rest", MERGED, REST_OF_HAVE),
+    ("rows merged", MERGED, RECEIVE_ROWS),
+    ("rows merged: rest", MERGED, REST_OF_ROWS),
 ];
 
 pub fn measure_all() {
@@ -67,8 +106,8 @@ pub fn measure_all() {
         }
     }
     for (name, rest, shape, lacking, sizes) in CATCH_UPS {
-        let talks = sizes.iter().map(|&k| SIZES[k]);
-        let talks = talks.map(|(size, rows)| (size, Talk::new(rows, shape, lacking)));
+        let talks = sizes.iter();
+        let talks = talks.map(|&(size, rows)| (size, Talk::new(rows, shape, lacking)));
         let talks: Vec<(&str, Talk)> = talks.collect();
         for (size, talk) in &talks {
             talk.whole(name, size);

@@ -11,7 +11,7 @@ use compare::inputs::table::{table_bytes, waiting_bytes, Likeness, Shape, Waitin
 use compare::inputs::Random;
 use compare::model::session::Value;
 use compare::model::state::{V2, WORDS};
-use compare::model::table::{Hash, HASH};
+use compare::model::table::{Hash, HASH, WAITING_ROWS};
 use compare::sessions::lent::Lent;
 use compare::sessions::published::state;
 use compare::tables::document;
@@ -106,10 +106,11 @@ impl Case {
         self.plan(name, size, note, &session, &[], &self.document);
     }
 
-    /// Beside as many waiting rows, each with as many hashes as it may ask for: the next
-    /// waiting row and unknown hashes, most of which its neighbours ask for too.
+    /// Beside as many waiting rows as there may be, each with as many hashes as it may ask
+    /// for: the next waiting row and unknown hashes, most of which its neighbours ask for
+    /// too.
     fn plan_waiting(&self, name: &str, size: &str) {
-        let count = self.waiting.len();
+        let count = self.waiting.len().min(WAITING_ROWS);
         let row = |k: usize| {
             let unknown = (1..DEPENDENCIES).map(|j| self.unknown[(k + j) % count]);
             let next = self.waiting[(k + 1) % count];

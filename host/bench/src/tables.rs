@@ -7,7 +7,7 @@ use bisquetower::raw;
 use compare::inputs::index::{index_bytes, index_of};
 use compare::inputs::table::{table_bytes, waiting_bytes, Likeness, Row, Shape, WaitingRow};
 use compare::inputs::Random;
-use compare::model::table::{Hash, HASH};
+use compare::model::table::{Hash, HASH, WAITING_ROWS};
 use compare::tables::{but_the_last, document};
 use crate_under_test::facade::{Automerge, ChangeHash};
 use std::hint::black_box;
@@ -40,8 +40,9 @@ pub fn measure_all() {
     }
 }
 
-/// Rows on up to three of the eight before them, and as many waiting rows: each
-/// asks the next one, the last one the first, and an unknown hash of its own.
+/// Rows on up to three of the eight before them, and as many waiting rows, as far as
+/// there may be: each asks the next one, the last one the first, and an unknown hash of
+/// its own.
 struct Tables {
     rows: Vec<Row>,
     table: Vec<u8>,
@@ -58,10 +59,11 @@ impl Tables {
         let (held, others) = hashes.split_at(count);
         let (own, unknown) = others.split_at(count);
         let rows = random.rows_of(held, Shape::Recent);
-        let waiting: Vec<WaitingRow> = (0..count)
+        let waits = count.min(WAITING_ROWS);
+        let waiting: Vec<WaitingRow> = (0..waits)
             .map(|k| WaitingRow {
                 hash: own[k],
-                dependencies: vec![own[(k + 1) % count], unknown[k]],
+                dependencies: vec![own[(k + 1) % waits], unknown[k]],
             })
             .collect();
         let (table, waiting) = (table_bytes(&rows), waiting_bytes(&waiting));

@@ -10,7 +10,7 @@ use crate::inputs::Random;
 use crate::messages::parts::Chunks;
 use crate::model::number_bytes;
 use crate::model::state::{Session, V2, WORDS};
-use crate::model::table::{Hash, HASH};
+use crate::model::table::{converted, Hash, HASH, NOW, OLD};
 use crate::sessions::lent::Lent;
 use crate::sessions::library::{plan, receive, Planning, Receiving};
 use crate::tables::but_the_last;
@@ -162,6 +162,24 @@ fn chains(random: &mut Random) -> Vec<(Vec<u8>, Vec<u8>)> {
     ]
 }
 
+/// The largest table that rows of before have room for, both ways.
+fn conversions(random: &mut Random, shape: Shape) -> [Deep; 2] {
+    let mut rows = random.rows(OLD.rows, shape, Likeness::Descending);
+    for row in &mut rows {
+        row.dependencies.truncate(OLD.dependencies);
+    }
+    let wide = table_bytes(&rows);
+    let old = converted(NOW, OLD, &wide).expect("they fit");
+    [
+        deep("bt_widen_rows", move || {
+            raw::widen_rows(&old, &mut vec![0; NOW.row() * OLD.rows])
+        }),
+        deep("bt_narrow_rows", move || {
+            raw::narrow_rows(&wide, &mut vec![0; OLD.row() * OLD.rows])
+        }),
+    ]
+}
+
 fn tables(random: &mut Random) -> Vec<Deep> {
     let mut deep_calls = Vec::new();
     for shape in [Shape::Wide, Shape::Deep, Shape::Full, Shape::Any] {
@@ -174,7 +192,7 @@ fn tables(random: &mut Random) -> Vec<Deep> {
             let index = index_of(&table);
             (table, index)
         };
-        let [first, second, third, fourth, fifth, sixth] = [(); 6].map(|()| lent());
+        let [first, second, third, fourth, fifth, sixth, seventh] = [(); 7].map(|()| lent());
         let before = index_of(but_the_last(&sixth.0));
         let list = hashes.concat();
         deep_calls.extend([
@@ -194,7 +212,11 @@ fn tables(random: &mut Random) -> Vec<Deep> {
             deep("bt_extend_index", move || {
                 raw::extend_index(&sixth.0, &before, &mut vec![0; 2 * ROWS])
             }),
+            deep("bt_narrow_rows", move || {
+                raw::narrow_rows(&seventh.0, &mut vec![0; OLD.row() * ROWS])
+            }),
         ]);
+        deep_calls.extend(conversions(random, shape));
         let (table, index) = lent();
         let field = random.bytes(FIELD_SIZE);
         let s = [field, hashes.concat()].concat();

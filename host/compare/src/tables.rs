@@ -47,6 +47,13 @@ pub enum Call<'a> {
         table: &'a [u8],
         index: Beside<'a>,
     },
+    /// Rows of before.
+    WidenRows {
+        table: &'a [u8],
+    },
+    NarrowRows {
+        table: &'a [u8],
+    },
 }
 
 impl<'a> Call<'a> {
@@ -89,7 +96,8 @@ impl<'a> Call<'a> {
 enum Found {
     Rows(usize),
     Hashes(Vec<Hash>),
-    Index(Vec<u8>),
+    /// An index, or rows.
+    Bytes(Vec<u8>),
 }
 
 impl Found {
@@ -98,13 +106,13 @@ impl Found {
         match self {
             Found::Rows(_) => None,
             Found::Hashes(hashes) => Some(hashes.concat()),
-            Found::Index(index) => Some(index.clone()),
+            Found::Bytes(bytes) => Some(bytes.clone()),
         }
     }
 }
 
 /// The calls by name.
-pub const NAMES: [&str; 7] = [
+pub const NAMES: [&str; 9] = [
     "check_table",
     "check_tables",
     "heads",
@@ -112,10 +120,12 @@ pub const NAMES: [&str; 7] = [
     "missing",
     "build_index",
     "extend_index",
+    "widen_rows",
+    "narrow_rows",
 ];
 
 /// The first words that an answer may have: 0, or a refusal's number.
-pub const ANSWERS: usize = 13;
+pub const ANSWERS: usize = 14;
 
 impl<'a> Call<'a> {
     /// The call's place in `NAMES`.
@@ -128,10 +138,12 @@ impl<'a> Call<'a> {
             Call::Missing { .. } => 4,
             Call::BuildIndex { .. } => 5,
             Call::ExtendIndex { .. } => 6,
+            Call::WidenRows { .. } => 7,
+            Call::NarrowRows { .. } => 8,
         }
     }
 
-    /// Whether it writes hashes or an index.
+    /// Whether it writes hashes, an index or rows.
     fn writes(&self) -> bool {
         self.kind() >= 2
     }
@@ -139,7 +151,10 @@ impl<'a> Call<'a> {
     /// This call with another index, if it has one.
     pub fn beside(mut self, other: &'a [u8]) -> Call<'a> {
         match &mut self {
-            Call::CheckTable { .. } | Call::BuildIndex { .. } => {}
+            Call::CheckTable { .. }
+            | Call::BuildIndex { .. }
+            | Call::WidenRows { .. }
+            | Call::NarrowRows { .. } => {}
             Call::CheckTables { index, .. }
             | Call::Heads { index, .. }
             | Call::Beyond { index, .. }
@@ -152,7 +167,10 @@ impl<'a> Call<'a> {
     /// The index that is lent.
     fn index(&self) -> Vec<u8> {
         match *self {
-            Call::CheckTable { .. } | Call::BuildIndex { .. } => Vec::new(),
+            Call::CheckTable { .. }
+            | Call::BuildIndex { .. }
+            | Call::WidenRows { .. }
+            | Call::NarrowRows { .. } => Vec::new(),
             Call::CheckTables { table, index, .. }
             | Call::Heads { table, index, .. }
             | Call::Beyond { table, index, .. }
@@ -183,6 +201,8 @@ impl<'a> Call<'a> {
             } => batch.missing(table, index, waiting, hashes, out, answer),
             Call::BuildIndex { table } => batch.build_index(table, out, answer),
             Call::ExtendIndex { table, .. } => batch.extend_index(table, index, out, answer),
+            Call::WidenRows { table } => batch.widen_rows(table, out, answer),
+            Call::NarrowRows { table } => batch.narrow_rows(table, out, answer),
         }
     }
 
@@ -204,16 +224,23 @@ impl<'a> Call<'a> {
                 hashes,
                 ..
             } => table::missing(table, index, waiting, hashes).map(Found::Hashes),
-            Call::BuildIndex { table } => table::build_index(table).map(Found::Index),
-            Call::ExtendIndex { table, .. } => table::extend_index(table, index).map(Found::Index),
+            Call::BuildIndex { table } => table::build_index(table).map(Found::Bytes),
+            Call::ExtendIndex { table, .. } => table::extend_index(table, index).map(Found::Bytes),
+            Call::WidenRows { table } => {
+                table::converted(table::OLD, table::NOW, table).map(Found::Bytes)
+            }
+            Call::NarrowRows { table } => {
+                table::converted(table::NOW, table::OLD, table).map(Found::Bytes)
+            }
         }
     }
 
-    /// What the stand-in document finds, which has no index. The tables and lists must be
-    /// good.
-    fn stand_in(&self) -> Found {
+    /// What the stand-in document finds, which has no index; nothing of rows that are only
+    /// written otherwise. The tables and lists must be good.
+    fn stand_in(&self) -> Option<Found> {
         let found = |hashes: Vec<ChangeHash>| Found::Hashes(hashes.iter().map(|h| h.0).collect());
-        match *self {
+        Some(match *self {
+            Call::WidenRows { .. } | Call::NarrowRows { .. } => return None,
             Call::CheckTable { table } => Found::Rows(document(table, &[]).rows().len()),
             Call::CheckTables { table, waiting, .. } => {
                 Found::Rows(document(table, waiting).waiting().len())
@@ -237,9 +264,9 @@ impl<'a> Call<'a> {
                 let document = document(table, &[]);
                 let mut rows: Vec<usize> = (0..document.rows().len()).collect();
                 rows.sort_by_key(|&row| document.rows()[row].hash());
-                Found::Index(index_bytes(&rows))
+                Found::Bytes(index_bytes(&rows))
             }
-        }
+        })
     }
 
     fn shown(&self) -> String {
@@ -247,6 +274,8 @@ impl<'a> Call<'a> {
         let (table, rest) = match *self {
             Call::CheckTable { table }
             | Call::BuildIndex { table }
+            | Call::WidenRows { table }
+            | Call::NarrowRows { table }
             | Call::ExtendIndex { table, .. } => (table, String::new()),
             Call::CheckTables { table, waiting, .. } => {
                 (table, format!(", {} waiting bytes", waiting.len()))
@@ -408,7 +437,7 @@ pub fn compare(calls: &[(Call, Rooms)]) -> Result<Tally, String> {
     for &(call, rooms) in calls {
         let found = call.model(&call.index());
         if let Ok(found) = &found {
-            if *found != call.stand_in() {
+            if call.stand_in().is_some_and(|other| *found != other) {
                 let shown = call.shown();
                 return Err(format!("{shown}: the model's answer isn't the stand-in's"));
             }

@@ -14,7 +14,7 @@ mod read;
 #[path = "filters/write.rs"]
 mod write;
 
-use bisquetower::limits::{HASHES, PROBES};
+use bisquetower::limits::{FIELD_SIZE, HASHES, PROBES};
 use bisquetower::raw;
 use compare::inputs::filter::{edges, hash_of};
 use compare::inputs::Random;
@@ -32,6 +32,9 @@ fn compare_writes(write: Write, rooms: impl IntoIterator<Item = usize>) -> usize
 fn every(wanted: usize) -> impl Iterator<Item = usize> {
     (0..=wanted + 3).chain([wanted + 100])
 }
+
+/// As many bits an entry as a filter of the most hashes has room for.
+const MOST_BITS: u64 = 8 * FIELD_SIZE as u64 / HASHES as u64;
 
 /// How many hashes the lists of the tests have.
 const COUNTS: [usize; 10] = [0, 1, 2, 15, 16, 17, 255, 256, HASHES - 1, HASHES];

@@ -4,6 +4,8 @@
 
 #[path = "tables/buffers.rs"]
 mod buffers;
+#[path = "tables/convert.rs"]
+mod convert;
 #[path = "tables/graph.rs"]
 mod graph;
 #[path = "tables/index.rs"]

@@ -62,6 +62,9 @@ pub fn waiting_bytes(rows: &[WaitingRow]) -> Vec<u8> {
     rows.iter().flat_map(WaitingRow::bytes).collect()
 }
 
+/// Rows that one row merges.
+pub const MERGED: usize = 40;
+
 /// What a table's rows depend on.
 #[derive(Clone, Copy, Debug, PartialEq, Eq)]
 pub enum Shape {
@@ -73,6 +76,8 @@ pub enum Shape {
     Deep,
     /// Two rows on one, one on the two, again and again.
     Diamonds,
+    /// Forty rows on one, one on the forty, again and again, as zones of a tariff are merged.
+    Merges,
     /// The rows before, as many as a row may depend on.
     Full,
     /// Up to three of the eight rows before.
@@ -81,11 +86,12 @@ pub enum Shape {
     Any,
 }
 
-pub const SHAPES: [Shape; 7] = [
+pub const SHAPES: [Shape; 8] = [
     Shape::Wide,
     Shape::Fan,
     Shape::Deep,
     Shape::Diamonds,
+    Shape::Merges,
     Shape::Full,
     Shape::Recent,
     Shape::Any,
@@ -99,6 +105,10 @@ impl Shape {
             Shape::Deep => (row.saturating_sub(1)..row).collect(),
             Shape::Diamonds => match row % 3 {
                 0 => (row.saturating_sub(2)..row).collect(),
+                on => vec![row - on],
+            },
+            Shape::Merges => match row % (MERGED + 1) {
+                0 => (row.saturating_sub(MERGED)..row).collect(),
                 on => vec![row - on],
             },
             Shape::Full => (row.saturating_sub(DEPENDENCIES)..row).collect(),

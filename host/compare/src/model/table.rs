@@ -1,10 +1,10 @@
 //! Document 01's change table and waiting table, heads, rows beyond and what is
-//! missing, and change request M-100's index, in plain Rust: written from their
-//! sentences, with sets, maps and a list of what is still open, and no eye to speed.
+//! missing, change request M-100's index and M-106's converter, in plain Rust: written
+//! from their sentences, with sets, maps and a list of what is still open, and no eye to speed.
 //! The index is tested and then left alone; nothing is looked up in it.
 
 use crate::model::Refused;
-use bisquetower::limits::{LIST_SIZE, TABLE_SIZE, WAITING_SIZE};
+use bisquetower::limits::{LIST_SIZE, OLD_DEPENDENCIES, OLD_ROWS, WAITING_SIZE};
 use std::collections::{BTreeMap, BTreeSet, HashMap, HashSet};
 
 pub use bisquetower::limits::{DEPENDENCIES, HASHES, ROWS, WAITING_ROWS};
@@ -26,18 +26,57 @@ pub(crate) struct Row {
     pub(crate) dependencies: Vec<usize>,
 }
 
+/// Change rows of a width: how many dependencies a row has room for, and how many rows a
+/// table may have.
+#[derive(Clone, Copy)]
+pub struct Width {
+    pub dependencies: usize,
+    pub rows: usize,
+}
+
+/// The rows of now, and those of before M-106.
+pub const NOW: Width = Width {
+    dependencies: DEPENDENCIES,
+    rows: ROWS,
+};
+pub const OLD: Width = Width {
+    dependencies: OLD_DEPENDENCIES,
+    rows: OLD_ROWS,
+};
+
+impl Width {
+    /// Bytes of a row: "hash, count, .. row numbers".
+    pub fn row(self) -> usize {
+        HASH + 2 * (1 + self.dependencies)
+    }
+
+    /// A row in this width.
+    fn record(self, row: &Row) -> Vec<u8> {
+        let mut record = row.hash.to_vec();
+        for number in std::iter::once(&row.dependencies.len()).chain(&row.dependencies) {
+            record.extend([(number % 256) as u8, (number / 256) as u8]);
+        }
+        record.resize(self.row(), 0);
+        record
+    }
+}
+
 /// A good waiting table: each waiting change and the hashes it depends on.
 pub type Waiting = HashMap<Hash, Vec<Hash>>;
 
 /// "A table of more bytes than its limit gives 4 just before its rows are
 /// tested"; 6 names the first bad row.
 pub fn table(lent: &[u8]) -> Result<Table, Refused> {
-    if lent.len() > TABLE_SIZE {
+    table_as(NOW, lent)
+}
+
+fn table_as(width: Width, lent: &[u8]) -> Result<Table, Refused> {
+    if lent.len() > width.rows * width.row() {
         return Err((4, 0));
     }
     let mut table = Table::default();
-    for (number, record) in lent.chunks(ROW).enumerate() {
-        let row = change_row(record, number);
+    for (number, record) in lent.chunks(width.row()).enumerate() {
+        let row = change_row(width, record, number);
         let row = row.filter(|row| !table.row_of.contains_key(&row.hash));
         let row = row.ok_or((6, number as u64))?;
         table.row_of.insert(row.hash, number);
@@ -46,11 +85,26 @@ pub fn table(lent: &[u8]) -> Result<Table, Refused> {
     Ok(table)
 }
 
-/// A hash; a count, two bytes, little-endian, at most `DEPENDENCIES`; as many row
+/// A table of one width in rows of another: "back is refused for a row with more than 15
+/// dependencies, or with 4 above 1,024 rows .. that 4 directly after 6, then 13, .. giving
+/// the first such row".
+pub fn converted(from: Width, to: Width, lent: &[u8]) -> Result<Vec<u8>, Refused> {
+    let table = table_as(from, lent)?;
+    if table.rows.len() > to.rows {
+        return Err((4, 0));
+    }
+    let wide = |row: &Row| row.dependencies.len() > to.dependencies;
+    match table.rows.iter().position(wide) {
+        Some(row) => Err((13, row as u64)),
+        None => Ok(table.rows.iter().flat_map(|row| to.record(row)).collect()),
+    }
+}
+
+/// A hash; a count, two bytes, little-endian, at most what there is room for; as many row
 /// numbers of two bytes, "those in use strictly ascending and below the own row, the
 /// others 0". None if the record isn't so, or isn't whole.
-fn change_row(record: &[u8], own: usize) -> Option<Row> {
-    if record.len() < ROW {
+fn change_row(width: Width, record: &[u8], own: usize) -> Option<Row> {
+    if record.len() < width.row() {
         return None;
     }
     let (hash, numbers) = record.split_at(HASH);
@@ -59,7 +113,7 @@ fn change_row(record: &[u8], own: usize) -> Option<Row> {
         .map(|two| usize::from(two[0]) + 256 * usize::from(two[1]))
         .collect();
     let count = numbers[0];
-    if count > DEPENDENCIES {
+    if count > width.dependencies {
         return None;
     }
     let (used, unused) = numbers[1..].split_at(count);

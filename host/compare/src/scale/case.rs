@@ -90,7 +90,7 @@ impl Kind {
 /// Whether an answer is one that the crate has none of: document 01's refusals 4 to 7
 /// and 9 to 12.
 pub fn apart(first_word: u64) -> bool {
-    matches!(first_word, 4..=7 | 9..=12)
+    matches!(first_word, 4..=7 | 9..=13)
 }
 
 /// How long a buffer may be that is lent by number: as the longest list that is written.

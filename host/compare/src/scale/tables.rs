@@ -1,4 +1,4 @@
-//! Tables checked, heads, rows beyond, what is missing, and indexes.
+//! Tables checked, heads, rows beyond, what is missing, indexes, and rows of two widths.
 
 use super::case::{apart, room, Case, Compared};
 use crate::inputs::index::Beside;
@@ -6,7 +6,7 @@ use crate::inputs::table::{
     row_faults, table_bytes, waiting_bytes, waiting_faults, LIKENESSES, SHAPES,
 };
 use crate::inputs::Random;
-use crate::model::table::HASH;
+use crate::model::table::{converted, HASH, NOW, OLD};
 use crate::tables::{but_the_last, compare, Call, Rooms, ANSWERS, NAMES};
 
 /// Tables, indexes and a list over a few hashes, so that they meet, each now and then
@@ -50,12 +50,14 @@ pub fn tables(random: &mut Random) -> Case {
     )
 }
 
-/// All seven calls, with room enough and with the room that is told.
+/// All nine calls, with room enough and with the room that is told. What is widened are
+/// the table's rows as they were before, where they can be said so, else its bytes.
 pub fn calls(case: &Case) -> Compared {
     let ([table, index, shorter, waiting, hashes], [before, lent]) = (case.lent(), case.told());
     let before = before as usize;
     let [index, shorter] = [index, shorter].map(|bytes| Beside::Other(bytes));
     let [tables, heads, beyond, missing] = Call::looking_up(table, index, before, waiting, hashes);
+    let old = converted(NOW, OLD, table).unwrap_or_else(|_| table.to_vec());
     let all = [
         Call::CheckTable { table },
         tables,
@@ -67,6 +69,8 @@ pub fn calls(case: &Case) -> Compared {
             table,
             index: shorter,
         },
+        Call::WidenRows { table: &old },
+        Call::NarrowRows { table },
     ];
     let told = Rooms::One(room(lent));
     let tally = compare(&all.map(|call| (call, Rooms::Enough)))?;

@@ -1,6 +1,6 @@
 //! Asking: whether a filter, or one of several, contains a hash.
 
-use crate::{field_of, lists, random_filter, with_field, COUNTS};
+use crate::{field_of, lists, random_filter, with_field, COUNTS, MOST_BITS};
 use bisquetower::limits::{FIELD_SIZE, HASHES, HAVES, LIST_SIZE, PROBES};
 use bisquetower::raw;
 use compare::filters::Haves;
@@ -28,7 +28,7 @@ fn whole_hashes(bytes: &[u8]) -> Vec<[u8; 32]> {
 fn added_hashes_are_contained() {
     let mut random = Random(4);
     for count in COUNTS {
-        for (bits, probes) in [(10, 7), (1, 0), (2, 1), (64, 64)] {
+        for (bits, probes) in [(10, 7), (1, 0), (2, 1), (MOST_BITS, 64)] {
             for hashes in lists(count, bits, &mut random) {
                 let field = field_of(bits, probes, &hashes);
                 let haves = Haves::one(Filter {

@@ -1,6 +1,6 @@
 //! Building: the field of a filter over a list of hashes; refusals 10, 4, 1 and 7.
 
-use crate::{compare_writes, every, lists, COUNTS};
+use crate::{compare_writes, every, lists, COUNTS, MOST_BITS};
 use bisquetower::limits::{FIELD_SIZE, HASHES, LIST_SIZE, PROBES};
 use compare::filters::Build;
 use compare::inputs::{Random, Seed};
@@ -50,7 +50,14 @@ fn built_with_other_numbers() {
         }
     }
     for count in COUNTS {
-        for (bits, probes) in [(1, 0), (1, 64), (3, 1), (8, 2), (63, 63), (64, 64)] {
+        for (bits, probes) in [
+            (1, 0),
+            (1, 64),
+            (3, 1),
+            (8, 2),
+            (MOST_BITS - 1, 63),
+            (MOST_BITS, 64),
+        ] {
             let wanted = field_size(count as u64, bits) as usize;
             for hashes in lists(count, bits, &mut random) {
                 let build = built(bits, probes, &hashes);

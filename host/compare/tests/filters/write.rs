@@ -118,7 +118,7 @@ fn refused_filters() {
             probes,
             field: &field[..size],
         };
-        let rooms = [0, 1, 2, 16, 9_000];
+        let rooms = [0, 1, 2, 16, FIELD_SIZE + 16];
         let answers = compare_rooms(Write::Filter(filter), rooms).unwrap();
         let last = answers[rooms.len() - 1];
         assert_eq!(last[0] == 0, good, "{filter:?}");

@@ -98,7 +98,8 @@ fn chunks() {
         assert_eq!(ask(&full).0[9], CHUNKS as u64);
         draft.chunks.push(Vec::new());
         let over = draft.bytes();
-        for cut in [over.len(), place + 2, place + 10] {
+        // The count has three bytes.
+        for cut in [over.len(), place + 3, place + 10] {
             assert_eq!(first(&over[..cut]), [4, place as u64]);
         }
     }

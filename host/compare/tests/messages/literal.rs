@@ -86,10 +86,10 @@ fn settled_readings() {
     let most = [0xff, 0xff, 0xff, 0xff, 0xff, 0xff, 0xff, 0xff, 0xff, 0x01];
     assert_eq!(refused(&[&[0x42, 0, 0, 0, 1][..], &most].concat()), [1, 5]);
     // A count is limited before its elements are looked at, and cut before that.
-    assert_eq!(refused(&[0x42, 0x81, 0x08]), [4, 1]);
+    assert_eq!(refused(&[0x42, 0x81, 0x40]), [4, 1]);
     assert_eq!(refused(&[0x42, 0x80, 0x80, 0x80, 0x80, 0x80, 0x80]), [1, 1]);
     assert_eq!(refused(&[0x42, 0, 0, 0x11]), [4, 3]);
-    assert_eq!(refused(&[0x42, 0, 0, 0, 0x81, 0x20]), [4, 4]);
+    assert_eq!(refused(&[0x42, 0, 0, 0, 0x81, 0x80, 0x01]), [4, 4]);
     // A filter's string has to be there before its inside is read; a number is cut
     // at its own start, a field at its first byte; 5 and 4 name the filter.
     let filter = |string: &[u8]| refused(&[&[0x42, 0, 0, 1, 0][..], string].concat());

@@ -7,7 +7,7 @@ use compare::samples::files;
 fn the_stored_samples_are_the_crates() {
     let files = files();
     let size: usize = files.iter().map(|file| file.bytes.len()).sum();
-    assert!(size < 600_000);
+    assert!(size < 1_000_000);
     for file in files {
         let stored = file.stored().expect("the sample is read");
         let name = file.name;

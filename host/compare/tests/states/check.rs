@@ -20,7 +20,7 @@ impl Buffers {
     pub fn new() -> Self {
         let hash = |k: u64| [&k.to_be_bytes()[..], &[0x33; 24]].concat();
         Buffers {
-            hashes: (0..1_030).flat_map(hash).collect(),
+            hashes: (0..HASHES as u64 + 6).flat_map(hash).collect(),
             haves: HAVE.repeat(17),
             bytes: vec![0xff; 100],
         }
@@ -76,10 +76,10 @@ fn session_counts() {
     let buffers = Buffers::new();
     let lists = buffers.lists();
     assert!(check(&[0; WORDS], &lists));
-    assert!(check(&all_of(2_000), &lists));
+    assert!(check(&all_of(u64::MAX), &lists));
     for (word, limit) in COUNTS {
         for count in [limit + 1, limit + 2, 1 << 32, 1 << 59, 1 << 63, u64::MAX] {
-            for mut words in [[0; WORDS], all_of(0), all_of(2_000)] {
+            for mut words in [[0; WORDS], all_of(0), all_of(u64::MAX)] {
                 words[word] = count;
                 let absent = [3, 5, 7].contains(&word) && words[word - 1] == 0;
                 assert_eq!(check(&words, &lists), absent, "word {word} is {count}");

@@ -106,15 +106,15 @@ fn settled_readings_of_waiting_tables() {
         let call = check_tables(&rows, &good[..length]);
         assert_eq!(answer(call, 0), expected, "{length}");
     }
-    // Dependencies in use are free: oneself, one twice, held ones, all fifteen.
+    // Dependencies in use are free: oneself, one twice, held ones, as many as may be.
     let free = waiting(&[(10, &[10, 10, 1, 4, 30, 30]), (11, &[20; DEPENDENCIES])]);
     assert_eq!(answer(check_tables(&rows, &free), 0), [0, 2]);
     let found = |numbers: &[u16]| written(missing(&rows, &free, &list(numbers)));
     assert_eq!(found(&[10]), hashes(&[30]));
     assert_eq!(found(&[11, 10, 11, 2, 40]), hashes(&[20, 30, 40]));
-    // Sixteen are a bad row.
-    let sixteen = waiting(&[(10, &[]), (11, &[20; 16])]);
-    assert_eq!(answer(check_tables(&rows, &sixteen), 0), [9, 1]);
+    // One more is a bad row.
+    let more = waiting(&[(10, &[]), (11, &[20; DEPENDENCIES + 1])]);
+    assert_eq!(answer(check_tables(&rows, &more), 0), [9, 1]);
     // Only what lies under the asked hashes, not all that waiting rows lack.
     assert_eq!(found(&[]), hashes(&[]));
     assert_eq!(found(&[3, 1]), hashes(&[]));

@@ -137,7 +137,10 @@ fn random_small_tables() {
 #[test]
 fn random_tables() {
     let tally = compare_random(Seed::fixed(), 10, 60, 100);
-    assert!((0..NAMES.len()).all(|kind| tally.of(kind, 0) > 200 && tally.of(kind, 6) > 50));
+    let kinds = CHECK_TABLE..=EXTEND_INDEX;
+    assert!(kinds
+        .into_iter()
+        .all(|kind| tally.of(kind, 0) > 200 && tally.of(kind, 6) > 50));
 }
 
 /// A few of both with another seed each time.

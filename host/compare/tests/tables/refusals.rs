@@ -30,7 +30,7 @@ fn faulty_tables() -> [Faulty; 4] {
     [
         (good.clone(), None),
         (twice, Some([6, 2])),
-        (good[..200].to_vec(), Some([6, 3])),
+        (good[..3 * ROW + 8].to_vec(), Some([6, 3])),
         (long, Some([4, 0])),
     ]
 }
@@ -49,17 +49,17 @@ fn faulty_indexes() -> [Faulty; 6] {
     ]
 }
 
-/// A row with fifteen unknown hashes under it and a row on that one; and the ways
-/// in which such a table is bad.
+/// A row with as many unknown hashes under it as may be and a row on that one; and the
+/// ways in which such a table is bad.
 fn faulty_waitings() -> [Faulty; 4] {
-    let fifteen: Vec<u16> = (4_001..=4_015).collect();
-    let good = waiting(&[(2_000, &fifteen), (1_999, &[2_000])]);
-    let twice = waiting(&[(2_000, &fifteen), (2_000, &[])]);
+    let full: Vec<u16> = (20_001..).take(DEPENDENCIES).collect();
+    let good = waiting(&[(2_000, &full), (1_999, &[2_000])]);
+    let twice = waiting(&[(2_000, &full), (2_000, &[])]);
     let long = vec![0xff; WAITING_ROW * WAITING_ROWS + 1];
     [
         (good.clone(), None),
         (twice, Some([9, 1])),
-        (good[..600].to_vec(), Some([9, 1])),
+        (good[..WAITING_ROW + 56].to_vec(), Some([9, 1])),
         (long, Some([4, 0])),
     ]
 }

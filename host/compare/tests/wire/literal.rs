@@ -9,9 +9,9 @@ use compare::wire::{self, Difference};
 
 /// The library's limits against 01's Sizes.
 #[test]
-fn limits_are_those_of_document_01() {
+fn limits_are_those_that_are_told() {
     let sizes = [
-        32, 4_194_304, 1_024, 1_024, 15, 1_024, 1_024, 16, 4_096, 8_192, 64, 2_048,
+        32, 4_194_304, 8_192, 1_024, 111, 8_192, 8_192, 16, 16_384, 32_768, 64, 16_384,
     ];
     let mut limits = [raw::UNWRITTEN; 12];
     raw::limits(&mut limits);

@@ -36,10 +36,6 @@ const READ: &[(&str, &str)] = &[
         "`loop-again` of `fit::entries_fit`",
     ),
     (
-        "hash_lists/all_held_first",
-        "`loop-again` of `compare::all_held`",
-    ),
-    (
         "message/flag_read_only",
         "`returns` of `MessageFlags::read_only`",
     ),
