@@ -105,6 +105,29 @@ fn what_is_told_is_run_again() {
     assert_eq!(rows.lines().count(), 2 + MADE_UP.len(), "{rows}");
 }
 
+/// A run of hours counts hundreds of millions, and each number stands by itself.
+#[test]
+fn long_counts_stay_apart() {
+    let long = Count {
+        inputs: 8_134_780_000,
+        apart: 1_607_230_800,
+        differences: 1_234_567_890,
+        worst: None,
+        took: Duration::from_secs(1),
+    };
+    let rows = table(&MADE_UP[..1], &[long]);
+    let all = rows.lines().last().expect("a row for all");
+    let cells: Vec<&str> = all.split_whitespace().collect();
+    let numbers = [
+        "8,134,780,000",
+        "1,607,230,800",
+        "1,234,567,890",
+        "8,134,780,000",
+    ];
+    assert_eq!(cells[0], "all", "{rows}");
+    assert_eq!(cells[1..], numbers, "{rows}");
+}
+
 #[test]
 fn a_seed_is_a_run() {
     assert_eq!(counts(&MADE_UP, 3, 4), counts(&MADE_UP, 3, 4));

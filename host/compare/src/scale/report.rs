@@ -28,7 +28,7 @@ fn rate(inputs: u64, took: Duration) -> u64 {
 /// A row for each kind, and one for all.
 pub fn table(kinds: &[Kind], counts: &[Count]) -> String {
     let mut text = format!(
-        "{:<24}{:>12}{:>10}{:>13}{:>12}\n",
+        "{:<24} {:>13} {:>13} {:>12} {:>11}\n",
         "kind", "inputs", "apart", "differences", "a second"
     );
     let mut row = |name: &str, inputs: u64, apart: u64, differences: u64, took: Duration| {
@@ -36,7 +36,7 @@ pub fn table(kinds: &[Kind], counts: &[Count]) -> String {
         let [inputs, apart, differences, rate] = numbers.map(grouped);
         let _ = writeln!(
             text,
-            "{name:<24}{inputs:>12}{apart:>10}{differences:>13}{rate:>12}"
+            "{name:<24} {inputs:>13} {apart:>13} {differences:>12} {rate:>11}"
         );
     };
     for (kind, count) in kinds.iter().zip(counts) {
