@@ -1,4 +1,5 @@
--- 01, Sizes, and 02, M-106. One record names every limit; definitions read its fields, and no numeral of a limit stands anywhere else.
+-- 01, Sizes, and 02, M-106. One record names every limit; definitions read its fields, and no numeral of a limit stands anywhere else, but for the
+-- two of the rows of before M-106, which are in Widths of the crate table.
 use Prim.Native.Nat.{ℕ}
 use mathlib.Core.List.{List, [], _∷_}
 
