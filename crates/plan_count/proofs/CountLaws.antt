@@ -1,6 +1,6 @@
 -- The parts of a plan as marks and numbers: what each asks for follows from the tests before planning, and together they are the plan. Assumes nothing.
 use Prim.Native.Nat.{ℕ, _*_, _≤_}
-use mathlib.Core.Bool.{Bool, true, cond, not, _&&_, _||_}
+use mathlib.Core.Bool.{Bool, true, false, cond, not, _&&_, _||_}
 use mathlib.Core.List.{List, [], _∷_}
 use mathlib.Core.Path.{_≡_, refl, sym, ap, _∙_}
 use native.Mathlib.Omega.{arith}
@@ -16,17 +16,20 @@ use Rattle.table_index.specs.Index.{Indexed}
 use Rattle.session_check.proofs.GoodSessions.{session-tests, session-parts}
 use Rattle.session_check.specs.SessionGood.{heardGood, havesGood, sessionGood}
 use Rattle.hash_lists.specs.Lists.{same}
-use Rattle.hash_order.specs.Order.{every, ascend}
+use Rattle.hash_order.specs.Order.{member, every, ascend}
 use Rattle.plan_parts.proofs.HeardLaws.{heard-there}
-use Rattle.plan_parts.specs.Internal.PlanParts.{HaveCounted, BodyChosen, FreshMarked}
+use Rattle.plan_parts.specs.Internal.PlanParts.{HaveCounted, BodyChosen, SentBeside, FreshMarked}
 use Rattle.plan_parts.specs.declared.body.BodyCount.{BodyCount}
 use Rattle.plan_parts.specs.declared.need.Asked.{Asked}
+use Rattle.rules.proofs.Cases.{true-false}
 use Rattle.rules.proofs.Hash.{length-hashes-at}
 use Rattle.rules.specs.Hash.{hashesAt}
 use Rattle.rules.specs.Sizes.{sizes}
-use Rattle.send.specs.Internal.Chosen.{chosenBy}
-use Rattle.session.proofs.PlanLaws.{planned-held}
+use Rattle.send.proofs.SelectLaws.{less-new}
+use Rattle.send.specs.Internal.Chosen.{chosenBy, SentRows}
+use Rattle.session.proofs.PlanLaws.{body-cases, planned-held}
 use Rattle.session.specs.Plan.{heardAs, listOf, unknownSync, bodyHeard, bodyOf, empty, silence, sentAfter}
+use Rattle.session_state.specs.Session.{State}
 use Rattle.session_state.specs.Value.{Lent, heardCount, heardHashes, heardHaves, stateOf}
 use Rattle.session_state.specs.declared.session.Session.{Session}
 use Rattle.table.specs.TableBytes.{rowsAt}
@@ -35,6 +38,26 @@ use Rattle.plan_count.specs.Internal.PlanCount.{BodyReady, carriedBody, 
 use Rattle.plan_count.specs.declared.count.Carried.{Carried}
 
 -- ---- what is carried
+
+-- the document is every row's hash, and a list has none that was sent
+body-whole : (t : List Row) (s : State) → bodyOf t s .document ≡ true → bodyOf t s .hashes ≡ hashes t
+body-whole t s =
+    body-cases t s (λ b. b .document ≡ true → b .hashes ≡ hashes t)
+    (record {
+      nothing = λ e. absurd (true-false false e refl);
+      document = λ v e. refl;
+      list = λ haves need p q e. absurd (true-false false e refl);
+    })
+
+body-unsent : (t : List Row) (s : State) → bodyOf t s .document ≡ false → (h : ℕ) → member h (bodyOf t s .hashes) ≡ true → member h (s .sentHashes) ≡ false
+unfolding member
+body-unsent t s =
+    body-cases t s (λ b. b .document ≡ false → (h : ℕ) → member h (b .hashes) ≡ true → member h (s .sentHashes) ≡ false)
+    (record {
+      nothing = λ e h m. absurd (true-false false m refl);
+      document = λ v e. absurd (true-false true refl e);
+      list = λ haves need p q e h m. less-new t haves need (s .sentHashes) h m;
+    })
 
 module _ {table index : List ℕ} {n : ℕ} {s : Session} {theirNeed haves bytes sent : List ℕ} (r : BodyReady table index n s theirNeed haves bytes sent)
     {headless : Bool} (none : (theirs : List ℕ) → headless ≡ heardAs [] (heardHashes theirs (s .«their_heads»))) {marks needs : List Bool} {b : BodyCount}
@@ -55,6 +78,16 @@ module _ {table index : List ℕ} {n : ℕ} {s : Session} {theirNeed haves bytes
     pub chosen-held : every (held t) (chosenBy t marks (hashesAt theirNeed 0 k) needs) ≡ true
     chosen-held =
         rw (e, body-carried [] .hashes .list) (planned-held t (r .rows .rows .good) _)
+
+    pub chosen-beside : {past : List Bool} → SentRows t n (hashesAt sent 0 (s .«sent_hashes»)) past
+        → SentBeside t n (b .document) (chosenBy t marks (hashesAt theirNeed 0 k) needs) (hashesAt sent 0 (s .«sent_hashes»)) past
+    chosen-beside p =
+        let c = body-carried [] in
+        record {
+          those = p;
+          whole = λ d. rw (e, c .hashes .list) (body-whole t _ (sym (c .document) ∙ d));
+          list = λ d. rw (e, c .hashes .list) (body-unsent t _ (sym (c .document) ∙ d));
+        }
 
     pub need-there : sizes .hash * k ≤ length theirNeed
     need-there = omega (arith, heard-there theirNeed (s .«their_need») k e (r .need))

@@ -14,12 +14,13 @@ use session_state::session::Session;
 use session_state::session::heard_count;
 use table_graph::heads::mark_heads;
 use table_graph::marked::count_marked;
+use table_graph::marks::mark_list;
 ghost use mathlib.Core.Bool.{true};
 ghost use mathlib.Core.List.{List};
 ghost use mathlib.Core.Path.{_≡_};
 ghost use Prim.Native.Nat.{ℕ, _*_, _≤_};
 ghost use lib.ListN.{length};
-ghost use Rattle.table_graph.specs.Internal.Marks.{picked};
+ghost use Rattle.table_graph.specs.Internal.Marks.{Blank, picked};
 ghost use Rattle.table_index.specs.Index.{Indexed};
 ghost use Rattle.session_check.specs.SessionGood.{heardGood, lentOf, sessionGood};
 ghost use Rattle.hash_order.specs.Order.{ascend};
@@ -45,7 +46,8 @@ pub struct Carried {
     pub sent: usize,
 }
 
-// Marks the needs and rows that the message carries, and the rows among them that weren't sent before.
+// Marks the needs and rows that the message carries, and the rows among them that weren't sent before: those that were are marked first, in the same
+// place.
 fn count_body(
     session: Session,
     table: &[u8],
@@ -60,7 +62,7 @@ fn count_body(
     fresh: &mut [bool],
 ) -> Carried
     requires { ⌜ BodyReady (now table) (now index) n session (now «their_need») (now haves) (now «have_bytes») (now sent)
-        × BlankBody n (heardCount (session .«their_need»)) (now marks) (now needs) × (n ≤ length (now fresh)) ⌝ }
+        × BlankBody n (heardCount (session .«their_need»)) (now marks) (now needs) × (n ≤ length (now fresh)) × Blank n (now fresh) ⌝ }
     ensures { λ r. ⌜ ((theirHeads : List ℕ) → BodyCounted (rowsAt (now (table .entry)) 0 n) n
         (carriedBody (rowsAt (now (table .entry)) 0 n) session theirHeads (now («their_need» .entry)) (now (haves .entry)) (now («have_bytes» .entry))
         (now (sent .entry)))
@@ -71,6 +73,7 @@ fn count_body(
     let have = session.their_have;
     let need = session.their_need;
     let before = session.sent_hashes;
+    mark_list(table, index, n, sent, 0, before, fresh);
     let body = mark_body(
         table,
         index,
@@ -83,8 +86,7 @@ fn count_body(
         have,
         their_need,
         need,
-        sent,
-        before,
+        fresh,
         marks,
         needs,
     );
@@ -92,11 +94,11 @@ fn count_body(
         table,
         index,
         n,
+        body.document,
         marks,
         their_need,
         heard_count(need),
         needs,
-        sent,
         before,
         fresh,
     );

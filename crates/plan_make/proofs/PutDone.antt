@@ -76,6 +76,7 @@ module _ {table index : List ℕ} {n : ℕ} (s : Session) (l : Lent) (rows : Ind
               noNeed = blank _ _ needs-few;
             };
         freshLong = long;
+        noFresh = blank _ _ rows-few;
       }
 
   -- ---- what was counted

@@ -7,7 +7,7 @@ use native.Mathlib.Omega.{arith}
 use lib.ListN.{length, getD}
 use Rattle.table_graph.proofs.GraphMarks.{many-rows}
 use Rattle.table_graph.proofs.PickLaws.{rows-marked, rows-where, picked-count}
-use Rattle.table_graph.specs.Internal.Marks.{Marks, Blank, marked, picked}
+use Rattle.table_graph.specs.Internal.Marks.{Marks, marked, picked}
 use Rattle.table_index.specs.Index.{Indexed}
 use Rattle.hash_order.proofs.KeepLaws.{every-member}
 use Rattle.hash_order.proofs.OrderLaws.{member-append}
@@ -17,7 +17,7 @@ use Rattle.send.specs.Internal.Chosen.{chosenBy}
 use Rattle.table.proofs.TableLaws.{length-rows-at, held-row, number-of-row, row-of-held, hash-of-held}
 use Rattle.table.specs.TableBytes.{rowsAt}
 use Rattle.table.specs.Table.{Row, rows, hashOf, held, rowNumber}
-use Rattle.plan_parts.specs.Internal.PlanParts.{FreshMarked}
+use Rattle.plan_parts.specs.Internal.PlanParts.{SentBeside, FreshMarked}
 use Rattle.plan_parts.proofs.ApartLaws.{ascend-apart, ascend-alike, picked-once}
 use borrow.Author.Tests.{not-true}
 
@@ -55,25 +55,31 @@ module _ (table x : List ℕ) (n : ℕ) (good : Indexed table x n) (marks : List
       or-other (getD marks i false) (member (hashOf t i) (picked need needs))
       ∙ sym (member-append (hashOf t i) (picked need needs) (picked (rows t) marks) ∙ rw (row-picked marks i l))
 
-  module _ (copy joined none past fresh : List Bool) (a : Marks n copy (λ i. getD marks i false))
-      (b : Marks n joined (λ i. getD copy i false || member (hashOf t i) (picked need needs)))
-      (blank : Blank n none)
-      (c : Marks n past (λ i. getD none i false || member (hashOf t i) sent))
-      (d : Marks n fresh (λ i. getD joined i false && not (getD past i false))) where
-    fresh-rows : Marks n fresh (λ i. member (hashOf t i) body && not (member (hashOf t i) sent))
-    fresh-rows =
+  -- what is left of the marks of what was sent, for the document and for a list
+  module _ (document : Bool) (past : List Bool) (s : SentBeside (rowsAt table 0 n) n document (chosenBy (rowsAt table 0 n) marks need needs) sent past) where
+    pub whole-new : document ≡ true → (fresh : List Bool) → Marks n fresh (λ i. not (getD past i false))
+        → Marks n fresh (λ i. member (hashOf (rowsAt table 0 n) i) (chosenBy (rowsAt table 0 n) marks need needs) && not (member (hashOf (rowsAt table 0 n) i) sent))
+    unfolding held
+    whole-new e fresh m =
         record {
           each =
               λ i l.
-              let in-body : getD joined i false ≡ member (hashOf t i) body =
-              b .each i l ∙ ap (λ (z : Bool). z || member (hashOf t i) (picked need needs)) (a .each i l) ∙ row-of-body i l
-              in
-              let in-sent : getD past i false ≡ member (hashOf t i) sent =
-              c .each i l ∙ ap (λ (z : Bool). z || member (hashOf t i) sent) (blank .each i l)
-              in
-              d .each i l ∙ rw (in-body, in-sent);
+              let inside : i < length t = omega (arith, length-rows-at table 0 n) in
+              m .each i l ∙ rw (s .those .each i l, s .whole e, held-row t i inside);
         }
 
+    pub list-new : document ≡ false → (copy fresh : List Bool) → Marks n copy (λ i. getD marks i false)
+        → Marks n fresh (λ i. getD copy i false || member (hashOf (rowsAt table 0 n) i) (picked need needs))
+        → Marks n fresh (λ i. member (hashOf (rowsAt table 0 n) i) (chosenBy (rowsAt table 0 n) marks need needs) && not (member (hashOf (rowsAt table 0 n) i) sent))
+    list-new e copy fresh a b =
+        record {
+          each =
+              λ i l.
+              b .each i l ∙ ap (λ (z : Bool). z || member (hashOf t i) (picked need needs)) (a .each i l) ∙ row-of-body i l
+              ∙ split (member (hashOf t i) body) (λ h. rw (h, s .list e (hashOf t i) h)) (λ h. rw h);
+        }
+
+  module _ (fresh : List Bool) (fresh-rows : Marks n fresh (λ i. member (hashOf (rowsAt table 0 n) i) (chosenBy (rowsAt table 0 n) marks need needs) && not (member (hashOf (rowsAt table 0 n) i) sent))) where
     member-fresh : (y : ℕ) → member y (picked (rows t) fresh) ≡ (held t y && (member y body && not (member y sent)))
     member-fresh y =
         rw (rows-marked t fresh (λ k. getD fresh k false) (record { each = λ k q. refl }))

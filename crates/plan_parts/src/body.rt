@@ -4,16 +4,15 @@ use send::chosen::choose;
 use session_state::session::Heard;
 use table_graph::marks::set_marks;
 ghost use mathlib.Core.Bool.{true, cond, _&&_};
-ghost use mathlib.Core.List.{[]};
+ghost use mathlib.Core.List.{List, []};
 ghost use mathlib.Core.Path.{_≡_};
-ghost use Prim.Native.Nat.{_*_, _≤_};
+ghost use Prim.Native.Nat.{ℕ, _≤_};
 ghost use lib.ListN.{length};
 ghost use Rattle.bloom.specs.Have.{havesOf};
 ghost use Rattle.table_index.specs.Index.{Indexed};
 ghost use Rattle.session_check.specs.SessionGood.{heardGood, havesGood};
 ghost use Rattle.rules.specs.Hash.{hashesAt};
-ghost use Rattle.rules.specs.Sizes.{sizes};
-ghost use Rattle.send.specs.Internal.Chosen.{Choosable};
+ghost use Rattle.send.specs.Internal.Chosen.{SentRows, Choosable};
 ghost use Rattle.session.specs.Plan.{bodyFor, bodyHeard, listOf};
 ghost use Rattle.session_state.specs.Value.{heardCount, heardHashes, heardHaves};
 ghost use Rattle.table.specs.TableBytes.{rowsAt};
@@ -51,7 +50,7 @@ fn goes_whole(v2: bool, reason: bool) -> bool
     reason
 }
 
-// The body for haves and a need that were heard. `headless`: the peer is heard to have no heads.
+// The body for haves and a need that were heard. `headless`: the peer is heard to have no heads; `past`: the rows of the hashes that were sent.
 fn body_for(
     table: &[u8],
     index: &[u8],
@@ -62,16 +61,16 @@ fn body_for(
     haves: &[u64],
     need: &[u8],
     count: usize,
-    sent: &[u8],
-    before: usize,
+    past: &[bool],
     marks: &mut [bool],
     needs: &mut [bool],
 ) -> BodyCount
-    requires { ⌜ Choosable (now table) (now index) n (now «have_bytes») (now haves) (now need) 0 count × (sizes .hash * before ≤ length (now sent))
+    requires { ⌜ Choosable (now table) (now index) n (now «have_bytes») (now haves) (now need) 0 count × (n ≤ length (now past))
         × BlankBody n count (now marks) (now needs) ⌝ }
-    ensures { λ r. ⌜ BodyChosen (bodyFor (rowsAt (now (table .entry)) 0 n) v2 headless (havesOf (now («have_bytes» .entry)) (now (haves .entry)))
-        (hashesAt (now (need .entry)) 0 count) (hashesAt (now (sent .entry)) 0 before))
-        (rowsAt (now (table .entry)) 0 n) (now (marks .exit)) (hashesAt (now (need .entry)) 0 count) (now (needs .exit)) r ⌝ }
+    ensures { λ r. ⌜ ((sent : List ℕ) → SentRows (rowsAt (now (table .entry)) 0 n) n sent (now (past .entry))
+        → BodyChosen (bodyFor (rowsAt (now (table .entry)) 0 n) v2 headless (havesOf (now («have_bytes» .entry)) (now (haves .entry)))
+        (hashesAt (now (need .entry)) 0 count) sent)
+        (rowsAt (now (table .entry)) 0 n) (now (marks .exit)) (hashesAt (now (need .entry)) 0 count) (now (needs .exit)) r) ⌝ }
 {
     if goes_whole(v2, headless) {
         return mark_document(n, count, marks, needs);
@@ -85,8 +84,7 @@ fn body_for(
         need,
         0,
         count,
-        sent,
-        before,
+        past,
         marks,
         needs,
     );
@@ -112,17 +110,16 @@ pub fn mark_body(
     have: Heard,
     their_need: &[u8],
     need: Heard,
-    sent: &[u8],
-    before: usize,
+    past: &[bool],
     marks: &mut [bool],
     needs: &mut [bool],
 ) -> BodyCount
     requires { ⌜ Indexed (now table) (now index) n × (havesGood (now «have_bytes») (now haves) have ≡ true) × (heardGood (now «their_need») need ≡ true)
-        × (sizes .hash * before ≤ length (now sent)) × BlankBody n (heardCount need) (now marks) (now needs) ⌝ }
-    ensures { λ r. ⌜ BodyChosen (cond «peer_read_only» (listOf []) (bodyHeard (rowsAt (now (table .entry)) 0 n) v2 headless
-        (heardHaves (now («have_bytes» .entry)) (now (haves .entry)) have) (heardHashes (now («their_need» .entry)) need)
-        (hashesAt (now (sent .entry)) 0 before)))
-        (rowsAt (now (table .entry)) 0 n) (now (marks .exit)) (hashesAt (now («their_need» .entry)) 0 (heardCount need)) (now (needs .exit)) r ⌝ }
+        × (n ≤ length (now past)) × BlankBody n (heardCount need) (now marks) (now needs) ⌝ }
+    ensures { λ r. ⌜ ((sent : List ℕ) → SentRows (rowsAt (now (table .entry)) 0 n) n sent (now (past .entry))
+        → BodyChosen (cond «peer_read_only» (listOf []) (bodyHeard (rowsAt (now (table .entry)) 0 n) v2 headless
+        (heardHaves (now («have_bytes» .entry)) (now (haves .entry)) have) (heardHashes (now («their_need» .entry)) need) sent))
+        (rowsAt (now (table .entry)) 0 n) (now (marks .exit)) (hashesAt (now («their_need» .entry)) 0 (heardCount need)) (now (needs .exit)) r) ⌝ }
 {
     let none = BodyCount {
         document: false,
@@ -148,8 +145,7 @@ pub fn mark_body(
         kept,
         their_need,
         asked,
-        sent,
-        before,
+        past,
         marks,
         needs,
     )

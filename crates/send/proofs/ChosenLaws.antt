@@ -2,7 +2,7 @@
 -- row stays marked unless it was. With no have no row is answered, so every held need is kept and no row follows; otherwise the answered rows
 -- are S.
 use Prim.Native.Nat.{ℕ, zero, suc, _+_, _*_, _/_, _≤_, _<_}
-use mathlib.Core.Bool.{Bool, true, false, not, _||_, _&&_}
+use mathlib.Core.Bool.{Bool, true, false, not, _&&_}
 use mathlib.Core.List.{List, [], _∷_, _++_, append-nil, append-assoc}
 use mathlib.Core.Path.{_≡_, refl, sym, ap, _∙_}
 use native.Mathlib.Nat.{zero-add, not-suc-le-zero}
@@ -11,7 +11,6 @@ use lib.ListN.{length, getD, set, length-append}
 use lib.Seq.{sets}
 use Rattle.bloom.specs.Have.{Have, haveWords, havesFrom, havesOf}
 use Rattle.table_graph.proofs.GraphMarks.{many-rows, marked-rows}
-use Rattle.table_graph.proofs.MarkLaws.{blank-or}
 use Rattle.table_graph.proofs.PickLaws.{marks-picked, pick-keep, pick-none, keep-pick, rows-picked, rows-where, picked-count, pickLeft, left-all, left-taken, left-passed, left-none}
 use Rattle.table_graph.proofs.TurnLaws.{Turned, turn-set, turn-done}
 use Rattle.table_graph.specs.Internal.Marks.{Marks, Blank, marked, picked}
@@ -26,9 +25,9 @@ use Rattle.rules.specs.Sizes.{sizes}
 use Rattle.table.proofs.TableLaws.{length-rows-at, row-of-held, hash-of-held, member-of-index, unknown-of-index, index-at-most}
 use Rattle.table.specs.TableBytes.{rowsAt}
 use Rattle.table.specs.Table.{Row, GoodTable, rows, hashOf, rowNumber, indexIn, held, rowsWhere}
-use Rattle.send.specs.Internal.Chosen.{answeredRow, heldUnmarked, chosenBy, Chosen, Choosable}
+use Rattle.send.specs.Internal.Chosen.{answeredRow, heldUnmarked, chosenBy, SentRows, Chosen, Choosable}
 use Rattle.send.specs.ToSend.{toSend, toSendLess}
-use Rattle.send.proofs.SelectLaws.{less-none, less-most, sent-most}
+use Rattle.send.proofs.SelectLaws.{less-none, sent-most}
 
 -- ---- the rows that are answered
 
@@ -128,14 +127,10 @@ module _ (table : List ℕ) (n : ℕ) (good : GoodTable (rowsAt table 0 n)) (hav
   abbrev needed : List ℕ
   needed = hashesAt need place′ count
 
-  module _ (empty past members marks needs : List Bool) (none : Blank n empty)
-      (before : Marks n past (λ i. getD empty i false || member (hashOf t i) sent))
+  module _ (past members marks needs : List Bool) (sent-rows : SentRows t n sent past)
       (answer : Marks n members (answeredRow t haves))
       (asked : Marks count needs (λ k. heldUnmarked t members past (hashAt need (place′ + sizes .hash * k))))
       (left : Marks n marks (λ i. getD members i false && not (getD past i false))) where
-    sent-rows : Marks n past (λ i. member (hashOf t i) sent)
-    sent-rows = blank-or n empty past (λ i. member (hashOf t i) sent) none before
-
     row-less : (h : ℕ) → held t h ≡ true → Rattle.table.specs.Table.rowNumber t h < n
     row-less h e = omega (arith, row-of-held t h e, length-rows-at table 0 n)
 
@@ -181,23 +176,24 @@ module _ {l : List ℕ} {t : List Row} {marks : List Bool} {need : List ℕ} {ne
   chosen-put out after e = rw (so .list) at e
 
 -- where none was sent before
-pub chosen-all : {t : List Row} {marks : List Bool} {need : List ℕ} {needs : List Bool} {count : ℕ} (haves : List Have) (s : List ℕ)
-    → Chosen (toSendLess t haves need (hashesAt s 0 0)) t marks need needs count
+pub chosen-all : {t : List Row} {marks : List Bool} {need : List ℕ} {needs : List Bool} {count : ℕ} (haves : List Have) (n : ℕ) (past : List Bool)
+    → Blank n past
+    → ((sent : List ℕ) → SentRows t n sent past → Chosen (toSendLess t haves need sent) t marks need needs count)
     → Chosen (toSend t haves need) t marks need needs count
-unfolding hashesAt
-chosen-all {t} {need = need} haves s so = rw (less-none t haves need) at so
+unfolding member
+chosen-all {t} {need = need} haves n past none so = rw (less-none t haves need) at (so [] none)
 
 -- no more than may be sent at once
-pub chosen-most : (table index : List ℕ) (n : ℕ) (s haves need : List ℕ) (place′ count : ℕ) (sent : List ℕ) (marks needs : List Bool) (total : ℕ)
+pub chosen-most : (table index : List ℕ) (n : ℕ) (s haves need : List ℕ) (place′ count : ℕ) (marks needs : List Bool) (total : ℕ)
     → Choosable table index n s haves need place′ count
-    → Chosen (toSendLess (rowsAt table 0 n) (havesOf s haves) (hashesAt need place′ count) sent) (rowsAt table 0 n) marks (hashesAt need place′ count) needs total
+    → Chosen (toSend (rowsAt table 0 n) (havesOf s haves) (hashesAt need place′ count)) (rowsAt table 0 n) marks (hashesAt need place′ count) needs total
     → total ≤ sizes .hashesToSend
-chosen-most table index n s haves need place′ count sent marks needs total c so =
+chosen-most table index n s haves need place′ count marks needs total c so =
     let t : List Row = rowsAt table 0 n in
     let hs : List ℕ = hashesAt need place′ count in
     let rows′ : length t ≤ sizes .rows = rw (length-rows-at table 0 n) (c .rows .rows .few) in
     let needs′ : length hs ≤ sizes .hashes = rw (length-hashes-at need place′ count) (c .few) in
-    omega (arith, so .many, less-most t (havesOf s haves) hs sent, sent-most t (havesOf s haves) hs rows′ needs′)
+    omega (arith, so .many, sent-most t (havesOf s haves) hs rows′ needs′)
 
 append-bytes : (a b : List ℕ) → hashesBytes (a ++ b) ≡ hashesBytes a ++ hashesBytes b
 unfolding hashesBytes

@@ -2,15 +2,14 @@
 use bloom::have::HAVE_WORDS;
 use hash_order::hashes::put_hash;
 use rules::sizes::HASH_SIZE;
-use rules::sizes::ROWS;
 use send_members::members::mark_s;
 use table_graph::marked::count_marked;
 use table_graph::marked::put_marked;
-use table_graph::marks::mark_list;
 use table_graph::marks::unmark;
 use table_index::look::look_up;
+ghost use mathlib.Core.List.{List};
 ghost use mathlib.Core.Path.{_≡_};
-ghost use Prim.Native.Nat.{_+_, _*_, _≤_};
+ghost use Prim.Native.Nat.{ℕ, _+_, _*_, _≤_};
 ghost use lib.ListN.{length};
 ghost use lib.Seq.{sets};
 ghost use Rattle.bloom.specs.Have.{havesOf, GoodFilters};
@@ -20,7 +19,7 @@ ghost use Rattle.rules.specs.Sizes.{sizes};
 ghost use Rattle.table.specs.TableBytes.{rowsAt, GoodRows};
 ghost use Rattle.table_graph.specs.Internal.Marks.{Marks, Blank, marked, picked};
 ghost use Rattle.send_members.specs.Internal.Members.{SyncsInside};
-ghost use Rattle.send.specs.Internal.Chosen.{answeredRow, heldUnmarked, chosenBy, Chosen, Choosable};
+ghost use Rattle.send.specs.Internal.Chosen.{answeredRow, heldUnmarked, chosenBy, SentRows, Chosen, Choosable};
 ghost use Rattle.send.specs.ToSend.{toSendLess};
 
 // Marks the rows that are sent without being needed: S, or none where there is no have.
@@ -92,7 +91,7 @@ fn mark_needs(
 }
 
 // Chooses what is to be sent, less the hashes that were sent before, and returns how many it is: a mark for each need, and one for each row that
-// follows them. The rows of the sent hashes are looked up once, so that a need costs one look-up.
+// follows them. The rows of the sent hashes come as marks, so that a need costs one look-up.
 pub fn choose(
     table: &[u8],
     index: &[u8],
@@ -102,22 +101,20 @@ pub fn choose(
     need: &[u8],
     place: usize,
     count: usize,
-    sent: &[u8],
-    before: usize,
+    past: &[bool],
     marks: &mut [bool],
     needs: &mut [bool],
 ) -> usize
-    requires { ⌜ Choosable (now table) (now index) n (now bytes) (now haves) (now need) place count × (sizes .hash * before ≤ length (now sent))
+    requires { ⌜ Choosable (now table) (now index) n (now bytes) (now haves) (now need) place count × (n ≤ length (now past))
         × (n ≤ length (now marks)) × Blank n (now marks) × (count ≤ length (now needs)) ⌝ }
-    ensures { λ r. ⌜ Chosen (toSendLess (rowsAt (now (table .entry)) 0 n) (havesOf (now (bytes .entry)) (now (haves .entry)))
-        (hashesAt (now (need .entry)) place count) (hashesAt (now (sent .entry)) 0 before))
-        (rowsAt (now (table .entry)) 0 n) (now (marks .exit)) (hashesAt (now (need .entry)) place count) (now (needs .exit)) r ⌝ }
+    ensures { λ r. ⌜ ((sent : List ℕ) → SentRows (rowsAt (now (table .entry)) 0 n) n sent (now (past .entry))
+        → Chosen (toSendLess (rowsAt (now (table .entry)) 0 n) (havesOf (now (bytes .entry)) (now (haves .entry)))
+        (hashesAt (now (need .entry)) place count) sent)
+        (rowsAt (now (table .entry)) 0 n) (now (marks .exit)) (hashesAt (now (need .entry)) place count) (now (needs .exit)) r) ⌝ }
 {
-    let mut past = [false; ROWS];
-    mark_list(table, index, n, sent, 0, before, &mut past);
     mark_answer(table, index, n, bytes, haves, marks);
-    mark_needs(table, index, n, need, place, count, marks, &past, needs);
-    unmark(n, marks, &past);
+    mark_needs(table, index, n, need, place, count, marks, past, needs);
+    unmark(n, marks, past);
     count_marked(count, needs) + count_marked(n, marks)
 }
 

@@ -22,7 +22,7 @@ ghost use Rattle.table.specs.TableBytes.{rowsAt};
 ghost use Rattle.send.specs.Internal.Chosen.{Choosable};
 ghost use Rattle.send.specs.ToSend.{toSend, sendNeeds, toSendOutput};
 
-// The hashes to send for a table, haves and a need list that have been checked. No hash was sent before: the first none of any buffer.
+// The hashes to send for a table, haves and a need list that have been checked. No hash was sent before.
 pub fn put_to_send(
     table: &[u8],
     index: &[u8],
@@ -38,6 +38,7 @@ pub fn put_to_send(
     ensures { λ r. ⌜ Written (Output.bytes (hashesBytes (toSend (rowsAt (now (table .entry)) 0 n) (havesOf (now (bytes .entry)) (now (haves .entry)))
         (hashesAt (now (need .entry)) place count)))) (now (out .entry)) (now (out .exit)) r ⌝ }
 {
+    let past = [false; ROWS];
     let mut marks = [false; ROWS];
     let mut needs = [false; HASHES];
     let total = choose(
@@ -49,8 +50,7 @@ pub fn put_to_send(
         need,
         place,
         count,
-        need,
-        0,
+        &past,
         &mut marks,
         &mut needs,
     );

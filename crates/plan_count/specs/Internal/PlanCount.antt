@@ -64,6 +64,7 @@ pub record BlankMarks (n count : ℕ) (headMarks haveMarks marks needs fresh : L
   pub noHave : Blank n haveMarks
   pub body : BlankBody n count marks needs
   pub freshLong : n ≤ length fresh
+  pub noFresh : Blank n fresh
 
 -- The marks name the parts of a plan, and its numbers count them.
 pub record PlanMarked (t : List Row) (n : ℕ) (s : State) (need : List ℕ) (headMarks haveMarks marks needs fresh : List Bool) (d : Draft) : Type 0 where

@@ -11,7 +11,7 @@ use Rattle.table_graph.specs.Internal.Marks.{Marks, Blank, marked, picked}
 use Rattle.hash_order.specs.Order.{member, every, ascend}
 use Rattle.hash_refs.specs.Internal.Refs.{foundBy, FoundRefs}
 use Rattle.rules.specs.Sizes.{sizes}
-use Rattle.send.specs.Internal.Chosen.{Chosen}
+use Rattle.send.specs.Internal.Chosen.{SentRows, Chosen}
 use Rattle.session.specs.Plan.{Body, heard}
 use Rattle.table.specs.Table.{Row, rows, hashOf}
 use Rattle.plan_parts.specs.declared.body.BodyCount.{BodyCount}
@@ -58,6 +58,12 @@ pub record DocumentMarked (n count : ℕ) (marks needs : List Bool) (r : BodyCou
 pub record BodyChosen (b : Body) (t : List Row) (marks : List Bool) (need : List ℕ) (needs : List Bool) (r : BodyCount) : Type 0 where
   pub document : r .document ≡ b .document
   pub hashes : Chosen (b .hashes) t marks need needs (r .hashes)
+
+-- The rows of hashes that were sent are marked, and a body beside them is the document, which every row is in, or a list that has none of them.
+pub record SentBeside (t : List Row) (n : ℕ) (document : Bool) (body sent : List ℕ) (past : List Bool) : Type 0 where
+  pub those : SentRows t n sent past
+  pub whole : document ≡ true → body ≡ rows t
+  pub list : document ≡ false → (h : ℕ) → member h body ≡ true → member h sent ≡ false
 
 -- The rows of a body that weren't sent are marked, and it is counted how many hashes are sent with them.
 pub record FreshMarked (t : List Row) (n : ℕ) (body sent : List ℕ) (fresh : List Bool) (count : ℕ) : Type 0 where

@@ -6,9 +6,10 @@ use mathlib.Core.Path.{_≡_}
 use lib.ListN.{length, getD}
 use Rattle.bloom.specs.Have.{Have, GoodFilters}
 use Rattle.table_index.specs.Index.{Indexed}
+use Rattle.hash_order.specs.Order.{member}
 use Rattle.rules.specs.Sizes.{sizes}
-use Rattle.table.specs.Table.{Row, rows, held, rowNumber}
-use Rattle.table_graph.specs.Internal.Marks.{picked}
+use Rattle.table.specs.Table.{Row, rows, hashOf, held, rowNumber}
+use Rattle.table_graph.specs.Internal.Marks.{Marks, picked}
 use Rattle.send_members.specs.Internal.Members.{inTheS, SyncsInside}
 
 -- The rows that are sent without being needed: S, or none where there is no have.
@@ -19,6 +20,10 @@ answeredRow t (h ∷ hs) i = inTheS t (h ∷ hs) i
 -- A hash whose row neither marks name.
 unfoldable pub heldUnmarked : List Row → List Bool → List Bool → ℕ → Bool
 heldUnmarked t members past h = held t h && (not (getD members (rowNumber t h) false) && not (getD past (rowNumber t h) false))
+
+-- The rows of hashes that were sent are marked.
+abbrev pub SentRows : List Row → ℕ → List ℕ → List Bool → Type 0
+SentRows t n sent past = Marks n past (λ i. member (hashOf t i) sent)
 
 -- The needs that are marked in their order, then the marked rows in table order.
 unfoldable pub chosenBy : List Row → List Bool → List ℕ → List Bool → List ℕ

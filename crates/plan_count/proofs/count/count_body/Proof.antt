@@ -1,9 +1,15 @@
--- `plan_count::count::count_body` meets its contract: what was chosen is what goes in a message, and its hashes are rows (CountLaws). Assumes nothing.
+-- `plan_count::count::count_body` meets its contract: what was chosen is what goes in a message, its hashes are rows, and it stands beside what was sent
+-- (CountLaws). Assumes nothing.
 use native.Mathlib.Omega.{arith}
 use borrow.Author.Needs.{needs}
-use Rattle.plan_count.proofs.CountLaws.{chosen-held, need-there, body-counted}
+use Rattle.table_graph.proofs.MarkLaws.{blank-or}
+use Rattle.rules.proofs.Hash.{length-hashes-at}
+use Rattle.plan_count.proofs.CountLaws.{chosen-held, chosen-beside, need-there, body-counted}
 use Rattle.plan_count.proofs.count.count_body.Statement.{statement}
 use Rattle.plan_count.proofs.count.count_body.Tie as tie
+
+mark-list-requires : tie.Need-mark-list-requires
+mark-list-requires c κs = search needs
 
 heard-none-requires : tie.Need-heard-none-requires
 heard-none-requires c κs = search needs
@@ -18,11 +24,20 @@ mark-fresh-requires : tie.Need-mark-fresh-requires
 mark-fresh-requires c κs =
     let k = c .before .before in
     let b = k .before .before .before .before .before .before in
-    let none = b .before .before .before in
-    let start = none .before .before .before .before .before .before .before .before .before .before in
+    let none = b .before .before .before .before in
+    let l = none .before .before .before in
+    let start = l .before .before .before .before .before .before .before .before .before .before .before in
     let r = start .pre .0 in
     let blank = start .pre .1 in
-    (r .rows, omega (arith, blank .rowMarks, b .mark-body .kept .1 .1 .1 .1 .1 .1 .1 .1 .1 .1 .1 .1 .1 .0), need-there r (none .heard-none .ensures) (b .mark-body .ensures) _ (k .heard-count .ensures), omega (arith, blank .needMarks, k .heard-count .ensures, b .mark-body .kept .1 .1 .1 .1 .1 .1 .1 .1 .1 .1 .1 .1 .1 .1 .0), r .there, r .few, start .pre .2, r .ascending, chosen-held r (none .heard-none .ensures) (b .mark-body .ensures) _ (k .heard-count .ensures))
+    let past = blank-or _ _ _ _ (start .pre .3) (l .mark-list .ensures) in (
+      r .rows,
+      omega (arith, blank .rowMarks, b .mark-body .kept .1 .1 .1 .1 .1 .1 .1 .1 .1 .1 .1 .1 .0),
+      need-there r (none .heard-none .ensures) (b .mark-body .ensures _ past) _ (k .heard-count .ensures),
+      omega (arith, blank .needMarks, k .heard-count .ensures, b .mark-body .kept .1 .1 .1 .1 .1 .1 .1 .1 .1 .1 .1 .1 .1 .0),
+      r .few,
+      omega (arith, start .pre .2, l .mark-list .kept .1 .1 .1 .1 .1 .1 .0),
+      chosen-held r (none .heard-none .ensures) (b .mark-body .ensures _ past) _ (k .heard-count .ensures),
+    )
 
 same-length : tie.Need-same-length
 same-length c = search needs
@@ -38,16 +53,22 @@ returns c =
     let f = c .before .before in
     let k = f .before .before .before in
     let b = k .before .before .before .before .before .before in
-    let none = b .before .before .before in
-    let start = none .before .before .before .before .before .before .before .before .before .before in
+    let none = b .before .before .before .before in
+    let l = none .before .before .before in
+    let start = l .before .before .before .before .before .before .before .before .before .before .before in
+    let r = start .pre .0 in
     let blank = start .pre .1 in
-    body-counted (start .pre .0) (none .heard-none .ensures) (b .mark-body .ensures) _ (k .heard-count .ensures)
-    (omega (arith, blank .rowMarks, b .mark-body .kept .1 .1 .1 .1 .1 .1 .1 .1 .1 .1 .1 .1 .1 .0)) (omega (arith, blank .needMarks, b .mark-body .kept .1 .1 .1 .1 .1 .1 .1 .1 .1 .1 .1 .1 .1 .1 .0)) (f .mark-fresh .ensures)
+    let past = blank-or _ _ _ _ (start .pre .3) (l .mark-list .ensures) in
+    let chosen = b .mark-body .ensures _ past in
+    body-counted r (none .heard-none .ensures) chosen _ (k .heard-count .ensures)
+    (omega (arith, blank .rowMarks, b .mark-body .kept .1 .1 .1 .1 .1 .1 .1 .1 .1 .1 .1 .1 .0)) (omega (arith, blank .needMarks, b .mark-body .kept .1 .1 .1 .1 .1 .1 .1 .1 .1 .1 .1 .1 .1 .0))
+    (f .mark-fresh .ensures _ (chosen-beside r (none .heard-none .ensures) chosen _ (k .heard-count .ensures) past) (r .ascending) (length-hashes-at _ _ _))
 
 pub count-body-spec : {M : Type 1} → statement M
 count-body-spec =
     tie.close
     (tie.spec
+    mark-list-requires
     heard-none-requires
     mark-body-requires
     heard-count-requires

@@ -26,7 +26,7 @@ unknown-sync-requires c κs =
 count-body-requires : tie.Need-count-body-requires
 count-body-requires c κs =
     let pre = c .before .before .before .before .before .before .before .before .before .before .before .before .before .before .before .before .before .before .before .before .before .before .before .before .before .before .before .before .pre in
-    (body-ready _ _ (pre .0) (pre .1), pre .2 .body, pre .2 .freshLong)
+    (body-ready _ _ (pre .0) (pre .1), pre .2 .body, pre .2 .freshLong, pre .2 .noFresh)
 
 is-quiet-requires : tie.Need-is-quiet-requires
 is-quiet-requires c κs =

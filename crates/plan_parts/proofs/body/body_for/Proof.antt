@@ -22,7 +22,7 @@ returns : tie.Need-returns
 returns c =
     let p = c .before .before .before .before in
     let t = p .before .before .before in
-    body-headless _ _ _ _ _ _ _ _ _ (sym (t .before .goes-whole .ensures) ∙ t .if1 .taken) (document-chosen _ _ _ _ _ _ _ (p .mark-document .ensures))
+    λ sent past. body-headless _ _ _ _ _ _ _ _ _ (sym (t .before .goes-whole .ensures) ∙ t .if1 .taken) (document-chosen _ _ _ _ _ _ _ (p .mark-document .ensures))
 
 choose-requires : tie.Need-choose-requires
 choose-requires c κs = search needs
@@ -45,7 +45,7 @@ returns-2 c =
     let t = p .before .before .before in
     let l = t .before .before .before .before .before .before in
     let e = l .before .before .before in
-    body-long _ _ _ _ _ _ _ _ _ _ (sym (e .before .goes-whole .ensures) ∙ e .if1 .left) (length-rows-at _ _ _) (l .choose .ensures)
+    λ sent past. body-long _ _ _ _ _ _ _ _ _ _ (sym (e .before .goes-whole .ensures) ∙ e .if1 .left) (length-rows-at _ _ _) (l .choose .ensures sent past)
     (sym (t .before .goes-whole2 .ensures) ∙ t .if2 .taken) _ _ _ (document-chosen _ _ _ _ _ _ _ (p .mark-document2 .ensures))
 
 same-length-5 : tie.Need-same-length-5
@@ -58,7 +58,7 @@ returns-3 : tie.Need-returns-3
 returns-3 c =
     let l = c .before .before .before .before .before .before in
     let e = l .before .before .before in
-    body-list _ _ _ _ _ _ _ _ _ _ (sym (e .before .goes-whole .ensures) ∙ e .if1 .left) (length-rows-at _ _ _) (l .choose .ensures)
+    λ sent past. body-list _ _ _ _ _ _ _ _ _ _ (sym (e .before .goes-whole .ensures) ∙ e .if1 .left) (length-rows-at _ _ _) (l .choose .ensures sent past)
     (sym (c .before .goes-whole2 .ensures) ∙ c .if2 .left)
 
 pub body-for-spec : {M : Type 1} → statement M

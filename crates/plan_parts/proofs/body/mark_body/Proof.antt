@@ -8,7 +8,7 @@ use Rattle.plan_parts.proofs.body.mark_body.Statement.{statement}
 use Rattle.plan_parts.proofs.body.mark_body.Tie as tie
 
 returns : tie.Need-returns
-returns c = peer-closed _ _ _ _ _ _ _ (c .if1 .taken) (none-chosen _ _ _ _ _ _ (c .before .before .before .before .before .before .before .before .before .pre .4))
+returns c = λ sent past. peer-closed _ _ _ _ _ _ _ (c .if1 .taken) (none-chosen _ _ _ _ _ _ (c .before .before .before .before .before .before .before .before .before .pre .4))
 
 enum-known-have : tie.Need-enum-known-have
 enum-known-have c = search needs
@@ -18,7 +18,7 @@ enum-told c = search needs
 
 returns-2 : tie.Need-returns-2
 returns-2 c =
-    peer-open _ _ _ _ _ _ _ (c .before .before .if1 .left) (no-have _ _ _ _ _ _ _ _ _ _ _ _ (c .enum-told .given .1) (none-chosen _ _ _ _ _ _ (c .before .before .before .before .before .before .before .before .before .before .before .pre .4)))
+    λ sent past. peer-open _ _ _ _ _ _ _ (c .before .before .if1 .left) (no-have _ _ _ _ _ _ _ _ _ _ _ _ (c .enum-told .given .1) (none-chosen _ _ _ _ _ _ (c .before .before .before .before .before .before .before .before .before .before .before .pre .4)))
 
 enum-known-need : tie.Need-enum-known-need
 enum-known-need c = search needs
@@ -29,7 +29,7 @@ enum-told-2 c = search needs
 returns-3 : tie.Need-returns-3
 returns-3 c =
     let h = c .before .before .before in
-    peer-open _ _ _ _ _ _ _ (h .before .before .if1 .left)
+    λ sent past. peer-open _ _ _ _ _ _ _ (h .before .before .if1 .left)
     (no-need _ _ _ _ _ _ _ _ _ _ _ _ _ (h .have .given .1) (c .enum-told2 .given .1) (none-chosen _ _ _ _ _ _ (c .before .before .before .before .before .before .before .before .before .before .before .before .before .before .pre .4)))
 
 mul-kept : tie.Need-mul-kept
@@ -63,8 +63,8 @@ returns-4 c =
     let p = c .before .before .before .before in
     let n = p .before .before .before .before .before in
     let h = n .before .before .before in
-    peer-open _ _ _ _ _ _ _ (h .before .before .if1 .left)
-    (both-heard _ _ _ _ _ _ _ _ _ _ _ _ _ _ (h .have .given .1) (n .need .given .1) (p .body-for .ensures))
+    λ sent past. peer-open _ _ _ _ _ _ _ (h .before .before .if1 .left)
+    (both-heard _ _ _ _ _ _ _ _ _ _ _ _ _ _ (h .have .given .1) (n .need .given .1) (p .body-for .ensures sent past))
 
 pub mark-body-spec : {M : Type 1} → statement M
 mark-body-spec =
