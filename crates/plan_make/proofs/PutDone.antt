@@ -1,7 +1,7 @@
 -- What was counted has room where it is put, and once it is put it is what the call promises. Assumes nothing.
 use Prim.Native.Nat.{ℕ, _+_, _*_, _≤_}
 use mathlib.Core.Bool.{Bool, true, false}
-use mathlib.Core.List.{List}
+use mathlib.Core.List.{List, []}
 use mathlib.Core.Option.{Option}
 use mathlib.Core.Path.{_≡_, sym, ap, _∙_}
 use native.Mathlib.Omega.{arith}
@@ -24,16 +24,16 @@ use Rattle.table_graph.specs.Internal.Marks.{marked, picked}
 use Rattle.table_index.specs.Index.{Indexed}
 use Rattle.session_check.proofs.GoodSessions.{list-parts, session-tests, session-parts}
 use Rattle.session_check.specs.SessionGood.{heardGood, sessionGood}
-use Rattle.hash_order.specs.Order.{member}
+use Rattle.hash_order.specs.Order.{member, every}
 use Rattle.hash_refs.specs.Internal.Refs.{foundBy, FoundRefs}
 use Rattle.session.specs.PlanCall.{Buffers, buffersOf}
 use Rattle.session.specs.declared.plan_answer.PlanAnswer.{PlanAnswer}
 use Rattle.session.specs.declared.plan_answer.Rooms.{Rooms}
-use Rattle.plan_parts.specs.Internal.PlanParts.{SettingGood, NeedFound}
+use Rattle.plan_parts.specs.Internal.PlanParts.{SettingGood, NeedCounted, NeedFound}
 use Rattle.plan_parts.specs.declared.need.Asked.{Asked}
 use Rattle.rules.proofs.Cases.{split, both}
 use Rattle.rules.proofs.Hash.{length-hashes-at}
-use Rattle.rules.specs.Hash.{hashesAt}
+use Rattle.rules.specs.Hash.{hashesAt, hashesBytes}
 use Rattle.rules.specs.Sizes.{sizes}
 use Rattle.send.specs.Internal.Chosen.{chosenBy}
 use Rattle.session.specs.Plan.{bodyOf, sentAfter}
@@ -216,6 +216,15 @@ module _ {table index : List ℕ} {n : ℕ} (s : Session) (l : Lent) (rows : Ind
               }
 
 -- ---- what is asked for
+
+-- nothing
+pub nothing-counted : {l : List ℕ} {theirs : Option (List ℕ)} → l ≡ [] → NeedCounted l theirs (record { heads = 0; count = 0; heard = true })
+unfolding every
+nothing-counted e = record { within = omega arith; all = λ few. rw e; many = λ more. absurd (omega arith); each = λ few. rw e }
+
+pub nothing-put : {l : List ℕ} → l ≡ [] → (count : ℕ) (buffer : List ℕ) → buffer ≡ listPut count l buffer
+unfolding unlessNone hashesBytes
+nothing-put e count buffer = split (eqb count 0) (λ z. rw (e, z)) (λ z. rw (e, z))
 
 module _ {theirHeads waiting refs l : List ℕ} {theirs : Option (List ℕ)} {a : Asked} (found : NeedFound theirHeads waiting refs l theirs a) {p : Puts} (r : PlanAnswer)
     (q : p ≡ putsOf r) {room : ℕ}

@@ -3,6 +3,7 @@ use plan_count::count::count_plan;
 use plan_decide::decide::decide;
 use plan_decide::puts::puts_of;
 use plan_parts::need::Asked;
+use plan_parts::need::asks_nothing;
 use plan_parts::need::find_need;
 use plan_put::put::put_message;
 use plan_put::put::put_need;
@@ -133,7 +134,8 @@ fn plan_asked(
     planned
 }
 
-// The plan for a session and tables that have been checked, the waiting rows in order. What is asked for is found by its numbers, and put last.
+// The plan for a session and tables that have been checked, the waiting rows in order. What is asked for is found by its numbers, for which there is room
+// only where something may be, and put last.
 pub fn plan_checked(
     setting: Setting,
     session: Session,
@@ -170,6 +172,32 @@ pub fn plan_checked(
         (buffersOf (now (heads .exit)) (now (need .exit)) (now (have .exit)) (now (list .exit))) r ⌝ }
 {
     let heard = session.their_heads;
+    if asks_nothing(table, index, n, session.read_only, their_heads, heard) {
+        let nothing = Asked {
+            heads: 0,
+            count: 0,
+            heard: true,
+        };
+        return plan_asked(
+            setting,
+            session,
+            table,
+            index,
+            n,
+            nothing,
+            need.len(),
+            shared,
+            last_sent,
+            their_heads,
+            their_need,
+            haves,
+            have_bytes,
+            sent,
+            heads,
+            have,
+            list,
+        );
+    }
     let mut refs = [0u32; FOUND];
     let asked = find_need(
         table,

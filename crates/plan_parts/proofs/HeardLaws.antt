@@ -3,7 +3,7 @@
 use Prim.Native.Nat.{ℕ, zero, suc, _+_, _*_, _≤_}
 use mathlib.Core.Bool.{Bool, true, false, cond}
 use mathlib.Core.List.{List, []}
-use mathlib.Core.Path.{_≡_, refl, ap, _∙_}
+use mathlib.Core.Path.{_≡_, refl, sym, ap, _∙_}
 use native.Mathlib.Omega.{arith}
 use borrow.Author.Tests.{ne-eqb}
 use lib.Dec.{eqb}
@@ -12,10 +12,11 @@ use Rattle.session_check.proofs.GoodSessions.{list-parts}
 use Rattle.session_check.specs.SessionGood.{heardGood}
 use Rattle.hash_lists.specs.Lists.{same}
 use Rattle.waiting_missing.proofs.FoundLaws.{found-many, refs-many, refs-all}
-use Rattle.waiting_missing.proofs.MissingLaws.{missing-of-nothing}
+use Rattle.waiting_missing.proofs.MissingLaws.{missing-held, missing-of-nothing}
 use Rattle.waiting_missing.specs.Internal.Take.{RefsFound}
 use Rattle.waiting_missing.specs.Missing.{missing}
 use Rattle.waiting_missing.specs.declared.missing.FoundCount.{FoundCount}
+use Rattle.hash_order.proofs.KeepLaws.{every-member}
 use Rattle.hash_order.specs.Order.{member, every}
 use Rattle.rules.proofs.Cases.{split}
 use Rattle.rules.specs.Hash.{hashesAt}
@@ -24,7 +25,7 @@ use Rattle.session.specs.Plan.{heard, heardAs, needOf}
 use Rattle.session_state.specs.Value.{heardCount, heardHashes}
 use Rattle.session_state.specs.declared.session.Heard.the-variants.{Nothing, Count}
 use Rattle.session_state.specs.declared.session.Heard.{Heard}
-use Rattle.table.specs.Table.{Row}
+use Rattle.table.specs.Table.{Row, held}
 use Rattle.waiting.specs.Waiting.{Waiting}
 use Rattle.plan_parts.specs.Internal.PlanParts.{NeedFound}
 
@@ -64,6 +65,10 @@ module _ (s : List ℕ) (readOnlyUnit : Bool) (h : Heard) (k : ℕ) (e : k ≡ c
   unfolding needOf hashesAt
   need-asked t w =
       split readOnlyUnit (λ r. rw (none-asked r, r) (missing-of-nothing t w)) (λ r. rw (r, heard-list s h k (all-asked r)))
+
+  -- nothing is missing from held heads
+  pub nothing-asked : (t : List Row) → every (held t) (hashesAt s 0 k) ≡ true → (w : List Waiting) → needOf t w readOnlyUnit (heard (heardHashes s h)) ≡ []
+  nothing-asked t all w = sym (need-asked t w) ∙ missing-held t w (hashesAt s 0 k) (every-member (held t) (hashesAt s 0 k) all)
 
   -- heads that aren't asked for don't count: then nothing is
   heard-asked : (t : List Row) (w : List Waiting)

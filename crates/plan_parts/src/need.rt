@@ -1,9 +1,11 @@
 // What a unit asks for.
+use hash_lists::compare::all_held;
 use session_state::session::Heard;
 use session_state::session::heard_count;
 use waiting::find::ORDER_SIZE;
 use waiting_missing::missing::find_in_order;
 ghost use mathlib.Core.Bool.{cond, true};
+ghost use mathlib.Core.List.{List, []};
 ghost use mathlib.Core.Path.{_≡_};
 ghost use Prim.Native.Nat.{_+_};
 ghost use lib.ListN.{length};
@@ -14,6 +16,7 @@ ghost use Rattle.session.specs.Plan.{heard, needOf};
 ghost use Rattle.session_state.specs.Value.{heardCount, heardHashes};
 ghost use Rattle.table.specs.TableBytes.{rowsAt};
 ghost use Rattle.table.specs.declared.check.Checked.the-variants.{Good};
+ghost use Rattle.waiting.specs.Waiting.{Waiting};
 ghost use Rattle.waiting.specs.WaitingBytes.{waitingOf, waitingChecked, Sorted};
 ghost use Rattle.plan_parts.specs.Internal.PlanParts.{NeedFound};
 
@@ -32,6 +35,23 @@ fn asked_heads(read_only: bool, heads: Heard) -> usize
         return 0;
     }
     heard_count(heads)
+}
+
+// Whether each head that is asked for is held: nothing is missing then, whatever waits, and no room is wanted for the numbers of what is.
+pub fn asks_nothing(
+    table: &[u8],
+    index: &[u8],
+    n: usize,
+    read_only: bool,
+    their_heads: &[u8],
+    heads: Heard,
+) -> bool
+    requires { ⌜ Indexed (now table) (now index) n × (heardGood (now «their_heads») heads ≡ true) ⌝ }
+    ensures { λ r. ⌜ (r ≡ true → (w : List Waiting)
+        → needOf (rowsAt (now (table .entry)) 0 n) w «read_only» (heard (heardHashes (now («their_heads» .entry)) heads)) ≡ []) ⌝ }
+{
+    let entries = asked_heads(read_only, heads);
+    all_held(table, index, n, their_heads, 0, entries)
 }
 
 // What is missing from the heads that were heard, by the numbers of its hashes: those of the heads come first, so nothing else is asked for exactly if
