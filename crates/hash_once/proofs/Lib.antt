@@ -1,2 +1,3 @@
-pub mod GatherLaws
-pub mod OnceLaws
+pub mod InsertLaws
+pub mod OrderLaws
+pub mod PutLaws

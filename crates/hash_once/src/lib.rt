@@ -1,8 +1,8 @@
-// Hashes gathered each once: they stand as they came, and an order of two-byte entries names them ascending.
+// Hashes that stand each once, ascending, at the start of a list: they are put in order there, and more are put in among them.
 //
-//   hashes   0: c    1: a    2: d    3: b
-//   order    1       3       0       2
+//   list     b d │ a c b       the first two stand in order, a is next
+//            a b d │ c b       a goes to its place, and those from there on one up
 //
-// Whether a hash is there is found by halving over the order, and a new one moves entries only, never hashes.
-pub mod gather;
-pub mod put;
+// All of it is done in place, since a list of hashes is too much to have twice.
+pub mod insert;
+pub mod order;

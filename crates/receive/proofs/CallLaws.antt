@@ -40,7 +40,7 @@ use Rattle.receive_make.specs.declared.check.ReceiptChecks.the-variants as chec
 use Rattle.receive_decide.specs.declared.decide.ReceivedCounts.{ReceivedCounts}
 use Rattle.receive.proofs.DraftLaws.{forgets-most, Drafted, draft-small, sent-is, shared-is}
 use Rattle.receive.proofs.Outcomes.{Outcome, Outcomes, outcome, same-answer}
-use Rattle.receive.proofs.KeptLaws.{shared-few, shared-fits, heard-fits, parts-kept}
+use Rattle.receive.proofs.KeptLaws.{shared-fits, heard-fits, parts-kept}
 use Rattle.receive_make.proofs.SaidLaws.{read-words, read-receives}
 use Rattle.receive_make.proofs.MakeLaws.{keeps-there, left-trimmed}
 use Rattle.receive_shared.specs.Internal.Shared.{sharedThen}
@@ -151,6 +151,7 @@ module _ (s : Session) (l : Lent) (table index : List ℕ) (n before : ℕ) (mes
         upTo = ok .inside;
         placed = ok .read;
         shared = g .shared .there;
+        sharedFew = g .shared .few;
         sent = omega (arith, g .sent .there);
       })
 
@@ -240,7 +241,6 @@ module _ (s : Session) (l : Lent) (table index : List ℕ) (n before : ℕ) (mes
               -- what putting asks
               pub can-share : Bytes message → Indexed table index n × (before ≤ n) × (sizes .hash * s .«shared_heads» ≤ length (l .shared))
                   × (p .heads .start + sizes .hash * p .heads .count ≤ length message)
-                  × (length (sharedThen known loads before (rowsAt table 0 n) (saidAt message p .heads) (hashesAt (l .shared) 0 (s .«shared_heads»))) ≤ sizes .hashes)
                   × (sizes .hash * length (sharedThen known loads before (rowsAt table 0 n) (saidAt message p .heads) (hashesAt (l .shared) 0 (s .«shared_heads»)))
                   ≤ length (l .shared))
               can-share all = (
@@ -248,7 +248,6 @@ module _ (s : Session) (l : Lent) (table index : List ℕ) (n before : ℕ) (mes
                 ok .inside,
                 session-parts s l (ok .good) .shared .there,
                 can-mark .1,
-                rw shared-same (shared-few s l (ok .good) table n before (ok .inside) message p (ok .read) ready d drafted all few room),
                 rw shared-same (shared-fits s l (ok .good) table n before (ok .inside) message p (ok .read) ready d drafted all few room),
               )
 

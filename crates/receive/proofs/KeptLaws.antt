@@ -112,10 +112,7 @@ module _ (s : Session) (l : Lent) (good : sessionGood s l ≡ true) (table : Lis
     words-ready : take (haveWords * d .haves) ready ≡ havesWords message p
     words-ready = rw (made .haves) (made .words .words)
 
-    -- the shared heads are few and have room
-    pub shared-few : length (sharedAfter before t v m) ≤ sizes .hashes
-    shared-few = omega (arith, shared-count s l good table n before inside message p read ready d made few)
-
+    -- the shared heads have room
     pub shared-fits : sizes .hash * length (sharedAfter before t v m) ≤ length (l .shared)
     shared-fits = omega (arith, shared-count s l good table n before inside message p read ready d made few, roomy d (receivedRooms l) room .shared)
 

@@ -35,9 +35,6 @@ module _ (all loads : Bool) (before : ℕ) (t : List Row) (theirs shared : List 
 pub counted-same : (a b : List ℕ) (count : ℕ) → a ≡ b → Counted a count → Counted b count
 counted-same a b count e c = rw e at c
 
-pub few-same : (a b : List ℕ) (most : ℕ) → a ≡ b → length b ≤ most → length a ≤ most
-few-same a b most e h = rw e h
-
 pub room-same : (a b : List ℕ) (room : ℕ) → a ≡ b → sizes .hash * length b ≤ room → sizes .hash * length a ≤ room
 room-same a b room e h = rw e h
 

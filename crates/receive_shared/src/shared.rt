@@ -31,7 +31,7 @@ pub fn count_shared(
     many: usize,
 ) -> usize
     requires { ⌜ Indexed (now table) (now index) n × (before ≤ n) × (sizes .hash * count ≤ length (now shared))
-        × (place + sizes .hash * many ≤ length (now message)) ⌝ }
+        × (place + sizes .hash * many ≤ length (now message)) × (count ≤ sizes .hashes) × (many ≤ sizes .hashes) ⌝ }
     ensures { λ r. ⌜ Counted (sharedThen all loads before (rowsAt (now (table .entry)) 0 n) (hashesAt (now (message .entry)) place many)
         (hashesAt (now (shared .entry)) 0 count)) r ⌝ }
 {
@@ -44,7 +44,7 @@ pub fn count_shared(
     count_joined(table, index, n, shared, count, message, place, many)
 }
 
-// Puts the heads that are shared after a message, which are no more than a list may have, at the start of the list of those shared before.
+// Puts the heads that are shared after a message, for which there is room, at the start of the list of those shared before.
 pub fn put_shared(
     all: bool,
     loads: bool,
@@ -59,7 +59,6 @@ pub fn put_shared(
     many: usize,
 )
     requires { ⌜ Indexed (now table) (now index) n × (before ≤ n) × (sizes .hash * count ≤ length (now shared)) × (place + sizes .hash * many ≤ length (now message))
-        × (length (sharedThen all loads before (rowsAt (now table) 0 n) (hashesAt (now message) place many) (hashesAt (now shared) 0 count)) ≤ sizes .hashes)
         × (sizes .hash * length (sharedThen all loads before (rowsAt (now table) 0 n) (hashesAt (now message) place many) (hashesAt (now shared) 0 count))
         ≤ length (now shared)) ⌝ }
     ensures { λ _. ⌜ now (shared .exit) ≡ sets (now (shared .entry)) 0 (hashesBytes

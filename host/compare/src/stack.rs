@@ -9,7 +9,7 @@ use crate::inputs::table::{table_bytes, waiting_bytes, Likeness, Shape, WaitingR
 use crate::inputs::Random;
 use crate::messages::parts::Chunks;
 use crate::model::number_bytes;
-use crate::model::state::{Session, V2, WORDS};
+use crate::model::state::{Session, READ_ONLY, V2, WORDS};
 use crate::model::table::{converted, Hash, HASH, NOW, OLD};
 use crate::sessions::lent::Lent;
 use crate::sessions::library::{plan, receive, Planning, Receiving};
@@ -405,26 +405,33 @@ fn sessions(random: &mut Random) -> Vec<Deep> {
             };
             deep_calls.push(deep("bt_plan", move || plan(&planning).answer));
         }
-        // The last head is unknown, so that all the others are joined.
+        // The last head is unknown, so that all the others are joined: after a load, and by a
+        // session that takes no changes without one.
         hashes[0] = random.hash();
-        let receiving = Receiving {
-            session,
-            table: table_bytes(&rows),
-            index: index_of(&table_bytes(&rows)),
-            before: ROWS / 2,
-            message: message(hashes),
-            loaded: 1,
-            rooms: [
-                LIST_SIZE,
-                LIST_SIZE,
-                LIST_SIZE,
-                LIST_SIZE,
-                HAVES_WORDS,
-                HAVES_SIZE,
-                SENT_SIZE,
-            ],
-        };
-        deep_calls.push(deep("bt_receive", move || receive(&receiving).answer));
+        for read_only in [false, true] {
+            let mut session = session.clone();
+            session.words = full_session(std::array::from_fn(|flag| {
+                (flag == V2 && v2) || (flag == READ_ONLY && read_only)
+            }));
+            let receiving = Receiving {
+                session,
+                table: table_bytes(&rows),
+                index: index_of(&table_bytes(&rows)),
+                before: ROWS / 2,
+                message: message(hashes.clone()),
+                loaded: 1,
+                rooms: [
+                    LIST_SIZE,
+                    LIST_SIZE,
+                    LIST_SIZE,
+                    LIST_SIZE,
+                    HAVES_WORDS,
+                    HAVES_SIZE,
+                    SENT_SIZE,
+                ],
+            };
+            deep_calls.push(deep("bt_receive", move || receive(&receiving).answer));
+        }
     }
     deep_calls
 }

@@ -58,6 +58,7 @@ pub record Makes (s : Session) (table index : List ℕ) (n before : ℕ) (messag
   pub upTo : before ≤ n
   pub placed : decodedOf (messageAt message) ≡ Placed p
   pub shared : sizes .hash * s .«shared_heads» ≤ length oldShared
+  pub sharedFew : s .«shared_heads» ≤ sizes .hashes
   pub sent : sizes .hash * s .«sent_hashes» ≤ length oldSent
 
 -- How many of the message's heads become the ones sent last.

@@ -1,16 +1,14 @@
--- What internal contracts speak of: the shared heads after a message, counted and gathered. No rule of 01 stands here.
+-- What internal contracts speak of: the shared heads after a message, counted. No rule of 01 stands here.
 use Prim.Native.Nat.{ℕ, _≤_, _<_}
 use mathlib.Core.Bool.{Bool, cond, not, _||_, _&&_}
-use mathlib.Core.List.{List, []}
+use mathlib.Core.List.{List}
 use mathlib.Core.Path.{_≡_}
 use lib.Dec.{leb}
 use lib.ListN.{length, take}
-use Rattle.hash_once.specs.Internal.Once.{addAll, OnceList}
-use Rattle.hash_order.specs.Order.{member, keep}
-use Rattle.rules.specs.Hash.{hashesAt}
+use Rattle.hash_order.specs.Order.{member}
 use Rattle.rules.specs.Sizes.{sizes}
 use Rattle.session.specs.Receive.{advance, join}
-use Rattle.table.specs.Table.{Row, hashOf, held}
+use Rattle.table.specs.Table.{Row, hashOf}
 use Rattle.table_graph.specs.Graph.{needed, heads}
 
 -- The shared heads after a message by whether all of its heads are held and whether changes were loaded.
@@ -26,8 +24,3 @@ sharedRow before t shared theirs i = (not (needed t i) && (leb before i || membe
 pub record Counted (hs : List ℕ) (count : ℕ) : Type 0 where
   pub few : count ≤ sizes .hashes → count ≡ length hs
   pub many : sizes .hashes < count → sizes .hashes < length hs
-
--- A message's heads that are held and the heads that were shared, gathered each once.
-pub record Gathers (t : List Row) (theirs shared list order : List ℕ) (count : ℕ) : Type 0 where
-  pub once : OnceList list order count
-  pub are : hashesAt list 0 count ≡ addAll shared (addAll (keep (held t) theirs) [])

@@ -13,7 +13,8 @@ make-words-requires c κs = search needs
 count-shared-requires : tie.Need-count-shared-requires
 count-shared-requires c κs =
     let r = c .before .before .before .before .before .before .before .before .before .before .before .before .before .before .before .pre .0 in
-    (r .rows, r .upTo, r .shared, read-words _ _ (r .placed) .headsThere)
+    let words = read-words _ _ (r .placed) in
+    (r .rows, r .upTo, r .shared, words .headsThere, r .sharedFew, words .fewHeads)
 
 kept-hashes-requires : tie.Need-kept-hashes-requires
 kept-hashes-requires c κs = search needs

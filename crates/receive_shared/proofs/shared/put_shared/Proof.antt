@@ -1,5 +1,5 @@
 -- `receive_shared::shared::put_shared` meets its contract: one law for each way through the two tests (SharedLaws). Assumes nothing.
-use Rattle.receive_shared.proofs.SharedLaws.{is-held, is-advanced, is-joined, few-same, room-same, put-same, copy-room, all-copied}
+use Rattle.receive_shared.proofs.SharedLaws.{is-held, is-advanced, is-joined, room-same, put-same, copy-room, all-copied}
 use borrow.Author.Needs.{needs}
 use Rattle.receive_shared.proofs.shared.put_shared.Statement.{statement}
 use Rattle.receive_shared.proofs.shared.put_shared.Tie as tie
@@ -22,7 +22,7 @@ part-copy-into-end c = search needs
 copy-into-requires : tie.Need-copy-into-requires
 copy-into-requires c κs =
     let s = (c .before .before .before .before .before .before .before) in
-    let room = copy-room _ _ _ _ (room-same _ _ _ (is-held _ (s .args .loads) _ _ _ _ (c .before .before .if1 .taken)) (s .pre .5)) in
+    let room = copy-room _ _ _ _ (room-same _ _ _ (is-held _ (s .args .loads) _ _ _ _ (c .before .before .if1 .taken)) (s .pre .4)) in
     search needs
 
 same-length : tie.Need-same-length
@@ -37,7 +37,7 @@ returns c =
 put-advanced-requires : tie.Need-put-advanced-requires
 put-advanced-requires c κs =
     let s = (c .before .before .before .before .before .before .before) in
-    (s .pre .0, s .pre .1, s .pre .2, s .pre .3, room-same _ _ _ (is-advanced _ _ _ _ _ _ (c .before .before .if1 .left) (c .before .if2 .taken)) (s .pre .5))
+    (s .pre .0, s .pre .1, s .pre .2, s .pre .3, room-same _ _ _ (is-advanced _ _ _ _ _ _ (c .before .before .if1 .left) (c .before .if2 .taken)) (s .pre .4))
 
 same-length-2 : tie.Need-same-length-2
 same-length-2 c = search needs
@@ -49,7 +49,7 @@ put-joined-requires : tie.Need-put-joined-requires
 put-joined-requires c κs =
     let s = (c .before .before .before .before .before .before .before) in
     let same = is-joined _ _ (s .args .before) _ _ _ (c .before .before .if1 .left) (c .before .if2 .left) in
-    (s .pre .0, s .pre .2, s .pre .3, few-same _ _ _ same (s .pre .4), room-same _ _ _ same (s .pre .5))
+    (s .pre .0, s .pre .2, s .pre .3, room-same _ _ _ same (s .pre .4))
 
 same-length-3 : tie.Need-same-length-3
 same-length-3 c = search needs

@@ -1,2 +1,0 @@
--- What the contracts of internal functions cite; no rule of 01 stands here.
-pub mod Once
