@@ -5,8 +5,8 @@ use hash_once::order::order_once;
 use hash_refs::found::add_ref;
 use hash_refs::refs::put_ref;
 use rules::sizes::HASH_SIZE;
-use rules::sizes::HASHES;
 use table_index::look::look_up;
+use waiting_missing::missing::FOUND;
 ghost use mathlib.Core.Bool.{true};
 ghost use mathlib.Core.List.{_∷_, []};
 ghost use mathlib.Core.Path.{_≡_};
@@ -22,9 +22,6 @@ ghost use Rattle.table.specs.TableBytes.{rowsAt};
 ghost use Rattle.table_index.specs.Index.{Indexed, hashesFrom};
 ghost use Rattle.waiting_missing.specs.Internal.Take.{Took};
 ghost use Rattle.receive_shared.specs.Internal.Shared.{Counted};
-
-// Numbers of one hash more than a list may have, so that too many show.
-const FOUND: usize = HASHES + 1;
 
 // Takes the number of a hash among the found ones, unless the hash is there, and returns how many they are then.
 fn take_number(
