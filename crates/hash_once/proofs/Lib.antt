@@ -1,3 +1,5 @@
+pub mod ApartLaws
 pub mod InsertLaws
+pub mod MergeLaws
 pub mod OrderLaws
 pub mod PutLaws

@@ -1,8 +1,14 @@
-// Hashes that stand each once, ascending, at the start of a list: they are put in order there, and more are put in among them.
+// Hashes that stand each once, ascending, at the start of a list: they are put in order there, and those of marked rows are merged with them.
 //
 //   list     b d │ a c b       the first two stand in order, a is next
 //            a b d │ c b       a goes to its place, and those from there on one up
 //
+//   rows     a e               a and e are marked
+//   list     b d │ . .         e is the greatest of what is left, and goes last
+//            b d │ . e         then d, b and a, so that nothing is written over before it is read
+//            a b d e
+//
 // All of it is done in place, since a list of hashes is too much to have twice.
 pub mod insert;
+pub mod merge;
 pub mod order;

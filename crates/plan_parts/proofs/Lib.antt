@@ -1,4 +1,3 @@
-pub mod ApartLaws
 pub mod BeyondLaws
 pub mod BodyLaws
 pub mod HeardLaws

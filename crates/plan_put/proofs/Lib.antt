@@ -1,3 +1,2 @@
 pub mod MarkedLaws
-pub mod MergeLaws
 pub mod PartLaws

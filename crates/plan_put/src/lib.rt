@@ -3,5 +3,4 @@
 //
 // Each part is put all or not at all: nothing of it where none is counted, so that no answer is a case of its own.
 mod field;
-mod merge;
 pub mod put;

@@ -1,6 +1,6 @@
 // The parts of a plan, each put into its buffer where some of it is counted.
 use crate::field::fill_marked;
-use crate::merge::merge_marked;
+use hash_once::merge::merge_marked;
 use hash_order::hashes::put_hashes;
 use hash_refs::found::put_found;
 use plan_decide::puts::Puts;
@@ -15,6 +15,7 @@ ghost use lib.Seq.{sets};
 ghost use Rattle.bloom_probe.specs.Build.{addHashes};
 ghost use Rattle.table_graph.specs.Internal.Marks.{marked, picked};
 ghost use Rattle.table_index.specs.Index.{Indexed};
+ghost use Rattle.hash_once.specs.Internal.Merge.{MergeReady};
 ghost use Rattle.hash_order.specs.Order.{ascend};
 ghost use Rattle.hash_refs.specs.Internal.Refs.{foundBy, FoundRefs};
 ghost use Rattle.rules.specs.Hash.{hashesAt};
@@ -23,7 +24,7 @@ ghost use Rattle.send.specs.Internal.Chosen.{chosenBy};
 ghost use Rattle.table.specs.TableBytes.{rowSize, rowsAt, GoodRows};
 ghost use Rattle.table.specs.Table.{rows};
 ghost use Rattle.plan_decide.specs.Internal.Draft.{unlessNone, listPut, havePut};
-ghost use Rattle.plan_put.specs.Internal.PlanPut.{MergeReady, FieldReady, HaveReady, MessageReady, MessagePut, SessionReady, SessionPut};
+ghost use Rattle.plan_put.specs.Internal.PlanPut.{FieldReady, HaveReady, MessageReady, MessagePut, SessionReady, SessionPut};
 
 // Puts the marked rows, ascending.
 fn put_ascending(table: &[u8], index: &[u8], n: usize, marks: &[bool], count: usize, out: &mut [u8])

@@ -1,31 +1,33 @@
--- The joined heads: as many as are found by their numbers, unless they are too many; and put in order where they stand, then the held ones in among them,
--- they are the joined ones. Assumes nothing.
+-- The joined heads: as many as are found by their numbers, unless they are too many; and those of before put in order where they stand, then merged with
+-- the rows of the held ones, are the joined ones. Assumes nothing.
 use Prim.Native.Nat.{ℕ, _+_, _-_, _*_, _≤_, _<_}
-use mathlib.Core.Bool.{Bool, true}
+use mathlib.Core.Bool.{Bool, true, false, not, _&&_, _||_}
 use mathlib.Core.List.{List, [], _∷_, _++_}
 use mathlib.Core.Path.{_≡_, refl, sym, ap, _∙_}
 use native.Mathlib.Nat.{add-zero}
 use native.Mathlib.Omega.{arith}
-use lib.ListN.{length, take}
+use lib.ListN.{length, getD, take}
 use lib.Seq.{sets, length-take-le}
+use Rattle.hash_once.proofs.ApartLaws.{ascend-alike, row-beside, beside-are, beside-many}
 use Rattle.hash_once.proofs.PutLaws.{sets-over}
+use Rattle.hash_once.specs.Internal.Merge.{MergeReady}
 use Rattle.hash_order.proofs.KeepLaws.{hashes-inside}
-use Rattle.hash_order.proofs.OrderLaws.{member-none, member-append, ascend-ascends, ascend-members, ascending-unique, ascending-shorter}
+use Rattle.hash_order.proofs.OrderLaws.{member-none, member-append, ascend-ascends, ascend-members, ascending-shorter}
 use Rattle.hash_order.specs.Order.{member, keep, ascends, ascend}
 use Rattle.hash_refs.proofs.RefLaws.{long-found}
 use Rattle.hash_refs.specs.Internal.Refs.{refHash, refEnd, foundBy, FoundRefs, Added}
 use Rattle.rules.proofs.Cases.{split, or-right}
-use Rattle.rules.proofs.Hash.{hashes-at-slice, length-hashes-bytes, hashes-are-hashes}
+use Rattle.rules.proofs.Hash.{hashes-at-slice, length-hashes-at, length-hashes-bytes, hashes-are-hashes}
 use Rattle.rules.proofs.Outputs.{written-gathered}
 use Rattle.rules.specs.Hash.{Bytes, AreHashes, hashAt, hashesAt, hashesBytes}
 use Rattle.rules.specs.Sizes.{sizes}
 use Rattle.session.specs.Receive.{join}
 use Rattle.table.proofs.TableLaws.{member-of-index, unknown-of-index, index-at-most}
-use Rattle.table.specs.Table.{Row, rows, held, indexIn}
+use Rattle.table.specs.Table.{Row, rows, hashOf, held, indexIn}
 use Rattle.table.specs.TableBytes.{rowsAt}
 use Rattle.table_graph.proofs.GraphMarks.{many-rows}
-use Rattle.table_graph.specs.Internal.Marks.{Collected}
-use Rattle.table_index.specs.Index.{hashesFrom}
+use Rattle.table_graph.specs.Internal.Marks.{Marks, Blank, marked, picked, Collected}
+use Rattle.table_index.specs.Index.{Indexed, hashesFrom}
 use Rattle.waiting_missing.proofs.FoundLaws.{took-not, took-one, numbers-of-list, further-numbers}
 use Rattle.waiting_missing.proofs.TakeLaws.{taking-append, taken-up-to}
 use Rattle.waiting_missing.specs.Internal.Take.{takeOne, taking, UpTo, Took}
@@ -125,15 +127,23 @@ module _ (t : List Row) (message : List ℕ) (place many : ℕ) (shared : List �
 
 -- ---- put in place
 
-module _ (t : List Row) (theirs shared : List ℕ) (count : ℕ) (bytes : Bytes shared) {list : List ℕ} {ordered : ℕ}
+-- the rows of the message's heads, less those of hashes that are there
+pub joined-marks : (t : List Row) (n : ℕ) (theirs list : List ℕ) (none blank there heads marks : List Bool) → Blank n none → Blank n blank
+    → Marks n there (λ i. getD none i false || member (hashOf t i) list)
+    → Marks n heads (λ i. getD blank i false || member (hashOf t i) theirs)
+    → Marks n marks (λ i. getD heads i false && not (getD there i false))
+    → Marks n marks (λ i. member (hashOf t i) theirs && not (member (hashOf t i) list))
+joined-marks t n theirs list none blank there heads marks a b c d e =
+    record { each = λ i h. e .each i h ∙ rw (d .each i h, c .each i h, a .each i h, b .each i h) }
+
+module _ (table x : List ℕ) (n : ℕ) (good : Indexed table x n) (theirs shared : List ℕ) (count : ℕ) (bytes : Bytes shared) {list : List ℕ} {ordered : ℕ}
     (a : Collected (ascend (hashesAt shared 0 count)) shared list ordered)
-    (room : sizes .hash * length (join t theirs (hashesAt shared 0 count)) ≤ length shared) where
+    (room : sizes .hash * length (join (rowsAt table 0 n) theirs (hashesAt shared 0 count)) ≤ length shared) where
+  abbrev t : List Row
+  t = rowsAt table 0 n
+
   abbrev was : List ℕ
   was = hashesAt shared 0 count
-
-  ascend-alike : (a b : List ℕ) → ((x : ℕ) → member x a ≡ member x b) → ascend a ≡ ascend b
-  ascend-alike a b f =
-      ascending-unique (ascend a) (ascend b) (ascend-ascends a) (ascend-ascends b) (λ x. ascend-members x a ∙ f x ∙ sym (ascend-members x b))
 
   -- no more than are joined
   fewer : length (ascend was) ≤ length (join t theirs was)
@@ -145,38 +155,50 @@ module _ (t : List Row) (theirs shared : List ℕ) (count : ℕ) (bytes : Bytes 
       ∙ member-append x (keep (held t) theirs) was
       ∙ or-right (member x (keep (held t) theirs)) (member x was) (sym (ascend-members x was) ∙ m))
 
-  pub ordered-there : hashesAt list 0 ordered ≡ ascend (hashesAt shared 0 count)
+  ordered-there : hashesAt list 0 ordered ≡ ascend (hashesAt shared 0 count)
   ordered-there =
       let all : AreHashes (ascend was) = hashes-inside (ascend was) was (hashes-are-hashes shared 0 count bytes) (λ h m. sym (ascend-members h was) ∙ m) in
       ap (λ (z : List ℕ). hashesAt z 0 ordered) (a .content)
       ∙ ap (hashesAt (sets shared 0 (hashesBytes (ascend was))) 0) (a .many)
       ∙ written-gathered (ascend was) shared all (omega (arith, fewer)) .list
 
-  pub ordered-long : length list ≡ length shared
+  ordered-long : length list ≡ length shared
   ordered-long = ap length (a .content) ∙ lib.Seq.length-sets shared 0 (hashesBytes (ascend was))
 
   pub ordered-fits : sizes .hash * ordered ≤ length list
   ordered-fits = omega (arith, a .many, fewer, ordered-long)
 
-  pub ordered-up : ascends (hashesAt list 0 ordered) ≡ true
+  ordered-up : ascends (hashesAt list 0 ordered) ≡ true
   ordered-up = rw ordered-there (ascend-ascends was)
 
-  joined-is : ascend (keep (held t) theirs ++ hashesAt list 0 ordered) ≡ join t theirs (hashesAt shared 0 count)
-  unfolding join
-  joined-is =
-      rw ordered-there
-      (ascend-alike (keep (held t) theirs ++ ascend was) (keep (held t) theirs ++ was)
-      (λ x. member-append x (keep (held t) theirs) (ascend was) ∙ rw (ascend-members x was) (sym (member-append x (keep (held t) theirs) was))))
+  module _ (marks : List Bool)
+      (those : Marks n marks (λ i. member (hashOf (rowsAt table 0 n) i) theirs && not (member (hashOf (rowsAt table 0 n) i) (hashesAt list 0 ordered)))) where
+    joined-is : ascend (keep (held t) theirs ++ hashesAt list 0 ordered) ≡ join t theirs (hashesAt shared 0 count)
+    unfolding join
+    joined-is =
+        rw ordered-there
+        (ascend-alike (keep (held t) theirs ++ ascend was) (keep (held t) theirs ++ was)
+        (λ x. member-append x (keep (held t) theirs) (ascend was) ∙ rw (ascend-members x was) (sym (member-append x (keep (held t) theirs) was))))
 
-  pub joined-room : sizes .hash * length (ascend (keep (held t) theirs ++ hashesAt list 0 ordered)) ≤ length list
-  joined-room = rw (joined-is, ordered-long) room
+    joined-many : length (join t theirs was) ≡ ordered + marked n marks
+    joined-many =
+        omega (arith, ap length joined-is, beside-many table x n good theirs (hashesAt list 0 ordered) marks those ordered-up, length-hashes-at list 0 ordered)
 
-  pub joined-put : (next : List ℕ) (more : ℕ) → Collected (ascend (keep (held t) theirs ++ hashesAt list 0 ordered)) list next more
-      → next ≡ sets shared 0 (hashesBytes (join t theirs (hashesAt shared 0 count)))
-  joined-put next more put =
-      put .content
-      ∙ ap (λ (z : List ℕ). sets list 0 (hashesBytes z)) joined-is
-      ∙ ap (λ (z : List ℕ). sets z 0 (hashesBytes (join t theirs was))) (a .content)
-      ∙ sets-over (hashesBytes (ascend was)) (hashesBytes (join t theirs was)) shared
-      (rw (length-hashes-bytes (ascend was), length-hashes-bytes (join t theirs was)) (omega (arith, fewer)))
-      (rw (length-hashes-bytes (join t theirs was)) room)
+    pub joined-ready : (total : ℕ) → total ≡ ordered + marked n marks → MergeReady (rowsAt table 0 n) n marks list ordered total
+    joined-ready total e =
+        record {
+          ascending = ordered-up;
+          apart = row-beside table x n good theirs (hashesAt list 0 ordered) marks those;
+          many = e;
+          room = omega (arith, joined-many, room, ordered-long);
+        }
+
+    pub joined-put : (next : List ℕ) → next ≡ sets list 0 (hashesBytes (ascend (picked (rows (rowsAt table 0 n)) marks ++ hashesAt list 0 ordered)))
+        → next ≡ sets shared 0 (hashesBytes (join (rowsAt table 0 n) theirs (hashesAt shared 0 count)))
+    joined-put next put =
+        put
+        ∙ ap (λ (z : List ℕ). sets list 0 (hashesBytes z)) (beside-are table x n good theirs (hashesAt list 0 ordered) marks those ∙ joined-is)
+        ∙ ap (λ (z : List ℕ). sets z 0 (hashesBytes (join t theirs was))) (a .content)
+        ∙ sets-over (hashesBytes (ascend was)) (hashesBytes (join t theirs was)) shared
+        (rw (length-hashes-bytes (ascend was), length-hashes-bytes (join t theirs was)) (omega (arith, fewer)))
+        (rw (length-hashes-bytes (join t theirs was)) room)

@@ -1,24 +1,30 @@
 // The shared heads where nothing was loaded: those of before, of which any may be unknown here, joined with the message's heads that are held. They are
 // counted by their numbers, the message's heads first, and put in place.
-use hash_once::order::insert_held;
+use hash_once::merge::merge_marked;
 use hash_once::order::order_once;
 use hash_refs::found::add_ref;
 use hash_refs::refs::put_ref;
 use rules::sizes::HASH_SIZE;
+use rules::sizes::ROWS;
+use table_graph::marked::count_marked;
+use table_graph::marks::mark_list;
+use table_graph::marks::unmark;
 use table_index::look::look_up;
 use waiting_missing::missing::FOUND;
-ghost use mathlib.Core.Bool.{true};
+ghost use mathlib.Core.Bool.{true, not, _&&_};
 ghost use mathlib.Core.List.{_∷_, []};
 ghost use mathlib.Core.Path.{_≡_};
 ghost use Prim.Native.Nat.{_+_, _-_, _*_, _≤_, _<_};
 ghost use lib.ListN.{length};
 ghost use lib.Seq.{sets};
+ghost use Rattle.hash_order.specs.Order.{member};
 ghost use Rattle.hash_refs.specs.Internal.Refs.{refHash, refEnd, FoundRefs, Added};
 ghost use Rattle.rules.specs.Hash.{hashesAt, hashesBytes};
 ghost use Rattle.rules.specs.Sizes.{sizes};
 ghost use Rattle.session.specs.Receive.{join};
-ghost use Rattle.table.specs.Table.{held};
+ghost use Rattle.table.specs.Table.{hashOf, held};
 ghost use Rattle.table.specs.TableBytes.{rowsAt};
+ghost use Rattle.table_graph.specs.Internal.Marks.{Marks, Blank};
 ghost use Rattle.table_index.specs.Index.{Indexed, hashesFrom};
 ghost use Rattle.waiting_missing.specs.Internal.Take.{Took};
 ghost use Rattle.receive_shared.specs.Internal.Shared.{Counted};
@@ -143,8 +149,31 @@ pub fn count_joined(
     find_shared(message, place, many, kept, &mut refs, before, many + count)
 }
 
+// Marks the rows of the message's heads, less those of the first hashes of a list.
+fn mark_joined(
+    table: &[u8],
+    index: &[u8],
+    n: usize,
+    list: &[u8],
+    count: usize,
+    message: &[u8],
+    place: usize,
+    many: usize,
+    marks: &mut [bool],
+)
+    requires { ⌜ Indexed (now table) (now index) n × (sizes .hash * count ≤ length (now list)) × (place + sizes .hash * many ≤ length (now message))
+        × (n ≤ length (now marks)) × Blank n (now marks) ⌝ }
+    ensures { λ _. ⌜ Marks n (now (marks .exit)) (λ i. member (hashOf (rowsAt (now (table .entry)) 0 n) i) (hashesAt (now (message .entry)) place many)
+        && not (member (hashOf (rowsAt (now (table .entry)) 0 n) i) (hashesAt (now (list .entry)) 0 count))) ⌝ }
+{
+    let mut there = [false; ROWS];
+    mark_list(table, index, n, list, 0, count, &mut there);
+    mark_list(table, index, n, message, place, many, marks);
+    unmark(n, marks, &there);
+}
+
 // Puts the heads that are shared after a message with which nothing was loaded at the start of the list of those shared before: these are put in order
-// where they stand, and the others in among them.
+// where they stand, and the others, which are rows, merged with them.
 pub fn put_joined(
     table: &[u8],
     index: &[u8],
@@ -161,5 +190,18 @@ pub fn put_joined(
         (hashesBytes (join (rowsAt (now (table .entry)) 0 n) (hashesAt (now (message .entry)) place many) (hashesAt (now (shared .entry)) 0 count))) ⌝ }
 {
     let ordered = order_once(shared, count);
-    insert_held(table, index, n, shared, ordered, message, place, many);
+    let mut marks = [false; ROWS];
+    mark_joined(
+        table,
+        index,
+        n,
+        shared,
+        ordered,
+        message,
+        place,
+        many,
+        &mut marks,
+    );
+    let total = ordered + count_marked(n, &marks);
+    merge_marked(table, index, n, &marks, shared, ordered, total);
 }

@@ -7,12 +7,13 @@ use lib.ListN.{length, getD, replicate}
 use Rattle.bloom_probe.specs.Build.{addHashes}
 use Rattle.table_graph.specs.Internal.Marks.{marked, picked}
 use Rattle.table_index.specs.Index.{Indexed}
-use Rattle.hash_order.specs.Order.{member, ascends, ascend}
+use Rattle.hash_once.specs.Internal.Merge.{MergeReady}
+use Rattle.hash_order.specs.Order.{ascend}
 use Rattle.rules.specs.Hash.{hashesAt}
 use Rattle.rules.specs.Sizes.{sizes}
 use Rattle.send.specs.Internal.Chosen.{chosenBy}
 use Rattle.table.specs.TableBytes.{rowsAt}
-use Rattle.table.specs.Table.{Row, rows, hashOf}
+use Rattle.table.specs.Table.{Row, rows}
 use Rattle.plan_decide.specs.Internal.Draft.{listPut, havePut}
 use Rattle.plan_decide.specs.declared.puts.Puts.{Puts}
 
@@ -22,13 +23,6 @@ pub record NextMarked (n : ℕ) (marks : List Bool) (i r : ℕ) : Type 0 where
   pub upto : r ≤ n
   pub passed : (k : ℕ) → i ≤ k → k < r → getD marks k false ≡ false
   pub is : r < n → getD marks r false ≡ true
-
--- What merging in place needs: the first hashes of the list ascend, no marked row's hash is among them, and there is room for both.
-pub record MergeReady (t : List Row) (n : ℕ) (marks : List Bool) (list : List ℕ) (before total : ℕ) : Type 0 where
-  pub ascending : ascends (hashesAt list 0 before) ≡ true
-  pub apart : (i : ℕ) → i < n → getD marks i false ≡ true → member (hashOf t i) (hashesAt list 0 before) ≡ false
-  pub many : total ≡ before + marked n marks
-  pub room : sizes .hash * total ≤ length list
 
 -- What a field needs, if it has bytes: a bit for each marked row, and no more bytes than a field may have.
 abbrev pub FieldReady : ℕ → List Bool → ℕ → Type 0
