@@ -1,4 +1,5 @@
 pub mod ApartLaws
+pub mod CountLaws
 pub mod InsertLaws
 pub mod MergeLaws
 pub mod OrderLaws

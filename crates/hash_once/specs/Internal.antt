@@ -1,2 +1,3 @@
 -- What the contracts of internal functions cite; no rule of 01 stands here.
+pub mod Count
 pub mod Merge

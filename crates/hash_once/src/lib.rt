@@ -1,4 +1,5 @@
-// Hashes that stand each once, ascending, at the start of a list: they are put in order there, and those of marked rows are merged with them.
+// Hashes that stand each once, ascending, at the start of a list: they are put in order there, and those of marked rows are merged with them. How many
+// they will be can be counted before.
 //
 //   list     b d │ a c b       the first two stand in order, a is next
 //            a b d │ c b       a goes to its place, and those from there on one up
@@ -9,6 +10,7 @@
 //            a b d e
 //
 // All of it is done in place, since a list of hashes is too much to have twice.
+pub mod count;
 pub mod insert;
 pub mod merge;
 pub mod order;

@@ -218,21 +218,18 @@ module _ (s : Session) (l : Lent) (table index : List ℕ) (n before : ℕ) (mes
               where
                 stays : (a : ReceiveAnswer) (q : Received) → isTaken a ≡ false → Outcomes s l table n before message p d (receivedRooms l) a q → l ≡ receivedLists q l
                 stays a q e (Outcome.leaves kept f g) = sym (kept l)
-                stays a q e (Outcome.takes few room f g h) = absurd (true-false (isTaken a) f e)
+                stays a q e (Outcome.takes room f g h) = absurd (true-false (isTaken a) f e)
 
             module _ (yes : isTaken a ≡ true) where
               -- taken, with room for all of it
               taking : (a : ReceiveAnswer) (q : Received) → isTaken a ≡ true → Outcomes s l table n before message p d (receivedRooms l) a q
-                  → (d .shared ≤ sizes .hashes) × (countsRoom d (receivedRooms l) ≡ Enough)
+                  → (countsRoom d (receivedRooms l) ≡ Enough)
                   × (q ≡ Received.took (received before (rowsAt table 0 n) (stateOf s l) (saidAt message p)))
               taking a q e (Outcome.leaves kept f g) = absurd (true-false (isTaken a) e f)
-              taking a q e (Outcome.takes few room f g h) = (few, room, g)
-
-              few : d .shared ≤ sizes .hashes
-              few = taking a values yes together .0
+              taking a q e (Outcome.takes room f g h) = (room, g)
 
               room : countsRoom d (receivedRooms l) ≡ Enough
-              room = taking a values yes together .1
+              room = taking a values yes together .0
 
               shared-same : sharedThen known loads before (rowsAt table 0 n) (saidAt message p .heads) (hashesAt (l .shared) 0 (s .«shared_heads»))
                   ≡ sharedAfter before (rowsAt table 0 n) (stateOf s l) (saidAt message p)
@@ -248,12 +245,12 @@ module _ (s : Session) (l : Lent) (table index : List ℕ) (n before : ℕ) (mes
                 ok .inside,
                 session-parts s l (ok .good) .shared .there,
                 can-mark .1,
-                rw shared-same (shared-fits s l (ok .good) table n before (ok .inside) message p (ok .read) ready d drafted all few room),
+                rw shared-same (shared-fits s l (ok .good) table n before (ok .inside) message p (ok .read) ready d drafted all room),
               )
 
               pub can-hear : Bytes message
                   → HeardFits d message (p .heads .start) (p .need .start) ready (l .lastSent) (l .theirHeads) (l .theirNeed) (l .haves) (l .bytes)
-              can-hear all = heard-fits s l (ok .good) table n before (ok .inside) message p (ok .read) ready d drafted all few room
+              can-hear all = heard-fits s l (ok .good) table n before (ok .inside) message p (ok .read) ready d drafted all room
 
               module _ (keeps : ℕ) (keeping : keeps ≡ keptHashes (p .heads .count) (flagged .«sent_hashes»)) where
                 pub can-trim : (sent : List ℕ) → length sent ≡ length (l .sent) → sizes .hash * keeps ≤ length sent
@@ -276,6 +273,6 @@ module _ (s : Session) (l : Lent) (table index : List ℕ) (n before : ℕ) (mes
                     rw (flags, sent-is s l (ok .good) table n before (ok .inside) message p (ok .read)) at trimmed in
                     let put : shared ≡ sets (l .shared) 0 (hashesBytes (sharedAfter before (rowsAt table 0 n) (stateOf s l) (saidAt message p))) = rw shared-same at a in
                     let kept =
-                    parts-kept s l (ok .good) table n before (ok .inside) message p (ok .read) ready d drafted all few room last put (b .0) (b .1) (b .2) (b .3) left in
+                    parts-kept s l (ok .good) table n before (ok .inside) message p (ok .read) ready d drafted all room last put (b .0) (b .1) (b .2) (b .3) left in
                     called (lentOf shared lastSent theirHeads theirNeed records bytes sent)
-                    (kept ∙ ap (λ (q : Received). receivedLists q l) (sym (taking _ values yes together .2)))
+                    (kept ∙ ap (λ (q : Received). receivedLists q l) (sym (taking _ values yes together .1)))

@@ -37,7 +37,7 @@ use Rattle.receive_decide.specs.Internal.ReceivedCounts.{SmallCounts, sessionCo
 use Rattle.session.specs.declared.receive_answer.SessionRooms.{SessionRooms}
 use Rattle.receive_decide.specs.declared.decide.ReceivedCounts.{ReceivedCounts}
 use Rattle.receive_make.proofs.SaidLaws.{read-words, haves-many}
-use Rattle.receive_shared.specs.Internal.Shared.{sharedThen, Counted}
+use Rattle.receive_shared.specs.Internal.Shared.{sharedThen}
 
 -- ---- counts of a good session
 
@@ -183,18 +183,14 @@ module _ (s : Session) (l : Lent) (good : sessionGood s l ≡ true) (table : Lis
           haves = rw (made .haves) (w .fewHaves);
         }
 
-    pub shared-made : Counted (sharedAfter before t v m) (d .shared)
-    shared-made = rw shared-is at (made .shared)
+    pub shared-count : d .shared ≡ length (sharedAfter before t v m)
+    shared-count = rw shared-is at (made .shared)
 
-    module _ (few : d .shared ≤ sizes .hashes) where
-      pub shared-count : d .shared ≡ length (sharedAfter before t v m)
-      shared-count = shared-made .few few
+    -- the counts that a message leaves
+    pub received-counts : countsOf (received before t v m) ≡ sessionCounts (flaggedCounts (p .flags) s) d
+    unfolding received flagged
+    received-counts = rw (shared-count, last-count, heads-count, need-count, haves-count, sent-count)
 
-      -- the counts that a message leaves
-      pub received-counts : countsOf (received before t v m) ≡ sessionCounts (flaggedCounts (p .flags) s) d
-      unfolding received flagged
-      received-counts = rw (shared-count, last-count, heads-count, need-count, haves-count, sent-count)
-
-      pub room-is : (r : SessionRooms) → keptRoom (received before t v m) r ≡ countsRoom d r
-      unfolding keptRoom countsRoom received
-      room-is r = rw (← shared-count, ← last-count, ← heads-count, ← need-count, ← haves-count, ← made .words .bytes)
+    pub room-is : (r : SessionRooms) → keptRoom (received before t v m) r ≡ countsRoom d r
+    unfolding keptRoom countsRoom received
+    room-is r = rw (← shared-count, ← last-count, ← heads-count, ← need-count, ← haves-count, ← made .words .bytes)

@@ -98,7 +98,7 @@ roomy d r e =
 
 module _ (s : Session) (l : Lent) (good : sessionGood s l ≡ true) (table : List ℕ) (n before : ℕ) (inside : before ≤ n) (message : List ℕ) (p : Places)
     (read : decodedOf (messageAt message) ≡ Placed p) (ready : List ℕ) (d : ReceivedCounts) (made : Drafted s l table n before message p ready d)
-    (all : Bytes message) (few : d .shared ≤ sizes .hashes) (room : countsRoom d (receivedRooms l) ≡ Enough)
+    (all : Bytes message) (room : countsRoom d (receivedRooms l) ≡ Enough)
   where
     abbrev v : State
     v = stateOf s l
@@ -114,7 +114,7 @@ module _ (s : Session) (l : Lent) (good : sessionGood s l ≡ true) (table : Lis
 
     -- the shared heads have room
     pub shared-fits : sizes .hash * length (sharedAfter before t v m) ≤ length (l .shared)
-    shared-fits = omega (arith, shared-count s l good table n before inside message p read ready d made few, roomy d (receivedRooms l) room .shared)
+    shared-fits = omega (arith, shared-count s l good table n before inside message p read ready d made, roomy d (receivedRooms l) room .shared)
 
     -- what the message says has room
     pub heard-fits : HeardFits d message (p .heads .start) (p .need .start) ready (l .lastSent) (l .theirHeads) (l .theirNeed) (l .haves) (l .bytes)

@@ -32,28 +32,28 @@ use Rattle.session.specs.declared.room.Room.{Room}
 use Rattle.session.specs.declared.room.Room.the-variants.{Enough, Short}
 use Rattle.session.specs.Rooms.{ifRoom}
 use Rattle.receive_decide.specs.declared.decide.ReceivedCounts.{ReceivedCounts}
-use Rattle.receive.proofs.DraftLaws.{Drafted, flagged-counts, shared-made, shared-count, received-counts, room-is}
+use Rattle.receive.proofs.DraftLaws.{Drafted, flagged-counts, shared-count, received-counts, room-is}
 
 module _ (d : ReceivedCounts) (r : SessionRooms) (after : Session) (new : State) where
   -- The two ways that an answer and a result on values go together: all lists stay, or the session is taken.
   pub data Outcome (a : ReceiveAnswer) (q : Received) : Type 0 where
     leaves : ((l : Lent) → receivedLists q l ≡ l) → isTaken a ≡ false → a ≡ receivedAnswer q → Outcome a q
-    takes : d .shared ≤ sizes .hashes → countsRoom d r ≡ Enough → isTaken a ≡ true → q ≡ Received.took new → a ≡ receivedAnswer q → Outcome a q
+    takes : countsRoom d r ≡ Enough → isTaken a ≡ true → q ≡ Received.took new → a ≡ receivedAnswer q → Outcome a q
 
   pub same-answer : (a : ReceiveAnswer) (q : Received) → Outcome a q → a ≡ receivedAnswer q
   same-answer a q (Outcome.leaves kept f g) = g
-  same-answer a q (Outcome.takes few room e f g) = g
+  same-answer a q (Outcome.takes room e f g) = g
 
   refuses : (refusal : Refusal) → Outcome (Refused refusal) (Received.refused refusal)
   unfolding isTaken receivedAnswer receivedLists
   refuses refusal = Outcome.leaves (λ l. refl) refl refl
 
   -- room is asked last
-  room-asked : (room : Room) → countsRoom d r ≡ room → d .shared ≤ sizes .hashes → countsOf new ≡ after
+  room-asked : (room : Room) → countsRoom d r ≡ room → countsOf new ≡ after
       → Outcome (ifRoom Refused room (Took after)) (ifRoom Received.refused room (Received.took new))
   unfolding ifRoom receivedAnswer isTaken
-  room-asked Enough e few counts = Outcome.takes few e refl refl (ap Took (sym counts))
-  room-asked (Short wanted) e few counts = refuses (NoRoom wanted)
+  room-asked Enough e counts = Outcome.takes e refl refl (ap Took (sym counts))
+  room-asked (Short wanted) e counts = refuses (NoRoom wanted)
 
 -- How the answer and the result on values go together for a message that was read, over its draft and the lengths of the lent lists.
 abbrev pub Outcomes : Session → Lent → List ℕ → ℕ → ℕ → List ℕ → Places → ReceivedCounts → SessionRooms → ReceiveAnswer → Received → Type 0
@@ -85,18 +85,16 @@ module _ (s : Session) (l : Lent) (good : sessionGood s l ≡ true) (table : Lis
       (receivedRoomed r (cond (ltb (sizes .hashes) (length (sharedAfter before t v m))) (Received.refused (PastSize 0)) (Received.took (received before t v m))))
   unfolding receivedRoomed
   joined =
+      let g = shared-count s l good table n before inside message p read ready d made in
       split (ltb (sizes .hashes) (d .shared))
       (λ e.
-      let many : sizes .hashes < length (sharedAfter before t v m) =
-      shared-made s l good table n before inside message p read ready d made .many (ltb-true _ _ e) in
+      let many : sizes .hashes < length (sharedAfter before t v m) = omega (arith, g, ltb-true (sizes .hashes) (d .shared) e) in
       rw (e, lt-ltb _ _ many) (refuses d r (sessionCounts taken d) (received before t v m) (PastSize 0)))
       (λ e.
-      let few : d .shared ≤ sizes .hashes = ltb-false _ _ e in
-      let g = shared-count s l good table n before inside message p read ready d made few in
-      let fits : length (sharedAfter before t v m) ≤ sizes .hashes = omega (arith, g) in
-      rw (e, le-ltb _ _ fits, room-is s l good table n before inside message p read ready d made few r)
-      (room-asked d r (sessionCounts taken d) (received before t v m) (countsRoom d r) refl few
-      (received-counts s l good table n before inside message p read ready d made few)))
+      let fits : length (sharedAfter before t v m) ≤ sizes .hashes = omega (arith, g, ltb-false (sizes .hashes) (d .shared) e) in
+      rw (e, le-ltb _ _ fits, room-is s l good table n before inside message p read ready d made r)
+      (room-asked d r (sessionCounts taken d) (received before t v m) (countsRoom d r) refl
+      (received-counts s l good table n before inside message p read ready d made)))
 
   pub outcome : Of (countsDecided taken fails d r) (receivedRoomed r (receive loaded before t v m))
   unfolding countsDecided receive loads receivedRoomed isTaken receivedAnswer receivedLists

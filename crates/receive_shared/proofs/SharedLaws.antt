@@ -13,10 +13,7 @@ use Rattle.rules.specs.Sizes.{sizes}
 use Rattle.session.specs.Receive.{advance, join}
 use Rattle.table.specs.Table.{Row}
 use Rattle.table_graph.specs.Graph.{heads}
-use Rattle.receive_shared.specs.Internal.Shared.{sharedThen, Counted}
-
-pub exactly-counted : (hs : List ℕ) (count : ℕ) → count ≡ length hs → Counted hs count
-exactly-counted hs count e = record { few = λ h. e; many = λ h. omega arith }
+use Rattle.receive_shared.specs.Internal.Shared.{sharedThen}
 
 module _ (all loads : Bool) (before : ℕ) (t : List Row) (theirs shared : List ℕ) where
   pub is-held : all ≡ true → theirs ≡ sharedThen all loads before t theirs shared
@@ -32,7 +29,7 @@ module _ (all loads : Bool) (before : ℕ) (t : List Row) (theirs shared : List 
   is-joined e f = rw (e, f)
 
 -- what is said of a list is said of an equal one
-pub counted-same : (a b : List ℕ) (count : ℕ) → a ≡ b → Counted a count → Counted b count
+pub counted-same : (a b : List ℕ) (count : ℕ) → a ≡ b → count ≡ length a → count ≡ length b
 counted-same a b count e c = rw e at c
 
 pub room-same : (a b : List ℕ) (room : ℕ) → a ≡ b → sizes .hash * length b ≤ room → sizes .hash * length a ≤ room
@@ -42,8 +39,8 @@ pub put-same : (a b out next : List ℕ) → a ≡ b → next ≡ sets out 0 (ha
 put-same a b out next e h = rw e at h
 
 -- as many heads as the message has
-pub all-counted : (message : List ℕ) (place many : ℕ) → Counted (hashesAt message place many) many
-all-counted message place many = exactly-counted (hashesAt message place many) many (sym (length-hashes-at message place many))
+pub all-counted : (message : List ℕ) (place many : ℕ) → many ≡ length (hashesAt message place many)
+all-counted message place many = sym (length-hashes-at message place many)
 
 pub copy-room : (message : List ℕ) (place many room : ℕ) → sizes .hash * length (hashesAt message place many) ≤ room → sizes .hash * many ≤ room
 copy-room message place many room h = omega (arith, length-hashes-at message place many)

@@ -13,10 +13,10 @@ ghost use Rattle.rules.specs.Hash.{hashesAt, hashesBytes};
 ghost use Rattle.rules.specs.Sizes.{sizes};
 ghost use Rattle.table.specs.TableBytes.{rowsAt};
 ghost use Rattle.table_index.specs.Index.{Indexed};
-ghost use Rattle.receive_shared.specs.Internal.Shared.{sharedThen, Counted};
+ghost use Rattle.receive_shared.specs.Internal.Shared.{sharedThen};
 
-// How many heads are shared after a message whose heads stand at a place of it, or more than a list may have. `all`: whether all of its heads are held;
-// `loads`: whether changes were loaded.
+// How many heads are shared after a message whose heads stand at a place of it. `all`: whether all of its heads are held; `loads`: whether changes were
+// loaded.
 pub fn count_shared(
     all: bool,
     loads: bool,
@@ -31,9 +31,9 @@ pub fn count_shared(
     many: usize,
 ) -> usize
     requires { ⌜ Indexed (now table) (now index) n × (before ≤ n) × (sizes .hash * count ≤ length (now shared))
-        × (place + sizes .hash * many ≤ length (now message)) × (count ≤ sizes .hashes) × (many ≤ sizes .hashes) ⌝ }
-    ensures { λ r. ⌜ Counted (sharedThen all loads before (rowsAt (now (table .entry)) 0 n) (hashesAt (now (message .entry)) place many)
-        (hashesAt (now (shared .entry)) 0 count)) r ⌝ }
+        × (place + sizes .hash * many ≤ length (now message)) × (count ≤ sizes .hashes) ⌝ }
+    ensures { λ r. ⌜ r ≡ length (sharedThen all loads before (rowsAt (now (table .entry)) 0 n) (hashesAt (now (message .entry)) place many)
+        (hashesAt (now (shared .entry)) 0 count)) ⌝ }
 {
     if all {
         return many;

@@ -21,7 +21,7 @@ use Rattle.rules.specs.Sizes.{sizes}
 use Rattle.session.specs.Laid.{laidBytes}
 use Rattle.session_state.specs.declared.session.Session.{Session}
 use Rattle.table.specs.TableBytes.{rowsAt}
-use Rattle.receive_shared.specs.Internal.Shared.{sharedThen, Counted}
+use Rattle.receive_shared.specs.Internal.Shared.{sharedThen}
 use Rattle.receive_decide.specs.declared.decide.ReceivedCounts.{ReceivedCounts}
 
 -- ---- what a message says, by its places
@@ -85,7 +85,7 @@ leftOf table n message p sent keeps = keep (λ h. not (below (rowsAt table 0 n) 
 -- The numbers of a session after a message, the counts of before having the message's flags taken; and the words of its haves.
 pub record CountsMade (all loads : Bool) (s : Session) (table : List ℕ) (n before : ℕ) (message : List ℕ) (p : Places) (oldShared oldSent ready : List ℕ)
     (d : ReceivedCounts) : Type 0 where
-  pub shared : Counted (sharedThen all loads before (rowsAt table 0 n) (saidAt message p .heads) (hashesAt oldShared 0 (s .«shared_heads»))) (d .shared)
+  pub shared : d .shared ≡ length (sharedThen all loads before (rowsAt table 0 n) (saidAt message p .heads) (hashesAt oldShared 0 (s .«shared_heads»)))
   pub sent : d .sent ≡ length (leftOf table n message p oldSent (keptHashes (p .heads .count) (s .«sent_hashes»)))
   pub told : d .«last_sent_from_message» ≡ toldHeads (p .chunks .count) (p .heads .count) (saidAt message p .heads) (heads (rowsAt table 0 before))
   pub lastSent : d .«last_sent» ≡ lastSentCount (p .heads .count) (d .«last_sent_from_message») (s .«last_sent_heads»)

@@ -1,12 +1,10 @@
--- What internal contracts speak of: the shared heads after a message, counted. No rule of 01 stands here.
-use Prim.Native.Nat.{ℕ, _≤_, _<_}
+-- What internal contracts speak of: the shared heads after a message. No rule of 01 stands here.
+use Prim.Native.Nat.{ℕ}
 use mathlib.Core.Bool.{Bool, cond, not, _||_, _&&_}
 use mathlib.Core.List.{List}
-use mathlib.Core.Path.{_≡_}
 use lib.Dec.{leb}
-use lib.ListN.{length, take}
+use lib.ListN.{take}
 use Rattle.hash_order.specs.Order.{member}
-use Rattle.rules.specs.Sizes.{sizes}
 use Rattle.session.specs.Receive.{advance, join}
 use Rattle.table.specs.Table.{Row, hashOf}
 use Rattle.table_graph.specs.Graph.{needed, heads}
@@ -19,8 +17,3 @@ sharedThen all loads before t theirs shared =
 -- A row that is shared after changes were loaded: a head that is new, since its row is, or that was shared; or a head of the message.
 unfoldable pub sharedRow : ℕ → List Row → List ℕ → List ℕ → ℕ → Bool
 sharedRow before t shared theirs i = (not (needed t i) && (leb before i || member (hashOf t i) shared)) || member (hashOf t i) theirs
-
--- How many they are; or more than a list may have, where they are too many.
-pub record Counted (hs : List ℕ) (count : ℕ) : Type 0 where
-  pub few : count ≤ sizes .hashes → count ≡ length hs
-  pub many : sizes .hashes < count → sizes .hashes < length hs

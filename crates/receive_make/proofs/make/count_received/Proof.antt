@@ -14,7 +14,7 @@ count-shared-requires : tie.Need-count-shared-requires
 count-shared-requires c κs =
     let r = c .before .before .before .before .before .before .before .before .before .before .before .before .before .before .before .pre .0 in
     let words = read-words _ _ (r .placed) in
-    (r .rows, r .upTo, r .shared, words .headsThere, r .sharedFew, words .fewHeads)
+    (r .rows, r .upTo, r .shared, words .headsThere, r .sharedFew)
 
 kept-hashes-requires : tie.Need-kept-hashes-requires
 kept-hashes-requires c κs = search needs

@@ -1,5 +1,5 @@
 -- `receive_shared::shared::count_shared` meets its contract: one law for each way through the two tests (SharedLaws). Assumes nothing.
-use Rattle.receive_shared.proofs.SharedLaws.{exactly-counted, all-counted, counted-same, is-held, is-advanced, is-joined}
+use Rattle.receive_shared.proofs.SharedLaws.{all-counted, counted-same, is-held, is-advanced, is-joined}
 use borrow.Author.Needs.{needs}
 use Rattle.receive_shared.proofs.shared.count_shared.Statement.{statement}
 use Rattle.receive_shared.proofs.shared.count_shared.Tie as tie
@@ -11,7 +11,7 @@ count-advanced-requires : tie.Need-count-advanced-requires
 count-advanced-requires c κs = search needs
 
 returns-2 : tie.Need-returns-2
-returns-2 c = counted-same _ _ _ (is-advanced _ _ _ _ _ _ (c .before .before .if1 .left) (c .before .if2 .taken)) (exactly-counted _ _ (c .count-advanced .ensures))
+returns-2 c = counted-same _ _ _ (is-advanced _ _ _ _ _ _ (c .before .before .if1 .left) (c .before .if2 .taken)) (c .count-advanced .ensures)
 
 count-joined-requires : tie.Need-count-joined-requires
 count-joined-requires c κs = search needs
