@@ -4,3 +4,4 @@ pub mod Outputs
 pub mod PassedLaws
 pub mod Promises
 pub mod Refusals
+pub mod ZeroLaws

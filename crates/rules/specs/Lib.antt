@@ -4,3 +4,4 @@ pub mod Output
 pub mod Passed
 pub mod Refusal
 pub mod Sizes
+pub mod Zeros

@@ -8,3 +8,4 @@ pub mod passed;
 pub mod put;
 pub mod refusal;
 pub mod sizes;
+pub mod zeros;

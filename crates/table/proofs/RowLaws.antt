@@ -2,21 +2,23 @@
 use Prim.Native.Nat.{ℕ, zero, suc, _+_, _-_, _*_, _≤_, _<_}
 use mathlib.Core.Bool.{Bool, true, false, _&&_}
 use mathlib.Core.List.{List, [], _∷_}
-use mathlib.Core.Path.{_≡_, refl, _∙_, ap}
-use native.Mathlib.Nat.{zero-add, add-zero, suc-add, mul-le-mul-right}
+use mathlib.Core.Path.{_≡_, refl, sym, ap}
+use native.Mathlib.Nat.{mul-le-mul-right}
 use native.Mathlib.Numerals.{add-one}
 use native.Mathlib.Omega.{arith}
 use borrow.Author.Tests.{ltb-true, leb-true, eqb-true, eqb-false, lt-ltb, le-ltb, le-leb, lt-leb, eq-eqb, ne-eqb}
 use lib.Dec.{ltb, leb, eqb}
+use lib.ListN.{getD}
 use Rattle.hash_order.proofs.KeepLaws.{every-member, every-one}
 use Rattle.hash_order.proofs.OrderLaws.{member-here, member-there, ascends-tail, ascends-first}
 use Rattle.hash_order.specs.Order.{member, every, ascends}
 use Rattle.rules.proofs.Cases.{split, both, same-truth, and-true}
-use Rattle.rules.specs.Hash.{Bytes}
+use Rattle.rules.proofs.ZeroLaws.{zeros-parts}
 use Rattle.rules.specs.LittleEndian.{u16At}
 use Rattle.rules.specs.Sizes.{sizes}
+use Rattle.rules.specs.Zeros.{bytesAt, zeros}
 use Rattle.table.specs.Internal.OwnBytes.{rowSoundOf}
-use Rattle.table.specs.TableBytes.{u16sAt, rowSizeOf, countOf, usedOf, unusedOf, numbersGood, zeros}
+use Rattle.table.specs.TableBytes.{u16sAt, rowSizeOf, countOf, usedOf, unusedOf, numbersGood}
 use Rattle.table.proofs.TableLaws.{numberPlaceOf}
 
 -- ---- numbers that climb
@@ -105,94 +107,34 @@ module _ (d : ℕ) (s : List ℕ) (i count : ℕ) where
       let none : count - j ≡ 0 = omega arith in
       rw none
 
-module _ (d : ℕ) (s : List ℕ) (i : ℕ) where
-  -- whether the numbers from the j-th on, which aren't in use, are zeros
-  pub zeroing : ℕ → Bool
-  zeroing j = zeros (u16sAt s (numberPlaceOf d i j) (d - j))
+-- ---- numbers that are zeros
 
-  pub zero-starts : (count : ℕ) → count ≡ countOf d s i → zeroing count ≡ zeros (unusedOf d s i)
-  unfolding zeroing unusedOf
-  zero-starts count e = rw e
-
-  module _ (j k : ℕ) (inside : j < d) (read : k ≡ u16At s (numberPlaceOf d i j)) where
-    remain : d - j ≡ suc (d - (j + 1))
-    remain = omega arith
-
-    pub zero-fails : (k ≡ 0 → ⊥) → zeroing j ≡ false
-    unfolding zeroing zeros u16sAt
-    zero-fails h = rw (remain, ← read, ne-eqb k 0 h)
-
-    pub zero-on : k ≡ 0 → zeroing j ≡ zeroing (j + 1)
-    unfolding zeroing zeros u16sAt
-    zero-on h = rw (remain, ← read, eq-eqb k 0 h, number-next d i j)
-
-  pub zero-ends : (j : ℕ) → d ≤ j → zeroing j ≡ true
-  unfolding zeroing zeros u16sAt
-  zero-ends j h =
-      let none : d - j ≡ 0 = omega arith in
-      rw none
-
-  pub zeroing-is : (j : ℕ) → zeroing j ≡ zeros (u16sAt s (numberPlaceOf d i j) (d - j))
-  unfolding zeroing
-  zeroing-is j = refl
-
--- ---- the same, four at a time
-
-and-parts : (x y z : Bool) → (x && (y && z)) ≡ ((x && y) && z)
-and-parts true y z = refl
-and-parts false y z = refl
-
-zeros-parts : (s : List ℕ) (at n rest : ℕ) → zeros (u16sAt s at (n + rest)) ≡ (zeros (u16sAt s at n) && zeros (u16sAt s (at + 2 * n) rest))
-unfolding zeros u16sAt
-zeros-parts s at zero rest = rw (zero-add, add-zero at)
-zeros-parts s at (suc n) rest =
-    let e : at + 2 * suc n ≡ at + 2 + 2 * n = omega arith in
-    rw (suc-add n rest, e, zeros-parts s (at + 2) n rest) (and-parts (eqb (u16At s at) 0) (zeros (u16sAt s (at + 2) n)) (zeros (u16sAt s (at + 2 + 2 * n) rest)))
-
-module _ (d : ℕ) (s : List ℕ) (i j : ℕ) (inside : j + 4 ≤ d) where
-  four-parts : zeroing d s i j ≡ (zeros (u16sAt s (numberPlaceOf d i j) 4) && zeroing d s i (j + 4))
-  unfolding zeroing
-  four-parts =
-      let long : d - j ≡ 4 + (d - (j + 4)) = omega arith in
-      let next : numberPlaceOf d i (j + 4) ≡ numberPlaceOf d i j + 2 * 4 = omega arith in
-      rw (long, next) (zeros-parts s (numberPlaceOf d i j) 4 (d - (j + 4)))
-
-  pub four-fail : zeros (u16sAt s (numberPlaceOf d i j) 4) ≡ false → zeroing d s i j ≡ false
-  four-fail e = four-parts ∙ rw e refl
-
-  pub four-on : zeros (u16sAt s (numberPlaceOf d i j) 4) ≡ true → zeroing d s i j ≡ zeroing d s i (j + 4)
-  four-on e = four-parts ∙ rw e refl
-
-four-sum : (a b c d : ℕ) → eqb (a + b + c + d) 0 ≡ (eqb a 0 && (eqb b 0 && (eqb c 0 && (eqb d 0 && true))))
-four-sum a b c d =
+two-zero : (a b : ℕ) → eqb (a + 256 * b) 0 ≡ (eqb a 0 && (eqb b 0 && true))
+two-zero a b =
     split (eqb a 0)
-    (λ ea.
+    (λ e.
     split (eqb b 0)
-    (λ eb.
-    split (eqb c 0)
-    (λ ec.
-    split (eqb d 0)
-    (λ ed. rw (ea, eb, ec, ed) (eq-eqb (a + b + c + d) 0 (omega (arith, eqb-true a 0 ea, eqb-true b 0 eb, eqb-true c 0 ec, eqb-true d 0 ed))))
-    (λ ed. rw (ea, eb, ec, ed) (ne-eqb (a + b + c + d) 0 (λ z. eqb-false d 0 ed (omega arith)))))
-    (λ ec. rw (ea, eb, ec) (ne-eqb (a + b + c + d) 0 (λ z. eqb-false c 0 ec (omega arith)))))
-    (λ eb. rw (ea, eb) (ne-eqb (a + b + c + d) 0 (λ z. eqb-false b 0 eb (omega arith)))))
-    (λ ea. rw ea (ne-eqb (a + b + c + d) 0 (λ z. eqb-false a 0 ea (omega arith))))
+    (λ f. rw (e, f) (eq-eqb (a + 256 * b) 0 (omega (arith, eqb-true a 0 e, eqb-true b 0 f))))
+    (λ f. rw (e, f) (ne-eqb (a + 256 * b) 0 (λ z. eqb-false b 0 f (omega arith)))))
+    (λ e. rw e (ne-eqb (a + 256 * b) 0 (λ z. eqb-false a 0 e (omega arith))))
 
-pub sum-zeros : (w : ℕ) (s : List ℕ) (i j a b c d : ℕ) → a ≡ u16At s (numberPlaceOf w i j) → b ≡ u16At s (numberPlaceOf w i (j + 1))
-    → c ≡ u16At s (numberPlaceOf w i (j + 2)) → d ≡ u16At s (numberPlaceOf w i (j + 3))
-    → eqb (a + b + c + d) 0 ≡ zeros (u16sAt s (numberPlaceOf w i j) 4)
-unfolding zeros u16sAt
-sum-zeros w s i j a b c d ea eb ec ed =
-    let p : ℕ = numberPlaceOf w i j in
-    let fb : u16At s (p + 2) ≡ b = rw eb (ap (u16At s) (omega arith)) in
-    let fc : u16At s (p + 2 + 2) ≡ c = rw ec (ap (u16At s) (omega arith)) in
-    let fd : u16At s (p + 2 + 2 + 2) ≡ d = rw ed (ap (u16At s) (omega arith)) in
-    four-sum a b c d ∙ rw (fb, fc, fd, ← ea) refl
+u16-zero : (s : List ℕ) (at : ℕ) → eqb (u16At s at) 0 ≡ zeros (bytesAt s at 2)
+unfolding u16At zeros bytesAt
+u16-zero s at = two-zero (getD s at 0) (getD s (at + 1) 0)
 
--- a number of two bytes
-pub u16-small : (s : List ℕ) (at k : ℕ) → Bytes s → k ≡ u16At s at → k < 65536
-unfolding u16At
-u16-small s at k bytes e = omega (arith, bytes at, bytes (at + 1))
+-- numbers are zeros where their bytes are
+u16s-zero : (s : List ℕ) (at count : ℕ) → zeros (u16sAt s at count) ≡ zeros (bytesAt s at (2 * count))
+unfolding zeros u16sAt bytesAt
+u16s-zero s at zero = refl
+u16s-zero s at (suc count) =
+    let e : 2 * suc count ≡ 2 + 2 * count = omega arith in
+    rw (e, zeros-parts s at 2 (2 * count), ← u16s-zero s (at + 2) count) (ap (λ (x : Bool). x && zeros (u16sAt s (at + 2) count)) (u16-zero s at))
+
+-- what isn't in use of a row, its start and its count told by numbers
+pub unused-bytes : (d : ℕ) (s : List ℕ) (i start count : ℕ) → start ≡ i * rowSizeOf d → count ≡ countOf d s i
+    → zeros (bytesAt s (start + sizes .hash + 2 + 2 * count) (2 * (d - count))) ≡ zeros (unusedOf d s i)
+unfolding unusedOf
+unused-bytes d s i start count e f = rw (e, f) (sym (u16s-zero s _ _))
 
 -- ---- a row
 

@@ -14,7 +14,8 @@ use Rattle.rules.proofs.Cases.{split, both}
 use Rattle.rules.specs.Hash.{hashAt}
 use Rattle.rules.specs.LittleEndian.{u16At}
 use Rattle.rules.specs.Sizes.{sizes}
-use Rattle.table.specs.TableBytes.{u16sAt, rowSizeOf, countOf, usedOf, unusedOf, rowOf, rowsOf, wholeRowsOf, rowGoodOf, tableCheckedOf, rowSize, depCount, usedAt, rowsAt, tableOf, numbersGood, zeros, tableChecked}
+use Rattle.rules.specs.Zeros.{zeros}
+use Rattle.table.specs.TableBytes.{u16sAt, rowSizeOf, countOf, usedOf, unusedOf, rowOf, rowsOf, wholeRowsOf, rowGoodOf, tableCheckedOf, rowSize, depCount, usedAt, rowsAt, tableOf, numbersGood, tableChecked}
 use Rattle.table.specs.Table.{Row, noRow, rows, hashOf, depsOf, GoodTable, indexIn, rowNumber, held}
 use Rattle.table.specs.declared.check.Checked.the-variants.{Good, Refused}
 use Rattle.table.proofs.Today.{rowAt, rowGood}

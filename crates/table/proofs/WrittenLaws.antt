@@ -17,8 +17,9 @@ use Rattle.rules.proofs.Hash.{hash-there-and-back, hash-bytes, length-hash-byte
 use Rattle.rules.specs.Hash.{Bytes, bigEndian, bigEndianBytes, IsHash, AreHashes, hashAt, hashBytes}
 use Rattle.rules.specs.LittleEndian.{u16At}
 use Rattle.rules.specs.Sizes.{sizes}
+use Rattle.rules.specs.Zeros.{zeros}
 use Rattle.table.specs.Table.{Row, GoodTable, rows, hashOf, depsOf}
-use Rattle.table.specs.TableBytes.{u16sAt, u16sBytes, rowSizeOf, countOf, usedOf, unusedOf, rowOf, rowsOf, wholeRowsOf, zeros, numbersGood, rowGoodOf, tableCheckedOf}
+use Rattle.table.specs.TableBytes.{u16sAt, u16sBytes, rowSizeOf, countOf, usedOf, unusedOf, rowOf, rowsOf, wholeRowsOf, numbersGood, rowGoodOf, tableCheckedOf}
 use Rattle.table.specs.TableWritten.{rowBytesOf, tableBytesOf, Holdable, RoundTrip}
 use Rattle.table.specs.declared.check.Checked.the-variants.{Good}
 use Rattle.table.proofs.ExtendLaws.{rows-take}

@@ -11,6 +11,7 @@ use Rattle.hash_order.specs.Order.{member, every, ascends}
 use Rattle.rules.specs.Hash.{hashAt}
 use Rattle.rules.specs.LittleEndian.{u16At}
 use Rattle.rules.specs.Sizes.{sizes}
+use Rattle.rules.specs.Zeros.{zeros}
 use Rattle.rules.specs.declared.refusal.Refusal.the-variants.{PastSize, BadRow}
 use Rattle.table.specs.Table.{Row, GoodTable, rows}
 use Rattle.table.specs.declared.check.Checked.{Checked}
@@ -54,11 +55,6 @@ rowsOf d s i (suc count) = rowOf d s i ∷ rowsOf d s (suc i) count
 -- All whole rows of the bytes.
 unfoldable pub wholeRowsOf : ℕ → List ℕ → List Row
 wholeRowsOf d s = rowsOf d s 0 (length s / rowSizeOf d)
-
--- Nothing but zeros.
-unfoldable pub zeros : List ℕ → Bool
-zeros [] = true
-zeros (x ∷ xs) = eqb x 0 && zeros xs
 
 -- The numbers in use: strictly ascending, and below the own row.
 unfoldable pub numbersGood : ℕ → List ℕ → Bool

@@ -2,12 +2,15 @@
 // Rows have room for d dependencies.
 use crate::row::count_of;
 use crate::row::dep_of;
+use crate::row::row_place;
 use rules::refusal::Refusal;
+use rules::sizes::HASH_SIZE;
+use rules::zeros::zero_bytes;
 ghost use mathlib.Core.Path.{_≡_};
-ghost use Prim.Native.Nat.{_+_, _-_, _*_, _≤_};
+ghost use Prim.Native.Nat.{_+_, _*_, _≤_};
 ghost use lib.ListN.{length};
-ghost use Rattle.rules.specs.Sizes.{sizes};
-ghost use Rattle.table.specs.TableBytes.{u16sAt, rowSizeOf, countOf, usedOf, unusedOf, numbersGood, zeros, firstBad};
+ghost use Rattle.rules.specs.Zeros.{zeros};
+ghost use Rattle.table.specs.TableBytes.{rowSizeOf, countOf, usedOf, unusedOf, numbersGood, firstBad};
 ghost use Rattle.table.specs.Internal.OwnBytes.{rowSoundOf};
 
 // A good table's number of rows, or the refusal.
@@ -38,46 +41,17 @@ fn numbers_good(d: usize, table: &[u8], i: usize) -> bool
     true
 }
 
-// Whether the four numbers of row i from the j-th on are 0. They are summed, so that one test decides.
-fn four_zeros(d: usize, table: &[u8], i: usize, j: usize) -> bool
-    requires { ⌜ ((i + 1) * rowSizeOf d ≤ length (now table)) × (j + 4 ≤ d) ⌝ }
-    ensures { λ r. ⌜ r ≡ zeros (u16sAt (now (table .entry)) (i * rowSizeOf d + sizes .hash + 2 + 2 * j) 4) ⌝ }
-{
-    dep_of(d, table, i, j)
-        + dep_of(d, table, i, j + 1)
-        + dep_of(d, table, i, j + 2)
-        + dep_of(d, table, i, j + 3)
-        == 0
-}
-
-// Whether the numbers of row i from one on are 0.
-fn zeros_from(d: usize, table: &[u8], i: usize, from: usize) -> bool
-    requires { ⌜ ((i + 1) * rowSizeOf d ≤ length (now table)) × (from ≤ d) ⌝ }
-    ensures { λ r. ⌜ r ≡ zeros (u16sAt (now (table .entry)) (i * rowSizeOf d + sizes .hash + 2 + 2 * from) (d - from)) ⌝ }
-{
-    let mut j = from;
-    while j < d {
-        if dep_of(d, table, i, j) != 0 {
-            return false;
-        }
-        j += 1;
-    }
-    true
-}
-
-// Whether the other numbers of row i are 0, four at a time as long as there are as many.
+// Whether the other numbers of row i are 0: all their bytes at once, as most of a row isn't in use.
 fn zeros_good(d: usize, table: &[u8], i: usize) -> bool
     requires { ⌜ ((i + 1) * rowSizeOf d ≤ length (now table)) × (countOf d (now table) i ≤ d) ⌝ }
     ensures { λ r. ⌜ r ≡ zeros (unusedOf d (now (table .entry)) i) ⌝ }
 {
-    let mut j = count_of(d, table, i);
-    while j + 4 <= d {
-        if !four_zeros(d, table, i, j) {
-            return false;
-        }
-        j += 4;
-    }
-    zeros_from(d, table, i, j)
+    let count = count_of(d, table, i);
+    zero_bytes(
+        table,
+        row_place(d, i) + HASH_SIZE + 2 + 2 * count,
+        2 * (d - count),
+    )
 }
 
 // Whether row i is good by its own bytes: its count, its numbers, and zeros behind them.

@@ -7,23 +7,24 @@ use native.Mathlib.Nat.{add-zero, zero-add, one-le-pow, le-mul-of-pos-right, not
 use native.Mathlib.Numerals.{add-one}
 use native.Mathlib.Omega.{arith}
 use borrow.Author.Tests.{ltb-true, ltb-false, leb-true, eqb-true, eqb-false, not-true, le-leb, lt-leb, eq-eqb, ne-eqb}
-use lib.Bits.{bitOr, or-add-and, and-le-r}
 use lib.Dec.{ltb, leb, eqb}
 use lib.ListN.{length, getD, length-map}
 use lib.Seq.{slice, slice-empty, slice-cons}
 use Rattle.hash_order.proofs.KeepLaws.{index-once}
 use Rattle.hash_order.specs.Order.{member, Once}
 use Rattle.rules.proofs.Cases.{split, both}
+use Rattle.rules.proofs.ZeroLaws.{zeros-parts}
 use Rattle.rules.proofs.Hash.{length-hashes-at, hash-is-hash, hashes-are-hashes}
 use Rattle.rules.specs.Hash.{Bytes, AreHashes, bigEndian, hashAt, hashesAt}
 use Rattle.rules.specs.Sizes.{sizes}
+use Rattle.rules.specs.Zeros.{bytesAt, zeros}
 use Rattle.rules.specs.declared.refusal.Refusal.the-variants.{BadWaitingRow}
 use Rattle.table.proofs.CheckLaws.{fewer, accepted, good-is-accepted}
 use Rattle.table.proofs.TableLaws.{length-rows, index-tells, index-of-entry, member-is, index-of-member, entry-at-index}
-use Rattle.table.specs.TableBytes.{zeros, checkedWith, firstBad}
+use Rattle.table.specs.TableBytes.{checkedWith, firstBad}
 use Rattle.table.specs.Table.{Row, rows, indexIn, held}
 use Rattle.table.specs.declared.check.Checked.the-variants.{Good, Refused}
-use Rattle.waiting.specs.WaitingBytes.{waitingSizeOf, asksCountOf, asksPlaceOf, waitingRowOf, waitingRowsOf, wholeWaitingOf, fillOf, unaskedOf, waitingGoodOf, waitingCheckedOf, waitingSize, asksCount, waitingsAt, waitingOf, bytesAt, waitingChecked}
+use Rattle.waiting.specs.WaitingBytes.{waitingSizeOf, asksCountOf, asksPlaceOf, waitingRowOf, waitingRowsOf, wholeWaitingOf, fillOf, unaskedOf, waitingGoodOf, waitingCheckedOf, waitingSize, asksCount, waitingsAt, waitingOf, waitingChecked}
 use Rattle.waiting.specs.Waiting.{Waiting, noWaiting, waiting, asksOf}
 use Rattle.waiting.proofs.Today.{asksPlace, waitingGood}
 
@@ -93,45 +94,6 @@ module _ (s : List ℕ) where
   waiting-hashes b = waiting-hashes-of (sizes .dependencies) s b 0 (length s / waitingSize)
 
 -- ---- zeros
-
-zeros-parts : (s : List ℕ) (at a b : ℕ) → zeros (bytesAt s at (a + b)) ≡ (zeros (bytesAt s at a) && zeros (bytesAt s (at + a) b))
-unfolding zeros bytesAt
-zeros-parts s at zero b = rw (zero-add, add-zero)
-zeros-parts s at (suc a) b =
-    let e : suc a + b ≡ suc (a + b) = omega arith in
-    let f : at + suc a ≡ at + 1 + a = omega arith in
-    split (eqb (getD s at 0) 0)
-    (λ q. rw (e, q, f) (zeros-parts s (at + 1) a b))
-    (λ q. rw (e, q))
-
--- joined numbers are 0 if both are
-or-zero : (a b : ℕ) → eqb (bitOr a b) 0 ≡ (eqb a 0 && eqb b 0)
-or-zero a b =
-    split (eqb a 0)
-    (λ e. rw (eqb-true a 0 e))
-    (λ e.
-    let n : a ≡ 0 → ⊥ = eqb-false a 0 e in
-    rw (e, ne-eqb (bitOr a b) 0 (λ q. n (omega (arith, or-add-and a b, and-le-r a b)))))
-
-and-true-right : (x : Bool) → (x && true) ≡ x
-and-true-right true = refl
-and-true-right false = refl
-
--- The first bytes from a place on are 0 if what they are joined in is.
-module _ (s : List ℕ) (at : ℕ) where
-  pub joined-none : eqb 0 0 ≡ zeros (bytesAt s at 0)
-  unfolding zeros bytesAt
-  joined-none = refl
-
-  pub joined-next : (k any : ℕ) → eqb any 0 ≡ zeros (bytesAt s at k) → eqb (bitOr any (getD s (at + k) 0)) 0 ≡ zeros (bytesAt s at (k + 1))
-  unfolding zeros bytesAt
-  joined-next k any e =
-      rw (or-zero any (getD s (at + k) 0), zeros-parts s at k 1, e) (ap (λ (x : Bool). zeros (bytesAt s at k) && x) (sym (and-true-right _)))
-
-  pub joined-all : (k count any : ℕ) → k ≤ count → count ≤ k → eqb any 0 ≡ zeros (bytesAt s at k) → eqb any 0 ≡ zeros (bytesAt s at count)
-  joined-all k count any b c e =
-      let same : k ≡ count = omega arith in
-      rw same at e
 
 -- a number is 0 if its digits are
 digits-zero : (b c r : ℕ) → 1 ≤ c → eqb (b * c + r) 0 ≡ (eqb b 0 && eqb r 0)

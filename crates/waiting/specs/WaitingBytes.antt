@@ -11,8 +11,9 @@ use Rattle.table_index.specs.Index.{fitsBy, recordHash}
 use Rattle.hash_order.specs.Order.{member}
 use Rattle.rules.specs.Hash.{hashAt, hashesAt}
 use Rattle.rules.specs.Sizes.{sizes}
+use Rattle.rules.specs.Zeros.{bytesAt, zeros}
 use Rattle.rules.specs.declared.refusal.Refusal.the-variants.{BadWaitingRow}
-use Rattle.table.specs.TableBytes.{u16sAt, zeros, firstBad, checkedWith}
+use Rattle.table.specs.TableBytes.{u16sAt, firstBad, checkedWith}
 use Rattle.table.specs.Table.{Row, held}
 use Rattle.table.specs.declared.check.Checked.the-variants.{Good, Refused}
 use Rattle.table.specs.declared.check.Checked.{Checked}
@@ -46,11 +47,6 @@ waitingRowsOf d s i (suc count) = waitingRowOf d s i ∷ waitingRowsOf d s (suc 
 -- All whole rows of the bytes.
 unfoldable pub wholeWaitingOf : ℕ → List ℕ → List Waiting
 wholeWaitingOf d s = waitingRowsOf d s 0 (length s / waitingSizeOf d)
-
--- The bytes from a place on, as many as the last argument says.
-unfoldable pub bytesAt : List ℕ → ℕ → ℕ → List ℕ
-bytesAt s at zero = []
-bytesAt s at (suc count) = getD s at 0 ∷ bytesAt s (at + 1) count
 
 -- The bytes between the count and the hashes.
 unfoldable pub fillOf : ℕ → List ℕ → ℕ → List ℕ

@@ -7,6 +7,7 @@ use rules::refusal::Refusal;
 use rules::sizes::DEPENDENCIES;
 use rules::sizes::HASH_SIZE;
 use rules::sizes::WAITING_ROWS;
+use rules::zeros::zero_bytes;
 use table::check::Checked;
 use table_check::check::check_indexed;
 use table_index::look::look_up;
@@ -16,8 +17,8 @@ ghost use Prim.Native.Nat.{_+_, _*_, _≤_};
 ghost use lib.ListN.{length};
 ghost use Rattle.table_index.specs.Index.{Indexed};
 ghost use Rattle.rules.specs.Sizes.{sizes};
-ghost use Rattle.table.specs.TableBytes.{rowsAt, zeros};
-ghost use Rattle.waiting.specs.WaitingBytes.{waitingSize, asksCount, bytesAt, waitingGoodOf, waitingChecked, Sorted, FirstBad, InOrder};
+ghost use Rattle.table.specs.TableBytes.{rowsAt};
+ghost use Rattle.waiting.specs.WaitingBytes.{waitingSize, asksCount, waitingGoodOf, waitingChecked, Sorted, FirstBad, InOrder};
 ghost use Rattle.waiting.specs.WaitingCalls.{tablesChecked};
 
 // How many hashes waiting row i says that it asks for.
@@ -26,20 +27,6 @@ pub fn asks_count(waiting: &[u8], i: usize) -> usize
     ensures { λ r. ⌜ r ≡ asksCount (now (waiting .entry)) i ⌝ }
 {
     waiting[i * WAITING_SIZE + HASH_SIZE] as usize
-}
-
-// Whether `count` bytes from a place on are 0. They are joined in one number and none is tested by itself, so that the compiler takes many at a time.
-fn zero_bytes(bytes: &[u8], at: usize, count: usize) -> bool
-    requires { ⌜ at + count ≤ length (now bytes) ⌝ }
-    ensures { λ r. ⌜ r ≡ zeros (bytesAt (now (bytes .entry)) at count) ⌝ }
-{
-    let mut any: u8 = 0;
-    let mut k = 0;
-    while k < count {
-        any = any | bytes[at + k];
-        k += 1;
-    }
-    any == 0
 }
 
 // Whether waiting row i is good: its count, zeros in what isn't in use, and a hash that no earlier waiting row and none of the first n rows of

@@ -16,7 +16,8 @@ use Rattle.rules.proofs.Hash.{big-endian-bytes-bytes}
 use Rattle.rules.specs.Hash.{Bytes, bigEndian, bigEndianBytes, hashAt, hashesAt, hashBytes}
 use Rattle.rules.specs.LittleEndian.{u16At}
 use Rattle.rules.specs.Sizes.{sizes}
-use Rattle.table.specs.TableBytes.{u16sAt, countOf, usedOf, unusedOf, rowOf, rowsOf, wholeRowsOf, zeros, numbersGood, rowGoodOf, firstBad, checkedWith, tableCheckedOf, tableOf}
+use Rattle.rules.specs.Zeros.{bytesAt, zeros}
+use Rattle.table.specs.TableBytes.{u16sAt, countOf, usedOf, unusedOf, rowOf, rowsOf, wholeRowsOf, numbersGood, rowGoodOf, firstBad, checkedWith, tableCheckedOf, tableOf}
 use Rattle.table.specs.TableCalls.{passedOn}
 use Rattle.table.specs.Table.{Row, rows, hashOf, held}
 use Rattle.table.specs.declared.check.Checked.the-variants.{Good}
@@ -27,7 +28,6 @@ use Rattle.waiting.specs.WaitingBytes.{
   waitingRowOf,
   waitingRowsOf,
   wholeWaitingOf,
-  bytesAt,
   fillOf,
   unaskedOf,
   waitingGoodOf,

@@ -3,7 +3,8 @@ use Prim.Native.Nat.{ℕ}
 use mathlib.Core.Bool.{Bool, _&&_}
 use mathlib.Core.List.{List}
 use lib.Dec.{leb}
-use Rattle.table.specs.TableBytes.{countOf, usedOf, unusedOf, numbersGood, zeros}
+use Rattle.rules.specs.Zeros.{zeros}
+use Rattle.table.specs.TableBytes.{countOf, usedOf, unusedOf, numbersGood}
 
 -- Its count, its numbers, and the zeros behind them.
 unfoldable pub rowSoundOf : ℕ → List ℕ → ℕ → Bool

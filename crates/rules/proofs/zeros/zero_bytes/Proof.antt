@@ -1,14 +1,13 @@
--- `waiting::check::zero_bytes` meets its contract: the bytes before the k-th are 0 if what they are joined in is. Assumes nothing.
+-- `rules::zeros::zero_bytes` meets its contract: the bytes before the k-th are 0 if what they are joined in is. Assumes nothing.
 use Prim.Native.Nat.{_-_, _≤_}
 use mathlib.Core.Path.{_≡_}
 use native.Mathlib.Omega.{arith}
 use lib.Dec.{eqb}
-use Rattle.table.specs.TableBytes.{zeros}
-use Rattle.waiting.specs.WaitingBytes.{bytesAt}
-use Rattle.waiting.proofs.WaitingLaws.{joined-none, joined-next, joined-all}
+use Rattle.rules.specs.Zeros.{bytesAt, zeros}
+use Rattle.rules.proofs.ZeroLaws.{joined-none, joined-next, joined-all}
 use borrow.Author.Needs.{needs}
-use Rattle.waiting.proofs.check.zero_bytes.Statement.{statement}
-use Rattle.waiting.proofs.check.zero_bytes.Tie as tie
+use Rattle.rules.proofs.zeros.zero_bytes.Statement.{statement}
+use Rattle.rules.proofs.zeros.zero_bytes.Tie as tie
 
 abbrev Inv-loop : tie.InvT-loop
 Inv-loop bytes at count any₀ k₀ any k = record { upto : k ≤ count; is : eqb any 0 ≡ zeros (bytesAt bytes at k) }
