@@ -1,5 +1,5 @@
 -- The filter rules taken apart and put together: the tests of `filterRules` as facts about the numbers, one law for each way to keep or to break
--- them; and the size of a field, which has a bit for every entry and fits 64 bits.
+-- them; the size of a field, which has a bit for every entry and fits 64 bits; and the pairs of bits and probes that keep them over any rows of a table.
 use Prim.Native.Nat.{ℕ, _*_, _≤_, _<_}
 use mathlib.Core.Bool.{true, false, _&&_, _||_}
 use mathlib.Core.Path.{_≡_, refl, sym, _∙_}
@@ -10,7 +10,7 @@ use lib.Dec.{ltb, leb, eqb}
 use Rattle.rules.specs.Sizes.{sizes}
 use Rattle.rules.proofs.Cases.{split, both, other}
 use Rattle.leb128.specs.Number.{mostFilter}
-use Rattle.bloom.specs.Filter.{fieldSize, filterRules, defaultBits, defaultProbes}
+use Rattle.bloom.specs.Filter.{fieldSize, filterRules, defaultBits, defaultProbes, SettingGood, mostBits, settingGood}
 
 -- ---- the size of a field
 
@@ -136,12 +136,45 @@ rules n b p m r =
     let none : n ≤ 0 = ltb-false _ _ t in
     no-entries n b p m (r .entries) (r .bits) (r .probes) (r .size) (omega arith))
 
--- A filter with the bits and probes of the default over at most a table's rows keeps the rules.
-pub rules-default : (n : ℕ) → n ≤ sizes .rows → filterRules n defaultBits defaultProbes (fieldSize n defaultBits) ≡ true
+-- ---- pairs that may be built with
+
+-- Bits 1 to 32 leave the field within its size, 4 bytes an entry at the most.
+field-small : (n b : ℕ) → n ≤ sizes .rows → b ≤ mostBits → fieldSize n b ≤ sizes .field
 unfolding fieldSize
-rules-default n h =
-    split (ltb 0 n)
-    (λ t. rules-full n defaultBits defaultProbes (fieldSize n defaultBits) (ltb-true _ _ t) (omega arith) (omega arith) (omega arith) (omega arith) refl (omega arith))
-    (λ t.
-    let none : n ≡ 0 = omega (arith, ltb-false 0 n t) in
-    no-entries n defaultBits defaultProbes (fieldSize n defaultBits) (omega arith) (omega arith) (omega arith) refl none)
+field-small n b h g =
+    let z : n * b ≤ sizes .rows * mostBits = mul-le-mul h g in
+    omega arith
+
+-- 02, M-107: such bits with at most 64 probes keep the rules over any rows of a table.
+pub pair-good : (b p : ℕ) → 1 ≤ b → b ≤ mostBits → p ≤ sizes .probes → SettingGood b p
+pair-good b p some few probes =
+    record {
+      each = λ n h.
+          split (ltb 0 n)
+          (λ t. rules-full n b p (fieldSize n b) (ltb-true _ _ t) (omega arith) (omega arith) (omega arith) probes refl (field-small n b h few))
+          (λ t.
+          let none : n ≤ 0 = ltb-false _ _ t in
+          no-entries n b p (fieldSize n b) (omega arith) (omega arith) (omega arith) refl (omega arith));
+    }
+
+-- No others do: over a whole table the rules say as much.
+pub keeps-setting : (b p : ℕ) → SettingGood b p → settingGood b p ≡ true
+unfolding settingGood fieldSize
+keeps-setting b p good =
+    let r = ruled (sizes .rows) b p (fieldSize (sizes .rows) b) (good .each (sizes .rows) (omega arith)) .full (omega arith) in
+    rw (lt-ltb _ _ (r .someBits), le-leb b mostBits (omega (arith, r .small)), le-leb _ _ (r .fewProbes))
+
+pub setting-keeps : (b p : ℕ) → settingGood b p ≡ true → SettingGood b p
+unfolding settingGood
+setting-keeps b p e =
+    let l = both (ltb 0 b) (leb b mostBits && leb p (sizes .probes)) e in
+    let r = both (leb b mostBits) (leb p (sizes .probes)) (l .1) in
+    pair-good b p (ltb-true _ _ (l .0)) (leb-true _ _ (r .0)) (leb-true _ _ (r .1))
+
+-- The default's 10 and 7 are such a pair.
+pub default-good : SettingGood defaultBits defaultProbes
+default-good = pair-good defaultBits defaultProbes (omega arith) (omega arith) (omega arith)
+
+-- So a filter with 10 and 7 over at most a table's rows keeps the rules.
+pub rules-default : (n : ℕ) → n ≤ sizes .rows → filterRules n defaultBits defaultProbes (fieldSize n defaultBits) ≡ true
+rules-default n h = default-good .each n h

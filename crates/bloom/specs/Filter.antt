@@ -1,13 +1,15 @@
 -- Filters as values. 01, Wire ("Filter").
-use Prim.Native.Nat.{ℕ, _+_, _*_, _/_}
-use mathlib.Core.Bool.{Bool, cond, not, _||_, _&&_}
+use Prim.Native.Nat.{ℕ, _+_, _*_, _/_, _≤_}
+use mathlib.Core.Bool.{Bool, true, cond, not, _||_, _&&_}
 use mathlib.Core.List.{List, [], _++_}
+use mathlib.Core.Path.{_≡_}
 use lib.Dec.{ltb, leb, eqb}
 use lib.ListN.{length}
 use Rattle.rules.specs.Output.{Output}
 use Rattle.rules.specs.Sizes.{sizes}
 use Rattle.rules.specs.declared.refusal.Refusal.the-variants.{BadNumbers}
 use Rattle.leb128.specs.Number.{shortest, mostFilter}
+use Rattle.bloom.specs.declared.setting.Setting.{Setting}
 
 -- Entries n, bits per entry b, probes p, and the bit field's bytes.
 pub record Filter : Type 0 where
@@ -28,6 +30,10 @@ defaultBits = 10
 abbrev pub defaultProbes : ℕ
 defaultProbes = 7
 
+-- Both as one setting.
+abbrev pub defaultSetting : Setting
+defaultSetting = record { bits = defaultBits; probes = defaultProbes }
+
 -- n × b / 8 bytes, rounded up.
 unfoldable pub fieldSize : ℕ → ℕ → ℕ
 fieldSize n b = (n * b + 7) / 8
@@ -38,6 +44,19 @@ unfoldable pub filterRules : ℕ → ℕ → ℕ → ℕ → Bool
 filterRules n b p size =
     (leb n mostFilter && (leb b mostFilter && leb p mostFilter))
     && (eqb size (fieldSize n b) && (eqb n 0 || (ltb 0 b && (leb p (sizes .probes) && leb size (sizes .field)))))
+
+-- 02, M-107: what a pair that filters are built with must keep. With these bits and probes a filter over any rows of a table keeps the filter rules.
+pub record SettingGood (bits probes : ℕ) : Type 0 where
+  pub each : (n : ℕ) → n ≤ sizes .rows → filterRules n bits probes (fieldSize n bits) ≡ true
+
+-- 02, M-107: bits per entry at the most. With so many the field over a whole table just fits its size.
+abbrev pub mostBits : ℕ
+mostBits = 32
+
+-- 02, M-107, as a test: bits 1 to 32, and probes up to 64, where the filter rules let 0 pass too. It finds just the pairs of `SettingGood`: the laws
+-- `setting-keeps` and `keeps-setting`.
+unfoldable pub settingGood : ℕ → ℕ → Bool
+settingGood b p = ltb 0 b && (leb b mostBits && leb p (sizes .probes))
 
 -- A filter as bytes: n = 0 is written as no bytes.
 unfoldable pub filterBytes : Filter → List ℕ

@@ -5,4 +5,5 @@
 pub mod have;
 pub mod parse;
 pub mod rule;
+pub mod setting;
 pub mod to_bytes;

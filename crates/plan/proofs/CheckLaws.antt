@@ -5,14 +5,11 @@ use mathlib.Core.List.{List}
 use mathlib.Core.Path.{_≡_, refl, sym, _∙_}
 use native.Mathlib.Omega.{arith}
 use Rattle.plan_make.specs.Internal.PlanMake.{PlanChecked}
-use Rattle.bloom.specs.Filter.{defaultBits, defaultProbes}
-use Rattle.bloom.proofs.Rules.{rules-default}
 use Rattle.table_index.specs.Index.{Indexed, indexChecked}
 use Rattle.table_index.proofs.CheckLaws.{checked-table, checked-indexed}
 use Rattle.session_check.specs.SessionGood.{sessionGood}
 use Rattle.session.specs.PlanCall.{Buffers, afterTables, planWith, plannedAnswer, plannedRoomed, putInto, plannedLists, PlanCalled}
 use Rattle.session.specs.declared.plan_answer.PlanAnswer.the-variants as answer
-use Rattle.plan_parts.specs.Internal.PlanParts.{SettingGood}
 use Rattle.rules.specs.declared.refusal.Refusal.{Refusal}
 use Rattle.rules.specs.declared.refusal.Refusal.the-variants.{BadNumbers}
 use Rattle.session.specs.Plan.{Planned, plan}
@@ -152,7 +149,3 @@ module _ (bits probes : ℕ) (s : Session) (l : Lent) (table index waiting : Lis
       → PlanCalled (planWith bits probes s l table index waiting) l l b b (answer.Refused r)
   unfolding checkedPlan planWith plannedAnswer plannedRoomed putInto plannedLists
   refused-called b r is e = rw (refused-plans (sessionGood s l) r (sym is ∙ e)) (record { answer = refl; buffers = refl; lists = refl })
-
--- The filter rules hold with the default's bits and probes over any rows.
-pub default-setting : SettingGood defaultBits defaultProbes
-default-setting = record { each = rules-default }

@@ -3,15 +3,14 @@ use crate::check::PlanChecks;
 use crate::check::check_plan;
 use bloom::parse::BITS_PER_ENTRY;
 use bloom::parse::NUM_PROBES;
-use plan_make::make::Setting;
+use bloom::setting::Setting;
 use plan_make::make::plan_checked;
 use session::plan_answer::PlanAnswer;
 use session_state::session::Session;
 use waiting::find::ORDER_SIZE;
-ghost use Rattle.bloom.specs.Filter.{defaultBits, defaultProbes};
+ghost use Rattle.bloom.specs.Filter.{defaultBits, defaultProbes, SettingGood};
 ghost use Rattle.session_check.specs.SessionGood.{lentOf};
 ghost use Rattle.session.specs.PlanCall.{planWith, buffersOf, PlanCalled};
-ghost use Rattle.plan_parts.specs.Internal.PlanParts.{SettingGood};
 
 // The plan with a filter of these bits and probes.
 pub fn plan(

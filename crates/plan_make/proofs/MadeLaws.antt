@@ -27,9 +27,10 @@ use Rattle.session_state.specs.Value.{Lent, stateOf}
 use Rattle.session_state.specs.declared.session.Session.{Session}
 use Rattle.table.specs.Table.{Row, rows}
 use Rattle.waiting.specs.Waiting.{Waiting}
+use Rattle.bloom.specs.Filter.{SettingGood}
 use Rattle.bloom.specs.Have.{Have}
 use mathlib.Core.Option.{none}
-use Rattle.plan_parts.specs.Internal.PlanParts.{SettingGood, NeedCounted}
+use Rattle.plan_parts.specs.Internal.PlanParts.{NeedCounted}
 use Rattle.plan_parts.specs.declared.need.Asked.{Asked}
 use Rattle.session.specs.PlanCall.{Buffers, buffersOf, syncsOf, filterNumbers, plannedAnswer, plannedRoomed, plannedRooms, putInto, plannedLists, PlanCalled}
 use Rattle.plan_decide.specs.Internal.Draft.{PlanParts, PutLists, SmallDraft, unlessNone, putsOf, allPut}

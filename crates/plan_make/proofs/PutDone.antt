@@ -9,7 +9,7 @@ use borrow.Author.Tests.{eqb-false, not-true}
 use lib.Dec.{eqb}
 use lib.Seq.{sets}
 use lib.ListN.{length, replicate, length-replicate}
-use Rattle.bloom.specs.Filter.{fieldSize}
+use Rattle.bloom.specs.Filter.{fieldSize, SettingGood}
 use Rattle.bloom_probe.proofs.BuildLaws.{rules-field}
 use Rattle.bloom_probe.specs.Build.{addHashes, filterOf}
 use Rattle.plan_decide.proofs.PutLaws.{listsOf, changed, buffers-same}
@@ -29,7 +29,7 @@ use Rattle.hash_refs.specs.Internal.Refs.{foundBy, FoundRefs}
 use Rattle.session.specs.PlanCall.{Buffers, buffersOf}
 use Rattle.session.specs.declared.plan_answer.PlanAnswer.{PlanAnswer}
 use Rattle.session.specs.declared.plan_answer.Rooms.{Rooms}
-use Rattle.plan_parts.specs.Internal.PlanParts.{SettingGood, NeedCounted, NeedFound}
+use Rattle.plan_parts.specs.Internal.PlanParts.{NeedCounted, NeedFound}
 use Rattle.plan_parts.specs.declared.need.Asked.{Asked}
 use Rattle.rules.proofs.Cases.{split, both}
 use Rattle.rules.proofs.Hash.{length-hashes-at}

@@ -1,4 +1,5 @@
 // The plan: what is asked for, then counted, decided, put. Every refusal is decided on the numbers of a draft, and what is put is what they count.
+use bloom::setting::Setting;
 use plan_count::count::count_plan;
 use plan_decide::decide::decide;
 use plan_decide::puts::puts_of;
@@ -19,22 +20,16 @@ use waiting_missing::missing::FOUND;
 ghost use mathlib.Core.Bool.{true};
 ghost use mathlib.Core.Path.{_≡_};
 ghost use Prim.Native.Nat.{_+_, _≤_};
+ghost use Rattle.bloom.specs.Filter.{SettingGood};
 ghost use Rattle.table_index.specs.Index.{Indexed};
 ghost use Rattle.session_check.specs.SessionGood.{lentOf, sessionGood};
 ghost use Rattle.session.specs.PlanCall.{buffersOf, PlanCalled};
-ghost use Rattle.plan_parts.specs.Internal.PlanParts.{SettingGood};
 ghost use Rattle.rules.specs.Sizes.{sizes};
 ghost use Rattle.session.specs.Plan.{plan as planFor};
 ghost use Rattle.session_state.specs.Value.{stateOf};
 ghost use Rattle.table.specs.TableBytes.{rowsAt};
 ghost use Rattle.waiting.specs.WaitingBytes.{waitingOf};
 ghost use Rattle.plan_make.specs.Internal.PlanMake.{PlanChecked, AskedCalled};
-
-// The bits and probes of a filter.
-pub struct Setting {
-    pub bits: u64,
-    pub probes: u64,
-}
 
 // The plan but for the hashes asked for, which are put once it is known that they are: how many they are and the room for them decide with the rest.
 // Nothing that is lent is written before all of that is decided.

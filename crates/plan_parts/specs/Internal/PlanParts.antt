@@ -5,7 +5,6 @@ use mathlib.Core.List.{List, _++_}
 use mathlib.Core.Option.{Option}
 use mathlib.Core.Path.{_≡_}
 use lib.ListN.{length}
-use Rattle.bloom.specs.Filter.{fieldSize, filterRules}
 use Rattle.table_graph.specs.Graph.{beyond}
 use Rattle.table_graph.specs.Internal.Marks.{Marks, Blank, marked, picked}
 use Rattle.hash_order.specs.Order.{member, every, ascend}
@@ -16,10 +15,6 @@ use Rattle.session.specs.Plan.{Body, heard}
 use Rattle.table.specs.Table.{Row, rows, hashOf}
 use Rattle.plan_parts.specs.declared.body.BodyCount.{BodyCount}
 use Rattle.plan_parts.specs.declared.need.Asked.{Asked}
-
--- Bits and probes with which a filter over any rows of a table keeps the filter rules.
-pub record SettingGood (bits probes : ℕ) : Type 0 where
-  pub each : (n : ℕ) → n ≤ sizes .rows → filterRules n bits probes (fieldSize n bits) ≡ true
 
 -- What is asked for was counted: all of it where it is no more than a list may have, and then whether each hash is a head that was heard.
 pub record NeedCounted (l : List ℕ) (theirs : Option (List ℕ)) (a : Asked) : Type 0 where

@@ -1,10 +1,10 @@
 -- `plan::plan::generate_sync_message` meets its contract: the default's bits and probes keep the filter rules over any rows. Assumes nothing.
-use Rattle.plan.proofs.CheckLaws.{default-setting}
+use Rattle.bloom.proofs.Rules.{default-good}
 use Rattle.plan.proofs.plan.generate_sync_message.Statement.{statement}
 use Rattle.plan.proofs.plan.generate_sync_message.Tie as tie
 
 plan-requires : tie.Need-plan-requires
-plan-requires c κs = default-setting
+plan-requires c κs = default-good
 
 same-length : tie.Need-same-length
 same-length c = c .before .before .before .before .before .before .before .before .before .before .before .before .plan .kept .1 .1 .1 .1 .1 .1 .1 .0
