@@ -174,7 +174,3 @@ setting-keeps b p e =
 -- The default's 10 and 7 are such a pair.
 pub default-good : SettingGood defaultBits defaultProbes
 default-good = pair-good defaultBits defaultProbes (omega arith) (omega arith) (omega arith)
-
--- So a filter with 10 and 7 over at most a table's rows keeps the rules.
-pub rules-default : (n : ℕ) → n ≤ sizes .rows → filterRules n defaultBits defaultProbes (fieldSize n defaultBits) ≡ true
-rules-default n h = default-good .each n h

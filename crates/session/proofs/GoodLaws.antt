@@ -10,8 +10,7 @@ use borrow.Author.Tests.{leb-true, ltb-true, ltb-false}
 use lib.Dec.{leb, ltb}
 use lib.ListN.{length, take, length-replicate}
 use Rattle.bloom.proofs.HaveLaws.{PassedHaves, passed-haves}
-use Rattle.bloom.proofs.Rules.{rules-default}
-use Rattle.bloom.specs.Filter.{fieldSize, filterRules, defaultBits, defaultProbes}
+use Rattle.bloom.specs.Filter.{fieldSize, filterRules, defaultBits, defaultProbes, SettingGood}
 use Rattle.bloom.specs.Have.{haveCount, haveIn, havesFrom, havesOf, syncPlace, syncCount, numbersIn, filterGood, filterWith}
 use Rattle.message_read.proofs.Messages.{message-words, haves-good}
 use Rattle.message_read.specs.MessageRead.{Reading, messageAt, messageIn}
@@ -229,7 +228,7 @@ module _ (bits probes : ℕ) (t : List Row) (w : List Waiting) (s : State) (soun
   pub after-good : GoodState (after (plan bits probes t w s) s)
   after-good = answer-good (plan bits probes t w s) refl
 
--- ---- messages that are planned with the filters of the setting
+-- ---- messages that are planned with bits and probes that keep the filter rules
 
 -- The lists of a plan may stand in a message.
 pub record SoundPlan (q : Plan) : Type 0 where
@@ -237,19 +236,19 @@ pub record SoundPlan (q : Plan) : Type 0 where
   pub need : SoundHashes (q .need)
   pub haves : SoundHaves (q .haves)
 
-module _ (t : List Row) (sound : SoundTable t) where
-  have-sound : (l : List ℕ) → SoundHashes l → SoundHave (haveOf defaultBits defaultProbes t l)
+module _ (bits probes : ℕ) (setting : SettingGood bits probes) (t : List Row) (sound : SoundTable t) where
+  have-sound : (l : List ℕ) → SoundHashes l → SoundHave (haveOf bits probes t l)
   unfolding haveOf filterOf
   have-sound l h =
       let few : length (beyond t l) ≤ sizes .rows = le-trans (beyond-few t l) (sound .few) in
-      record { lastSync = h; filter = rw (length-add-hashes, length-replicate) (rules-default (length (beyond t l)) few) }
+      record { lastSync = h; filter = rw (length-add-hashes, length-replicate) (setting .each (length (beyond t l)) few) }
 
-  haves-sound : (need theirHeads l : List ℕ) → SoundHashes l → SoundHaves (havesFor defaultBits defaultProbes t need theirHeads l)
+  haves-sound : (need theirHeads l : List ℕ) → SoundHashes l → SoundHaves (havesFor bits probes t need theirHeads l)
   unfolding Each
   haves-sound need theirHeads l h =
       split (every (λ x. member x theirHeads) need)
-      (λ e. rw (have-one defaultBits defaultProbes t need theirHeads l e) (record { few = omega arith; each = (have-sound l h, tt) }))
-      (λ e. rw (have-none defaultBits defaultProbes t need theirHeads l e) no-haves)
+      (λ e. rw (have-one bits probes t need theirHeads l e) (record { few = omega arith; each = (have-sound l h, tt) }))
+      (λ e. rw (have-none bits probes t need theirHeads l e) no-haves)
 
   told-sound : (needsReset supportsReset : Bool) → SoundHashes (headsFor needsReset supportsReset (heads t))
   unfolding headsFor
@@ -262,11 +261,11 @@ module _ (t : List Row) (sound : SoundTable t) where
 
   -- the lists of a message that is said are sound, if what is missing are hashes
   pub said-sound : (w : List Waiting) (s : State) → GoodState s → AreHashes (missing t w (heard (s .theirHeads)))
-      → (q : Plan) (s′ : State) → plan defaultBits defaultProbes t w s ≡ Planned.says q s′
+      → (q : Plan) (s′ : State) → plan bits probes t w s ≡ Planned.says q s′
       → SoundPlan q
   unfolding planOf
   said-sound w s g a q s′ e =
-      let p = plan-saying defaultBits defaultProbes t w s q s′ e in
+      let p = plan-saying bits probes t w s q s′ e in
       rw (p .message)
       (record {
         heads = told-sound (s .needsReset) (s .supportsReset);

@@ -4,6 +4,7 @@ use contract.Lifetimes.{Lfts}
 use denote.Ref.{now}
 use denote.Triple.Clauses.{AtExit}
 use denote.Triple.Entry.{Args}
+use Rattle.bloom.specs.Filter.{defaultBits, defaultProbes}
 use Rattle.call_words.specs.Ties.{Ties}
 use Rattle.session_check.specs.SessionGood.{lentOf}
 use Rattle.session.specs.PlanCall.{buffersOf}
@@ -17,7 +18,7 @@ abbrev pub PlanTied : (κs : Lfts (of-bt-plan.ended .signature .lifetimes)) → 
 PlanTied κs
     (session, (shared, (last-sent, (their-heads, (their-need, (haves, (bytes, (sent, (table, (index, (waiting, (heads, (need, (have, (list, (answer, _))))))))))))))))
     (session′, (_, (last-sent′, (_, (_, (_, (_, (sent′, (_, (_, (_, (heads′, (need′, (have′, (list′, (answer′, _)))))))))))))))) =
-    PlanAnswered (now session) (now session′)
+    PlanAnswered defaultBits defaultProbes (now session) (now session′)
     (lentOf (now shared) (now last-sent) (now their-heads) (now their-need) (now haves) (now bytes) (now sent))
     (lentOf (now shared) (now last-sent′) (now their-heads) (now their-need) (now haves) (now bytes) (now sent′))
     (now table) (now index) (now waiting)

@@ -4,7 +4,6 @@ use mathlib.Core.Bool.{Bool}
 use mathlib.Core.List.{List, [], _∷_}
 use mathlib.Core.Path.{_≡_}
 use Rattle.call_words.specs.Answer.{refusalWords}
-use Rattle.bloom.specs.Filter.{defaultBits, defaultProbes}
 use Rattle.message.specs.declared.version.MessageVersion.{MessageVersion}
 use Rattle.message.specs.declared.version.MessageVersion.the-variants.{V1, V2}
 use Rattle.session.specs.PlanCall.{Buffers, planWith, plannedRoomed, plannedRooms, plannedAnswer, putInto, plannedLists}
@@ -71,16 +70,17 @@ receivedSession (Took s) before = sessionWords s
 receivedSession (Failed s) before = sessionWords s
 receivedSession (NotTaken r) before = before
 
--- What is planned for a session's words, with the filter of 01, once there is room.
-abbrev pub planFor : List ℕ → Lent → List ℕ → List ℕ → List ℕ → Buffers → Rattle.session.specs.Plan.Planned
-planFor words l table index waiting before = plannedRoomed (plannedRooms before l) (planWith defaultBits defaultProbes (sessionOf words) l table index waiting)
+-- What is planned for a session's words, with a filter of these bits and probes, once there is room.
+abbrev pub planFor : ℕ → ℕ → List ℕ → Lent → List ℕ → List ℕ → List ℕ → Buffers → Rattle.session.specs.Plan.Planned
+planFor bits probes words l table index waiting before = plannedRoomed (plannedRooms before l) (planWith bits probes (sessionOf words) l table index waiting)
 
--- What `bt_plan` leaves: its answer, the session's words and lists, and every buffer.
-pub record PlanAnswered (session₀ session₁ : List ℕ) (l l′ : Lent) (table index waiting : List ℕ) (before after : Buffers) (words : List ℕ) : Type 0 where
-  pub answer : words ≡ plannedWords (plannedAnswer (planFor session₀ l table index waiting before))
-  pub session : session₁ ≡ plannedSession (plannedAnswer (planFor session₀ l table index waiting before)) session₀
-  pub lists : l′ ≡ plannedLists (planFor session₀ l table index waiting before) l
-  pub buffers : after ≡ putInto (planFor session₀ l table index waiting before) before
+-- What planning leaves: its answer, the session's words and lists, and every buffer. For `bt_plan` bits and probes are 01's 10 and 7.
+pub record PlanAnswered (bits probes : ℕ) (session₀ session₁ : List ℕ) (l l′ : Lent) (table index waiting : List ℕ) (before after : Buffers) (words : List ℕ)
+    : Type 0 where
+  pub answer : words ≡ plannedWords (plannedAnswer (planFor bits probes session₀ l table index waiting before))
+  pub session : session₁ ≡ plannedSession (plannedAnswer (planFor bits probes session₀ l table index waiting before)) session₀
+  pub lists : l′ ≡ plannedLists (planFor bits probes session₀ l table index waiting before) l
+  pub buffers : after ≡ putInto (planFor bits probes session₀ l table index waiting before) before
 
 -- What is received for a session's words, once there is room.
 abbrev pub receiveFor : List ℕ → Lent → List ℕ → List ℕ → ℕ → List ℕ → Bool → Rattle.session.specs.Receive.Received

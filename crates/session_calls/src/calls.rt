@@ -4,6 +4,7 @@ use crate::answer::planned_words;
 use crate::answer::received_session;
 use crate::answer::received_words;
 use call_words::words::session_of;
+ghost use Rattle.bloom.specs.Filter.{defaultBits, defaultProbes};
 ghost use Rattle.session_check.specs.SessionGood.{lentOf};
 ghost use Rattle.session.specs.PlanCall.{buffersOf};
 ghost use Rattle.call_words.specs.SessionWords.{flagOf};
@@ -34,7 +35,7 @@ pub extern "C" fn bt_plan(
     list: &mut [u8],
     answer: &mut [u64; 16],
 )
-    ensures { λ _. ⌜ PlanAnswered (now (session .entry)) (now (session .exit))
+    ensures { λ _. ⌜ PlanAnswered defaultBits defaultProbes (now (session .entry)) (now (session .exit))
         (lentOf (now (shared .entry)) (now («last_sent» .entry)) (now («their_heads» .entry)) (now («their_need» .entry)) (now (haves .entry))
         (now (bytes .entry)) (now (sent .entry)))
         (lentOf (now (shared .entry)) (now («last_sent» .exit)) (now («their_heads» .entry)) (now («their_need» .entry)) (now (haves .entry))

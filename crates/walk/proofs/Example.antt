@@ -10,7 +10,7 @@ use native.Mathlib.Omega.{arith}
 use borrow.Author.Tests.{eqb-true}
 use lib.Dec.{eqb}
 use lib.ListN.{length, replicate}
-use Rattle.bloom.proofs.Rules.{rules-default}
+use Rattle.bloom.proofs.Rules.{default-good}
 use Rattle.bloom.specs.Filter.{fieldSize, defaultBits, defaultProbes}
 use Rattle.bloom.specs.Have.{Have}
 use Rattle.table_graph.proofs.BelowLaws.{beyond-few}
@@ -246,7 +246,7 @@ next k s s′ reply kept few walk offer stays loads sends names =
     Walk01.round (given k s) reply walk
     (record {
       holds = λ h m. absurd (member-none h m);
-      setting = rules-default (length (beyond (s .table) [])) (le-trans (beyond-few (s .table) []) few);
+      setting = default-good .each (length (beyond (s .table) [])) (le-trans (beyond-few (s .table) []) few);
       have = refl;
       whole = sym offer;
       loads = loads;

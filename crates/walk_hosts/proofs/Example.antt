@@ -6,7 +6,6 @@ use mathlib.Core.List.{List, [], _∷_, _++_}
 use mathlib.Core.Path.{_≡_, refl, sym, subst, fun-ext}
 use native.Mathlib.Omega.{arith}
 use lib.ListN.{getD, take, replicate}
-use Rattle.bloom.specs.Filter.{defaultBits, defaultProbes}
 use Rattle.table_index.specs.Index.{fitsBy, fits, indexFits, indexChecked}
 use Rattle.walk_hosts.proofs.AllBytes.{bytes-none, bytes-cons, bytes-append, zeros-bytes}
 use Rattle.walk_hosts.proofs.Zeroed.{zeroes, zeroes-room, zeroed, zeroed-fresh, zeroed-out, zeroed-wide}
@@ -21,7 +20,7 @@ use Rattle.table.specs.TableBytes.{u16sAt, countOf, usedOf, unusedOf, rowOf, ro
 use Rattle.table.specs.TableCalls.{passedOn}
 use Rattle.table.specs.Table.{Row, rows, hashOf, held}
 use Rattle.table.specs.declared.check.Checked.the-variants.{Good}
-use Rattle.walk_sessions.proofs.TalkExample.{held-by-b, waiting-at-b, waiting-at-a, lent, all-granted}
+use Rattle.walk_sessions.proofs.TalkExample.{held-by-b, waiting-at-b, waiting-at-a, lent, set-by-a, set-by-b, good-at-a, good-at-b, all-granted}
 use Rattle.walk_sessions.specs.Talk.{Reached, Granted}
 use Rattle.waiting.specs.WaitingBytes.{
   asksCountOf,
@@ -40,7 +39,8 @@ use Rattle.session.specs.PlanCall.{Buffers}
 use Rattle.session.specs.Written.{Host}
 use Rattle.walk.specs.Round.{Part}
 use Rattle.walk.proofs.Example.{a, b, c, one, three, cWaits, part-one}
-use Rattle.walk_hosts.specs.Calls.{speaks, haveWordsIn, WriteMade, Hears, Both, SaidSo, CallsRound, TalkOfCalls, AllGranted, CallsEnd, Lends}
+use Rattle.walk_hosts.specs.Calls.{speaks, haveWordsIn, WriteMade, Hears, Both, SaidSo, GoodSettings, CallsRound, TalkOfCalls}
+use Rattle.walk_hosts.specs.Calls.{AllGranted, CallsEnd, Lends}
 use Rattle.walk_hosts.specs.Contracts.{WriteLent, ReceiveLent}
 use Rattle.walk_hosts.proofs.Goes.{calls-go}
 use Rattle.walk_hosts.proofs.Talk.{calls-corollary}
@@ -174,7 +174,10 @@ beside-b (suc (suc zero)) =
     subst (λ (t : List Row). Beside t c-waits) (sym (computed .0)) (record { rows = 1; good = computed .5; bytes = waits-bytes })
 beside-b (suc (suc (suc k))) = beside-none (tableOf all-rows)
 
-lends : Lends all-rows at-b waits-b waits-a lent
+settings : GoodSettings set-by-a set-by-b
+settings = record { atA = good-at-a; atB = good-at-b }
+
+lends : Lends set-by-a set-by-b all-rows at-b waits-b waits-a lent
 lends =
     record {
       tableA = tabled-three;
@@ -191,9 +194,9 @@ lends =
 -- ---- all is granted
 
 abbrev ReachedGrants : List Row → (ℕ → List Row) → (ℕ → List Waiting) → (ℕ → List Waiting) → Type 0
-ReachedGrants A B W U = (k : ℕ) → Reached defaultBits defaultProbes A B W U lent k → Granted defaultBits defaultProbes A B W U lent k
+ReachedGrants A B W U = (k : ℕ) → Reached set-by-a set-by-b A B W U lent k → Granted set-by-a set-by-b A B W U lent k
 
-granted : AllGranted all-rows at-b waits-b waits-a lent
+granted : AllGranted set-by-a set-by-b all-rows at-b waits-b waits-a lent
 granted =
     subst (λ (A : List Row). ReachedGrants A (λ k. tableOf (at-b k)) (λ k. waitingOf (waits-b k)) (λ k. waitingOf (waits-a k))) (sym (computed .2))
     (subst (λ (U : ℕ → List Waiting). ReachedGrants three (λ k. tableOf (at-b k)) (λ k. waitingOf (waits-b k)) U) (fun-ext (λ k. sym (none-waits [] .0)))
@@ -205,10 +208,12 @@ part =
     subst (λ (A : List Row). Part A (tableOf a-row)) (sym (computed .2)) (subst (λ (B : List Row). Part three B) (sym (computed .0)) part-one)
 
 -- two hosts with memory and buffers of limit size talk for n rounds, and the corollary speaks of it: every premise is met here
-pub calls-example : (n : ℕ) → (talk : TalkOfCalls all-rows at-b waits-b waits-a lent n) × CallsEnd all-rows at-b waits-b waits-a lent n talk
+pub calls-example : (n : ℕ) → (talk : TalkOfCalls set-by-a set-by-b all-rows at-b waits-b waits-a lent n)
+    × CallsEnd set-by-a set-by-b all-rows at-b waits-b waits-a lent n talk
 calls-example n =
-    let talk = calls-go all-rows at-b waits-b waits-a lent lends (record { atA = zeroed; atB = zeroed }) zeroed-fresh zeroed-fresh n in
-    (talk, calls-corollary all-rows at-b waits-b waits-a lent n talk tabled-three part (none-waits [] .0) granted)
+    let both : Both = record { atA = zeroed; atB = zeroed } in
+    let talk = calls-go set-by-a set-by-b settings all-rows at-b waits-b waits-a lent lends both zeroed-fresh zeroed-fresh n in
+    (talk, calls-corollary set-by-a set-by-b settings all-rows at-b waits-b waits-a lent n talk tabled-three part (none-waits [] .0) granted)
 
 -- ---- what the calls are lent
 
@@ -244,7 +249,7 @@ said-speaks : {answer written : List ℕ} {o : Buffers} {hashes : List ℕ} → 
 said-speaks s = rw (s .planned, s .message)
 
 -- The premises of the contracts of bt_write_message and bt_receive, for both ends of a round.
-pub record RoundLends (k : ℕ) {s s′ : Both} (r : CallsRound all-rows at-b waits-b waits-a lent k s s′) : Type 0 where
+pub record RoundLends (k : ℕ) {s s′ : Both} (r : CallsRound set-by-a set-by-b all-rows at-b waits-b waits-a lent k s s′) : Type 0 where
   pub asks : WriteMet (lent k) (r .asks .answer) (r .asks .out′)
   pub hears : ReceiveLent 1 (r .question) (r .midA .lists)
   pub answers : WriteMet (lent k) (r .answers .answer) (r .answers .out′)

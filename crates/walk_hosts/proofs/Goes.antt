@@ -11,8 +11,9 @@ use lib.Dec.{ltb, eqb}
 use lib.ListN.{length, getD, take, length-append}
 use lib.Seq.{slice, take-length}
 use Rattle.call_words.specs.Answer.{writeWords}
-use Rattle.bloom.specs.Filter.{defaultBits, defaultProbes}
+use Rattle.bloom.specs.Filter.{SettingGood}
 use Rattle.bloom.specs.Have.{Have, haveCount, numbersIn, filterWith, haveIn, havesFrom, havesOf}
+use Rattle.bloom.specs.declared.setting.Setting.{Setting}
 use Rattle.message_read.specs.MessageRead.{Reading, messageAt, messageIn}
 use Rattle.session.proofs.ReceiveLaws.{receive-taking, bytes-beyond, bytes-refused, bytes-read}
 use Rattle.session.specs.Receive.{saidIn, Received, received, receiveBytes, left}
@@ -42,7 +43,8 @@ use Rattle.table.specs.Table.{Row}
 use Rattle.walk_sessions.specs.Talk.{bytesFor, pairAt}
 use Rattle.waiting.specs.WaitingBytes.{waitingOf}
 use Rattle.waiting.specs.Waiting.{Waiting}
-use Rattle.walk_hosts.specs.Calls.{speaks, haveWordsIn, planIn, PlanMade, Speaks, Hears, Both, CallsRound, TalkOfCalls, AreSessions, Lends, CallsGo}
+use Rattle.walk_hosts.specs.Calls.{speaks, haveWordsIn, planIn, PlanMade, Speaks, Hears, Both}
+use Rattle.walk_hosts.specs.Calls.{GoodSettings, CallsRound, TalkOfCalls, AreSessions, Lends, CallsGo}
 use Rattle.walk_hosts.proofs.Planning.{held-good, reset-is}
 use Rattle.walk_hosts.proofs.Receiving.{receive-for, receive-holds}
 use Rattle.walk_hosts.proofs.Speaking.{speaking-holds, crossing}
@@ -76,27 +78,30 @@ whole-all (c ∷ cs) = ap (λ (n : ℕ). length c + n) (whole-all cs) ∙ sym (l
 
 -- ---- what is planned has fields of bytes
 
-module _ (table waiting : List ℕ) (tabled : Tabled table) (beside : Beside (tableOf table) waiting) (x : State) (m : Memory) (h : Holds x m) where
+module _ (setting : Setting) (keeps : SettingGood (setting .bits) (setting .probes)) (table waiting : List ℕ) (tabled : Tabled table)
+    (beside : Beside (tableOf table) waiting) (x : State) (m : Memory) (h : Holds x m) where
   abbrev t : List Row
   t = tableOf table
 
   abbrev w : List Waiting
   w = waitingOf waiting
 
-  planned-fields : (q : Plan) (s : State) → plan defaultBits defaultProbes t w x ≡ Planned.says q s → Each FieldBytes (q .haves)
+  planned-fields : (q : Plan) (s : State) → plan (setting .bits) (setting .probes) t w x ≡ Planned.says q s → Each FieldBytes (q .haves)
   unfolding planOf haveOf Each
   planned-fields q s e =
       let need : List ℕ = needOf t w (x .readOnly) (heard (x .theirHeads)) in
-      rw (plan-saying defaultBits defaultProbes t w x q s e .message)
+      rw (plan-saying (setting .bits) (setting .probes) t w x q s e .message)
       (split (every (λ g. member g (heard (x .theirHeads))) need)
-      (λ f. rw (have-one defaultBits defaultProbes t need (heard (x .theirHeads)) (x .sharedHeads) f) (field-bytes defaultBits defaultProbes _, tt))
-      (λ f. rw (have-none defaultBits defaultProbes t need (heard (x .theirHeads)) (x .sharedHeads) f) tt))
+      (λ f.
+      rw (have-one (setting .bits) (setting .probes) t need (heard (x .theirHeads)) (x .sharedHeads) f)
+      (field-bytes (setting .bits) (setting .probes) _, tt))
+      (λ f. rw (have-none (setting .bits) (setting .probes) t need (heard (x .theirHeads)) (x .sharedHeads) f) tt))
 
-  reset-fields : (q : Plan) → plan defaultBits defaultProbes t w x ≡ Planned.reset q → Each FieldBytes (q .haves)
+  reset-fields : (q : Plan) → plan (setting .bits) (setting .probes) t w x ≡ Planned.reset q → Each FieldBytes (q .haves)
   unfolding resetOf Each
-  reset-fields q e = rw (reset-is table waiting tabled beside x (held-good x m h) q e) (bytes-none, tt)
+  reset-fields q e = rw (reset-is table waiting tabled beside setting keeps x (held-good x m h) q e) (bytes-none, tt)
 
-  said-bytes : (host : Host) → HostBytes host → (p : Planned) → plan defaultBits defaultProbes t w x ≡ p → Bytes (bytesFor host p)
+  said-bytes : (host : Host) → HostBytes host → (p : Planned) → plan (setting .bits) (setting .probes) t w x ≡ p → Bytes (bytesFor host p)
   unfolding bytesFor
   said-bytes host b (Planned.refused r) e = bytes-none
   said-bytes host b Planned.silent e = bytes-none
@@ -122,7 +127,7 @@ module _ (table waiting : List ℕ) (tabled : Tabled table) (beside : Beside (ta
 
   module _ (host : Host) (b : HostBytes host) (o : Buffers) (wide : RoomyOut o) (buffer : List ℕ) (room : sizes .message ≤ length buffer) where
     abbrev planned : Planned
-    planned = planFor (m .words) (m .lists) table (tabled .index) waiting o
+    planned = planFor (setting .bits) (setting .probes) (m .words) (m .lists) table (tabled .index) waiting o
 
     abbrev then : Memory
     then = record { words = plannedSession (plannedAnswer planned) (m .words); lists = plannedLists planned (m .lists) }
@@ -133,7 +138,7 @@ module _ (table waiting : List ℕ) (tabled : Tabled table) (beside : Beside (ta
     abbrev answer : List ℕ
     answer = plannedWords (plannedAnswer planned)
 
-    plans : PlanMade table (tabled .index) waiting m then o parts answer
+    plans : PlanMade setting table (tabled .index) waiting m then o parts answer
     plans =
         record {
           call = record { answer = refl; session = refl; lists = refl; buffers = refl };
@@ -154,7 +159,7 @@ module _ (table waiting : List ℕ) (tabled : Tabled table) (beside : Beside (ta
     abbrev message : List ℕ
     message = cond (speaks answer) (cond (eqb (getD written 0 0) 0) (take (getD written 1 0) (contentOf output buffer)) []) []
 
-    speech : Speaks host table (tabled .index) waiting m then message
+    speech : Speaks setting host table (tabled .index) waiting m then message
     speech =
         record {
           out = o;
@@ -181,8 +186,8 @@ module _ (table waiting : List ℕ) (tabled : Tabled table) (beside : Beside (ta
 
     speech-bytes : Bytes message
     speech-bytes =
-        let p : Planned = plan defaultBits defaultProbes t w x in
-        let c = crossing host table waiting tabled beside x m then h message speech p refl in
+        let p : Planned = plan (setting .bits) (setting .probes) t w x in
+        let c = crossing setting keeps host table waiting tabled beside x m then h message speech p refl in
         split (ltb (sizes .message) (length (bytesFor host p)))
         (λ e. let none : message ≡ [] = c .long (ltb-true _ _ e) in subst Bytes (sym none) bytes-none)
         (λ e. let same : message ≡ bytesFor host p = c .small (ltb-false _ _ e) in subst Bytes (sym same) (said-bytes host b p refl))
@@ -253,26 +258,27 @@ module _ (table : List ℕ) (tabled : Tabled table) (before : ℕ) (message : Li
 
 -- ---- a round
 
-module _ (a : List ℕ) (b w u : ℕ → List ℕ) (hosts : ℕ → Host) (lends : Lends a b w u hosts) where
+module _ (setA setB : ℕ → Setting) (keep : GoodSettings setA setB) (a : List ℕ) (b w u : ℕ → List ℕ) (hosts : ℕ → Host)
+    (lends : Lends setA setB a b w u hosts) where
   module _ (k : ℕ) (s : Both) (x y : State) (heldA : Holds x (s .atA)) (heldB : Holds y (s .atB)) where
     abbrev midB : Memory
     midB =
-        then (b k) (w k) (lends .tableB k) (lends .waitsB k) y (s .atB) heldB
+        then (setB k) (keep .atB k) (b k) (w k) (lends .tableB k) (lends .waitsB k) y (s .atB) heldB
         (hosts k) (lends .changes k) (lends .out) (lends .wide) (lends .buffer) (lends .room)
 
     abbrev question : List ℕ
     question =
-        message (b k) (w k) (lends .tableB k) (lends .waitsB k) y (s .atB) heldB
+        message (setB k) (keep .atB k) (b k) (w k) (lends .tableB k) (lends .waitsB k) y (s .atB) heldB
         (hosts k) (lends .changes k) (lends .out) (lends .wide) (lends .buffer) (lends .room)
 
-    asks : Speaks (hosts k) (b k) (lends .tableB k .index) (w k) (s .atB) midB question
+    asks : Speaks (setB k) (hosts k) (b k) (lends .tableB k .index) (w k) (s .atB) midB question
     asks =
-        speech (b k) (w k) (lends .tableB k) (lends .waitsB k) y (s .atB) heldB
+        speech (setB k) (keep .atB k) (b k) (w k) (lends .tableB k) (lends .waitsB k) y (s .atB) heldB
         (hosts k) (lends .changes k) (lends .out) (lends .wide) (lends .buffer) (lends .room)
 
     question-bytes : Bytes question
     question-bytes =
-        speech-bytes (b k) (w k) (lends .tableB k) (lends .waitsB k) y (s .atB) heldB
+        speech-bytes (setB k) (keep .atB k) (b k) (w k) (lends .tableB k) (lends .waitsB k) y (s .atB) heldB
         (hosts k) (lends .changes k) (lends .out) (lends .wide) (lends .buffer) (lends .room)
 
     abbrev midA : Memory
@@ -289,29 +295,29 @@ module _ (a : List ℕ) (b w u : ℕ → List ℕ) (hosts : ℕ → Host) (lends
 
     abbrev endA : Memory
     endA =
-        then a (u k) (lends .tableA) (lends .waitsA k) heardA midA heldMid
+        then (setA k) (keep .atA k) a (u k) (lends .tableA) (lends .waitsA k) heardA midA heldMid
         (hosts k) (lends .changes k) (lends .out) (lends .wide) (lends .buffer) (lends .room)
 
     abbrev reply : List ℕ
     reply =
-        message a (u k) (lends .tableA) (lends .waitsA k) heardA midA heldMid
+        message (setA k) (keep .atA k) a (u k) (lends .tableA) (lends .waitsA k) heardA midA heldMid
         (hosts k) (lends .changes k) (lends .out) (lends .wide) (lends .buffer) (lends .room)
 
-    answers : Speaks (hosts k) a (lends .tableA .index) (u k) midA endA reply
+    answers : Speaks (setA k) (hosts k) a (lends .tableA .index) (u k) midA endA reply
     answers =
-        speech a (u k) (lends .tableA) (lends .waitsA k) heardA midA heldMid
+        speech (setA k) (keep .atA k) a (u k) (lends .tableA) (lends .waitsA k) heardA midA heldMid
         (hosts k) (lends .changes k) (lends .out) (lends .wide) (lends .buffer) (lends .room)
 
     reply-bytes : Bytes reply
     reply-bytes =
-        speech-bytes a (u k) (lends .tableA) (lends .waitsA k) heardA midA heldMid
+        speech-bytes (setA k) (keep .atA k) a (u k) (lends .tableA) (lends .waitsA k) heardA midA heldMid
         (hosts k) (lends .changes k) (lends .out) (lends .wide) (lends .buffer) (lends .room)
 
     abbrev saidB : State
-    saidB = after (plan defaultBits defaultProbes (tableOf (b k)) (waitingOf (w k)) y) y
+    saidB = after (plan (setB k .bits) (setB k .probes) (tableOf (b k)) (waitingOf (w k)) y) y
 
     spokenB : Holds saidB midB
-    spokenB = speaking-holds (hosts k) (b k) (w k) (lends .tableB k) (lends .waitsB k) y (s .atB) midB heldB question asks
+    spokenB = speaking-holds (setB k) (keep .atB k) (hosts k) (b k) (w k) (lends .tableB k) (lends .waitsB k) y (s .atB) midB heldB question asks
 
     abbrev endB : Memory
     endB = later (b (suc k)) (lends .tableB (suc k)) (length (tableOf (b k))) reply reply-bytes saidB midB spokenB
@@ -319,7 +325,7 @@ module _ (a : List ℕ) (b w u : ℕ → List ℕ) (hosts : ℕ → Host) (lends
     abbrev end : Both
     end = record { atA = endA; atB = endB }
 
-    goes : CallsRound a b w u hosts k s end
+    goes : CallsRound setA setB a b w u hosts k s end
     goes =
         record {
           tableA = lends .tableA;
@@ -340,14 +346,14 @@ module _ (a : List ℕ) (b w u : ℕ → List ℕ) (hosts : ℕ → Host) (lends
   -- ---- all rounds
 
   module _ (start : Both) (freshA : Fresh (start .atA)) (freshB : Fresh (start .atB)) where
-    standing : (k : ℕ) → (s : Both) × AreSessions a b w u hosts k s
+    standing : (k : ℕ) → (s : Both) × AreSessions setA setB a b w u hosts k s
     unfolding pairAt
     standing zero = (start, record { holdsA = fresh-holds (start .atA) freshA; holdsB = fresh-holds (start .atB) freshB })
     standing (suc k) =
         let (s, h) = standing k in
-        (end k s _ _ (h .holdsA) (h .holdsB), next a b w u hosts k s _ (goes k s _ _ (h .holdsA) (h .holdsB)) h)
+        (end k s _ _ (h .holdsA) (h .holdsB), next setA setB keep a b w u hosts k s _ (goes k s _ _ (h .holdsA) (h .holdsB)) h)
 
-    talk : (n : ℕ) → TalkOfCalls a b w u hosts n
+    talk : (n : ℕ) → TalkOfCalls setA setB a b w u hosts n
     unfolding standing
     talk n =
         record {

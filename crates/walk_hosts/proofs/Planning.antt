@@ -10,7 +10,8 @@ use borrow.Author.Tests.{ltb-true, ltb-false}
 use lib.Dec.{ltb}
 use lib.ListN.{length}
 use lib.Seq.{sets, length-sets}
-use Rattle.bloom.specs.Filter.{defaultBits, defaultProbes}
+use Rattle.bloom.specs.Filter.{defaultBits, defaultProbes, SettingGood}
+use Rattle.bloom.specs.declared.setting.Setting.{Setting}
 use Rattle.bloom.proofs.Rules.{rules-none}
 use Rattle.session.specs.PlanCall.{Buffers, afterTables, planWith, plannedAnswer, plannedRoomed, plannedRooms, messagePut, putInto, plannedLists}
 use Rattle.table_graph.specs.Graph.{heads}
@@ -118,23 +119,23 @@ module _ (table waiting : List ℕ) (tabled : Tabled table) (beside : Beside (ta
         flags = omega arith;
       }
 
-  module _ (x : State) (good : GoodState x) where
+  module _ (setting : Setting) (keeps : SettingGood (setting .bits) (setting .probes)) (x : State) (good : GoodState x) where
     -- a reset is the one of this table
-    pub reset-is : (q : Plan) → plan defaultBits defaultProbes t w x ≡ Planned.reset q → q ≡ resetOf t
+    pub reset-is : (q : Plan) → plan (setting .bits) (setting .probes) t w x ≡ Planned.reset q → q ≡ resetOf t
     reset-is q e =
         split (ltb (sizes .hashes) (length (needOf t w (x .readOnly) (heard (x .theirHeads)))))
-        (λ a. refused-other (sym (plan-need-past defaultBits defaultProbes t w x (ltb-true _ _ a)) ∙ e))
+        (λ a. refused-other (sym (plan-need-past (setting .bits) (setting .probes) t w x (ltb-true _ _ a)) ∙ e))
         (λ a.
         let few : length (needOf t w (x .readOnly) (heard (x .theirHeads))) ≤ sizes .hashes = ltb-false _ _ a in
         split (unknownSync t (x .theirHave))
-        (λ b. let is : Planned.reset q ≡ Planned.reset (resetOf t) = sym e ∙ plan-resets defaultBits defaultProbes t w x few b in cc)
+        (λ b. let is : Planned.reset q ≡ Planned.reset (resetOf t) = sym e ∙ plan-resets (setting .bits) (setting .probes) t w x few b in cc)
         (λ b.
         split (silence t x)
-        (λ c. silent-other (sym (plan-silent defaultBits defaultProbes t w x few b c) ∙ e))
+        (λ c. silent-other (sym (plan-silent (setting .bits) (setting .probes) t w x few b c) ∙ e))
         (λ c.
         split (ltb (sizes .sentHashes) (length (sentAfter t x)))
-        (λ d. refused-other (sym (plan-sent-past defaultBits defaultProbes t w x few b c (ltb-true _ _ d)) ∙ e))
-        (λ d. says-other (sym (plan-is defaultBits defaultProbes t w x few b c (ltb-false _ _ d)) ∙ e)))))
+        (λ d. refused-other (sym (plan-sent-past (setting .bits) (setting .probes) t w x few b c (ltb-true _ _ d)) ∙ e))
+        (λ d. says-other (sym (plan-is (setting .bits) (setting .probes) t w x few b c (ltb-false _ _ d)) ∙ e)))))
       where
         refused-other : {A : Type 0} {r : Refusal} {p : Plan} → Planned.refused r ≡ Planned.reset p → A
         refused-other f = absurd (let z : _≡_ {A = ℕ} 0 1 = cc in omega arith)
@@ -153,16 +154,17 @@ module _ (table waiting : List ℕ) (tabled : Tabled table) (beside : Beside (ta
         found none g = tt
         found (some hs) g = g .are
 
-    pub says-fine : (q : Plan) (s : State) → plan defaultBits defaultProbes t w x ≡ Planned.says q s → Fine q
+    pub says-fine : (q : Plan) (s : State) → plan (setting .bits) (setting .probes) t w x ≡ Planned.says q s → Fine q
     unfolding planOf
     says-fine q s e =
-        let p = plan-saying defaultBits defaultProbes t w x q s e in
-        let g = said-sound t sound w x good (missing-hashes t waiting (heard (x .theirHeads)) (beside .bytes) heard-hashes) q s e in
+        let p = plan-saying (setting .bits) (setting .probes) t w x q s e in
+        let need = missing-hashes t waiting (heard (x .theirHeads)) (beside .bytes) heard-hashes in
+        let g = said-sound (setting .bits) (setting .probes) keeps t sound w x good need q s e in
         record {
           heads = g .heads;
           need = g .need;
           haves = g .haves;
-          one = rw (p .message) (have-or-none defaultBits defaultProbes t _ _ _);
+          one = rw (p .message) (have-or-none (setting .bits) (setting .probes) t _ _ _);
           few = rw (p .message) (body-few t x sound good);
           are = rw (p .message) (body-hashes t (sound .good) x (sound .are));
           flags = rw (p .message) (small-flags _ (said-flags _ _));
@@ -173,27 +175,28 @@ module _ (table waiting : List ℕ) (tabled : Tabled table) (beside : Beside (ta
 
     module _ (o : Buffers) (l : Lent) (wide : RoomyOut o) (room : Roomy l) where
       -- 7 is never answered
-      has-room : (p : Planned) → plan defaultBits defaultProbes t w x ≡ p → plannedRoomed (plannedRooms o l) p ≡ p
+      has-room : (p : Planned) → plan (setting .bits) (setting .probes) t w x ≡ p → plannedRoomed (plannedRooms o l) p ≡ p
       unfolding plannedRoomed
       has-room (Planned.refused r) e = refl
       has-room Planned.silent e = refl
       has-room (Planned.reset q) e = reset-roomed o l wide room q (rw (reset-is q e) reset-fine)
       has-room (Planned.says q s) e =
-          says-roomed o l wide room q s (says-fine q s e) (planned-good defaultBits defaultProbes t w x sound good q s e)
+          says-roomed o l wide room q s (says-fine q s e) (planned-good (setting .bits) (setting .probes) t w x sound good q s e)
 
       -- what is planned for the words is the step's plan
       plan-with : (c : Session) → c ≡ countsOf x → sessionGood (countsOf x) l ≡ true → stateOf (countsOf x) l ≡ x
-          → planWith defaultBits defaultProbes c l table (tabled .index) waiting ≡ plan defaultBits defaultProbes t w x
+          → planWith (setting .bits) (setting .probes) c l table (tabled .index) waiting ≡ plan (setting .bits) (setting .probes) t w x
       unfolding planWith tablesChecked passedOn afterTables
       plan-with c counts goods value = rw (counts, goods, tabled .good, beside .good, value)
 
     -- ---- the call
 
-    module _ (m m′ : Memory) (o o′ : Buffers) (answer : List ℕ) (h : Holds x m) (wide : RoomyOut o) (made : PlanMade table (tabled .index) waiting m m′ o o′ answer) where
+    module _ (m m′ : Memory) (o o′ : Buffers) (answer : List ℕ) (h : Holds x m) (wide : RoomyOut o)
+        (made : PlanMade setting table (tabled .index) waiting m m′ o o′ answer) where
       abbrev p : Planned
-      p = plan defaultBits defaultProbes t w x
+      p = plan (setting .bits) (setting .probes) t w x
 
-      plan-for : planFor (m .words) (m .lists) table (tabled .index) waiting o ≡ p
+      plan-for : planFor (setting .bits) (setting .probes) (m .words) (m .lists) table (tabled .index) waiting o ≡ p
       plan-for =
           ap (plannedRoomed (plannedRooms o (m .lists))) (plan-with o (m .lists) wide (h .room) (sessionOf (m .words)) (h .counts) (h .stays .good) (h .stays .value))
           ∙ has-room o (m .lists) wide (h .room) p refl
@@ -228,15 +231,15 @@ module _ (table waiting : List ℕ) (tabled : Tabled table) (beside : Beside (ta
       unfolding plannedAnswer plannedLists
       changed q s e =
           let l : Lent = m .lists in
-          let left : GoodState s = planned-good defaultBits defaultProbes t w x sound good q s e in
+          let left : GoodState s = planned-good (setting .bits) (setting .probes) t w x sound good q s e in
           let lists : m′ .lists ≡ plannedIn s l = rw e at plan-lists in
           let words : m′ .words ≡ sessionWords (countsOf s) = rw e at plan-words in
-          let before : plan defaultBits defaultProbes t w (stateOf (countsOf x) l) ≡ Planned.says q s = rw (h .stays .value) e in
+          let before : plan (setting .bits) (setting .probes) t w (stateOf (countsOf x) l) ≡ Planned.says q s = rw (h .stays .value) e in
           record {
             counts = ap sessionOf words ∙ words-back (countsOf s);
             stays =
                 rw lists
-                (plan-stays-good defaultBits defaultProbes t w sound (countsOf x) l (h .stays .good) (of-bytes l (h .bytes)) q s before
+                (plan-stays-good (setting .bits) (setting .probes) t w sound (countsOf x) l (h .stays .good) (of-bytes l (h .bytes)) q s before
                 (planned-room o l wide (h .room) s left));
             bytes = made .bytes;
             room = rw lists (still-roomy s l (h .room));

@@ -1,5 +1,6 @@
 -- Two hosts that make the exported calls in turn, over tables as bytes. 01, The catch-up walk, its last rule: what theorem 2 says of two fresh sessions is
--- to hold of bt_fresh, bt_plan, bt_write_message and bt_receive. Each call stands here as what it ensures over words and bytes.
+-- to hold of bt_fresh, bt_plan, bt_write_message and bt_receive; and, by 02, M-107, with any allowed bits and probes at each end, others each round. Each call
+-- stands here as what it ensures over words and bytes.
 use Prim.Native.Nat.{ℕ, suc, _*_, _≤_, _<_}
 use mathlib.Core.Bool.{Bool, true, false, cond, not, _&&_}
 use mathlib.Core.List.{List, []}
@@ -7,8 +8,9 @@ use mathlib.Core.Path.{_≡_}
 use lib.Dec.{eqb}
 use lib.ListN.{length, getD, take, drop}
 use Rattle.call_words.specs.Answer.{Answered}
-use Rattle.bloom.specs.Filter.{defaultBits, defaultProbes}
+use Rattle.bloom.specs.Filter.{SettingGood}
 use Rattle.bloom.specs.Have.{haveWords, havesOf}
+use Rattle.bloom.specs.declared.setting.Setting.{Setting}
 use Rattle.walk_hosts.specs.Memory.{Memory, OfBytes, Holds, Fresh, RoomyOut, Tabled, Beside, HostBytes}
 use Rattle.message.specs.Flags.{flagsOf}
 use Rattle.message.specs.Message.{total}
@@ -53,9 +55,9 @@ planIn answer o =
 
 -- ---- the calls, each from memory to memory
 
--- bt_plan, over a memory and the message's four buffers.
-pub record PlanMade (table index waiting : List ℕ) (m m′ : Memory) (o o′ : Buffers) (answer : List ℕ) : Type 0 where
-  pub call : PlanAnswered (m .words) (m′ .words) (m .lists) (m′ .lists) table index waiting o o′ answer
+-- Planning with a filter of this setting, over a memory and the message's four buffers; bt_plan's setting is 10 and 7.
+pub record PlanMade (setting : Setting) (table index waiting : List ℕ) (m m′ : Memory) (o o′ : Buffers) (answer : List ℕ) : Type 0 where
+  pub call : PlanAnswered (setting .bits) (setting .probes) (m .words) (m′ .words) (m .lists) (m′ .lists) table index waiting o o′ answer
   pub bytes : OfBytes (m′ .lists)
 
 -- bt_write_message, over what planning left and the chunks that the host lends for it: the message is what was written, and none after a refusal.
@@ -72,12 +74,12 @@ pub record WriteMade (host : Host) (plan : List ℕ) (o : Buffers) (answer messa
   pub message-is : message ≡ cond (eqb (getD answer 0 0) 0) (take (getD answer 1 0) after) []
 
 -- A unit speaks: it plans, and where something is said the message is written.
-pub record Speaks (host : Host) (table index waiting : List ℕ) (m m′ : Memory) (message : List ℕ) : Type 0 where
+pub record Speaks (setting : Setting) (host : Host) (table index waiting : List ℕ) (m m′ : Memory) (message : List ℕ) : Type 0 where
   pub out : Buffers
   pub out′ : Buffers
   pub room : RoomyOut out
   pub answer : List ℕ
-  pub plans : PlanMade table index waiting m m′ out out′ answer
+  pub plans : PlanMade setting table index waiting m m′ out out′ answer
   pub silent : speaks answer ≡ false → message ≡ []
   pub written : List ℕ
   pub writes : speaks answer ≡ true → WriteMade host answer out′ written message
@@ -103,8 +105,14 @@ pub record SaidSo (answer written : List ℕ) (o : Buffers) (hashes : List ℕ) 
   pub wrote : getD written 0 0 ≡ 0
   pub carries : planIn answer o .body .hashes ≡ hashes
 
--- The bytes of A's table, of B's tables before each round, of what waits beside B and beside A, and what is lent for each round's messages.
-module _ (a : List ℕ) (b w u : ℕ → List ℕ) (hosts : ℕ → Host) where
+-- 02, M-107: at both ends and in each round, bits and probes with which filters over any rows of a table keep the filter rules.
+pub record GoodSettings (setA setB : ℕ → Setting) : Type 0 where
+  pub atA : (k : ℕ) → SettingGood (setA k .bits) (setA k .probes)
+  pub atB : (k : ℕ) → SettingGood (setB k .bits) (setB k .probes)
+
+-- What A and what B build the filters of each round with; the bytes of A's table, of B's tables before each round, of what waits beside B and beside A; and
+-- what is lent for each round's messages.
+module _ (setA setB : ℕ → Setting) (a : List ℕ) (b w u : ℕ → List ℕ) (hosts : ℕ → Host) where
   -- The tables that the bytes are.
   abbrev pub A : List Row
   A = tableOf a
@@ -132,9 +140,9 @@ module _ (a : List ℕ) (b w u : ℕ → List ℕ) (hosts : ℕ → Host) where
     pub midB : Memory
     pub question : List ℕ
     pub reply : List ℕ
-    pub asks : Speaks (hosts k) (b k) (tableB .index) (w k) (s .atB) midB question
+    pub asks : Speaks (setB k) (hosts k) (b k) (tableB .index) (w k) (s .atB) midB question
     pub hears : Hears a (tableA .index) (length A) question (s .atA) midA
-    pub answers : Speaks (hosts k) a (tableA .index) (u k) midA (s′ .atA) reply
+    pub answers : Speaks (setA k) (hosts k) a (tableA .index) (u k) midA (s′ .atA) reply
     pub takes : Hears (b (suc k)) (loadedB .index) (length (B k)) reply midB (s′ .atB)
 
   -- n rounds from two fresh sessions on, each from the memory that the one before it left.
@@ -147,16 +155,16 @@ module _ (a : List ℕ) (b w u : ℕ → List ℕ) (hosts : ℕ → Host) where
   -- ---- what is to be shown
 
   -- The sessions of Talk.antt over the tables that the bytes are.
-  abbrev pub sessions : ℕ → Pair defaultBits defaultProbes A B W U hosts
-  sessions = pairAt defaultBits defaultProbes A B W U hosts
+  abbrev pub sessions : ℕ → Pair setA setB A B W U hosts
+  sessions = pairAt setA setB A B W U hosts
 
   -- What B asks in round k.
   abbrev pub askedIn : ℕ → Planned
-  askedIn k = asked defaultBits defaultProbes A B W U hosts k (sessions k)
+  askedIn k = asked setA setB A B W U hosts k (sessions k)
 
   -- What A answers in round k.
   abbrev pub answeredIn : ℕ → Planned
-  answeredIn k = answered defaultBits defaultProbes A B W U hosts k (sessions k)
+  answeredIn k = answered setA setB A B W U hosts k (sessions k)
 
   -- Both memories hold the pair of sessions before round k.
   pub record AreSessions (k : ℕ) (s : Both) : Type 0 where
@@ -172,11 +180,11 @@ module _ (a : List ℕ) (b w u : ℕ → List ℕ) (hosts : ℕ → Host) where
 
   -- All that Talk.antt grants, in each round that is reached.
   abbrev pub AllGranted : Type 0
-  AllGranted = (k : ℕ) → Reached defaultBits defaultProbes A B W U hosts k → Granted defaultBits defaultProbes A B W U hosts k
+  AllGranted = (k : ℕ) → Reached setA setB A B W U hosts k → Granted setA setB A B W U hosts k
 
   -- The user's words, of the calls: there is a last round as in Talk.antt, and in the rounds up to it all calls answer 0.
   pub record CallsEnd (n : ℕ) (talk : TalkOfCalls n) : Type 0 where
-    pub ended : Ended defaultBits defaultProbes A B W U hosts (lacking A (B 0))
+    pub ended : Ended setA setB A B W U hosts (lacking A (B 0))
     pub all : (k : ℕ) → k ≤ ended .last → (h : k < n) → AllAnswered k (talk .at k) (talk .at (suc k)) (talk .made k h)
 
   -- What hosts lend: good tables before every round, bytes of changes, and buffers with room.
@@ -193,22 +201,25 @@ module _ (a : List ℕ) (b w u : ℕ → List ℕ) (hosts : ℕ → Host) where
 
 -- A talk of calls is the talk of steps.
 abbrev pub CallsAreSteps : Type 0
-CallsAreSteps = (a : List ℕ) (b w u : ℕ → List ℕ) (hosts : ℕ → Host) (n : ℕ) (talk : TalkOfCalls a b w u hosts n)
+CallsAreSteps = (setA setB : ℕ → Setting) → GoodSettings setA setB
+    → (a : List ℕ) (b w u : ℕ → List ℕ) (hosts : ℕ → Host) (n : ℕ) (talk : TalkOfCalls setA setB a b w u hosts n)
     → (k : ℕ) → k ≤ n
-    → AreSessions a b w u hosts k (talk .at k)
+    → AreSessions setA setB a b w u hosts k (talk .at k)
 
 -- Theorem 2 and its corollary are about the calls too: B's table a part of A's, nothing waiting, and all of it granted.
 abbrev pub CallsCorollary : Type 0
-CallsCorollary = (a : List ℕ) (b w u : ℕ → List ℕ) (hosts : ℕ → Host) (n : ℕ) (talk : TalkOfCalls a b w u hosts n)
+CallsCorollary = (setA setB : ℕ → Setting) → GoodSettings setA setB
+    → (a : List ℕ) (b w u : ℕ → List ℕ) (hosts : ℕ → Host) (n : ℕ) (talk : TalkOfCalls setA setB a b w u hosts n)
     → Tabled a
     → Part (tableOf a) (tableOf (b 0))
     → waitingOf (w 0) ≡ []
-    → AllGranted a b w u hosts
-    → CallsEnd a b w u hosts n talk
+    → AllGranted setA setB a b w u hosts
+    → CallsEnd setA setB a b w u hosts n talk
 
 -- A talk of calls can always be made, so that no statement about such talks is empty.
 abbrev pub CallsGo : Type 0
-CallsGo = (a : List ℕ) (b w u : ℕ → List ℕ) (hosts : ℕ → Host) → Lends a b w u hosts
+CallsGo = (setA setB : ℕ → Setting) → GoodSettings setA setB
+    → (a : List ℕ) (b w u : ℕ → List ℕ) (hosts : ℕ → Host) → Lends setA setB a b w u hosts
     → (s : Both) → Fresh (s .atA) → Fresh (s .atB)
     → (n : ℕ)
-    → TalkOfCalls a b w u hosts n
+    → TalkOfCalls setA setB a b w u hosts n

@@ -10,6 +10,7 @@ use denote.Triple.Clauses.{AtExit}
 use denote.Triple.Entry.{Args}
 use lib.Dec.{eqb}
 use lib.ListN.{length, getD, take}
+use Rattle.bloom.specs.Filter.{defaultSetting}
 use Rattle.call_words.specs.Ties.{Ties}
 use Rattle.session_check.specs.SessionGood.{lentOf}
 use Rattle.walk_hosts.specs.Memory.{OfBytes, Roomy, Fresh}
@@ -27,13 +28,13 @@ use Rattle.state_calls.proofs.calls.bt_fresh as of-bt-fresh
 use Rattle.session.specs.PlanCall.{Buffers}
 use Rattle.session.specs.Written.{Host, chunksFor}
 
--- bt_plan, over a host's memory, its tables and its buffers: what it leaves is PlanMade. What slices of bytes hold are bytes.
+-- bt_plan, over a host's memory, its tables and its buffers: what it leaves is PlanMade with 10 and 7. What slices of bytes hold are bytes.
 abbrev pub PlanSaid : (κs : Lfts (of-bt-plan.ended .signature .lifetimes)) → Args (of-bt-plan.ended .signature) κs → AtExit of-bt-plan.ended κs → Type 0
 PlanSaid κs
     (session, (shared, (last-sent, (their-heads, (their-need, (haves, (bytes, (sent, (table, (index, (waiting, (heads, (need, (have, (list, (answer, _))))))))))))))))
     (session′, (_, (last-sent′, (_, (_, (_, (_, (sent′, (_, (_, (_, (heads′, (need′, (have′, (list′, (answer′, _)))))))))))))))) =
     OfBytes (lentOf (now shared) (now last-sent′) (now their-heads) (now their-need) (now haves) (now bytes) (now sent′))
-    → PlanMade (now table) (now index) (now waiting)
+    → PlanMade defaultSetting (now table) (now index) (now waiting)
     (record {
       words = now session;
       lists = lentOf (now shared) (now last-sent) (now their-heads) (now their-need) (now haves) (now bytes) (now sent);

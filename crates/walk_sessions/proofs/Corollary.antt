@@ -7,6 +7,7 @@ use mathlib.Core.Logic.{_⊎_, inl, inr}
 use mathlib.Core.Path.{_≡_, sym, ap, _∙_}
 use native.Mathlib.Omega.{arith}
 use lib.ListN.{length}
+use Rattle.bloom.specs.declared.setting.Setting.{Setting}
 use Rattle.hash_order.proofs.ReachLaws.{below-suc}
 use Rattle.hash_order.specs.Order.{member}
 use Rattle.rules.proofs.Cases.{split, true-false}
@@ -19,10 +20,10 @@ use Rattle.walk_sessions.specs.Talk.{pairAt, Reached, Granted, Underway,
 use Rattle.walk_sessions.proofs.Talk.{Standing, reached-going, inside-standing, next, statement-2}
 use Rattle.session.specs.Written.{Host}
 
-module _ (bits probes : ℕ) (A : List Row) (B : ℕ → List Row) (W U : ℕ → List Waiting) (hosts : ℕ → Host) (tables : Tables bits probes A B W U hosts)
-    (all : (k : ℕ) → Reached bits probes A B W U hosts k → Granted bits probes A B W U hosts k) where
+module _ (setA setB : ℕ → Setting) (A : List Row) (B : ℕ → List Row) (W U : ℕ → List Waiting) (hosts : ℕ → Host) (tables : Tables setA setB A B W U hosts)
+    (all : (k : ℕ) → Reached setA setB A B W U hosts k → Granted setA setB A B W U hosts k) where
   abbrev Comes : ℕ → Type 0
-  Comes k = Reached bits probes A B W U hosts k
+  Comes k = Reached setA setB A B W U hosts k
 
   abbrev m : ℕ
   m = lacking A (B 0)
@@ -30,23 +31,24 @@ module _ (bits probes : ℕ) (A : List Row) (B : ℕ → List Row) (W U : ℕ �
   demand : Demand3 A (B 0)
   demand = theorem-1 A (B 0) (tables .good) (tables .part)
 
-  inside : (k : ℕ) → Comes k → Underway bits probes A B W U hosts k
+  inside : (k : ℕ) → Comes k → Underway setA setB A B W U hosts k
   inside k r = record { reached = r; granted = λ j h. all j (λ i l. r i (omega arith)) }
 
-  stands : (k : ℕ) → Comes k → Standing bits probes A B W U hosts tables k
-  stands k r = inside-standing bits probes A B W U hosts tables k (inside k r)
+  stands : (k : ℕ) → Comes k → Standing setA setB A B W U hosts tables k
+  stands k r = inside-standing setA setB A B W U hosts tables k (inside k r)
 
   -- after the round as well
-  stands-after : (k : ℕ) → Comes k → Standing bits probes A B W U hosts tables (suc k)
+  stands-after : (k : ℕ) → Comes k → Standing setA setB A B W U hosts tables (suc k)
   stands-after k r =
-      next bits probes A B W U hosts tables k (stands k r) (reached-going bits probes A B W U hosts tables k r) (all k r)
+      next setA setB A B W U hosts tables k (stands k r) (reached-going setA setB A B W U hosts tables k r) (all k r)
 
-  abbrev here : (k : ℕ) → Standing bits probes A B W U hosts tables k → Type 0
+  abbrev here : (k : ℕ) → Standing setA setB A B W U hosts tables k → Type 0
   here k st = Walk A (B 0) k (record { table = B k; waits = W k; sent = st .sent; named = st .named })
 
-  walk-of : (k : ℕ) (st : Standing bits probes A B W U hosts tables k) → here k st
+  walk-of : (k : ℕ) (st : Standing setA setB A B W U hosts tables k) → here k st
   walk-of k st =
-      walk01-walks (λ j. bits) (λ j. probes) (λ j. pairAt bits probes A B W U hosts j .atB .sharedHeads) A (B 0) (tables .good) (tables .part) k _ (st .walk)
+      walk01-walks (λ j. setB j .bits) (λ j. setB j .probes) (λ j. pairAt setA setB A B W U hosts j .atB .sharedHeads) A (B 0)
+      (tables .good) (tables .part) k _ (st .walk)
 
   -- The first round below n that ends with all of A held.
   record Last (n : ℕ) : Type 0 where
@@ -71,11 +73,11 @@ module _ (bits probes : ℕ) (A : List Row) (B : ℕ → List Row) (W U : ℕ �
   found (inl r) =
       absurd (true-false (holdsAll A (B (suc m))) (demand .ends (suc m) _ (walk-of (suc m) (stands (suc m) r)) (omega arith)) (r m (omega arith)))
 
-  pub ended : Ended bits probes A B W U hosts m
+  pub ended : Ended setA setB A B W U hosts m
   ended =
       let l = found (search (suc m)) in
-      let inner : (k : ℕ) → k ≤ l .round → Underway bits probes A B W U hosts k = λ k h. inside k (λ j i. l .comes j (omega arith)) in
-      let two = statement-2 bits probes A B W U hosts tables in
+      let inner : (k : ℕ) → k ≤ l .round → Underway setA setB A B W U hosts k = λ k h. inside k (λ j i. l .comes j (omega arith)) in
+      let two = statement-2 setA setB A B W U hosts tables in
       let st = stands-after (l .round) (l .comes) in
       let walk = walk-of (suc (l .round)) st in
       record {
@@ -92,4 +94,4 @@ module _ (bits probes : ℕ) (A : List Row) (B : ℕ → List Row) (W U : ℕ �
       }
 
 pub corollary : Corollary
-corollary bits probes A B W U hosts tables all = ended bits probes A B W U hosts tables all
+corollary setA setB A B W U hosts tables all = ended setA setB A B W U hosts tables all

@@ -7,12 +7,12 @@ use mathlib.Core.Path.{_≡_, refl, sym, ap, ap₂, _∙_}
 use native.Mathlib.Nat.{le-trans}
 use native.Mathlib.Omega.{arith}
 use lib.ListN.{length}
-use Rattle.bloom.proofs.Rules.{rules-default}
-use Rattle.bloom.specs.Filter.{fieldSize, filterRules, defaultBits, defaultProbes}
 use Rattle.bloom.specs.Have.{Have}
+use Rattle.bloom.specs.declared.setting.Setting.{Setting}
 use Rattle.table_graph.proofs.BelowLaws.{beyond-few}
 use Rattle.table_graph.specs.Graph.{heads, beyond}
 use Rattle.session.proofs.GoodLaws.{fresh-good}
+use Rattle.session.specs.GoodState.{SoundTable}
 use Rattle.session.specs.Receive.{Said, Received, left, sharedAfter, received, receiveBytes}
 use Rattle.message.specs.Message.{counted, messageBytes}
 use Rattle.message.specs.declared.version.MessageVersion.{MessageVersion}
@@ -39,18 +39,18 @@ use Rattle.walk_sessions.proofs.Small.{mostWords}
 use Rattle.walk_sessions.proofs.Waits.{waits-none, loads-longer, loads-waits, part-few}
 use Rattle.session.specs.Written.{Host, listChunks, chunksFor, messageFor, heardSaid}
 
--- 10 bits and 7 probes may be set
-pub default-setting : (A : List Row) → length A ≤ sizes .rows
-    → (n : ℕ) → n ≤ length A
-    → filterRules n defaultBits defaultProbes (fieldSize n defaultBits) ≡ true
-default-setting A few n h = rules-default n (le-trans h few)
+module _ (setA setB : ℕ → Setting) (A : List Row) (B : ℕ → List Row) (W U : ℕ → List Waiting) (hosts : ℕ → Host) (tables : Tables setA setB A B W U hosts) where
+  table-sound : SoundTable A
+  table-sound = record { good = tables .good; are = tables .hashes; few = tables .limit }
 
-module _ (bits probes : ℕ) (A : List Row) (B : ℕ → List Row) (W U : ℕ → List Waiting) (hosts : ℕ → Host) (tables : Tables bits probes A B W U hosts) where
-  fixed : Fixed bits probes A
-  fixed = record { sound = record { good = tables .good; are = tables .hashes; few = tables .limit }; setting = tables .setting }
+  fixedA : (k : ℕ) → Fixed (setA k .bits) (setA k .probes) A
+  fixedA k = record { sound = table-sound; setting = tables .settingA k }
 
-  abbrev pair : ℕ → Pair bits probes A B W U hosts
-  pair k = pairAt bits probes A B W U hosts k
+  fixedB : (k : ℕ) → Fixed (setB k .bits) (setB k .probes) A
+  fixedB k = record { sound = table-sound; setting = tables .settingB k }
+
+  abbrev pair : ℕ → Pair setA setB A B W U hosts
+  pair k = pairAt setA setB A B W U hosts k
 
   abbrev lastSync : ℕ → List ℕ
   lastSync j = pair j .atB .sharedHeads
@@ -59,7 +59,7 @@ module _ (bits probes : ℕ) (A : List Row) (B : ℕ → List Row) (W U : ℕ �
   place k sent named = record { table = B k; waits = W k; sent = sent; named = named }
 
   abbrev Walked : ℕ → At → Type 0
-  Walked = Walk01 (λ j. bits) (λ j. probes) lastSync A (B 0)
+  Walked = Walk01 (λ j. setB j .bits) (λ j. setB j .probes) lastSync A (B 0)
 
   -- What stands before round k: a walk came here, and both sides are as they were.
   pub record Standing (k : ℕ) : Type 0 where
@@ -67,7 +67,7 @@ module _ (bits probes : ℕ) (A : List Row) (B : ℕ → List Row) (W U : ℕ �
     pub sent : List ℕ
     -- all that its replies named, which is all that the messages carried
     pub named : List ℕ
-    pub carries : named ≡ carried bits probes A B W U hosts k
+    pub carries : named ≡ carried setA setB A B W U hosts k
     -- a walk whose last-sync hashes are B's shared heads came to B's tables
     pub walk : Walked k (place k sent named)
     pub sideA : SideA A k sent (pair k .atA)
@@ -133,19 +133,19 @@ module _ (bits probes : ℕ) (A : List Row) (B : ℕ → List Row) (W U : ℕ �
     need = missing (B k) (W k) (heardIn k A)
 
     abbrev haves : List Have
-    haves = havesFor bits probes (B k) need (heardIn k A) (b .sharedHeads)
+    haves = havesFor (setB k .bits) (setB k .probes) (B k) need (heardIn k A) (b .sharedHeads)
 
     abbrev ask : Plan
-    ask = planOf bits probes (B k) (W k) b
+    ask = planOf (setB k .bits) (setB k .probes) (B k) (W k) b
 
     abbrev m : Said
     m = heardSaid ask
 
     -- B speaks
-    asking : Asks bits probes A (B k) (W k) k b
-    asking = asks bits probes A (B k) (W k) k b fixed going (st .sideB)
+    asking : Asks (setB k .bits) (setB k .probes) A (B k) (W k) k b
+    asking = asks (setB k .bits) (setB k .probes) A (B k) (W k) k b (fixedB k) going (st .sideB)
 
-    asked-is : asked bits probes A B W U hosts k (pair k) ≡ Planned.says ask (planned (B k) b)
+    asked-is : asked setA setB A B W U hosts k (pair k) ≡ Planned.says ask (planned (B k) b)
     unfolding asked
     asked-is = asking .says
 
@@ -154,22 +154,23 @@ module _ (bits probes : ℕ) (A : List Row) (B : ℕ → List Row) (W U : ℕ �
     mid = received (length A) A a m
 
     abbrev reply : Plan
-    reply = planOf bits probes A (U k) mid
+    reply = planOf (setA k .bits) (setA k .probes) A (U k) mid
 
-    answering : Answers bits probes A (B k) (U k) k (st .sent) a need haves m
+    answering : Answers (setA k .bits) (setA k .probes) A (B k) (U k) k (st .sent) a need haves m
     answering =
-        answers bits probes A (B k) (U k) k (st .sent) a need haves m fixed (st .sideB .part) going (st .sideA) (asking .known) (asking .hears)
+        answers (setA k .bits) (setA k .probes) A (B k) (U k) k (st .sent) a need haves m (fixedA k) (st .sideB .part) going (st .sideA)
+        (asking .known) (asking .hears)
 
-    toA-is : toA bits probes A B W U hosts k (pair k) ≡ Received.took mid
+    toA-is : toA setA setB A B W U hosts k (pair k) ≡ Received.took mid
     unfolding toA bytesFor
     toA-is =
         ap (λ (p : Planned). receiveBytes true (length A) A a (bytesFor (hosts k) p)) asked-is
         ∙ asking .crosses (hosts k) (length A) A a (omega arith)
         ∙ answering .takes
 
-    answered-is : answered bits probes A B W U hosts k (pair k) ≡ Planned.says reply (planned A mid)
+    answered-is : answered setA setB A B W U hosts k (pair k) ≡ Planned.says reply (planned A mid)
     unfolding answered
-    answered-is = ap (λ (r : Received). plan bits probes A (U k) (left r a)) toA-is ∙ answering .says
+    answered-is = ap (λ (r : Received). plan (setA k .bits) (setA k .probes) A (U k) (left r a)) toA-is ∙ answering .says
 
     document-is : bodyOf A mid .document ≡ reply .body .document
     document-is = ap (λ (x : Body). x .document) (sym (answering .body-is))
@@ -180,7 +181,7 @@ module _ (bits probes : ℕ) (A : List Row) (B : ℕ → List Row) (W U : ℕ �
     by-list : reply .body .document ≡ false → reply .body .hashes ≡ toSendLess A haves need (trim A (heads (B k)) (st .sent))
     by-list e = hashes-are ∙ answering .list (document-is ∙ e)
 
-    pub agrees : Agrees bits probes A B W U hosts k (st .sent)
+    pub agrees : Agrees setA setB A B W U hosts k (st .sent)
     agrees =
         record {
           said = ask;
@@ -203,7 +204,7 @@ module _ (bits probes : ℕ) (A : List Row) (B : ℕ → List Row) (W U : ℕ �
               (sym (asking .need-are));
         }
 
-    goes-is : goes (answered bits probes A B W U hosts k (pair k)) ≡ reply .body .hashes
+    goes-is : goes (answered setA setB A B W U hosts k (pair k)) ≡ reply .body .hashes
     unfolding goes
     goes-is = ap goes answered-is
 
@@ -222,11 +223,11 @@ module _ (bits probes : ℕ) (A : List Row) (B : ℕ → List Row) (W U : ℕ �
       listed : reply .body .document ≡ false
       listed = sym document-is ∙ answering .short found short
 
-      fits : length (bytesFor (hosts k) (answered bits probes A B W U hosts k (pair k))) ≤ sizes .message
+      fits : length (bytesFor (hosts k) (answered setA setB A B W U hosts k (pair k))) ≤ sizes .message
       unfolding bytesFor chunksFor
       fits = rw answered-is (answering .fits (hosts k) (rw (listed, by-list listed) (room (reply .version))))
 
-      pub round-granted : Loads A (B k) (W k) offer (B (suc k)) (W (suc k)) → length (W (suc k)) ≤ sizes .waitingRows → Granted bits probes A B W U hosts k
+      pub round-granted : Loads A (B k) (W k) offer (B (suc k)) (W (suc k)) → length (W (suc k)) ≤ sizes .waitingRows → Granted setA setB A B W U hosts k
       round-granted loads few =
           record {
             list =
@@ -241,7 +242,7 @@ module _ (bits probes : ℕ) (A : List Row) (B : ℕ → List Row) (W U : ℕ �
 
     -- ---- and what is granted in it
 
-    module _ (granted : Granted bits probes A B W U hosts k) where
+    module _ (granted : Granted setA setB A B W U hosts k) where
       list : reply .body .document ≡ false
       list = granted .list reply (planned A mid) answered-is
 
@@ -255,8 +256,10 @@ module _ (bits probes : ℕ) (A : List Row) (B : ℕ → List Row) (W U : ℕ �
       named′ = st .named ++ reply .body .hashes
 
       -- B's filter is over no more rows than A's
-      set : accepted bits probes (B k) (lastSync k) ≡ true
-      set = tables .setting (length (beyond (B k) (lastSync k))) (le-trans (beyond-few (B k) (lastSync k)) (part-few A (fixed .sound) (B k) (st .sideB .part)))
+      set : accepted (setB k .bits) (setB k .probes) (B k) (lastSync k) ≡ true
+      set =
+          tables .settingB k (length (beyond (B k) (lastSync k)))
+          (le-trans (beyond-few (B k) (lastSync k)) (part-few A table-sound (B k) (st .sideB .part)))
 
       walked : Walked (suc k) (place (suc k) sent′ named′)
       walked =
@@ -266,12 +269,13 @@ module _ (bits probes : ℕ) (A : List Row) (B : ℕ → List Row) (W U : ℕ �
       part′ : Part A (B (suc k))
       part′ =
           theorem-1 A (B 0) (tables .good) (tables .part) .part (suc k) _
-          (walk01-walks (λ j. bits) (λ j. probes) lastSync A (B 0) (tables .good) (tables .part) (suc k) _ walked)
+          (walk01-walks (λ j. setB j .bits) (λ j. setB j .probes) lastSync A (B 0) (tables .good) (tables .part) (suc k) _ walked)
 
       -- B hears the answer
       returning : Returns A (B k) (W k) (B (suc k)) (W (suc k)) k b (heardSaid reply)
       returning =
-          returns A (B k) (W k) (B (suc k)) (W (suc k)) k b (heardSaid reply) bits probes fixed (st .sideB) (asking .good) (asking .sent) part′
+          returns A (B k) (W k) (B (suc k)) (W (suc k)) k b (heardSaid reply) (setA k .bits) (setA k .probes) (fixedA k) (st .sideB)
+          (asking .good) (asking .sent) part′
           (loads-waits loaded)
           (loads-more loaded)
           (answering .hears)
@@ -283,7 +287,7 @@ module _ (bits probes : ℕ) (A : List Row) (B : ℕ → List Row) (W U : ℕ �
       unfolding bytesFor
       small = rw answered-is at (granted .small)
 
-      pub toB-is : toB bits probes A B W U hosts k (pair k) ≡ Received.took end
+      pub toB-is : toB setA setB A B W U hosts k (pair k) ≡ Received.took end
       unfolding toB bytesFor
       toB-is =
           ap₂ (λ (p q : Planned). receiveBytes true (length (B k)) (B (suc k)) (after p b) (bytesFor (hosts k) q)) asked-is answered-is
@@ -292,17 +296,17 @@ module _ (bits probes : ℕ) (A : List Row) (B : ℕ → List Row) (W U : ℕ �
 
       a-is : pair (suc k) .atA ≡ planned A mid
       unfolding pairAt
-      a-is = ap (λ (p : Planned). after p (left (toA bits probes A B W U hosts k (pair k)) a)) answered-is
+      a-is = ap (λ (p : Planned). after p (left (toA setA setB A B W U hosts k (pair k)) a)) answered-is
 
       b-is : pair (suc k) .atB ≡ end
       unfolding pairAt
-      b-is = ap (λ (r : Received). left r (after (asked bits probes A B W U hosts k (pair k)) b)) toB-is
+      b-is = ap (λ (r : Received). left r (after (asked setA setB A B W U hosts k (pair k)) b)) toB-is
 
-      asks-none : goes (asked bits probes A B W U hosts k (pair k)) ≡ []
+      asks-none : goes (asked setA setB A B W U hosts k (pair k)) ≡ []
       unfolding goes
       asks-none = ap goes asked-is ∙ ap (λ (x : Body). x .hashes) (asking .body-is)
 
-      carries′ : named′ ≡ carried bits probes A B W U hosts (suc k)
+      carries′ : named′ ≡ carried setA setB A B W U hosts (suc k)
       unfolding carried
       carries′ = ap₂ (λ (x y : List ℕ). x ++ y) (st .carries) (sym (ap₂ (λ (x y : List ℕ). x ++ y) asks-none goes-is))
 
@@ -329,19 +333,19 @@ module _ (bits probes : ℕ) (A : List Row) (B : ℕ → List Row) (W U : ℕ �
 
   -- ---- all rounds
 
-  pub standing : (k : ℕ) → ((j : ℕ) → j < k → Going A (B j) j) → ((j : ℕ) → j < k → Granted bits probes A B W U hosts j) → Standing k
+  pub standing : (k : ℕ) → ((j : ℕ) → j < k → Going A (B j) j) → ((j : ℕ) → j < k → Granted setA setB A B W U hosts j) → Standing k
   standing zero f g = start
   standing (suc k) f g = next k (standing k (λ j h. f j (omega arith)) (λ j h. g j (omega arith))) (f k (omega arith)) (g k (omega arith))
 
   -- a round that is reached is still to be talked
-  pub reached-going : (k : ℕ) → Reached bits probes A B W U hosts k → Going A (B k) k
+  pub reached-going : (k : ℕ) → Reached setA setB A B W U hosts k → Going A (B k) k
   reached-going zero f h = absurd (omega arith)
   reached-going (suc k) f h = f k (omega arith)
 
-  pub inside-standing : (k : ℕ) → Underway bits probes A B W U hosts k → Standing k
+  pub inside-standing : (k : ℕ) → Underway setA setB A B W U hosts k → Standing k
   inside-standing k i = standing k (λ j h. reached-going j (λ l e. i .reached l (omega arith))) (i .granted)
 
-  pub statement-2 : Statement2 bits probes A B W U hosts
+  pub statement-2 : Statement2 setA setB A B W U hosts
   statement-2 =
       record {
         stated = λ k i.
@@ -359,4 +363,4 @@ module _ (bits probes : ℕ) (A : List Row) (B : ℕ → List Row) (W U : ℕ �
 
 -- Theorem 2.
 pub theorem-2 : Theorem2
-theorem-2 bits probes A B W U hosts tables = statement-2 bits probes A B W U hosts tables
+theorem-2 setA setB A B W U hosts tables = statement-2 setA setB A B W U hosts tables

@@ -7,7 +7,9 @@ use mathlib.Core.Path.{_≡_, refl, sym, ap, ap₂, _∙_}
 use native.Mathlib.Omega.{arith}
 use borrow.Author.Tests.{ltb-true}
 use lib.ListN.{length, take, length-append}
-use Rattle.bloom.specs.Filter.{defaultBits, defaultProbes}
+use Rattle.bloom.proofs.Rules.{pair-good, default-good}
+use Rattle.bloom.specs.Filter.{defaultBits, defaultProbes, SettingGood, defaultSetting, mostBits}
+use Rattle.bloom.specs.declared.setting.Setting.{Setting}
 use Rattle.table_graph.specs.Graph.{needed, heads}
 use Rattle.session.proofs.ReceiveLaws.{join-members, advance-members, shared-taken, shared-joined}
 use Rattle.session.specs.Receive.{Said, sharedLoaded, sharedAfter, loads}
@@ -37,7 +39,7 @@ use Rattle.walk_sessions.specs.Talk.{pairAt, Reached, Granted, Tables, E
 use Rattle.walk_sessions.proofs.Corollary.{corollary}
 use Rattle.walk_sessions.proofs.Sides.{Going}
 use Rattle.walk_sessions.proofs.Small.{mostWords}
-use Rattle.walk_sessions.proofs.Talk.{default-setting, Standing, start, start-sent, next, next-sent, next-shared, reply-heads, round-granted}
+use Rattle.walk_sessions.proofs.Talk.{Standing, start, start-sent, next, next-sent, next-shared, reply-heads, round-granted}
 use Rattle.session.specs.Written.{Host, listChunks}
 
 -- ---- what the hosts have
@@ -62,11 +64,26 @@ waiting-at-a k = []
 abbrev pub lent : ℕ → Host
 lent k = record { change = λ h. []; document = [] }
 
+-- What filters are built with: at A the most that may be set, then the least, at B 10 and 7.
+abbrev pub set-by-a : ℕ → Setting
+set-by-a zero = record { bits = mostBits; probes = sizes .probes }
+set-by-a (suc k) = record { bits = 1; probes = 1 }
+
+abbrev pub set-by-b : ℕ → Setting
+set-by-b k = defaultSetting
+
+pub good-at-a : (k : ℕ) → SettingGood (set-by-a k .bits) (set-by-a k .probes)
+good-at-a zero = pair-good mostBits (sizes .probes) (omega arith) (omega arith) (omega arith)
+good-at-a (suc k) = pair-good 1 1 (omega arith) (omega arith) (omega arith)
+
+pub good-at-b : (k : ℕ) → SettingGood (set-by-b k .bits) (set-by-b k .probes)
+good-at-b k = default-good
+
 three-hashes : AreHashes (rows three)
 unfolding AreHashes rows bigEndian
 three-hashes = (ltb-true _ _ refl, (ltb-true _ _ refl, (ltb-true _ _ refl, tt)))
 
-pub tables : Tables defaultBits defaultProbes three held-by-b waiting-at-b waiting-at-a lent
+pub tables : Tables set-by-a set-by-b three held-by-b waiting-at-b waiting-at-a lent
 tables =
     record {
       good = good-three;
@@ -74,18 +91,19 @@ tables =
       hashes = three-hashes;
       part = part-one;
       nothing = refl;
-      setting = default-setting three (omega arith);
+      settingA = λ k n h. good-at-a k .each n (omega arith);
+      settingB = λ k n h. good-at-b k .each n (omega arith);
     }
 
 abbrev TalkStands : ℕ → Type 0
-TalkStands = Standing defaultBits defaultProbes three held-by-b waiting-at-b waiting-at-a lent tables
+TalkStands = Standing set-by-a set-by-b three held-by-b waiting-at-b waiting-at-a lent tables
 
 abbrev Grants : ℕ → Type 0
-Grants = Granted defaultBits defaultProbes three held-by-b waiting-at-b waiting-at-a lent
+Grants = Granted set-by-a set-by-b three held-by-b waiting-at-b waiting-at-a lent
 
 -- B's last-sync hashes in round k.
 abbrev lastSync : ℕ → List ℕ
-lastSync k = pairAt defaultBits defaultProbes three held-by-b waiting-at-b waiting-at-a lent k .atB .sharedHeads
+lastSync k = pairAt set-by-a set-by-b three held-by-b waiting-at-b waiting-at-a lent k .atB .sharedHeads
 
 -- ---- a reply of one hash at the most
 
@@ -140,7 +158,7 @@ grants k st going T l none t is one found loads few =
     none t
     ∙ is
     in
-    round-granted defaultBits defaultProbes three held-by-b waiting-at-b waiting-at-a lent tables k st going found
+    round-granted set-by-a set-by-b three held-by-b waiting-at-b waiting-at-a lent tables k st going found
     (rw same (omega (arith, one)))
     (rw same (leaves-room k l one))
     (rw same loads)
@@ -183,12 +201,12 @@ stays-none : (k : ℕ) (st : TalkStands k) (going : Going three (held-by-b k) k)
     → lastSync (suc k) ≡ []
 unfolding planned member
 stays-none k st going granted none strange old =
-    next-shared defaultBits defaultProbes three held-by-b waiting-at-b waiting-at-a lent tables k st going granted
+    next-shared set-by-a set-by-b three held-by-b waiting-at-b waiting-at-a lent tables k st going granted
     ∙ still-none (length (held-by-b k)) (held-by-b (suc k)) _ _ none
     (λ h m.
     let is : h ≡ c =
     only c h
-    (rw (reply-heads defaultBits defaultProbes three held-by-b waiting-at-b waiting-at-a lent tables k st going, three-heads) at m)
+    (rw (reply-heads set-by-a set-by-b three held-by-b waiting-at-b waiting-at-a lent tables k st going, three-heads) at m)
     in
     rw is strange)
     old
@@ -215,11 +233,11 @@ going : (k : ℕ) → holdsAll three (held-by-b k) ≡ false → Going three (he
 going k e h = e
 
 first : TalkStands 0
-first = start defaultBits defaultProbes three held-by-b waiting-at-b waiting-at-a lent tables
+first = start set-by-a set-by-b three held-by-b waiting-at-b waiting-at-a lent tables
 
 first-sent : first .sent ≡ []
 unfolding first
-first-sent = start-sent defaultBits defaultProbes three held-by-b waiting-at-b waiting-at-a lent tables
+first-sent = start-sent set-by-a set-by-b three held-by-b waiting-at-b waiting-at-a lent tables
 
 first-none : lastSync 0 ≡ []
 unfolding pairAt
@@ -229,14 +247,14 @@ first-none = refl
 sent-after : (k : ℕ) (st : TalkStands k) (g : Going three (held-by-b k) k) (granted : Grants k) (T l kept : List ℕ) → lastSync k ≡ [] → st .sent ≡ T
     → sends k T ≡ l
     → trim three (heads (held-by-b k)) T ≡ kept
-    → next defaultBits defaultProbes three held-by-b waiting-at-b waiting-at-a lent tables k st g granted .sent ≡ kept ++ l
+    → next set-by-a set-by-b three held-by-b waiting-at-b waiting-at-a lent tables k st g granted .sent ≡ kept ++ l
 sent-after k st g granted T l kept none t is keeps =
     let need : List ℕ = missing (held-by-b k) (waiting-at-b k) (heardIn k three) in
     let rest : List ℕ → List ℕ = trim three (heads (held-by-b k)) in
     let reply : List ℕ → List ℕ → List ℕ =
     λ x y. toSendLess three (havesFor defaultBits defaultProbes (held-by-b k) need (heardIn k three) x) need (rest y)
     in
-    next-sent defaultBits defaultProbes three held-by-b waiting-at-b waiting-at-a lent tables k st g granted
+    next-sent set-by-a set-by-b three held-by-b waiting-at-b waiting-at-a lent tables k st g granted
     ∙ ap₂ (λ (x y : List ℕ). x ++ y) (ap rest t ∙ keeps) (ap₂ reply none t ∙ is)
 
 -- round one: nothing comes
@@ -244,7 +262,7 @@ grants0 : Grants 0
 grants0 = grants 0 first (going 0 one-lacks) [] [] first-none first-sent (computed .0) (omega arith) a-head load-none (omega arith)
 
 second : TalkStands 1
-second = next defaultBits defaultProbes three held-by-b waiting-at-b waiting-at-a lent tables 0 first (going 0 one-lacks) grants0
+second = next set-by-a set-by-b three held-by-b waiting-at-b waiting-at-a lent tables 0 first (going 0 one-lacks) grants0
 
 second-sent : second .sent ≡ []
 unfolding second
@@ -258,7 +276,7 @@ grants1 : Grants 1
 grants1 = grants 1 second (going 1 one-lacks) [] (c ∷ []) second-none second-sent (computed .1) (omega arith) a-head load-c (omega arith)
 
 third : TalkStands 2
-third = next defaultBits defaultProbes three held-by-b waiting-at-b waiting-at-a lent tables 1 second (going 1 one-lacks) grants1
+third = next set-by-a set-by-b three held-by-b waiting-at-b waiting-at-a lent tables 1 second (going 1 one-lacks) grants1
 
 third-sent : third .sent ≡ c ∷ []
 unfolding third
@@ -273,15 +291,15 @@ grants2 = grants 2 third (going 2 one-lacks) (c ∷ []) (b ∷ []) third-none th
 
 -- ---- so all is granted in each round that is reached
 
-pub all-granted : (k : ℕ) → Reached defaultBits defaultProbes three held-by-b waiting-at-b waiting-at-a lent k → Grants k
+pub all-granted : (k : ℕ) → Reached set-by-a set-by-b three held-by-b waiting-at-b waiting-at-a lent k → Grants k
 all-granted zero r = grants0
 all-granted (suc zero) r = grants1
 all-granted (suc (suc zero)) r = grants2
 all-granted (suc (suc (suc k))) r = absurd (true-false (holdsAll three three) three-has (r 2 (omega arith)))
 
 -- The corollary speaks of these sessions,
-pub talk-ends : Ended defaultBits defaultProbes three held-by-b waiting-at-b waiting-at-a lent (lacking three one)
-talk-ends = corollary defaultBits defaultProbes three held-by-b waiting-at-b waiting-at-a lent tables all-granted
+pub talk-ends : Ended set-by-a set-by-b three held-by-b waiting-at-b waiting-at-a lent (lacking three one)
+talk-ends = corollary set-by-a set-by-b three held-by-b waiting-at-b waiting-at-a lent tables all-granted
 
 two-lacking : lacking three one ≡ 2
 unfolding keep member held rows bigEndian

@@ -7,6 +7,7 @@ use mathlib.Core.List.{List, [], _++_}
 use mathlib.Core.Path.{_≡_}
 use lib.ListN.{length}
 use Rattle.bloom.specs.Filter.{filterRules, fieldSize}
+use Rattle.bloom.specs.declared.setting.Setting.{Setting}
 use Rattle.table_graph.specs.Graph.{heads}
 use Rattle.session.specs.Receive.{Received, left, receiveBytes}
 use Rattle.session.specs.Written.{Host, messageFor}
@@ -37,15 +38,16 @@ goes Planned.silent = []
 goes (Planned.reset p) = []
 goes (Planned.says p s) = p .body .hashes
 
--- The hosts: B's tables before each round and what waits beside them, what waits beside A (of no account), and what is lent for each round's messages.
-module _ (bits probes : ℕ) (A : List Row) (B : ℕ → List Row) (W U : ℕ → List Waiting) (hosts : ℕ → Host) where
+-- The hosts: what A and what B build the filters of each round with (02, M-107: any allowed pairs, and those need not be the same), B's tables before each
+-- round and what waits beside them, what waits beside A (of no account), and what is lent for each round's messages.
+module _ (setA setB : ℕ → Setting) (A : List Row) (B : ℕ → List Row) (W U : ℕ → List Waiting) (hosts : ℕ → Host) where
   pub record Pair : Type 0 where
     pub atA : State
     pub atB : State
 
   -- Round k: B speaks, A hears it and answers, B hears that beside its table after loading.
   unfoldable pub asked : ℕ → Pair → Planned
-  asked k x = plan bits probes (B k) (W k) (x .atB)
+  asked k x = plan (setB k .bits) (setB k .probes) (B k) (W k) (x .atB)
 
   -- A hears what B asked.
   unfoldable pub toA : ℕ → Pair → Received
@@ -53,7 +55,7 @@ module _ (bits probes : ℕ) (A : List Row) (B : ℕ → List Row) (W U : ℕ �
 
   -- A answers.
   unfoldable pub answered : ℕ → Pair → Planned
-  answered k x = plan bits probes A (U k) (left (toA k x) (x .atA))
+  answered k x = plan (setA k .bits) (setA k .probes) A (U k) (left (toA k x) (x .atA))
 
   -- B hears the answer, beside its table after loading.
   unfoldable pub toB : ℕ → Pair → Received
@@ -99,8 +101,9 @@ module _ (bits probes : ℕ) (A : List Row) (B : ℕ → List Row) (W U : ℕ �
     pub hashes : AreHashes (rows A)
     pub part : Part A (B 0)
     pub nothing : W 0 ≡ []
-    -- filters over A's rows keep the filter rules: 10 and 7 do
-    pub setting : (n : ℕ) → n ≤ length A → filterRules n bits probes (fieldSize n bits) ≡ true
+    -- filters over A's rows keep the filter rules, at both ends and in each round: all pairs that M-107 allows do
+    pub settingA : (k n : ℕ) → n ≤ length A → filterRules n (setA k .bits) (setA k .probes) (fieldSize n (setA k .bits)) ≡ true
+    pub settingB : (k n : ℕ) → n ≤ length A → filterRules n (setB k .bits) (setB k .probes) (fieldSize n (setB k .bits)) ≡ true
 
   -- Round k of the sessions and of the walk whose T is this; L is B's shared heads.
   pub record Agrees (k : ℕ) (T : List ℕ) : Type 0 where
@@ -109,7 +112,8 @@ module _ (bits probes : ℕ) (A : List Row) (B : ℕ → List Row) (W U : ℕ �
     pub speaks : asked k (pairAt k) ≡ Planned.says said next
     pub heads-agree : said .heads ≡ heads (B k)
     pub need-agrees : said .need ≡ missing (B k) (W k) (heardIn k A)
-    pub haves-agree : said .haves ≡ havesFor bits probes (B k) (missing (B k) (W k) (heardIn k A)) (heardIn k A) (pairAt k .atB .sharedHeads)
+    pub haves-agree : said .haves
+        ≡ havesFor (setB k .bits) (setB k .probes) (B k) (missing (B k) (W k) (heardIn k A)) (heardIn k A) (pairAt k .atB .sharedHeads)
     pub holds : (h : ℕ) → member h (pairAt k .atB .sharedHeads) ≡ true → held (B k) h ≡ true
     pub carries-none : said .body ≡ listOf []
     pub heard : State
@@ -123,7 +127,7 @@ module _ (bits probes : ℕ) (A : List Row) (B : ℕ → List Row) (W U : ℕ �
   -- A walk came to round k over B's tables, its replies are what the messages carried, and the round's words are the walk's.
   pub record WalkStated (k : ℕ) : Type 0 where
     pub at : At
-    pub walk : Walk01 (λ j. bits) (λ j. probes) (λ j. pairAt j .atB .sharedHeads) A (B 0) k at
+    pub walk : Walk01 (λ j. setB j .bits) (λ j. setB j .probes) (λ j. pairAt j .atB .sharedHeads) A (B 0) k at
     pub table : at .table ≡ B k
     pub waits : at .waits ≡ W k
     pub replies : at .named ≡ carried k
@@ -155,13 +159,13 @@ module _ (bits probes : ℕ) (A : List Row) (B : ℕ → List Row) (W U : ℕ �
 
 -- What is to be shown of two sessions over such tables.
 abbrev pub Theorem2 : Type 0
-Theorem2 = (bits probes : ℕ) (A : List Row) (B : ℕ → List Row) (W U : ℕ → List Waiting) (hosts : ℕ → Host)
-    → Tables bits probes A B W U hosts
-    → Statement2 bits probes A B W U hosts
+Theorem2 = (setA setB : ℕ → Setting) (A : List Row) (B : ℕ → List Row) (W U : ℕ → List Waiting) (hosts : ℕ → Host)
+    → Tables setA setB A B W U hosts
+    → Statement2 setA setB A B W U hosts
 
 -- Where the premises hold, B holds A after at most as many rounds as it lacks rows, and one.
 abbrev pub Corollary : Type 0
-Corollary = (bits probes : ℕ) (A : List Row) (B : ℕ → List Row) (W U : ℕ → List Waiting) (hosts : ℕ → Host)
-    → Tables bits probes A B W U hosts
-    → ((k : ℕ) → Reached bits probes A B W U hosts k → Granted bits probes A B W U hosts k)
-    → Ended bits probes A B W U hosts (lacking A (B 0))
+Corollary = (setA setB : ℕ → Setting) (A : List Row) (B : ℕ → List Row) (W U : ℕ → List Waiting) (hosts : ℕ → Host)
+    → Tables setA setB A B W U hosts
+    → ((k : ℕ) → Reached setA setB A B W U hosts k → Granted setA setB A B W U hosts k)
+    → Ended setA setB A B W U hosts (lacking A (B 0))
