@@ -199,7 +199,7 @@ module _ (setA setB : ℕ → Setting) (a : List ℕ) (b w u : ℕ → List ℕ)
     pub buffer : List ℕ
     pub room : sizes .message ≤ length buffer
 
--- A talk of calls is the talk of steps.
+-- A talk of calls is the talk of steps, whatever good pairs the two ends plan with.
 abbrev pub CallsAreSteps : Type 0
 CallsAreSteps = (setA setB : ℕ → Setting) → GoodSettings setA setB
     → (a : List ℕ) (b w u : ℕ → List ℕ) (hosts : ℕ → Host) (n : ℕ) (talk : TalkOfCalls setA setB a b w u hosts n)
