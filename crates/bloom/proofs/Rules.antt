@@ -10,7 +10,7 @@ use lib.Dec.{ltb, leb, eqb}
 use Rattle.rules.specs.Sizes.{sizes}
 use Rattle.rules.proofs.Cases.{split, both, other}
 use Rattle.leb128.specs.Number.{mostFilter}
-use Rattle.bloom.specs.Filter.{fieldSize, filterRules, defaultBits, defaultProbes, SettingGood, mostBits, settingGood}
+use Rattle.bloom.specs.Filter.{fieldSize, filterRules, defaultBits, defaultProbes, SettingGood, mostBits, pairGood}
 
 -- ---- the size of a field
 
@@ -158,18 +158,33 @@ pair-good b p some few probes =
     }
 
 -- No others do: over a whole table the rules say as much.
-pub keeps-setting : (b p : ℕ) → SettingGood b p → settingGood b p ≡ true
-unfolding settingGood fieldSize
+pub keeps-setting : (b p : ℕ) → SettingGood b p → pairGood b p ≡ true
+unfolding pairGood fieldSize
 keeps-setting b p good =
     let r = ruled (sizes .rows) b p (fieldSize (sizes .rows) b) (good .each (sizes .rows) (omega arith)) .full (omega arith) in
     rw (lt-ltb _ _ (r .someBits), le-leb b mostBits (omega (arith, r .small)), le-leb _ _ (r .fewProbes))
 
-pub setting-keeps : (b p : ℕ) → settingGood b p ≡ true → SettingGood b p
-unfolding settingGood
+pub setting-keeps : (b p : ℕ) → pairGood b p ≡ true → SettingGood b p
+unfolding pairGood
 setting-keeps b p e =
     let l = both (ltb 0 b) (leb b mostBits && leb p (sizes .probes)) e in
     let r = both (leb b mostBits) (leb p (sizes .probes)) (l .1) in
     pair-good b p (ltb-true _ _ (l .0)) (leb-true _ _ (r .0)) (leb-true _ _ (r .1))
+
+-- The test, by what decides it.
+module _ (b p : ℕ) where
+  pub pair-none : b ≡ 0 → pairGood b p ≡ false
+  unfolding pairGood
+  pair-none e = rw (le-ltb 0 b (omega arith))
+
+  module _ (some : 0 < b) where
+    pub pair-many : mostBits < b → pairGood b p ≡ false
+    unfolding pairGood
+    pair-many h = rw (lt-ltb 0 b some, lt-leb b mostBits h)
+
+    pub pair-by-probes : b ≤ mostBits → pairGood b p ≡ leb p (sizes .probes)
+    unfolding pairGood
+    pair-by-probes h = rw (lt-ltb 0 b some, le-leb b mostBits h)
 
 -- The default's 10 and 7 are such a pair.
 pub default-good : SettingGood defaultBits defaultProbes

@@ -55,8 +55,8 @@ mostBits = 32
 
 -- 02, M-107, as a test: bits 1 to 32, and probes up to 64, where the filter rules let 0 pass too. It finds just the pairs of `SettingGood`: the laws
 -- `setting-keeps` and `keeps-setting`.
-unfoldable pub settingGood : ℕ → ℕ → Bool
-settingGood b p = ltb 0 b && (leb b mostBits && leb p (sizes .probes))
+unfoldable pub pairGood : ℕ → ℕ → Bool
+pairGood b p = ltb 0 b && (leb b mostBits && leb p (sizes .probes))
 
 -- A filter as bytes: n = 0 is written as no bytes.
 unfoldable pub filterBytes : Filter → List ℕ

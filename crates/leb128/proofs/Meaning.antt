@@ -9,6 +9,7 @@ use borrow.Author.Tests.{ltb-true, ltb-false}
 use lib.Dec.{ltb}
 use lib.ListN.{length, length-append, length-take, length-drop}
 use lib.Seq.{slice}
+use Rattle.rules.proofs.ByteLaws.{bytes-none, bytes-cons}
 use Rattle.rules.specs.Hash.{Bytes}
 use Rattle.rules.proofs.Cases.{split}
 use Rattle.rules.proofs.Hash.{bytes-head, bytes-tail, bytes-slice, slice-parts}
@@ -34,14 +35,10 @@ each-seven P last more n = go n n (omega arith)
         (λ e. let l : n < 128 = ltb-true _ _ e in rw (shortest-one n l) (last n l))
         (λ e. let l : 128 ≤ n = ltb-false _ _ e in rw (shortest-more n l) (more n (shortest (n / 128)) l (go k (n / 128) (omega arith))))
 
-bytes-cons : (b : ℕ) (bs : List ℕ) → b < 256 → Bytes bs → Bytes (b ∷ bs)
-bytes-cons b bs h t zero = h
-bytes-cons b bs h t (suc i) = t i
-
 pub shortest-bytes : (n : ℕ) → Bytes (shortest n)
 shortest-bytes =
     each-seven (λ n l. Bytes l)
-    (λ n h. bytes-cons n [] (omega arith) (λ i. omega arith))
+    (λ n h. bytes-cons n [] (omega arith) bytes-none)
     (λ n l h t. bytes-cons (n % 128 + 128) l (omega arith) t)
 
 -- A byte that goes on, put before a shortest form.

@@ -1,3 +1,4 @@
+pub mod ByteLaws
 pub mod Cases
 pub mod Hash
 pub mod Outputs

@@ -6,9 +6,9 @@ use mathlib.Core.Path.{_≡_, refl, sym, ap₂, _∙_}
 use lib.Dec.{eqb}
 use Rattle.rules.specs.Refusal.{numberOf, valueOf}
 use Rattle.rules.specs.declared.refusal.Refusal.{Refusal}
-use Rattle.rules.specs.declared.refusal.Refusal.the-variants.{Cut, WrongType, BadNumber, PastSize, NoBits, BadRow, NoRoom, LoadFailed, BadWaitingRow, BadNumbers, BadRowsBefore, BadIndex, TooWide}
+use Rattle.rules.specs.declared.refusal.Refusal.the-variants.{Cut, WrongType, BadNumber, PastSize, NoBits, BadRow, NoRoom, LoadFailed, BadWaitingRow, BadNumbers, BadRowsBefore, BadIndex, TooWide, BadSettings, BadSetting}
 
--- A number that no refusal has is read as 13.
+-- A number that no refusal has is read as 15.
 unfoldable pub refusalOf : ℕ → ℕ → Refusal
 refusalOf n v =
     cond (eqb n 1) (Cut v)
@@ -22,7 +22,9 @@ refusalOf n v =
     (cond (eqb n 9) (BadWaitingRow v)
     (cond (eqb n 10) BadNumbers
     (cond (eqb n 11) BadRowsBefore
-    (cond (eqb n 12) BadIndex (TooWide v))))))))))))
+    (cond (eqb n 12) BadIndex
+    (cond (eqb n 13) (TooWide v)
+    (cond (eqb n 14) (BadSettings v) BadSetting)))))))))))))
 
 pub refusal-told : (r : Refusal) → refusalOf (numberOf r) (valueOf r) ≡ r
 unfolding refusalOf
@@ -39,6 +41,8 @@ refusal-told BadNumbers = refl
 refusal-told BadRowsBefore = refl
 refusal-told BadIndex = refl
 refusal-told (TooWide row) = refl
+refusal-told (BadSettings i) = refl
+refusal-told BadSetting = refl
 
 pub refusals-differ : (a b : Refusal) → numberOf a ≡ numberOf b → valueOf a ≡ valueOf b → a ≡ b
 refusals-differ a b n v = sym (refusal-told a) ∙ ap₂ refusalOf n v ∙ refusal-told b

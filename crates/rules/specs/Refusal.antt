@@ -1,5 +1,5 @@
--- 01, Refusal numbers, and 02, M-100 for 12 and M-106 for 13: the number of each refusal, and the value that it returns. Every promise about a refusal
--- speaks of these two.
+-- 01, Refusal numbers, and 02, M-100 for 12, M-106 for 13, M-107 for 14 and 15: the number of each refusal, and the value that it returns. Every
+-- promise about a refusal speaks of these two.
 use Prim.Native.Nat.{ℕ}
 use Rattle.rules.specs.declared.refusal.Refusal.{Refusal}
 use Rattle.rules.specs.declared.refusal.Refusal.the-variants.{
@@ -16,6 +16,8 @@ use Rattle.rules.specs.declared.refusal.Refusal.the-variants.{
   BadRowsBefore,
   BadIndex,
   TooWide,
+  BadSettings,
+  BadSetting,
 }
 
 -- The column "No.".
@@ -33,6 +35,8 @@ numberOf BadNumbers = 10
 numberOf BadRowsBefore = 11
 numberOf BadIndex = 12
 numberOf (TooWide row) = 13
+numberOf (BadSettings i) = 14
+numberOf BadSetting = 15
 
 -- The column "Returns".
 abbrev pub valueOf : Refusal → ℕ
@@ -49,3 +53,5 @@ valueOf BadNumbers = 0
 valueOf BadRowsBefore = 0
 valueOf BadIndex = 0
 valueOf (TooWide row) = row
+valueOf (BadSettings i) = i
+valueOf BadSetting = 0

@@ -29,6 +29,10 @@ pub enum Refusal {
     BadIndex,
     // 13: the first row that has more dependencies than a row of the old width has room for.
     TooWide(usize),
+    // 14: the first bad record of a settings list.
+    BadSettings(usize),
+    // 15: a new setting that isn't allowed, or no version left for it.
+    BadSetting,
 }
 
 impl Refusal {
@@ -49,6 +53,8 @@ impl Refusal {
             Refusal::BadRowsBefore => 11,
             Refusal::BadIndex => 12,
             Refusal::TooWide(_) => 13,
+            Refusal::BadSettings(_) => 14,
+            Refusal::BadSetting => 15,
         }
     }
 
@@ -69,6 +75,8 @@ impl Refusal {
             Refusal::BadRowsBefore => 0,
             Refusal::BadIndex => 0,
             Refusal::TooWide(row) => row as u64,
+            Refusal::BadSettings(number) => number as u64,
+            Refusal::BadSetting => 0,
         }
     }
 }

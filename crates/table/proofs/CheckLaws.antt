@@ -13,7 +13,7 @@ use lib.ListN.{length}
 use Rattle.rules.specs.Sizes.{sizes}
 use Rattle.rules.specs.declared.refusal.Refusal.the-variants.{PastSize, BadRow}
 use Rattle.rules.proofs.Cases.{split}
-use Rattle.table.specs.TableBytes.{rowSizeOf, rowGoodOf, firstBad, checkedWith, tableCheckedOf, rowSize, tableChecked}
+use Rattle.table.specs.TableBytes.{rowSizeOf, rowGoodOf, firstBad, recordsChecked, checkedWith, tableCheckedOf, rowSize, tableChecked}
 use Rattle.table.specs.declared.check.Checked.{Checked}
 use Rattle.table.specs.declared.check.Checked.the-variants.{Good, Refused}
 
@@ -69,6 +69,58 @@ module _ (good : ℕ → Bool) where
       let e : suc i + n ≡ i + suc n = omega arith in
       rw (h i (omega arith) (omega arith)) (all-first-bad (suc i) n (λ j l b. h j (omega arith) (omega arith)) ∙ e)
 
+-- ---- records
+
+-- what accepted records have: n whole ones, all good
+pub record RecordsSound (good : ℕ → Bool) (size bytes n : ℕ) : Type 0 where
+  pub count : n ≡ bytes / size
+  pub whole : bytes ≡ n * size
+  pub each : (i : ℕ) → i < n → good i ≡ true
+
+some-left : (r : ℕ) → (r ≡ 0 → ⊥) → 0 < r
+some-left r h = omega arith
+
+module _ (bad : ℕ → Checked) (good : ℕ → Bool) (size bytes : ℕ) where
+  pub records-bad : (r : ℕ) → r ≡ firstBad good 0 (bytes / size) → r < bytes / size → recordsChecked bad good size bytes ≡ bad r
+  unfolding recordsChecked
+  records-bad r e h = rw (← e, lt-ltb r (bytes / size) h)
+
+  module _ (r : ℕ) (e : r ≡ firstBad good 0 (bytes / size)) (none : bytes / size ≤ r) where
+    pub records-partial : (bytes % size ≡ 0 → ⊥) → recordsChecked bad good size bytes ≡ bad (bytes / size)
+    unfolding recordsChecked
+    records-partial h = rw (← e, le-ltb r (bytes / size) none, lt-ltb 0 (bytes % size) (some-left (bytes % size) h))
+
+    pub records-good : bytes % size ≡ 0 → recordsChecked bad good size bytes ≡ Good (bytes / size)
+    unfolding recordsChecked
+    records-good h = rw (← e, le-ltb r (bytes / size) none, le-ltb 0 (bytes % size) (omega arith))
+
+  pub good-records : bytes % size ≡ 0 → ((i : ℕ) → i < bytes / size → good i ≡ true) → recordsChecked bad good size bytes ≡ Good (bytes / size)
+  good-records rest each =
+      let all : firstBad good 0 (bytes / size) ≡ 0 + bytes / size = all-first-bad good 0 (bytes / size) (λ j l b. each j (omega arith)) in
+      records-good (0 + bytes / size) (sym all) (omega arith) rest
+
+  pub records-sound : ((i n : ℕ) → bad i ≡ Good n → ⊥) → (n : ℕ) → recordsChecked bad good size bytes ≡ Good n → RecordsSound good size bytes n
+  unfolding recordsChecked
+  records-sound never n a =
+      split (ltb (firstBad good 0 (bytes / size)) (bytes / size))
+      (λ f. absurd (never (firstBad good 0 (bytes / size)) n (rw f at a)))
+      (λ f.
+      let a₁ = rw f at a in
+      split (ltb 0 (bytes % size))
+      (λ g. absurd (never (bytes / size) n (rw g at a₁)))
+      (λ g.
+      let same : Good (bytes / size) ≡ Good n = rw g at a₁ in
+      let count : n ≡ bytes / size = cc in
+      let rest : bytes % size ≤ 0 = ltb-false 0 (bytes % size) g in
+      let sum : bytes / size * size + bytes % size ≡ bytes = div-add-mod' bytes size in
+      record {
+        count = count;
+        whole = rw count (omega arith);
+        each =
+            λ i b.
+            first-bad-all good 0 (bytes / size) i (let l = ltb-false (firstBad good 0 (bytes / size)) (bytes / size) f in omega (arith, l)) (omega arith) (omega arith);
+      }))
+
 -- ---- a table
 
 -- what an accepted table of records has: n whole records, not too many bytes, and good rows
@@ -78,61 +130,37 @@ pub record RecordsAccepted (good : ℕ → Bool) (size most bytes n : ℕ) : Typ
   pub few : bytes ≤ most * size
   pub each : (i : ℕ) → i < n → good i ≡ true
 
-some-left : (r : ℕ) → (r ≡ 0 → ⊥) → 0 < r
-some-left r h = omega arith
-
 module _ (bad : ℕ → Checked) (good : ℕ → Bool) (size most bytes : ℕ) where
   pub check-past : most * size < bytes → checkedWith bad good size most bytes ≡ Refused (PastSize 0)
   unfolding checkedWith
   check-past h = rw (lt-ltb (most * size) bytes h)
 
   module _ (few : bytes ≤ most * size) where
-    pub check-bad : (r : ℕ) → r ≡ firstBad good 0 (bytes / size) → r < bytes / size → checkedWith bad good size most bytes ≡ bad r
+    check-within : checkedWith bad good size most bytes ≡ recordsChecked bad good size bytes
     unfolding checkedWith
-    check-bad r e h = rw (le-ltb (most * size) bytes few, ← e, lt-ltb r (bytes / size) h)
+    check-within = rw (le-ltb (most * size) bytes few)
+
+    pub check-bad : (r : ℕ) → r ≡ firstBad good 0 (bytes / size) → r < bytes / size → checkedWith bad good size most bytes ≡ bad r
+    check-bad r e h = check-within ∙ records-bad bad good size bytes r e h
 
     module _ (r : ℕ) (e : r ≡ firstBad good 0 (bytes / size)) (none : bytes / size ≤ r) where
       pub check-partial : (bytes % size ≡ 0 → ⊥) → checkedWith bad good size most bytes ≡ bad (bytes / size)
-      unfolding checkedWith
-      check-partial h = rw (le-ltb (most * size) bytes few, ← e, le-ltb r (bytes / size) none, lt-ltb 0 (bytes % size) (some-left (bytes % size) h))
+      check-partial h = check-within ∙ records-partial bad good size bytes r e none h
 
       pub check-good : bytes % size ≡ 0 → checkedWith bad good size most bytes ≡ Good (bytes / size)
-      unfolding checkedWith
-      check-good h = rw (le-ltb (most * size) bytes few, ← e, le-ltb r (bytes / size) none, le-ltb 0 (bytes % size) (omega arith))
+      check-good h = check-within ∙ records-good bad good size bytes r e none h
 
-  pub good-is-accepted : bytes ≤ most * size → bytes % size ≡ 0 → ((i : ℕ) → i < bytes / size → good i ≡ true)
-      → checkedWith bad good size most bytes ≡ Good (bytes / size)
-  good-is-accepted few rest each =
-      let all : firstBad good 0 (bytes / size) ≡ 0 + bytes / size = all-first-bad good 0 (bytes / size) (λ j l b. each j (omega arith)) in
-      check-good few (0 + bytes / size) (sym all) (omega arith) rest
+    pub good-is-accepted : bytes % size ≡ 0 → ((i : ℕ) → i < bytes / size → good i ≡ true) → checkedWith bad good size most bytes ≡ Good (bytes / size)
+    good-is-accepted rest each = check-within ∙ good-records bad good size bytes rest each
 
   pub accepted : ((i n : ℕ) → bad i ≡ Good n → ⊥) → (n : ℕ) → checkedWith bad good size most bytes ≡ Good n → RecordsAccepted good size most bytes n
   unfolding checkedWith
   accepted never n a =
-      let q : ℕ = bytes / size in
       split (ltb (most * size) bytes)
       (λ e. absurd (let b : Refused (PastSize 0) ≡ Good n = rw e at a in let z : _≡_ {A = ℕ} 0 1 = cc in omega arith))
       (λ e.
-      let a₁ = rw e at a in
-      split (ltb (firstBad good 0 (bytes / size)) (bytes / size))
-      (λ f. absurd (never (firstBad good 0 (bytes / size)) n (rw f at a₁)))
-      (λ f.
-      let a₂ = rw f at a₁ in
-      split (ltb 0 (bytes % size))
-      (λ g. absurd (never (bytes / size) n (rw g at a₂)))
-      (λ g.
-      let same : Good (bytes / size) ≡ Good n = rw g at a₂ in
-      let count : n ≡ bytes / size = cc in
-      let rest : bytes % size ≤ 0 = ltb-false 0 (bytes % size) g in
-      let sum : bytes / size * size + bytes % size ≡ bytes = div-add-mod' bytes size in
-      record {
-        count = count;
-        whole = rw count (omega arith);
-        few = ltb-false (most * size) bytes e;
-        each =
-            λ i b.
-            first-bad-all good 0 (bytes / size) i (let l = ltb-false (firstBad good 0 (bytes / size)) (bytes / size) f in omega (arith, l)) (omega arith) (omega arith);
-      })))
+      let s = records-sound bad good size bytes never n (rw e at a) in
+      record { count = s .count; whole = s .whole; few = ltb-false (most * size) bytes e; each = s .each })
 
 -- records of a size are no more than others if their bytes aren't
 pub fewer : (n most size : ℕ) → 0 < size → n * size ≤ most * size → n ≤ most

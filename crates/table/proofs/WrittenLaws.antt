@@ -12,8 +12,9 @@ use lib.Seq.{slice, take-append-add, drop-append-add, take-at, length-take-le, g
 use Rattle.hash_order.proofs.KeepLaws.{every-one, once-index}
 use Rattle.hash_order.proofs.OrderLaws.{member-index, member-behind}
 use Rattle.hash_order.specs.Order.{member, every, ascends}
+use Rattle.rules.proofs.ByteLaws.{bytes-append, zeros-bytes}
 use Rattle.rules.proofs.Cases.{split, both, and-true}
-use Rattle.rules.proofs.Hash.{hash-there-and-back, hash-bytes, length-hash-bytes, slice-append}
+use Rattle.rules.proofs.Hash.{big-endian-bytes-bytes, hash-there-and-back, hash-bytes, length-hash-bytes, slice-append}
 use Rattle.rules.specs.Hash.{Bytes, bigEndian, bigEndianBytes, IsHash, AreHashes, hashAt, hashBytes}
 use Rattle.rules.specs.LittleEndian.{u16At}
 use Rattle.rules.specs.Sizes.{sizes}
@@ -352,38 +353,19 @@ module _ (d : ℕ) (t : List Row) (good : GoodTable t) (h : Holdable d t) where
 
 -- ---- what is written are bytes
 
-bytes-append : (a b : List ℕ) → Bytes a → Bytes b → Bytes (a ++ b)
-bytes-append [] b f g i = g i
-bytes-append (x ∷ a) b f g zero = f zero
-bytes-append (x ∷ a) b f g (suc i) = bytes-append a b (λ j. f (suc j)) g i
-
-bytes-big-endian : (k x : ℕ) → Bytes (bigEndianBytes k x)
-unfolding bigEndianBytes
-bytes-big-endian zero x i = none-there i
-  where
-    none-there : (i : ℕ) → getD {A = ℕ} [] i 0 < 256
-    none-there i = omega arith
-bytes-big-endian (suc k) x zero = mod-lt (x / 256 ^ k) (let z : 0 < 256 = omega arith in z)
-bytes-big-endian (suc k) x (suc i) = bytes-big-endian k x i
-
-bytes-zeros : (n : ℕ) → Bytes (replicate n 0)
-bytes-zeros zero i = omega arith
-bytes-zeros (suc n) zero = omega arith
-bytes-zeros (suc n) (suc i) = bytes-zeros n i
-
 abbrev TwoBytes : List Row → Type 0
 TwoBytes t = (i : ℕ) → i < length t → (length (depsOf t i) < 65536) × ((k : ℕ) → member k (depsOf t i) ≡ true → k < 65536)
 
 table-bytes : (d : ℕ) (t : List Row) → TwoBytes t → Bytes (tableBytesOf d t)
 unfolding tableBytesOf rowBytesOf hashBytes depsOf
-table-bytes d [] f = bytes-zeros 0
+table-bytes d [] f = zeros-bytes 0
 table-bytes d (r ∷ t) f =
     let here = f 0 (let z : length (r ∷ t) ≡ suc (length t) = refl in omega arith) in
     bytes-append (hashBytes (r .hash) ++ (u16sBytes (length (r .deps) ∷ r .deps) ++ replicate (2 * (d - length (r .deps))) 0)) (tableBytesOf d t)
-    (bytes-append (hashBytes (r .hash)) (u16sBytes (length (r .deps) ∷ r .deps) ++ replicate (2 * (d - length (r .deps))) 0) (bytes-big-endian (sizes .hash) (r .hash))
+    (bytes-append (hashBytes (r .hash)) (u16sBytes (length (r .deps) ∷ r .deps) ++ replicate (2 * (d - length (r .deps))) 0) (big-endian-bytes-bytes (sizes .hash) (r .hash))
     (bytes-append (u16sBytes (length (r .deps) ∷ r .deps)) (replicate (2 * (d - length (r .deps))) 0)
     (twos-bytes (length (r .deps) ∷ r .deps) (λ x m. entries (r .deps) (here .0) (here .1) x m))
-    (bytes-zeros (2 * (d - length (r .deps))))))
+    (zeros-bytes (2 * (d - length (r .deps))))))
     (table-bytes d t (λ i l. f (suc i) (let z : length (r ∷ t) ≡ suc (length t) = refl in omega arith)))
   where
     entries : (l : List ℕ) → length l < 65536 → ((k : ℕ) → member k l ≡ true → k < 65536) → (x : ℕ) → member x (length l ∷ l) ≡ true → x < 65536

@@ -73,17 +73,18 @@ unfoldable pub firstBad : (ℕ → Bool) → ℕ → ℕ → ℕ
 firstBad good i zero = i
 firstBad good i (suc count) = cond (not (good i)) i (firstBad good (suc i) count)
 
--- A table of records of `size` bytes, at most `most` of them: 4 for more bytes; then the first bad row, which a partial record at the end is, with
--- the next number; else its number of rows.
-unfoldable pub checkedWith : (ℕ → Checked) → (ℕ → Bool) → ℕ → ℕ → ℕ → Checked
-checkedWith bad good size most bytes =
-    cond (ltb (most * size) bytes)
-    (Refused (PastSize 0))
-    (cond (ltb (firstBad good 0 (bytes / size)) (bytes / size))
+-- Records of `size` bytes: the first bad one, which a partial record at the end is, with the next number; else how many there are.
+unfoldable pub recordsChecked : (ℕ → Checked) → (ℕ → Bool) → ℕ → ℕ → Checked
+recordsChecked bad good size bytes =
+    cond (ltb (firstBad good 0 (bytes / size)) (bytes / size))
     (bad (firstBad good 0 (bytes / size)))
     (cond (ltb 0 (bytes % size))
     (bad (bytes / size))
-    (Good (bytes / size))))
+    (Good (bytes / size)))
+
+-- A table of at most `most` records: 4 for more bytes, then the first bad one.
+unfoldable pub checkedWith : (ℕ → Checked) → (ℕ → Bool) → ℕ → ℕ → ℕ → Checked
+checkedWith bad good size most bytes = cond (ltb (most * size) bytes) (Refused (PastSize 0)) (recordsChecked bad good size bytes)
 
 -- A change table of at most `most` rows: 4, then 6.
 unfoldable pub tableCheckedOf : ℕ → ℕ → List ℕ → Checked

@@ -21,7 +21,7 @@ use Rattle.rules.specs.Zeros.{bytesAt, zeros}
 use Rattle.rules.specs.declared.refusal.Refusal.the-variants.{BadWaitingRow}
 use Rattle.table.proofs.CheckLaws.{fewer, accepted, good-is-accepted}
 use Rattle.table.proofs.TableLaws.{length-rows, index-tells, index-of-entry, member-is, index-of-member, entry-at-index}
-use Rattle.table.specs.TableBytes.{checkedWith, firstBad}
+use Rattle.table.specs.TableBytes.{recordsChecked, checkedWith, firstBad}
 use Rattle.table.specs.Table.{Row, rows, indexIn, held}
 use Rattle.table.specs.declared.check.Checked.the-variants.{Good, Refused}
 use Rattle.waiting.specs.WaitingBytes.{waitingSizeOf, asksCountOf, asksPlaceOf, waitingRowOf, waitingRowsOf, wholeWaitingOf, fillOf, unaskedOf, waitingGoodOf, waitingCheckedOf, waitingSize, asksCount, waitingsAt, waitingOf, waitingChecked}
@@ -324,5 +324,5 @@ module _ (t : List Row) (s : List ℕ) (n : ℕ) (d : WaitingDecoded t s n) wher
 
 -- a table of no bytes is good
 pub none-waits : (t : List Row) (w : List ℕ) → length w ≡ 0 → Good 0 ≡ waitingChecked t w
-unfolding waitingCheckedOf checkedWith firstBad
+unfolding waitingCheckedOf checkedWith recordsChecked firstBad
 none-waits t w e = rw e
