@@ -7,14 +7,20 @@ use native.Mathlib.Omega.{arith}
 use Rattle.plan_make.specs.Internal.PlanMake.{PlanChecked}
 use Rattle.table_index.specs.Index.{Indexed, indexChecked}
 use Rattle.table_index.proofs.CheckLaws.{checked-table, checked-indexed}
+use Rattle.bloom.specs.Filter.{defaultBits, defaultProbes, SettingGood, pairGood}
 use Rattle.session_check.specs.SessionGood.{sessionGood}
-use Rattle.session.specs.PlanCall.{Buffers, afterTables, planWith, plannedAnswer, plannedRoomed, putInto, plannedLists, PlanCalled}
+use Rattle.session.specs.PlanCall.{Buffers, afterTables, planWith, planPassed, planBy, plannedAnswer, plannedRoomed, putInto, plannedLists, PlanCalled}
 use Rattle.session.specs.declared.plan_answer.PlanAnswer.the-variants as answer
 use Rattle.rules.specs.declared.refusal.Refusal.{Refusal}
 use Rattle.rules.specs.declared.refusal.Refusal.the-variants.{BadNumbers}
 use Rattle.session.specs.Plan.{Planned, plan}
 use Rattle.session_state.specs.Value.{Lent, stateOf}
 use Rattle.session_state.specs.declared.session.Session.{Session}
+use Rattle.settings.proofs.HistoryLaws.{allowed-pair, history}
+use Rattle.settings.specs.Settings.{crateChoice, settingFor}
+use Rattle.settings.specs.declared.choice.Choice.{Choice}
+use Rattle.settings.specs.declared.find.SettingAnswer.{SettingAnswer}
+use Rattle.settings.specs.declared.find.SettingAnswer.the-variants.{Chosen, Refused as Unknown}
 use Rattle.table.specs.TableBytes.{rowsAt, tableOf}
 use Rattle.table.specs.TableCalls.{passedOn}
 use Rattle.table.specs.Table.{Row}
@@ -23,7 +29,7 @@ use Rattle.table.specs.declared.check.Checked.the-variants as tables
 use Rattle.table.proofs.TableLaws.{table-good}
 use Rattle.waiting.specs.WaitingBytes.{waitingOf, waitingChecked, InOrder}
 use Rattle.waiting.specs.WaitingCalls.{tablesChecked}
-use Rattle.plan.specs.Internal.PlanChecks.{besideChecked, besideTable, checkedPlan, ChecksMade}
+use Rattle.plan.specs.Internal.PlanChecks.{besideChecked, besideTable, checkedPlan, ChecksMade, AnswerGood}
 use Rattle.plan.specs.declared.check.PlanChecks.{PlanChecks}
 use Rattle.plan.specs.declared.check.PlanChecks.the-variants.{Good, Refused}
 
@@ -67,6 +73,11 @@ pub rows-indexed : (table index : List ℕ) (n : ℕ) {rows : TableChecked} → 
 rows-indexed table index n those there = checked-indexed table index n (sym those ∙ there)
 
 -- ---- what is planned then
+
+-- a refusal is answered, and nothing is left in what is lent
+left : (l : Lent) (b : Buffers) (r : Refusal) → PlanCalled (Planned.refused r) l l b b (answer.Refused r)
+unfolding plannedAnswer plannedRoomed putInto plannedLists
+left l b r = record { answer = refl; buffers = refl; lists = refl }
 
 no-refusal : (r : Refusal) (n m : ℕ) → Good n m ≡ Refused r → ⊥
 no-refusal r n m e = let z : _≡_ {A = ℕ} 0 1 = cc in omega arith
@@ -126,26 +137,61 @@ module _ (s : Session) (l : Lent) (table index waiting order : List ℕ) (n m : 
         session = parts .0;
       }
 
-  -- Tables and a session that are good are planned with.
-  pub good-plans : (bits probes : ℕ)
-      → planWith bits probes s l table index waiting ≡ plan bits probes (rowsAt table 0 n) (waitingOf waiting) (stateOf s l)
-  unfolding planWith tablesChecked passedOn afterTables
-  good-plans bits probes = rw (parts .0, parts .1 .0, parts .1 .1, same-rows)
+  -- Tables and a session that are good are planned with, by the setting that was answered.
+  pub good-plans : {a : SettingAnswer} (c : Choice) → a ≡ Chosen c
+      → planBy a s l table index waiting ≡ plan (c .bits) (c .probes) (rowsAt table 0 n) (waitingOf waiting) (stateOf s l)
+  unfolding planBy planWith tablesChecked passedOn afterTables
+  good-plans c e = rw (e, parts .0, parts .1 .0, parts .1 .1, same-rows)
 
-module _ (bits probes : ℕ) (s : Session) (l : Lent) (table index waiting : List ℕ) where
-  abbrev plans : Bool → Planned
-  plans good =
-      cond (not good)
-      (Planned.refused BadNumbers)
-      (afterTables (tablesChecked table index waiting) (plan bits probes (tableOf table) (waitingOf waiting) (stateOf s l)))
+  -- Its refusal comes behind theirs, and leaves the buffers.
+  pub list-refused : {a : SettingAnswer} (r : Refusal) → a ≡ Unknown r → (b : Buffers)
+      → PlanCalled (planBy a s l table index waiting) l l b b (answer.Refused r)
+  unfolding planBy tablesChecked passedOn afterTables
+  list-refused r e b = rw (e, parts .0, parts .1 .0, parts .1 .1) (left l b r)
 
-  refused-plans : (good : Bool) (r : Refusal) → checks good table index waiting ≡ Refused r → plans good ≡ Planned.refused r
+module _ (s : Session) (l : Lent) (table index waiting : List ℕ) where
+  abbrev plans : Planned → Bool → Planned
+  plans p good = cond (not good) (Planned.refused BadNumbers) (afterTables (tablesChecked table index waiting) p)
+
+  refused-plans : (p : Planned) (good : Bool) (r : Refusal) → checks good table index waiting ≡ Refused r → plans p good ≡ Planned.refused r
   unfolding tablesChecked
-  refused-plans true r e = after-refused (indexChecked table index) (tableOf table) waiting r _ e
-  refused-plans false r e = let same : BadNumbers ≡ r = cc in rw same
+  refused-plans p true r e = after-refused (indexChecked table index) (tableOf table) waiting r p e
+  refused-plans p false r e = let same : BadNumbers ≡ r = cc in rw same
 
   -- A refusal passes on, and leaves the buffers.
-  pub refused-called : (b : Buffers) (r : Refusal) {found : PlanChecks} → found ≡ checkedPlan s l table index waiting → found ≡ Refused r
-      → PlanCalled (planWith bits probes s l table index waiting) l l b b (answer.Refused r)
-  unfolding checkedPlan planWith plannedAnswer plannedRoomed putInto plannedLists
-  refused-called b r is e = rw (refused-plans (sessionGood s l) r (sym is ∙ e)) (record { answer = refl; buffers = refl; lists = refl })
+  pub refused-called : (a : SettingAnswer) (b : Buffers) (r : Refusal) {found : PlanChecks} → found ≡ checkedPlan s l table index waiting → found ≡ Refused r
+      → PlanCalled (planBy a s l table index waiting) l l b b (answer.Refused r)
+  unfolding checkedPlan planBy planWith
+  refused-called (Chosen c) b r is e =
+      rw (refused-plans (plan (c .bits) (c .probes) (tableOf table) (waitingOf waiting) (stateOf s l)) (sessionGood s l) r (sym is ∙ e)) (left l b r)
+  refused-called (Unknown q) b r is e = rw (refused-plans (Planned.refused q) (sessionGood s l) r (sym is ∙ e)) (left l b r)
+
+-- ---- bits and probes that are passed, and those of a list
+
+module _ (bits probes : ℕ) (s : Session) (l : Lent) (table index waiting : List ℕ) where
+  pub passed-bad : pairGood bits probes ≡ false → (b : Buffers) → PlanCalled (planPassed bits probes s l table index waiting) l l b b (answer.Refused BadNumbers)
+  unfolding planPassed
+  passed-bad e b = rw e (left l b BadNumbers)
+
+  pub passed-good : pairGood bits probes ≡ true → (t : ℕ)
+      → planPassed bits probes s l table index waiting ≡ planBy (Chosen (record { bits = bits; probes = probes; «read_only» = t })) s l table index waiting
+  unfolding planPassed planBy
+  passed-good e t = rw e
+
+-- the crate's choice is 10 and 7
+pub crate-plans : (c : Choice) (s : Session) (l : Lent) (table index waiting : List ℕ) → c ≡ crateChoice
+    → planBy (Chosen c) s l table index waiting ≡ planWith defaultBits defaultProbes s l table index waiting
+unfolding planBy
+crate-plans c s l table index waiting e = rw e
+
+pub chosen-good : (c : Choice) → SettingGood (c .bits) (c .probes) → {a : SettingAnswer} → a ≡ Chosen c → AnswerGood a
+chosen-good c good e =
+    record {
+      each = λ k f.
+          let same : c ≡ k = (let z = sym e ∙ f in cc) in
+          rw same at good;
+    }
+
+-- what a list answers is allowed
+pub listed-good : (settings : List ℕ) (station version : ℕ) {a : SettingAnswer} → a ≡ settingFor settings station version → AnswerGood a
+listed-good settings station version e = record { each = λ c f. allowed-pair c (history .within settings station version c (sym e ∙ f)) }

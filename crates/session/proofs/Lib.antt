@@ -8,5 +8,6 @@ pub mod PlanLaws
 pub mod PlanStages
 pub mod Promises
 pub mod ReceiveLaws
+pub mod SettledLaws
 pub mod Stands
 pub mod WrittenLaws

@@ -6,6 +6,7 @@ use mathlib.Core.List.{List, [], _∷_}
 use mathlib.Core.Path.{_≡_}
 use lib.ListN.{length}
 use lib.Seq.{sets}
+use Rattle.bloom.specs.Filter.{pairGood}
 use Rattle.bloom.specs.Have.{Have, numbersOf}
 use Rattle.bloom.specs.declared.have.FilterNumbers.{FilterNumbers}
 use Rattle.session_check.specs.SessionGood.{sessionGood}
@@ -18,6 +19,9 @@ use Rattle.session.specs.Plan.{Plan, Planned, plan}
 use Rattle.session.specs.Rooms.{orShort, ifRoom}
 use Rattle.session_state.specs.Value.{Lent, stateOf, countsOf}
 use Rattle.session_state.specs.declared.session.Session.{Session}
+use Rattle.settings.specs.Settings.{settingFor}
+use Rattle.settings.specs.declared.find.SettingAnswer.{SettingAnswer}
+use Rattle.settings.specs.declared.find.SettingAnswer.the-variants.{Chosen, Refused as BadList}
 use Rattle.table.specs.TableBytes.{tableOf}
 use Rattle.table.specs.declared.check.Checked.{Checked}
 use Rattle.table.specs.declared.check.Checked.the-variants.{Good, Refused as BadTable}
@@ -43,6 +47,21 @@ planWith bits probes s l table index waiting =
     cond (not (sessionGood s l))
     (Planned.refused BadNumbers)
     (afterTables (tablesChecked table index waiting) (plan bits probes (tableOf table) (waitingOf waiting) (stateOf s l)))
+
+-- 02, M-107: bits and probes that are passed are tested first of all. 10 where a filter over some rows of a table would break the filter rules.
+unfoldable pub planPassed : ℕ → ℕ → Session → Lent → List ℕ → List ℕ → List ℕ → Planned
+planPassed bits probes s l table index waiting =
+    cond (not (pairGood bits probes)) (Planned.refused BadNumbers) (planWith bits probes s l table index waiting)
+
+-- 02, M-107: the plan with what a settings list answers. 14 stands behind 9, and before what planning itself refuses.
+unfoldable pub planBy : SettingAnswer → Session → Lent → List ℕ → List ℕ → List ℕ → Planned
+planBy (Chosen c) s l table index waiting = planWith (c .bits) (c .probes) s l table index waiting
+planBy (BadList r) s l table index waiting =
+    cond (not (sessionGood s l)) (Planned.refused BadNumbers) (afterTables (tablesChecked table index waiting) (Planned.refused r))
+
+-- 02, M-107: the plan with a station's setting at a version.
+abbrev pub planSettled : List ℕ → ℕ → ℕ → Session → Lent → List ℕ → List ℕ → List ℕ → Planned
+planSettled settings station version s l table index waiting = planBy (settingFor settings station version) s l table index waiting
 
 -- ---- the answer: counts of what is said
 

@@ -5,9 +5,13 @@ use mathlib.Core.List.{List}
 use mathlib.Core.Path.{_≡_}
 use Rattle.table_index.specs.Index.{indexChecked}
 use Rattle.session_check.specs.SessionGood.{sessionGood}
+use Rattle.bloom.specs.Filter.{SettingGood}
 use Rattle.rules.specs.declared.refusal.Refusal.the-variants.{BadNumbers}
 use Rattle.session_state.specs.Value.{Lent}
 use Rattle.session_state.specs.declared.session.Session.{Session}
+use Rattle.settings.specs.declared.choice.Choice.{Choice}
+use Rattle.settings.specs.declared.find.SettingAnswer.{SettingAnswer}
+use Rattle.settings.specs.declared.find.SettingAnswer.the-variants.{Chosen}
 use Rattle.table.specs.TableBytes.{tableOf}
 use Rattle.table.specs.Table.{Row}
 use Rattle.table.specs.declared.check.Checked.{Checked as TableChecked}
@@ -35,3 +39,7 @@ checkedPlan s l table index waiting =
 pub record ChecksMade (s : Session) (l : Lent) (table index waiting order : List ℕ) (r : PlanChecks) : Type 0 where
   pub answer : r ≡ checkedPlan s l table index waiting
   pub sorted : (n m : ℕ) → r ≡ Good n m → Sorted waiting order m
+
+-- Where a setting was answered, filters with it keep the filter rules.
+pub record AnswerGood (a : SettingAnswer) : Type 0 where
+  pub each : (c : Choice) → a ≡ Chosen c → SettingGood (c .bits) (c .probes)

@@ -1,6 +1,7 @@
--- `plan::plan::plan` meets its contract: a refusal passes on and leaves the buffers, else the plan is that of what was checked. Assumes nothing.
-use Rattle.plan.proofs.CheckLaws.{refused-called, checked, good-plans}
+-- `plan::plan::plan` meets its contract: refusals pass on and leave the buffers, the list's behind the tests'; else the plan is that of what was checked.
+-- Assumes nothing.
 use borrow.Author.Needs.{needs}
+use Rattle.plan.proofs.CheckLaws.{refused-called, list-refused, checked, good-plans}
 use Rattle.plan.proofs.plan.plan.Statement.{statement}
 use Rattle.plan.proofs.plan.plan.Tie as tie
 
@@ -16,11 +17,18 @@ enum-known-r c = search needs
 enum-known-rows : tie.Need-enum-known-rows
 enum-known-rows c = search needs
 
+enum-known-setting : tie.Need-enum-known-setting
+enum-known-setting c = search needs
+
+enum-known-setting-2 : tie.Need-enum-known-setting-2
+enum-known-setting-2 c = search needs
+
 plan-checked-requires : tie.Need-plan-checked-requires
 plan-checked-requires c κs =
-    let n = c .before .before .before .before .before .before .before .before in
+    let s = c .before .before .before .before .before .before .before .before in
+    let n = s .before .before .before in
     let check = n .before .before .before in
-    (checked _ _ _ _ _ _ _ _ (check .check-plan .ensures) (n .rows .given .1), check .before .before .before .before .before .before .before .before .before .before .before .before .before .before .before .before .before .before .pre)
+    (checked _ _ _ _ _ _ _ _ (check .check-plan .ensures) (n .rows .given .1), check .before .before .before .before .before .before .before .before .before .before .before .before .before .before .before .before .before .before .pre .each _ (s .setting2 .given .1))
 
 same-length : tie.Need-same-length
 same-length c = search needs
@@ -31,32 +39,46 @@ same-length-2 c = search needs
 returns : tie.Need-returns
 returns c =
     let check = c .before .before .before .before in
-    refused-called _ _ _ _ _ _ _ _ _ (check .check-plan .ensures .answer) (c .before .r .given .1)
+    refused-called _ _ _ _ _ _ _ _ (check .check-plan .ensures .answer) (c .before .r .given .1)
 
 same-length-3 : tie.Need-same-length-3
-same-length-3 c = c .before .before .before .before .before .before .before .before .before .before .before .before .plan-checked .kept .1 .1 .1 .1 .1 .1 .1 .1 .1 .0
+same-length-3 c = search needs
 
 same-length-4 : tie.Need-same-length-4
-same-length-4 c = c .before .before .before .before .before .before .before .before .before .before .before .before .plan-checked .kept .1 .1 .1 .1 .1 .1 .1 .1 .1 .1 .1 .1 .1 .1 .0
-
-same-length-5 : tie.Need-same-length-5
-same-length-5 c = c .before .before .before .before .before .before .before .before .before .before .before .before .plan-checked .kept .1 .1 .1 .1 .1 .1 .1 .1 .1 .1 .1 .1 .1 .1 .1 .0
-
-same-length-6 : tie.Need-same-length-6
-same-length-6 c = c .before .before .before .before .before .before .before .before .before .before .before .before .plan-checked .kept .1 .1 .1 .1 .1 .1 .1 .1 .1 .1 .1 .1 .1 .1 .1 .1 .0
-
-same-length-7 : tie.Need-same-length-7
-same-length-7 c = c .before .before .before .before .before .before .before .before .before .before .before .before .plan-checked .kept .1 .1 .1 .1 .1 .1 .1 .1 .1 .1 .1 .1 .1 .1 .1 .1 .1 .0
-
-same-length-8 : tie.Need-same-length-8
-same-length-8 c = c .before .before .before .before .before .before .before .before .before .before .before .before .plan-checked .kept .1 .1 .1 .1 .1 .1 .1 .1 .1 .1 .1 .1 .1 .1 .1 .1 .1 .1 .0
+same-length-4 c = search needs
 
 returns-2 : tie.Need-returns-2
 returns-2 c =
-    let p = c .before .before .before .before .before .before .before .before .before .before .before .before in
-    let n = p .before .before .before .before .before .before .before .before .before in
+    let s = c .before in
+    let n = s .before .before .before in
     let check = n .before .before .before in
-    rw (good-plans _ _ _ _ _ _ _ _ (check .check-plan .ensures) (n .rows .given .1) _ _) (p .plan-checked .ensures)
+    list-refused _ _ _ _ _ _ _ _ (check .check-plan .ensures) (n .rows .given .1) _ (s .setting .given .1) _
+
+same-length-5 : tie.Need-same-length-5
+same-length-5 c = search needs
+
+same-length-6 : tie.Need-same-length-6
+same-length-6 c = search needs
+
+same-length-7 : tie.Need-same-length-7
+same-length-7 c = search needs
+
+same-length-8 : tie.Need-same-length-8
+same-length-8 c = search needs
+
+same-length-9 : tie.Need-same-length-9
+same-length-9 c = search needs
+
+same-length-10 : tie.Need-same-length-10
+same-length-10 c = search needs
+
+returns-3 : tie.Need-returns-3
+returns-3 c =
+    let p = c .before .before .before .before .before .before .before .before .before .before .before .before in
+    let s = p .before .before .before .before .before .before .before .before .before in
+    let n = s .before .before .before in
+    let check = n .before .before .before in
+    rw (good-plans _ _ _ _ _ _ _ _ (check .check-plan .ensures) (n .rows .given .1) _ (s .setting2 .given .1)) (p .plan-checked .ensures)
 
 pub plan-spec : {M : Type 1} → statement M
 plan-spec =
@@ -66,14 +88,19 @@ plan-spec =
     check-plan-requires
     enum-known-r
     enum-known-rows
+    enum-known-setting
+    enum-known-setting-2
     plan-checked-requires
     same-length
     same-length-2
     returns
     same-length-3
     same-length-4
+    returns-2
     same-length-5
     same-length-6
     same-length-7
     same-length-8
-    returns-2)
+    same-length-9
+    same-length-10
+    returns-3)
