@@ -31,6 +31,9 @@ exported-bind =
       bt-heads = λ κs a x y u v p q. (refl, skip (skip (skip (joined (once (p .content) (q .content)) (joined (once (p .answer) (q .answer)) refl)))));
       bt-beyond = λ κs a x y u v p q. (refl, skip (skip (skip (joined (once (p .content) (q .content)) (joined (once (p .answer) (q .answer)) refl)))));
       bt-missing = λ κs a x y u v p q. (refl, skip (skip (skip (skip (joined (once (p .content) (q .content)) (joined (once (p .answer) (q .answer)) refl))))));
+      bt-check-settings = λ κs a x y u v p q. (refl, skip (joined (once p q) refl));
+      bt-setting-at = λ κs a x y u v p q. (refl, skip (skip (skip (joined (once p q) refl))));
+      bt-append-setting = λ κs a x y u v p q. (refl, skip (skip (skip (skip (skip (joined (once (p .content) (q .content)) (joined (once (p .answer) (q .answer)) refl)))))));
       bt-fresh = λ κs a x y u v p q. (refl, joined (once p q) refl);
       bt-fresh-read-only = λ κs a x y u v p q. (refl, joined (once p q) refl);
       bt-set-read-only = λ κs a x y u v p q. (refl, joined (once p q) refl);
@@ -51,6 +54,36 @@ exported-bind =
                 (joined (ap (λ (b : Buffers). b .have) same)
                 (joined (ap (λ (b : Buffers). b .list) same)
                 (joined (once (p .answer) (q .answer)) refl))))))))))))))),
+          );
+      bt-plan-with = λ κs a x y u v p q.
+          let same = once (p .buffers) (q .buffers) in
+          let kept = once (p .lists) (q .lists) in (
+            refl,
+            skip (skip (joined (once (p .session) (q .session)) (skip
+                (joined (ap (λ (l : Lent). l .lastSent) kept)
+                (skip (skip (skip (skip
+                (joined (ap (λ (l : Lent). l .sent) kept)
+                (skip (skip (skip
+                (joined (ap (λ (b : Buffers). b .heads) same)
+                (joined (ap (λ (b : Buffers). b .need) same)
+                (joined (ap (λ (b : Buffers). b .have) same)
+                (joined (ap (λ (b : Buffers). b .list) same)
+                (joined (once (p .answer) (q .answer)) refl))))))))))))))))),
+          );
+      bt-plan-settled = λ κs a x y u v p q.
+          let same = once (p .buffers) (q .buffers) in
+          let kept = once (p .lists) (q .lists) in (
+            refl,
+            skip (skip (skip (joined (once (p .session) (q .session)) (skip
+                (joined (ap (λ (l : Lent). l .lastSent) kept)
+                (skip (skip (skip (skip
+                (joined (ap (λ (l : Lent). l .sent) kept)
+                (skip (skip (skip
+                (joined (ap (λ (b : Buffers). b .heads) same)
+                (joined (ap (λ (b : Buffers). b .need) same)
+                (joined (ap (λ (b : Buffers). b .have) same)
+                (joined (ap (λ (b : Buffers). b .list) same)
+                (joined (once (p .answer) (q .answer)) refl)))))))))))))))))),
           );
       bt-receive = λ κs a x y u v p q.
           let same = once (p .lists) (q .lists) in (
@@ -76,6 +109,7 @@ exported-bind =
       filter-words = λ κs a x y u v p q. (once p q, refl);
       contained-words = λ κs a x y u v p q. (once p q, refl);
       checked-words = λ κs a x y u v p q. (once p q, refl);
+      setting-words = λ κs a x y u v p q. (once p q, refl);
       session-words = λ κs a x y u v p q. (once p q, refl);
       session-of = λ κs a x y u v p q. (once p q, refl);
       good-words = λ κs a x y u v p q. (once p q, refl);

@@ -34,6 +34,32 @@ sessions-bind =
                 (joined (ap (λ (b : Buffers). b .have) same)
                 (joined (ap (λ (b : Buffers). b .list) same) refl)))))))))))))),
           );
+      plan-with = λ κs a x y u v p q.
+          let same = once (p .buffers) (q .buffers) in
+          let kept = once (p .lists) (q .lists) in (
+            once (p .answer) (q .answer),
+            skip (skip (skip (skip (skip (skip (skip
+                (joined (ap (λ (l : Lent). l .lastSent) kept)
+                (skip (skip (skip (skip
+                (joined (ap (λ (l : Lent). l .sent) kept)
+                (joined (ap (λ (b : Buffers). b .heads) same)
+                (joined (ap (λ (b : Buffers). b .need) same)
+                (joined (ap (λ (b : Buffers). b .have) same)
+                (joined (ap (λ (b : Buffers). b .list) same) refl)))))))))))))))),
+          );
+      plan-settled = λ κs a x y u v p q.
+          let same = once (p .buffers) (q .buffers) in
+          let kept = once (p .lists) (q .lists) in (
+            once (p .answer) (q .answer),
+            skip (skip (skip (skip (skip (skip (skip (skip
+                (joined (ap (λ (l : Lent). l .lastSent) kept)
+                (skip (skip (skip (skip
+                (joined (ap (λ (l : Lent). l .sent) kept)
+                (joined (ap (λ (b : Buffers). b .heads) same)
+                (joined (ap (λ (b : Buffers). b .need) same)
+                (joined (ap (λ (b : Buffers). b .have) same)
+                (joined (ap (λ (b : Buffers). b .list) same) refl))))))))))))))))),
+          );
       receive-sync-message = λ κs a x y u v p q.
           let same = once (p .lists) (q .lists) in (
             once (p .answer) (q .answer),

@@ -1,4 +1,4 @@
--- Calls over tables, and the hashes to send. Each contract is an equation, or one for each thing that it speaks of. Assumes nothing.
+-- Calls over tables, the hashes to send, and settings. Each contract is an equation, or one for each thing that it speaks of. Assumes nothing.
 use mathlib.Core.Path.{refl}
 use Rattle.one_answer.specs.Tables.{TablesBind}
 use Rattle.one_answer.proofs.Once.{once, joined, skip}
@@ -18,4 +18,9 @@ tables-bind =
       missing = λ κs a x y u v p q. (once (p .answer) (q .answer), skip (skip (skip (skip (joined (once (p .content) (q .content)) refl)))));
       get-hashes-to-send = λ κs a x y u v p q. (once (p .answer) (q .answer), skip (skip (skip (skip (skip (joined (once (p .content) (q .content)) refl))))));
       summary-in = λ κs a x y u v p q. (once p q, refl);
+      crate-choice = λ κs a x y u v p q. (once p q, refl);
+      allowed = λ κs a x y u v p q. (once p q, refl);
+      check-settings = λ κs a x y u v p q. (once p q, refl);
+      setting-at = λ κs a x y u v p q. (once p q, refl);
+      append-setting = λ κs a x y u v p q. (once (p .answer) (q .answer), skip (skip (skip (joined (once (p .content) (q .content)) refl))));
     }

@@ -28,6 +28,7 @@ wire-bind =
       parse-counted = λ κs a x y u v p q. (once p q, refl);
       filter-rules = λ κs a x y u v p q. (once p q, refl);
       build-rules = λ κs a x y u v p q. (once p q, refl);
+      pair-good = λ κs a x y u v p q. (once p q, refl);
       filter-size = λ κs a x y u v p q. (once p q, refl);
       to-bytes = λ κs a x y u v p q. (once (p .answer) (q .answer), joined (once (p .content) (q .content)) refl);
       clear = λ κs a x y u v p q. (refl, joined (once p q) refl);

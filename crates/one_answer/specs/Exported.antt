@@ -31,6 +31,10 @@ use Rattle.table_calls.proofs.calls.bt_heads as of-bt-heads
 use Rattle.table_calls.proofs.calls.bt_beyond as of-bt-beyond
 use Rattle.table_calls.proofs.calls.bt_missing as of-bt-missing
 use Rattle.table_calls.proofs.answer.checked_words as of-checked-words
+use Rattle.settings_calls.proofs.calls.bt_check_settings as of-bt-check-settings
+use Rattle.settings_calls.proofs.calls.bt_setting_at as of-bt-setting-at
+use Rattle.settings_calls.proofs.calls.bt_append_setting as of-bt-append-setting
+use Rattle.settings_calls.proofs.answer.setting_words as of-setting-words
 use Rattle.state_calls.proofs.calls.bt_fresh as of-bt-fresh
 use Rattle.state_calls.proofs.calls.bt_fresh_read_only as of-bt-fresh-read-only
 use Rattle.state_calls.proofs.calls.bt_set_read_only as of-bt-set-read-only
@@ -41,6 +45,8 @@ use Rattle.state_calls.proofs.answer.good_words as of-good-words
 use Rattle.state_calls.proofs.answer.saved_words as of-saved-words
 use Rattle.state_calls.proofs.answer.saved_session as of-saved-session
 use Rattle.session_calls.proofs.calls.bt_plan as of-bt-plan
+use Rattle.session_calls.proofs.plan_with.bt_plan_with as of-bt-plan-with
+use Rattle.session_calls.proofs.plan_settled.bt_plan_settled as of-bt-plan-settled
 use Rattle.session_calls.proofs.calls.bt_receive as of-bt-receive
 use Rattle.session_calls.proofs.answer.planned_words as of-planned-words
 use Rattle.session_calls.proofs.answer.planned_session as of-planned-session
@@ -94,6 +100,11 @@ pub record ExportedBind : Type 0 where
   pub bt-beyond : Binds of-bt-beyond.ended of-bt-beyond.Reads.Post
   pub bt-missing : Binds of-bt-missing.ended of-bt-missing.Reads.Post
   pub checked-words : Binds of-checked-words.ended of-checked-words.Reads.Post
+  -- the crate settings_calls
+  pub bt-check-settings : Binds of-bt-check-settings.ended of-bt-check-settings.Reads.Post
+  pub bt-setting-at : Binds of-bt-setting-at.ended of-bt-setting-at.Reads.Post
+  pub bt-append-setting : Binds of-bt-append-setting.ended of-bt-append-setting.Reads.Post
+  pub setting-words : Binds of-setting-words.ended of-setting-words.Reads.Post
   -- the crate state_calls
   pub bt-fresh : Binds of-bt-fresh.ended of-bt-fresh.Reads.Post
   pub bt-fresh-read-only : Binds of-bt-fresh-read-only.ended of-bt-fresh-read-only.Reads.Post
@@ -106,6 +117,8 @@ pub record ExportedBind : Type 0 where
   pub saved-session : Binds of-saved-session.ended of-saved-session.Reads.Post
   -- the crate session_calls
   pub bt-plan : Binds of-bt-plan.ended of-bt-plan.Reads.Post
+  pub bt-plan-with : Binds of-bt-plan-with.ended of-bt-plan-with.Reads.Post
+  pub bt-plan-settled : Binds of-bt-plan-settled.ended of-bt-plan-settled.Reads.Post
   pub bt-receive : Binds of-bt-receive.ended of-bt-receive.Reads.Post
   pub planned-words : Binds of-planned-words.ended of-planned-words.Reads.Post
   pub planned-session : Binds of-planned-session.ended of-planned-session.Reads.Post

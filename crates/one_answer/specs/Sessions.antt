@@ -14,6 +14,8 @@ use Rattle.session_saved.proofs.saved.encode as of-saved-encode
 use Rattle.session_saved.proofs.saved.parse as of-saved-parse
 use Rattle.session_saved.proofs.saved.decode as of-saved-decode
 use Rattle.plan.proofs.plan.generate_sync_message as of-generate-sync-message
+use Rattle.plan.proofs.plan.plan_settled as of-plan-settled
+use Rattle.plan.proofs.plan.plan_with as of-plan-with
 use Rattle.receive.proofs.receive.receive_sync_message as of-receive-sync-message
 use Rattle.plan_parts.proofs.silence.heard_none as of-heard-none
 use Rattle.plan_parts.proofs.silence.is_silent as of-is-silent
@@ -45,6 +47,8 @@ pub record SessionsBind : Type 0 where
   pub saved-decode : Binds of-saved-decode.ended of-saved-decode.Reads.Post
   -- the crate plan
   pub generate-sync-message : Binds of-generate-sync-message.ended of-generate-sync-message.Reads.Post
+  pub plan-with : Binds of-plan-with.ended of-plan-with.Reads.Post
+  pub plan-settled : Binds of-plan-settled.ended of-plan-settled.Reads.Post
   -- the crate receive
   pub receive-sync-message : Binds of-receive-sync-message.ended of-receive-sync-message.Reads.Post
   -- the crate plan_parts

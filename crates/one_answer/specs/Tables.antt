@@ -1,4 +1,4 @@
--- Calls over tables, and the hashes to send. 01, How tightly the statements bind.
+-- Calls over tables, the hashes to send, and settings. 01, How tightly the statements bind.
 use Rattle.one_answer.specs.Binds.{Binds}
 use Rattle.table_check.proofs.check.check_alone as of-check-alone
 use Rattle.table_check.proofs.check.check_indexed as of-check-indexed
@@ -6,6 +6,11 @@ use Rattle.table_index_build.proofs.build.build_index as of-build-index
 use Rattle.table_index_build.proofs.build.extend_index as of-extend-index
 use Rattle.table_convert.proofs.convert.widen_rows as of-widen-rows
 use Rattle.table_convert.proofs.convert.narrow_rows as of-narrow-rows
+use Rattle.settings.proofs.append.append_setting as of-append-setting
+use Rattle.settings.proofs.check.check_settings as of-check-settings
+use Rattle.settings.proofs.choice.allowed as of-allowed
+use Rattle.settings.proofs.choice.crate_choice as of-crate-choice
+use Rattle.settings.proofs.find.setting_at as of-setting-at
 use Rattle.waiting.proofs.check.check_tables as of-check-tables
 use Rattle.table_graph.proofs.beyond.beyond as of-beyond
 use Rattle.table_graph.proofs.heads.heads as of-heads
@@ -13,7 +18,7 @@ use Rattle.waiting_missing.proofs.missing.missing as of-missing
 use Rattle.send.proofs.to_send.get_hashes_to_send as of-get-hashes-to-send
 use Rattle.send_records.proofs.summary.summary_in as of-summary-in
 
--- Tables, their index, what waits, and what is computed over them.
+-- Tables, their index, what waits, what is computed over them, and settings.
 pub record TablesBind : Type 0 where
   -- the crate table_check
   pub check-alone : Binds of-check-alone.ended of-check-alone.Reads.Post
@@ -35,3 +40,9 @@ pub record TablesBind : Type 0 where
   pub get-hashes-to-send : Binds of-get-hashes-to-send.ended of-get-hashes-to-send.Reads.Post
   -- the crate send_records
   pub summary-in : Binds of-summary-in.ended of-summary-in.Reads.Post
+  -- the crate settings
+  pub crate-choice : Binds of-crate-choice.ended of-crate-choice.Reads.Post
+  pub allowed : Binds of-allowed.ended of-allowed.Reads.Post
+  pub check-settings : Binds of-check-settings.ended of-check-settings.Reads.Post
+  pub setting-at : Binds of-setting-at.ended of-setting-at.Reads.Post
+  pub append-setting : Binds of-append-setting.ended of-append-setting.Reads.Post

@@ -22,6 +22,7 @@ use Rattle.bloom.proofs.parse.parse as of-parse
 use Rattle.bloom.proofs.parse.parse_counted as of-parse-counted
 use Rattle.bloom.proofs.rule.filter_rules as of-filter-rules
 use Rattle.bloom.proofs.rule.build_rules as of-build-rules
+use Rattle.bloom.proofs.setting.pair_good as of-pair-good
 use Rattle.bloom.proofs.to_bytes.filter_size as of-filter-size
 use Rattle.bloom.proofs.to_bytes.to_bytes as of-to-bytes
 use Rattle.bloom_probe.proofs.build.clear as of-clear
@@ -57,6 +58,7 @@ pub record WireBind : Type 0 where
   pub parse-counted : Binds of-parse-counted.ended of-parse-counted.Reads.Post
   pub filter-rules : Binds of-filter-rules.ended of-filter-rules.Reads.Post
   pub build-rules : Binds of-build-rules.ended of-build-rules.Reads.Post
+  pub pair-good : Binds of-pair-good.ended of-pair-good.Reads.Post
   pub filter-size : Binds of-filter-size.ended of-filter-size.Reads.Post
   pub to-bytes : Binds of-to-bytes.ended of-to-bytes.Reads.Post
   -- the crate bloom_probe

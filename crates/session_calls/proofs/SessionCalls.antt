@@ -4,7 +4,8 @@ use mathlib.Core.Bool.{Bool}
 use mathlib.Core.List.{List, [], _∷_}
 use mathlib.Core.Path.{_≡_, sym, ap, _∙_}
 use mir.Val.{boolByte}
-use Rattle.session.specs.PlanCall.{Buffers, PlanCalled, planWith}
+use Rattle.session.specs.Plan.{Planned}
+use Rattle.session.specs.PlanCall.{Buffers, PlanCalled}
 use Rattle.session.specs.declared.plan_answer.PlanAnswer.{PlanAnswer}
 use Rattle.session.specs.declared.plan_answer.Stated.{Stated}
 use Rattle.session.specs.ReceiveCall.{ReceiveCalled, receiveWith}
@@ -26,24 +27,22 @@ stated-made what p v e = rw (e, flag-byte (p .document))
 
 -- ---- planning
 
-module _ {bits probes : ℕ} {session₀ session₁ : List ℕ} {l l′ : Lent} {table index waiting : List ℕ} {before after : Buffers} {words : List ℕ} where
-  pub plan-answered : (s : Session) (r : PlanAnswer) → s ≡ sessionOf session₀
-      → PlanCalled (planWith bits probes s l table index waiting) l l′ before after r
+module _ {p : Planned} {session₀ session₁ : List ℕ} {l l′ : Lent} {before after : Buffers} {words : List ℕ} where
+  pub plan-answered : (r : PlanAnswer) → PlanCalled p l l′ before after r
       → session₁ ≡ plannedSession r session₀
       → words ≡ plannedWords r
-      → PlanAnswered bits probes session₀ session₁ l l′ table index waiting before after words
-  plan-answered s r same called e f =
-      let known = rw same at called in
+      → PlanAnswered p session₀ session₁ l l′ before after words
+  plan-answered r called e f =
       record {
-        answer = f ∙ ap plannedWords (known .answer);
-        session = e ∙ ap (λ (k : PlanAnswer). plannedSession k session₀) (known .answer);
-        lists = known .lists;
-        buffers = known .buffers;
+        answer = f ∙ ap plannedWords (called .answer);
+        session = e ∙ ap (λ (k : PlanAnswer). plannedSession k session₀) (called .answer);
+        lists = called .lists;
+        buffers = called .buffers;
       }
 
-pub plan-answered-once : {bits probes : ℕ} {session table index waiting t₁ t₂ w₁ w₂ : List ℕ} {l l₁ l₂ : Lent} {before b₁ b₂ : Buffers}
-    → PlanAnswered bits probes session t₁ l l₁ table index waiting before b₁ w₁
-    → PlanAnswered bits probes session t₂ l l₂ table index waiting before b₂ w₂
+pub plan-answered-once : {p : Planned} {session t₁ t₂ w₁ w₂ : List ℕ} {l l₁ l₂ : Lent} {before b₁ b₂ : Buffers}
+    → PlanAnswered p session t₁ l l₁ before b₁ w₁
+    → PlanAnswered p session t₂ l l₂ before b₂ w₂
     → (w₁ ≡ w₂) × (t₁ ≡ t₂) × (l₁ ≡ l₂) × (b₁ ≡ b₂)
 plan-answered-once x y =
     (x .answer ∙ sym (y .answer), x .session ∙ sym (y .session), x .lists ∙ sym (y .lists), x .buffers ∙ sym (y .buffers))

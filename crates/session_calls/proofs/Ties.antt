@@ -7,10 +7,12 @@ use denote.Triple.Entry.{Args}
 use Rattle.bloom.specs.Filter.{defaultBits, defaultProbes}
 use Rattle.call_words.specs.Ties.{Ties}
 use Rattle.session_check.specs.SessionGood.{lentOf}
-use Rattle.session.specs.PlanCall.{buffersOf}
-use Rattle.call_words.specs.SessionWords.{flagOf}
+use Rattle.session.specs.PlanCall.{planWith, planPassed, planSettled, buffersOf}
+use Rattle.call_words.specs.SessionWords.{flagOf, sessionOf}
 use Rattle.session_calls.specs.SessionCalls.{PlanAnswered, ReceiveAnswered}
 use Rattle.session_calls.proofs.calls.bt_plan as of-bt-plan
+use Rattle.session_calls.proofs.plan_settled.bt_plan_settled as of-bt-plan-settled
+use Rattle.session_calls.proofs.plan_with.bt_plan_with as of-bt-plan-with
 use Rattle.session_calls.proofs.calls.bt_receive as of-bt-receive
 
 -- bt_plan: sixteen arguments, of which it changes the session's words, last-sent, sent, and what stands behind the waiting table.
@@ -18,16 +20,54 @@ abbrev pub PlanTied : (κs : Lfts (of-bt-plan.ended .signature .lifetimes)) → 
 PlanTied κs
     (session, (shared, (last-sent, (their-heads, (their-need, (haves, (bytes, (sent, (table, (index, (waiting, (heads, (need, (have, (list, (answer, _))))))))))))))))
     (session′, (_, (last-sent′, (_, (_, (_, (_, (sent′, (_, (_, (_, (heads′, (need′, (have′, (list′, (answer′, _)))))))))))))))) =
-    PlanAnswered defaultBits defaultProbes (now session) (now session′)
+    PlanAnswered (planWith defaultBits defaultProbes (sessionOf (now session))
+    (lentOf (now shared) (now last-sent) (now their-heads) (now their-need) (now haves) (now bytes) (now sent))
+    (now table) (now index) (now waiting))
+    (now session) (now session′)
     (lentOf (now shared) (now last-sent) (now their-heads) (now their-need) (now haves) (now bytes) (now sent))
     (lentOf (now shared) (now last-sent′) (now their-heads) (now their-need) (now haves) (now bytes) (now sent′))
-    (now table) (now index) (now waiting)
     (buffersOf (now heads) (now need) (now have) (now list))
     (buffersOf (now heads′) (now need′) (now have′) (now list′))
     (now answer′)
 
 pub plan-tied : Ties of-bt-plan.ended of-bt-plan.Reads.Post PlanTied
 plan-tied κs a x u p = p
+
+-- bt_plan_with: bits and probes come first.
+abbrev pub PlanWithTied : (κs : Lfts (of-bt-plan-with.ended .signature .lifetimes)) → Args (of-bt-plan-with.ended .signature) κs → AtExit of-bt-plan-with.ended κs → Type 0
+PlanWithTied κs
+    (bits, (probes, (session, (shared, (last-sent, (their-heads, (their-need, (haves, (bytes, (sent, (table, (index, (waiting, (heads, (need, (have, (list, (answer, _))))))))))))))))))
+    (_, (_, (session′, (_, (last-sent′, (_, (_, (_, (_, (sent′, (_, (_, (_, (heads′, (need′, (have′, (list′, (answer′, _)))))))))))))))))) =
+    PlanAnswered (planPassed bits probes (sessionOf (now session))
+    (lentOf (now shared) (now last-sent) (now their-heads) (now their-need) (now haves) (now bytes) (now sent))
+    (now table) (now index) (now waiting))
+    (now session) (now session′)
+    (lentOf (now shared) (now last-sent) (now their-heads) (now their-need) (now haves) (now bytes) (now sent))
+    (lentOf (now shared) (now last-sent′) (now their-heads) (now their-need) (now haves) (now bytes) (now sent′))
+    (buffersOf (now heads) (now need) (now have) (now list))
+    (buffersOf (now heads′) (now need′) (now have′) (now list′))
+    (now answer′)
+
+pub plan-with-tied : Ties of-bt-plan-with.ended of-bt-plan-with.Reads.Post PlanWithTied
+plan-with-tied κs a x u p = p
+
+-- bt_plan_settled: the list, the station and the version come first.
+abbrev pub PlanSettledTied : (κs : Lfts (of-bt-plan-settled.ended .signature .lifetimes)) → Args (of-bt-plan-settled.ended .signature) κs → AtExit of-bt-plan-settled.ended κs → Type 0
+PlanSettledTied κs
+    (settings, (station, (version, (session, (shared, (last-sent, (their-heads, (their-need, (haves, (bytes, (sent, (table, (index, (waiting, (heads, (need, (have, (list, (answer, _)))))))))))))))))))
+    (_, (_, (_, (session′, (_, (last-sent′, (_, (_, (_, (_, (sent′, (_, (_, (_, (heads′, (need′, (have′, (list′, (answer′, _))))))))))))))))))) =
+    PlanAnswered (planSettled (now settings) station version (sessionOf (now session))
+    (lentOf (now shared) (now last-sent) (now their-heads) (now their-need) (now haves) (now bytes) (now sent))
+    (now table) (now index) (now waiting))
+    (now session) (now session′)
+    (lentOf (now shared) (now last-sent) (now their-heads) (now their-need) (now haves) (now bytes) (now sent))
+    (lentOf (now shared) (now last-sent′) (now their-heads) (now their-need) (now haves) (now bytes) (now sent′))
+    (buffersOf (now heads) (now need) (now have) (now list))
+    (buffersOf (now heads′) (now need′) (now have′) (now list′))
+    (now answer′)
+
+pub plan-settled-tied : Ties of-bt-plan-settled.ended of-bt-plan-settled.Reads.Post PlanSettledTied
+plan-settled-tied κs a x u p = p
 
 -- bt_receive: fourteen arguments, of which it changes the session's words, all its lists and the answer.
 abbrev pub ReceiveTied : (κs : Lfts (of-bt-receive.ended .signature .lifetimes)) → Args (of-bt-receive.ended .signature) κs → AtExit of-bt-receive.ended κs → Type 0

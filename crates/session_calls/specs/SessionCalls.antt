@@ -6,7 +6,8 @@ use mathlib.Core.Path.{_≡_}
 use Rattle.call_words.specs.Answer.{refusalWords}
 use Rattle.message.specs.declared.version.MessageVersion.{MessageVersion}
 use Rattle.message.specs.declared.version.MessageVersion.the-variants.{V1, V2}
-use Rattle.session.specs.PlanCall.{Buffers, planWith, plannedRoomed, plannedRooms, plannedAnswer, putInto, plannedLists}
+use Rattle.session.specs.Plan.{Planned}
+use Rattle.session.specs.PlanCall.{Buffers, plannedRoomed, plannedRooms, plannedAnswer, putInto, plannedLists}
 use Rattle.session.specs.declared.plan_answer.PlanAnswer.{PlanAnswer}
 use Rattle.session.specs.declared.plan_answer.PlanAnswer.the-variants.{Refused, Silent, Reset, Says}
 use Rattle.session.specs.declared.plan_answer.Stated.{Stated}
@@ -70,17 +71,12 @@ receivedSession (Took s) before = sessionWords s
 receivedSession (Failed s) before = sessionWords s
 receivedSession (NotTaken r) before = before
 
--- What is planned for a session's words, with a filter of these bits and probes, once there is room.
-abbrev pub planFor : ℕ → ℕ → List ℕ → Lent → List ℕ → List ℕ → List ℕ → Buffers → Rattle.session.specs.Plan.Planned
-planFor bits probes words l table index waiting before = plannedRoomed (plannedRooms before l) (planWith bits probes (sessionOf words) l table index waiting)
-
--- What planning leaves: its answer, the session's words and lists, and every buffer. For `bt_plan` bits and probes are 01's 10 and 7.
-pub record PlanAnswered (bits probes : ℕ) (session₀ session₁ : List ℕ) (l l′ : Lent) (table index waiting : List ℕ) (before after : Buffers) (words : List ℕ)
-    : Type 0 where
-  pub answer : words ≡ plannedWords (plannedAnswer (planFor bits probes session₀ l table index waiting before))
-  pub session : session₁ ≡ plannedSession (plannedAnswer (planFor bits probes session₀ l table index waiting before)) session₀
-  pub lists : l′ ≡ plannedLists (planFor bits probes session₀ l table index waiting before) l
-  pub buffers : after ≡ putInto (planFor bits probes session₀ l table index waiting before) before
+-- What a call leaves that plans this, once there is room: its answer, the session's words and lists, and every buffer.
+pub record PlanAnswered (p : Planned) (session₀ session₁ : List ℕ) (l l′ : Lent) (before after : Buffers) (words : List ℕ) : Type 0 where
+  pub answer : words ≡ plannedWords (plannedAnswer (plannedRoomed (plannedRooms before l) p))
+  pub session : session₁ ≡ plannedSession (plannedAnswer (plannedRoomed (plannedRooms before l) p)) session₀
+  pub lists : l′ ≡ plannedLists (plannedRoomed (plannedRooms before l) p) l
+  pub buffers : after ≡ putInto (plannedRoomed (plannedRooms before l) p) before
 
 -- What is received for a session's words, once there is room.
 abbrev pub receiveFor : List ℕ → Lent → List ℕ → List ℕ → ℕ → List ℕ → Bool → Rattle.session.specs.Receive.Received

@@ -6,8 +6,8 @@ use crate::answer::received_words;
 use call_words::words::session_of;
 ghost use Rattle.bloom.specs.Filter.{defaultBits, defaultProbes};
 ghost use Rattle.session_check.specs.SessionGood.{lentOf};
-ghost use Rattle.session.specs.PlanCall.{buffersOf};
-ghost use Rattle.call_words.specs.SessionWords.{flagOf};
+ghost use Rattle.session.specs.PlanCall.{planWith, buffersOf};
+ghost use Rattle.call_words.specs.SessionWords.{flagOf, sessionOf};
 ghost use Rattle.session_calls.specs.SessionCalls.{PlanAnswered, ReceiveAnswered};
 
 // Plans what a unit says next. `session` and its seven lists, `shared` to `sent`, are lent as to bt_check_session; a message that is planned
@@ -35,12 +35,15 @@ pub extern "C" fn bt_plan(
     list: &mut [u8],
     answer: &mut [u64; 16],
 )
-    ensures { λ _. ⌜ PlanAnswered defaultBits defaultProbes (now (session .entry)) (now (session .exit))
+    ensures { λ _. ⌜ PlanAnswered (planWith defaultBits defaultProbes (sessionOf (now (session .entry)))
+        (lentOf (now (shared .entry)) (now («last_sent» .entry)) (now («their_heads» .entry)) (now («their_need» .entry)) (now (haves .entry))
+        (now (bytes .entry)) (now (sent .entry)))
+        (now (table .entry)) (now (index .entry)) (now (waiting .entry)))
+        (now (session .entry)) (now (session .exit))
         (lentOf (now (shared .entry)) (now («last_sent» .entry)) (now («their_heads» .entry)) (now («their_need» .entry)) (now (haves .entry))
         (now (bytes .entry)) (now (sent .entry)))
         (lentOf (now (shared .entry)) (now («last_sent» .exit)) (now («their_heads» .entry)) (now («their_need» .entry)) (now (haves .entry))
         (now (bytes .entry)) (now (sent .exit)))
-        (now (table .entry)) (now (index .entry)) (now (waiting .entry))
         (buffersOf (now (heads .entry)) (now (need .entry)) (now (have .entry)) (now (list .entry)))
         (buffersOf (now (heads .exit)) (now (need .exit)) (now (have .exit)) (now (list .exit)))
         (now (answer .exit)) ⌝ }

@@ -22,6 +22,7 @@ use Rattle.bloom_probe.specs.Probes.{probesOf}
 use Rattle.bloom_probe.proofs.FieldLaws.{bytes-set-bit}
 use Rattle.rules.specs.Hash.{Bytes, hashBytes, hashesBytes}
 use Rattle.rules.specs.Sizes.{sizes}
+use Rattle.rules.proofs.ByteLaws.{bytes-none, bytes-cons, bytes-append, zeros-bytes}
 use Rattle.rules.proofs.Cases.{split}
 use Rattle.rules.proofs.Hash.{bytes-head, bytes-tail, big-endian-bytes-bytes}
 use Rattle.session.specs.Laid.{laidBytes}
@@ -32,17 +33,6 @@ use Rattle.session.specs.Written.{Host, listChunks, chunksFor, messageFor}
 
 -- ---- lists
 
-pub bytes-none : Bytes []
-bytes-none i = omega arith
-
-pub bytes-cons : (b : ℕ) (bs : List ℕ) → b < 256 → Bytes bs → Bytes (b ∷ bs)
-bytes-cons b bs h t zero = h
-bytes-cons b bs h t (suc i) = t i
-
-pub bytes-append : (a b : List ℕ) → Bytes a → Bytes b → Bytes (a ++ b)
-bytes-append [] b p q = q
-bytes-append (x ∷ a) b p q = bytes-cons x (a ++ b) (bytes-head x a p) (bytes-append a b (bytes-tail x a p) q)
-
 bytes-set : (l : List ℕ) (i x : ℕ) → Bytes l → x < 256 → Bytes (set l i x)
 bytes-set [] i x b h = b
 bytes-set (y ∷ l) zero x b h = bytes-cons x l h (bytes-tail y l b)
@@ -51,10 +41,6 @@ bytes-set (y ∷ l) (suc i) x b h = bytes-cons y (set l i x) (bytes-head y l b) 
 pub bytes-sets : (vs l : List ℕ) (i : ℕ) → Bytes l → Bytes vs → Bytes (sets l i vs)
 bytes-sets [] l i b v = b
 bytes-sets (x ∷ vs) l i b v = bytes-sets vs (set l i x) (suc i) (bytes-set l i x b (bytes-head x vs v)) (bytes-tail x vs v)
-
-pub zeros-bytes : (n : ℕ) → Bytes (replicate n 0)
-zeros-bytes zero = bytes-none
-zeros-bytes (suc n) = bytes-cons 0 (replicate n 0) (omega arith) (zeros-bytes n)
 
 pub hashes-bytes : (hs : List ℕ) → Bytes (hashesBytes hs)
 unfolding hashesBytes hashBytes

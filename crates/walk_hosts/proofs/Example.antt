@@ -7,7 +7,7 @@ use mathlib.Core.Path.{_≡_, refl, sym, subst, fun-ext}
 use native.Mathlib.Omega.{arith}
 use lib.ListN.{getD, take, replicate}
 use Rattle.table_index.specs.Index.{fitsBy, fits, indexFits, indexChecked}
-use Rattle.walk_hosts.proofs.AllBytes.{bytes-none, bytes-cons, bytes-append, zeros-bytes}
+use Rattle.rules.proofs.ByteLaws.{bytes-none, bytes-cons, bytes-append, zeros-bytes}
 use Rattle.walk_hosts.proofs.Zeroed.{zeroes, zeroes-room, zeroed, zeroed-fresh, zeroed-out, zeroed-wide}
 use Rattle.walk_hosts.specs.Memory.{Memory, Tabled, Beside}
 use Rattle.hash_order.specs.Order.{member, every, ascends}
@@ -16,7 +16,7 @@ use Rattle.rules.specs.Hash.{Bytes, bigEndian, bigEndianBytes, hashAt, hashesAt
 use Rattle.rules.specs.LittleEndian.{u16At}
 use Rattle.rules.specs.Sizes.{sizes}
 use Rattle.rules.specs.Zeros.{bytesAt, zeros}
-use Rattle.table.specs.TableBytes.{u16sAt, countOf, usedOf, unusedOf, rowOf, rowsOf, wholeRowsOf, numbersGood, rowGoodOf, firstBad, checkedWith, tableCheckedOf, tableOf}
+use Rattle.table.specs.TableBytes.{u16sAt, countOf, usedOf, unusedOf, rowOf, rowsOf, wholeRowsOf, numbersGood, rowGoodOf, firstBad, recordsChecked, checkedWith, tableCheckedOf, tableOf}
 use Rattle.table.specs.TableCalls.{passedOn}
 use Rattle.table.specs.Table.{Row, rows, hashOf, held}
 use Rattle.table.specs.declared.check.Checked.the-variants.{Good}
@@ -85,13 +85,13 @@ computed :
     × (waitingChecked one c-waits ≡ Good 1)
 unfolding
     bigEndian bigEndianBytes hashAt hashesAt hashBytes member every ascends u16At u16sAt countOf usedOf unusedOf rowOf rowsOf wholeRowsOf zeros numbersGood
-    rowGoodOf firstBad checkedWith tableCheckedOf asksCountOf waitingRowOf waitingRowsOf wholeWaitingOf bytesAt fillOf unaskedOf waitingGoodOf
+    rowGoodOf firstBad recordsChecked checkedWith tableCheckedOf asksCountOf waitingRowOf waitingRowsOf wholeWaitingOf bytesAt fillOf unaskedOf waitingGoodOf
     waitingCheckedOf rows held waiting hashOf fitsBy fits indexFits indexChecked passedOn
 computed = (refl, refl, refl, refl, refl, refl)
 
 -- nothing waits in no bytes
 none-waits : (t : List Row) → (waitingOf [] ≡ []) × (waitingChecked t [] ≡ Good 0)
-unfolding firstBad checkedWith waitingRowsOf wholeWaitingOf waitingCheckedOf
+unfolding firstBad recordsChecked checkedWith waitingRowsOf wholeWaitingOf waitingCheckedOf
 none-waits t = (refl, refl)
 
 hash-bytes : (h : ℕ) → Bytes (hashBytes h)

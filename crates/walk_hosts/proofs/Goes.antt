@@ -17,14 +17,15 @@ use Rattle.bloom.specs.declared.setting.Setting.{Setting}
 use Rattle.message_read.specs.MessageRead.{Reading, messageAt, messageIn}
 use Rattle.session.proofs.ReceiveLaws.{receive-taking, bytes-beyond, bytes-refused, bytes-read}
 use Rattle.session.specs.Receive.{saidIn, Received, received, receiveBytes, left}
-use Rattle.walk_hosts.proofs.AllBytes.{bytes-none, bytes-sets, hashes-bytes, field-bytes, FieldBytes, laid-bytes, plan-bytes}
+use Rattle.rules.proofs.ByteLaws.{bytes-none}
+use Rattle.walk_hosts.proofs.AllBytes.{bytes-sets, hashes-bytes, field-bytes, FieldBytes, laid-bytes, plan-bytes}
 use Rattle.walk_hosts.specs.Memory.{Memory, OfBytes, Holds, Fresh, RoomyOut, Tabled, Beside, HostBytes}
 use Rattle.message.specs.Message.{joined, total}
 use Rattle.message.specs.Sound.{Each}
 use Rattle.message.specs.Write.{partsOf, chunksFrom, messageOutput}
 use Rattle.message_calls.specs.MessageWords.{versionOf, sectionOf}
 use Rattle.hash_order.specs.Order.{member, every}
-use Rattle.session.specs.PlanCall.{Buffers, plannedAnswer, putInto, plannedLists}
+use Rattle.session.specs.PlanCall.{Buffers, planWith, plannedAnswer, plannedRoomed, plannedRooms, putInto, plannedLists}
 use Rattle.session.specs.ReceiveCall.{receivedAnswer, receivedLists}
 use Rattle.rules.proofs.Cases.{split}
 use Rattle.rules.proofs.Hash.{slice-parts, bytes-slice}
@@ -35,7 +36,8 @@ use Rattle.rules.specs.declared.refusal.Refusal.{Refusal}
 use Rattle.session.proofs.PlanLaws.{have-one, have-none, plan-saying}
 use Rattle.session.specs.Laid.{laidBytes}
 use Rattle.session.specs.Plan.{Plan, Planned, heard, needOf, haveOf, planOf, resetOf, plan, after}
-use Rattle.session_calls.specs.SessionCalls.{plannedWords, plannedSession, planFor, receivedWords, receivedSession, receiveFor}
+use Rattle.call_words.specs.SessionWords.{sessionOf}
+use Rattle.session_calls.specs.SessionCalls.{plannedWords, plannedSession, receivedWords, receivedSession, receiveFor}
 use Rattle.session_state.specs.Session.{State}
 use Rattle.session_state.specs.Value.{Lent}
 use Rattle.table.specs.TableBytes.{tableOf}
@@ -127,7 +129,7 @@ module _ (setting : Setting) (keeps : SettingGood (setting .bits) (setting .prob
 
   module _ (host : Host) (b : HostBytes host) (o : Buffers) (wide : RoomyOut o) (buffer : List ℕ) (room : sizes .message ≤ length buffer) where
     abbrev planned : Planned
-    planned = planFor (setting .bits) (setting .probes) (m .words) (m .lists) table (tabled .index) waiting o
+    planned = plannedRoomed (plannedRooms o (m .lists)) (planWith (setting .bits) (setting .probes) (sessionOf (m .words)) (m .lists) table (tabled .index) waiting)
 
     abbrev then : Memory
     then = record { words = plannedSession (plannedAnswer planned) (m .words); lists = plannedLists planned (m .lists) }

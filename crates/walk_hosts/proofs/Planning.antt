@@ -32,7 +32,7 @@ use Rattle.session.specs.Laid.{laidBytes}
 use Rattle.session.specs.Plan.{Plan, Planned, heard, needOf, unknownSync, silence, sentAfter, planOf, resetOf, plan, after}
 use Rattle.session.proofs.GoodLaws.{heads-sound, body-few, planned-good, said-sound}
 use Rattle.session.proofs.PlanLaws.{body-hashes, have-or-none, said-flags, plan-need-past, plan-resets, plan-silent, plan-sent-past, plan-is, plan-saying}
-use Rattle.session_calls.specs.SessionCalls.{plannedWords, plannedSession, planFor}
+use Rattle.session_calls.specs.SessionCalls.{plannedWords, plannedSession}
 use Rattle.call_words.specs.SessionWords.{sessionWords, sessionOf}
 use Rattle.call_words.proofs.WordLaws.{words-back}
 use Rattle.session_state.specs.Session.{State}
@@ -196,7 +196,7 @@ module _ (table waiting : List ℕ) (tabled : Tabled table) (beside : Beside (ta
       abbrev p : Planned
       p = plan (setting .bits) (setting .probes) t w x
 
-      plan-for : planFor (setting .bits) (setting .probes) (m .words) (m .lists) table (tabled .index) waiting o ≡ p
+      plan-for : plannedRoomed (plannedRooms o (m .lists)) (planWith (setting .bits) (setting .probes) (sessionOf (m .words)) (m .lists) table (tabled .index) waiting) ≡ p
       plan-for =
           ap (plannedRoomed (plannedRooms o (m .lists))) (plan-with o (m .lists) wide (h .room) (sessionOf (m .words)) (h .counts) (h .stays .good) (h .stays .value))
           ∙ has-room o (m .lists) wide (h .room) p refl

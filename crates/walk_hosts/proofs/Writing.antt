@@ -45,6 +45,8 @@ use Rattle.rules.specs.declared.refusal.Refusal.the-variants.{
   BadRowsBefore,
   BadIndex,
   TooWide,
+  BadSettings,
+  BadSetting,
 }
 use Rattle.rules.proofs.Hash.{length-hashes-bytes, hashes-there-and-back}
 use Rattle.rules.proofs.Outputs.{take-sets, written-gathered}
@@ -88,6 +90,8 @@ number-some BadNumbers = refl
 number-some BadRowsBefore = refl
 number-some BadIndex = refl
 number-some (TooWide row) = refl
+number-some (BadSettings i) = refl
+number-some BadSetting = refl
 
 -- the words of the have are its record
 records-read : (what : ℕ) (q : Plan) (vs : List Have) → q .haves ≡ vs → length vs ≤ 1 → haveWordsIn (statedWords what (statedOf q)) ≡ laidWords vs

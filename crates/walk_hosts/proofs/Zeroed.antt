@@ -13,7 +13,7 @@ use Rattle.call_words.specs.SessionWords.{sessionWords}
 use Rattle.session_state.specs.Counts.{freshCounts}
 use Rattle.session_state.specs.Value.{Lent}
 use Rattle.walk_hosts.specs.Memory.{Memory, haveRoom, Roomy, OfBytes, Fresh, RoomyOut}
-use Rattle.walk_hosts.proofs.AllBytes.{zeros-bytes}
+use Rattle.rules.proofs.ByteLaws.{zeros-bytes}
 use Rattle.session.specs.PlanCall.{Buffers}
 
 -- n zeros.

@@ -16,12 +16,12 @@ use Rattle.message.specs.Flags.{flagsOf}
 use Rattle.message.specs.Message.{total}
 use Rattle.message.specs.Write.{partsOf, chunksFrom, messageOutput}
 use Rattle.message_calls.specs.MessageWords.{versionOf, sectionOf}
-use Rattle.session.specs.PlanCall.{Buffers}
+use Rattle.session.specs.PlanCall.{Buffers, planWith}
 use Rattle.rules.specs.Hash.{Bytes, hashesAt}
 use Rattle.rules.specs.Sizes.{sizes}
 use Rattle.session.specs.Plan.{Plan, Planned}
 use Rattle.session_calls.specs.SessionCalls.{PlanAnswered, ReceiveAnswered}
-use Rattle.call_words.specs.SessionWords.{flagOf}
+use Rattle.call_words.specs.SessionWords.{flagOf, sessionOf}
 use Rattle.table.specs.TableBytes.{tableOf}
 use Rattle.table.specs.Table.{Row}
 use Rattle.walk_sessions.specs.Talk.{goes, Pair, asked, answered, pairAt, Reached, Granted, Ended}
@@ -55,9 +55,10 @@ planIn answer o =
 
 -- ---- the calls, each from memory to memory
 
--- Planning with a filter of this setting, over a memory and the message's four buffers; bt_plan's setting is 10 and 7.
+-- Planning with a filter of this setting, over a memory and the message's four buffers: bt_plan with 10 and 7, bt_plan_with, bt_plan_settled.
 pub record PlanMade (setting : Setting) (table index waiting : List ℕ) (m m′ : Memory) (o o′ : Buffers) (answer : List ℕ) : Type 0 where
-  pub call : PlanAnswered (setting .bits) (setting .probes) (m .words) (m′ .words) (m .lists) (m′ .lists) table index waiting o o′ answer
+  pub call : PlanAnswered (planWith (setting .bits) (setting .probes) (sessionOf (m .words)) (m .lists) table index waiting)
+      (m .words) (m′ .words) (m .lists) (m′ .lists) o o′ answer
   pub bytes : OfBytes (m′ .lists)
 
 -- bt_write_message, over what planning left and the chunks that the host lends for it: the message is what was written, and none after a refusal.

@@ -10,7 +10,7 @@ use denote.Triple.Clauses.{AtExit}
 use denote.Triple.Entry.{Args}
 use lib.Dec.{eqb}
 use lib.ListN.{length, getD, take}
-use Rattle.bloom.specs.Filter.{defaultSetting}
+use Rattle.bloom.specs.Filter.{defaultSetting, SettingGood}
 use Rattle.call_words.specs.Ties.{Ties}
 use Rattle.session_check.specs.SessionGood.{lentOf}
 use Rattle.walk_hosts.specs.Memory.{OfBytes, Roomy, Fresh}
@@ -22,10 +22,15 @@ use Rattle.call_words.specs.SessionWords.{flagOf}
 use Rattle.session_state.specs.Value.{Lent}
 use Rattle.walk_hosts.specs.Calls.{haveWordsIn, planIn, PlanMade, WriteMade, Hears}
 use Rattle.session_calls.proofs.calls.bt_plan as of-bt-plan
+use Rattle.session_calls.proofs.plan_with.bt_plan_with as of-bt-plan-with
+use Rattle.session_calls.proofs.plan_settled.bt_plan_settled as of-bt-plan-settled
 use Rattle.session_calls.proofs.calls.bt_receive as of-bt-receive
 use Rattle.message_calls.proofs.calls.bt_write_message as of-bt-write-message
 use Rattle.state_calls.proofs.calls.bt_fresh as of-bt-fresh
 use Rattle.session.specs.PlanCall.{Buffers}
+use Rattle.settings.specs.Settings.{settingFor}
+use Rattle.settings.specs.declared.choice.Choice.{Choice}
+use Rattle.settings.specs.declared.find.SettingAnswer.the-variants.{Chosen}
 use Rattle.session.specs.Written.{Host, chunksFor}
 
 -- bt_plan, over a host's memory, its tables and its buffers: what it leaves is PlanMade with 10 and 7. What slices of bytes hold are bytes.
@@ -35,6 +40,47 @@ PlanSaid κs
     (session′, (_, (last-sent′, (_, (_, (_, (_, (sent′, (_, (_, (_, (heads′, (need′, (have′, (list′, (answer′, _)))))))))))))))) =
     OfBytes (lentOf (now shared) (now last-sent′) (now their-heads) (now their-need) (now haves) (now bytes) (now sent′))
     → PlanMade defaultSetting (now table) (now index) (now waiting)
+    (record {
+      words = now session;
+      lists = lentOf (now shared) (now last-sent) (now their-heads) (now their-need) (now haves) (now bytes) (now sent);
+    })
+    (record {
+      words = now session′;
+      lists = lentOf (now shared) (now last-sent′) (now their-heads) (now their-need) (now haves) (now bytes) (now sent′);
+    })
+    (record { heads = now heads; need = now need; have = now have; list = now list })
+    (record { heads = now heads′; need = now need′; have = now have′; list = now list′ })
+    (now answer′)
+
+-- bt_plan_with, with a pair that filters may be built with: what it leaves is PlanMade with that pair.
+abbrev pub PlanWithSaid : (κs : Lfts (of-bt-plan-with.ended .signature .lifetimes)) → Args (of-bt-plan-with.ended .signature) κs → AtExit of-bt-plan-with.ended κs → Type 0
+PlanWithSaid κs
+    (bits, (probes, (session, (shared, (last-sent, (their-heads, (their-need, (haves, (bytes, (sent, (table, (index, (waiting, (heads, (need, (have, (list, (answer, _))))))))))))))))))
+    (_, (_, (session′, (_, (last-sent′, (_, (_, (_, (_, (sent′, (_, (_, (_, (heads′, (need′, (have′, (list′, (answer′, _)))))))))))))))))) =
+    SettingGood bits probes
+    → OfBytes (lentOf (now shared) (now last-sent′) (now their-heads) (now their-need) (now haves) (now bytes) (now sent′))
+    → PlanMade (record { bits = bits; probes = probes }) (now table) (now index) (now waiting)
+    (record {
+      words = now session;
+      lists = lentOf (now shared) (now last-sent) (now their-heads) (now their-need) (now haves) (now bytes) (now sent);
+    })
+    (record {
+      words = now session′;
+      lists = lentOf (now shared) (now last-sent′) (now their-heads) (now their-need) (now haves) (now bytes) (now sent′);
+    })
+    (record { heads = now heads; need = now need; have = now have; list = now list })
+    (record { heads = now heads′; need = now need′; have = now have′; list = now list′ })
+    (now answer′)
+
+-- bt_plan_settled, where the list answers a choice: what it leaves is PlanMade with its bits and probes.
+abbrev pub PlanSettledSaid : (κs : Lfts (of-bt-plan-settled.ended .signature .lifetimes)) → Args (of-bt-plan-settled.ended .signature) κs → AtExit of-bt-plan-settled.ended κs → Type 0
+PlanSettledSaid κs
+    (settings, (station, (version, (session, (shared, (last-sent, (their-heads, (their-need, (haves, (bytes, (sent, (table, (index, (waiting, (heads, (need, (have, (list, (answer, _)))))))))))))))))))
+    (_, (_, (_, (session′, (_, (last-sent′, (_, (_, (_, (_, (sent′, (_, (_, (_, (heads′, (need′, (have′, (list′, (answer′, _))))))))))))))))))) =
+    (c : Choice)
+    → settingFor (now settings) station version ≡ Chosen c
+    → OfBytes (lentOf (now shared) (now last-sent′) (now their-heads) (now their-need) (now haves) (now bytes) (now sent′))
+    → PlanMade (record { bits = c .bits; probes = c .probes }) (now table) (now index) (now waiting)
     (record {
       words = now session;
       lists = lentOf (now shared) (now last-sent) (now their-heads) (now their-need) (now haves) (now bytes) (now sent);
@@ -100,9 +146,11 @@ ReceiveSaid κs
 abbrev pub FreshSaid : (κs : Lfts (of-bt-fresh.ended .signature .lifetimes)) → Args (of-bt-fresh.ended .signature) κs → AtExit of-bt-fresh.ended κs → Type 0
 FreshSaid κs _ (session′, _) = (lists : Lent) → OfBytes lists → Roomy lists → Fresh (record { words = now session′; lists = lists })
 
--- The four calls that a talk is made of.
+-- The calls that a talk is made of: three that plan, and one each that writes, receives and begins.
 pub record Contracts : Type 0 where
   pub plan : Ties of-bt-plan.ended of-bt-plan.Reads.Post PlanSaid
+  pub planWith : Ties of-bt-plan-with.ended of-bt-plan-with.Reads.Post PlanWithSaid
+  pub planSettled : Ties of-bt-plan-settled.ended of-bt-plan-settled.Reads.Post PlanSettledSaid
   pub write : Ties of-bt-write-message.ended of-bt-write-message.Reads.Post WriteSaid
   pub receive : Ties of-bt-receive.ended of-bt-receive.Reads.Post ReceiveSaid
   pub fresh : Ties of-bt-fresh.ended of-bt-fresh.Reads.Post FreshSaid

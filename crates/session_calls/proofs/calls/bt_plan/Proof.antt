@@ -38,7 +38,7 @@ returns : tie.Need-returns
 returns c =
     let called = c .before .before .before .before .before .before .before .before .before .before .before .before .before .before .before in
     let start = called .before .before .before .before .before .before .before in
-    plan-answered _ _ (start .session-of .ensures) (called .generate-sync-message .ensures) (c .before .planned-session .ensures)
+    plan-answered _ (rw (start .session-of .ensures) at (called .generate-sync-message .ensures)) (c .before .planned-session .ensures)
     (c .planned-words .ensures)
 
 pub bt-plan-spec : {M : Type 1} → statement M

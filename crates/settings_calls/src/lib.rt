@@ -1,0 +1,3 @@
+// Exported calls of the crate `settings`.
+pub mod answer;
+pub mod calls;
