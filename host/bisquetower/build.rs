@@ -64,7 +64,7 @@ fn build() -> Result<(), String> {
 }
 
 /// The most arguments that caller.c passes.
-const ARGUMENTS: usize = 32;
+const ARGUMENTS: usize = 40;
 
 /// Writes calls.rs, which the module `raw` includes, calls.h, which caller.c does,
 /// limits.rs, which the module `limits` includes, and the header for programs in C.

@@ -63,6 +63,8 @@ pub(crate) enum Rule {
     SentOrder(usize),
     /// A list that a step makes, by the name of its items, has at most `most`.
     Made { items: &'static str, most: u64 },
+    /// A setting keeps to what settings are.
+    Setting { of: Chosen, rule: Setting },
 }
 
 /// Whose items are counted.
@@ -124,6 +126,38 @@ pub(crate) enum Row {
     Held(usize),
 }
 
+/// Where a setting stands, or what it was for.
+#[derive(Clone, Copy, Debug, PartialEq, Eq)]
+pub(crate) enum Chosen {
+    /// In the record of a settings list.
+    Record(usize),
+    /// It was to be appended.
+    New,
+    /// A filter was to be built with it.
+    Filter,
+}
+
+/// What is wrong with a setting.
+#[derive(Clone, Copy, Debug, PartialEq, Eq)]
+pub(crate) enum Setting {
+    /// Its record ends before its last byte.
+    Cut { bytes: usize, whole: usize },
+    /// The first version is 0.
+    NoVersion,
+    /// Its version isn't above the one that it follows.
+    NotAbove { version: u64, after: u64 },
+    /// The last version that there is was given.
+    Used(u64),
+    /// Its bits per entry aren't among those that are allowed.
+    Bits { bits: u64, most: u64 },
+    /// Its probes aren't.
+    Probes { probes: u64, least: u64, most: u64 },
+    /// Its read-only byte is neither 0 nor 1.
+    ReadOnly(u8),
+    /// A byte behind that one isn't 0.
+    BehindReadOnly,
+}
+
 impl fmt::Display for Cause {
     fn fmt(&self, f: &mut fmt::Formatter<'_>) -> fmt::Result {
         match self.rule {
@@ -172,6 +206,7 @@ impl fmt::Display for Cause {
             Rule::Made { items, most } => {
                 write!(f, "the {items} would be more than {}", grouped(most))
             }
+            Rule::Setting { of, rule } => write!(f, "{of} {rule}"),
         }
     }
 }
@@ -260,6 +295,57 @@ impl fmt::Display for Row {
             }
             Row::Twice(row) => write!(f, "has the hash of row {}", shown(row)),
             Row::Held(row) => write!(f, "has the hash of row {} of the change table", shown(row)),
+        }
+    }
+}
+
+impl fmt::Display for Chosen {
+    fn fmt(&self, f: &mut fmt::Formatter<'_>) -> fmt::Result {
+        match *self {
+            Chosen::Record(record) => write!(f, "record {} of the settings list", shown(record)),
+            Chosen::New => f.write_str("the new setting"),
+            Chosen::Filter => f.write_str("the filter that is to be built"),
+        }
+    }
+}
+
+impl fmt::Display for Setting {
+    fn fmt(&self, f: &mut fmt::Formatter<'_>) -> fmt::Result {
+        match *self {
+            Setting::Cut { bytes, whole } => {
+                let (bytes, whole) = (shown(bytes), shown(whole));
+                write!(f, "is cut: it has {bytes} of {whole} bytes")
+            }
+            Setting::NoVersion => write!(f, "has version 0; versions begin with 1"),
+            Setting::NotAbove { version, after } => {
+                let (version, after) = (grouped(version), grouped(after));
+                write!(
+                    f,
+                    "has version {version} after version {after}; versions ascend"
+                )
+            }
+            Setting::Used(last) => {
+                let last = grouped(last);
+                write!(f, "has no version left: the last, {last}, is given")
+            }
+            Setting::Bits { bits, most } => {
+                let (bits, most) = (grouped(bits), grouped(most));
+                write!(f, "has {bits} bits per entry; 1 to {most} are allowed")
+            }
+            Setting::Probes {
+                probes,
+                least,
+                most,
+            } => {
+                let [probes, least, most] = [probes, least, most].map(grouped);
+                write!(f, "has {probes} probes; {least} to {most} are allowed")
+            }
+            Setting::ReadOnly(byte) => {
+                write!(f, "has {byte} as its read-only byte; that is 0 or 1")
+            }
+            Setting::BehindReadOnly => {
+                write!(f, "has a byte behind its read-only byte that isn't 0")
+            }
         }
     }
 }

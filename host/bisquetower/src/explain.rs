@@ -8,24 +8,29 @@
 mod lent;
 mod read;
 mod rows;
+mod settings;
 mod written;
 
 pub(crate) use lent::{passed, planning, receiving, selecting, session};
 pub(crate) use read::{filter, message, state};
 pub(crate) use rows::{narrowed, old_table, table, tables};
+pub(crate) use settings::{list, setting};
 pub(crate) use written::{building, parts, saved, writing};
 
 use crate::cause::Numbers;
 use crate::Limits;
 
 /// The refusals that are looked into: a limit, a filter without bits, a bad change table, a
-/// bad waiting table, bad numbers, a row that is too wide for the rows of before.
+/// bad waiting table, bad numbers, a row that is too wide for the rows of before, a bad
+/// settings list, a bad new setting.
 const LIMIT: u64 = 4;
 const NO_BITS: u64 = 5;
 const BAD_TABLE: u64 = 6;
 const BAD_WAITING: u64 = 9;
 const BAD_NUMBERS: u64 = 10;
 const TOO_WIDE: u64 = 13;
+const BAD_SETTINGS: u64 = 14;
+const BAD_SETTING: u64 = 15;
 
 /// What is wrong with a filter's numbers, in the order in which 01 tests them. Without
 /// entries the others may be any.

@@ -5,9 +5,9 @@ use crate::refusal::{answer, Refusal};
 use crate::{explain, raw, room};
 use std::borrow::Borrow;
 
-/// Bits per entry and probes of the filters that are made here.
-const BITS_PER_ENTRY: u32 = 10;
-const PROBES: u32 = 7;
+/// Bits per entry and probes of filters for which no others are told.
+pub(crate) const BITS_PER_ENTRY: u32 = 10;
+pub(crate) const PROBES: u32 = 7;
 
 /// Room for a filter's three numbers.
 const NUMBERS: usize = 16;

@@ -8,7 +8,7 @@
 //! ```text
 //!   Session  next_message, receive   Host, Memory    the document's side
 //!     |
-//!   Message, Have, Filter, SavedState, Table, Waiting, hashes_to_send
+//!   Message, Have, Filter, SavedState, Settings, Table, Waiting, hashes_to_send
 //!     |
 //!   message     a message that was read, part by part, without a copy
 //!     |
@@ -57,6 +57,7 @@ mod said;
 mod saved;
 mod selection;
 mod session;
+mod settings;
 mod table;
 
 pub use cause::Cause;
@@ -73,4 +74,5 @@ pub use said::Message;
 pub use saved::SavedState;
 pub use selection::hashes_to_send;
 pub use session::{Plan, Session, SessionParts};
+pub use settings::{Choice, Setting, Settings};
 pub use table::{Table, Waiting};

@@ -56,6 +56,13 @@ pub const HAVES_WORDS: usize = HAVES * HAVE_WORDS;
 /// Bytes under the haves of a message or a session.
 pub const HAVES_SIZE: usize = HAVES * HAVE_SIZE;
 
+/// Bits per entry that a filter may be planned with: over a whole change table its field
+/// then just fits.
+pub const BITS: usize = 8 * FIELD_SIZE / ROWS;
+
+/// Bytes of a record of a settings list.
+pub const SETTING_SIZE: usize = 32;
+
 /// The limits, as the library tells them: `raw::limits` has the same as words.
 ///
 /// ```

@@ -8,9 +8,9 @@ use std::fmt;
 /// them.
 #[derive(Clone, Copy, Debug)]
 pub struct Refusal {
-    /// 1 to 13.
+    /// 1 to 15.
     pub number: u64,
-    /// A place, a row, a byte, a length or 0, by the number.
+    /// A place, a row, a record, a byte, a length or 0, by the number.
     pub value: u64,
     cause: Option<Cause>,
 }
@@ -75,7 +75,7 @@ impl Refusal {
     }
 
     /// What broke in particular, where it was looked for and found: in messages, saved
-    /// states, filters, tables and sessions that are values of this crate.
+    /// states, filters, tables, settings and sessions that are values of this crate.
     pub fn cause(&self) -> Option<Cause> {
         self.cause
     }
@@ -107,6 +107,8 @@ impl Refusal {
             11 => "more rows before loading are named than there are rows".to_string(),
             12 => "the index doesn't fit the change table".to_string(),
             13 => format!("row {value} has more dependencies than a row of before has room for"),
+            14 => format!("record {value} is the first bad record of the settings list"),
+            15 => "the new setting is bad, or no version is left for it".to_string(),
             number => format!("no refusal has the number {number} (its value: {value})"),
         }
     }
@@ -156,23 +158,23 @@ mod tests {
         assert_eq!(answer(words), Err(refusal));
     }
 
-    /// Refusals 8 and 10 to 12 have the value 0 always, so theirs don't show it.
+    /// Refusals 8, 10 to 12 and 15 have the value 0 always, so theirs don't show it.
     #[test]
     fn each_sentence_is_its_own_and_shows_its_value() {
-        let sentences: Vec<String> = (1..=13).map(|number| sentence(number, 66)).collect();
+        let sentences: Vec<String> = (1..=15).map(|number| sentence(number, 66)).collect();
         for (k, one) in sentences.iter().enumerate() {
             let number = k + 1;
             let shown = if number == 2 { "42" } else { "66" };
             assert_eq!(
                 one.contains(shown),
-                ![8, 10, 11, 12].contains(&number),
+                ![8, 10, 11, 12, 15].contains(&number),
                 "{one}"
             );
             assert!(!sentences[..k].contains(one), "{one}");
         }
         assert_eq!(
-            sentence(14, 0),
-            "no refusal has the number 14 (its value: 0)"
+            sentence(16, 0),
+            "no refusal has the number 16 (its value: 0)"
         );
     }
 }

@@ -2,7 +2,9 @@
 //! text.
 
 use crate::failure::Failure;
+use bisquetower::refusal::grouped;
 use std::ffi::{OsStr, OsString};
+use std::ops::RangeInclusive;
 
 /// Words that name things, and options: switches, and some with a value.
 #[derive(Debug, Default)]
@@ -68,6 +70,31 @@ impl Options {
         names.map_err(|names: Vec<OsString>| {
             self.wrong(format!("{what} is wanted, not {} names", names.len()))
         })
+    }
+
+    /// The number that an option has.
+    pub fn number(&self, args: &Args, option: &str) -> Result<Option<u64>, Failure> {
+        let Some(value) = args.value(option) else {
+            return Ok(None);
+        };
+        let number = value.to_str().and_then(|value| value.parse().ok());
+        let wrong = || self.wrong(format!("{option} wants a number"));
+        number.map(Some).ok_or_else(wrong)
+    }
+
+    /// The number that an option has, if it is one of these.
+    pub fn number_in(
+        &self,
+        args: &Args,
+        option: &str,
+        allowed: RangeInclusive<u64>,
+    ) -> Result<Option<u64>, Failure> {
+        let number = self.number(args, option)?;
+        if number.is_none_or(|number| allowed.contains(&number)) {
+            return Ok(number);
+        }
+        let [least, most] = [allowed.start(), allowed.end()].map(|&number| grouped(number));
+        Err(self.wrong(format!("{option} wants a number from {least} to {most}")))
     }
 
     pub fn wrong(&self, what: impl Into<String>) -> Failure {

@@ -20,7 +20,7 @@ const SECONDS: u64 = 120;
 
 pub fn run(words: &[OsString]) -> Result<String, Failure> {
     let args = OPTIONS.read(words)?;
-    let seed = number(&args, "--seed")?.unwrap_or_else(clock);
+    let seed = OPTIONS.number(&args, "--seed")?.unwrap_or_else(clock);
     let until = until(&args)?;
     let kinds = named(&args)?;
     let began = Instant::now();
@@ -49,24 +49,16 @@ pub fn run(words: &[OsString]) -> Result<String, Failure> {
 
 /// How long it takes, one way or the other. Nothing would be compared in no time.
 fn until(args: &Args) -> Result<Until, Failure> {
-    let [rounds, seconds] = ["--rounds", "--seconds"].map(|option| match number(args, option)? {
-        Some(0) => Err(OPTIONS.wrong(format!("{option} wants 1 or more"))),
-        told => Ok(told),
-    });
+    let [rounds, seconds] =
+        ["--rounds", "--seconds"].map(|option| match OPTIONS.number(args, option)? {
+            Some(0) => Err(OPTIONS.wrong(format!("{option} wants 1 or more"))),
+            told => Ok(told),
+        });
     match (rounds?, seconds?) {
         (Some(_), Some(_)) => Err(OPTIONS.wrong("--rounds and --seconds don't go together")),
         (Some(rounds), None) => Ok(Until::Rounds(rounds)),
         (None, seconds) => Ok(Until::Time(Duration::from_secs(seconds.unwrap_or(SECONDS)))),
     }
-}
-
-fn number(args: &Args, option: &str) -> Result<Option<u64>, Failure> {
-    let Some(value) = args.value(option) else {
-        return Ok(None);
-    };
-    let number = value.to_str().and_then(|value| value.parse().ok());
-    let wrong = || OPTIONS.wrong(format!("{option} wants a number"));
-    number.map(Some).ok_or_else(wrong)
 }
 
 /// The kinds that are named, or all.

@@ -10,10 +10,11 @@ use std::ffi::OsString;
 const ALL: &str = "\
 bisquetower: messages, tables and catch-ups, through the proved sync library
 
-  inspect FILE                what a message, saved state, filter or table holds
+  inspect FILE                what a message, state, filter, table or list holds
   table FILE                  rows, heads, widest, deepest, first bad row
   catch-up STATION VALIDATOR  two units talk until both hold the same rows
   convert IN OUT              a table in rows of before, in rows of now; or back
+  settings FILE               what stations chose for their filters, and when
   sample DIR                  tables and captures to try it on
   compare                     the library beside the crate's own code
 
@@ -33,11 +34,12 @@ bisquetower inspect FILE [--as KIND] [--heads] [--full]
 Shows what a file holds, in columns. What is refused is shown with its number,
 what it means, and the bytes around the place that it names.
 
-  --as KIND   message, state, filter, table or waiting (a table of changes that
-              wait). Without it the end of the file's name says (x.message and
-              so on), else the bytes: the first kind that takes all of them, of
-              which waiting is none, else the first that takes some. That is a
-              guess: if it ignores more than half of the bytes, the status is 1.
+  --as KIND   message, state, filter, table, settings or waiting (a table of
+              changes that wait). Without it the end of the file's name says
+              (x.message and so on), else the bytes: the first kind that takes
+              all of them, of which waiting is none, else the first that takes
+              some. That is a guess: if it ignores more than half of the bytes,
+              the status is 1.
   --heads     of a message the version and the heads alone; what follows them
               isn't looked at, and may be bad
   --full      hashes whole and all of them
@@ -105,6 +107,25 @@ The other commands read rows of before as they are.
     )
 }
 
+const SETTINGS: &str = "\
+bisquetower settings FILE [--history N | --station N [--at V | --set WHAT]]
+bisquetower settings [FILE] --svg OUT [--force]
+
+Shows a settings list: from which version on a station has how many bits per
+entry and probes, whether it is read-only, and how often its filter is expected
+to take a change for held that isn't in it (false yes). Of a bad list the
+records before the first bad one are shown.
+
+  --history N  the records of station N
+  --station N  what station N has, at version V or the newest
+  --set WHAT   append a record for station N, as bits=12,probes=8,read-only=on;
+               what isn't named stays as it is. FILE is made if it isn't there
+  --svg OUT    draws false yeses and bytes by bits and probes, and what stations
+               of FILE have; the drawing is all that is shown if OUT is -
+  --rows N     of filters over N rows; 1,024 if not told
+  --json       the same as JSON
+";
+
 fn sample() -> String {
     let rows = grouped(ROWS as u64);
     format!(
@@ -113,7 +134,7 @@ bisquetower sample DIR [--force]
 
 Writes files to try the other commands on: a station's table of {rows} rows and
 that of a validator {LACKING} rows short, each message of their catch-up, what waited,
-both saved states, a filter, and damaged ones.
+both saved states, a filter, a settings list, and damaged ones.
 
   --force     write over files that are there
 "
@@ -143,6 +164,7 @@ pub fn run(words: &[OsString]) -> Result<String, Failure> {
         Some("table") => table(),
         Some("catch-up") => CATCH_UP.to_string(),
         Some("convert") => convert(),
+        Some("settings") => SETTINGS.to_string(),
         Some("sample") => sample(),
         Some("compare") => COMPARE.to_string(),
         Some(other) => return Err(Failure::usage(format!("there is no command {other}"), "")),

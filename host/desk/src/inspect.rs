@@ -6,9 +6,10 @@ mod shown;
 use crate::args::{Args, Options};
 use crate::failure::Failure;
 use crate::text::{count, number};
-use crate::{files, hex};
+use crate::{files, hex, settings};
 use bisquetower::{Message, Refusal};
 pub use kind::Kind;
+use kind::NAMES;
 use std::ffi::{OsStr, OsString};
 
 const OPTIONS: Options = Options {
@@ -26,13 +27,14 @@ pub fn run(words: &[OsString]) -> Result<String, Failure> {
     let named = match args.value("--as") {
         Some(name) => Some(Kind::named(name).ok_or_else(|| {
             let name = name.display();
-            OPTIONS.wrong(format!(
-                "{name} is no kind: message, state, filter, table or waiting"
-            ))
+            OPTIONS.wrong(format!("{name} is no kind: {NAMES}"))
         })?),
         None => Kind::of_file(&file),
     };
-    let bytes = files::read(&file)?;
+    let bytes = match named {
+        Some(Kind::Settings) => settings::read_bytes(&file)?,
+        _ => files::read(&file)?,
+    };
     let kind = named.unwrap_or_else(|| Kind::guess(&bytes));
     let shown = kind.show(&bytes, args.has("--full"));
     let shown = shown.map_err(|refusal| refused(&file, kind, &bytes, refusal))?;
@@ -58,7 +60,7 @@ fn guessed(file: &OsStr, kind: Kind, bytes: &[u8], shown: String) -> Result<Stri
     let file = file.display();
     Err(Failure::refused(
         format!("{file} was taken for a {kind}, which is doubtful: {many} are ignored"),
-        "say what it is with --as message, state, filter, table or waiting.",
+        format!("say what it is with --as {NAMES}."),
     )
     .showing(shown))
 }

@@ -1,18 +1,21 @@
-//! The desk command: what a message, a state, a filter or a table holds, and how a
-//! validator catches up. Every answer is the proved library's.
+//! The desk command: what a message, a state, a filter, a table or a settings list holds,
+//! and how a validator catches up. Every answer is the proved library's.
 
 mod args;
 mod catch_up;
 mod comparison;
 mod convert;
+mod drawing;
 mod failure;
 mod files;
 mod help;
 mod hex;
 mod inspect;
+mod json;
 mod paint;
 mod rows;
 mod sample;
+mod settings;
 mod table;
 mod text;
 
@@ -61,6 +64,7 @@ fn run(words: &[OsString]) -> Result<String, Failure> {
         "table" => table::run,
         "catch-up" => catch_up::run,
         "convert" => convert::run,
+        "settings" => settings::run,
         "sample" => sample::run,
         "compare" => comparison::run,
         "help" | "--help" | "-h" => help::run,

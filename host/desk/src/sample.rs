@@ -9,7 +9,7 @@ use crate::catch_up::{Said, Talk};
 use crate::failure::Failure;
 use crate::files;
 use crate::text::count;
-use bisquetower::{Filter, Table};
+use bisquetower::{Choice, Filter, Refusal, Settings, Table};
 use std::ffi::OsString;
 use std::path::Path;
 
@@ -43,6 +43,7 @@ pub fn run(words: &[OsString]) -> Result<String, Failure> {
         "{files} in {at}. To look at them:\n  \
          bisquetower table {at}/station.table\n  \
          bisquetower catch-up {at}/station.table {at}/validator.table\n  \
+         bisquetower settings {at}/stations.settings\n  \
          {look} {at}/2-station.message\n  \
          {look} {at}/cut.message\n"
     ))
@@ -62,27 +63,57 @@ fn samples() -> Result<Vec<(String, Vec<u8>)>, Failure> {
         ("validator.filter".to_string(), filter.to_bytes()),
         ("validator.waiting".to_string(), talk.waiting),
     ];
+    let settings = settings().map_err(tables::refused)?;
+    samples.push((
+        "stations.settings".to_string(),
+        settings.as_bytes().to_vec(),
+    ));
     let first = talk.messages[0].bytes.clone();
     for (k, Said { by_station, bytes }) in talk.messages.into_iter().enumerate() {
         let who = if by_station { "station" } else { "validator" };
         samples.push((format!("{}-{who}.message", k + 1), bytes));
     }
-    samples.extend(damaged(first, station.as_bytes().to_vec()));
+    samples.extend(damaged(first, station.as_bytes().to_vec(), settings));
     Ok(samples)
 }
 
-fn damaged(message: Vec<u8>, table: Vec<u8>) -> [(String, Vec<u8>); 5] {
+/// Underground stations 7 and 8 that want fewer false yeses, and tram 21, which wants shorter
+/// messages and takes no changes from version 4 on.
+fn settings() -> Result<Settings, Refusal> {
+    let mut settings = Settings::new();
+    for (station, bits, probes, read_only) in [
+        (7, 12, 8, false),
+        (21, 6, 4, false),
+        (8, 12, 8, false),
+        (21, 6, 4, true),
+        (7, 16, 11, false),
+    ] {
+        let choice = Choice {
+            bits,
+            probes,
+            read_only,
+        };
+        settings.append(station, choice)?;
+    }
+    Ok(settings)
+}
+
+fn damaged(message: Vec<u8>, table: Vec<u8>, settings: Settings) -> [(String, Vec<u8>); 6] {
     let cut_message = message[..message.len() / 2].to_vec();
     let cut_table = table[..table.len() - Table::ROW / 2].to_vec();
     // Row 700 is the row before it again.
     let mut bad_table = table;
     bad_table.copy_within(Table::ROW * 699..Table::ROW * 700, Table::ROW * 700);
+    // Record 3 has the version of the one before it.
+    let mut bad_settings = settings.as_bytes().to_vec();
+    bad_settings[Settings::RECORD * 3] = 3;
     [
         ("cut.message", cut_message),
         ("long-number.message", vec![0x42, 0x80, 0x00]),
         ("no-bits.filter", vec![0x01, 0x00, 0x07]),
         ("bad-row.table", bad_table),
         ("cut.table", cut_table),
+        ("bad-record.settings", bad_settings),
     ]
     .map(|(name, bytes)| (name.to_string(), bytes))
 }

@@ -11,6 +11,8 @@ mod comparison;
 mod convert;
 #[path = "desk/inspect.rs"]
 mod inspect;
+#[path = "desk/settings.rs"]
+mod settings;
 
 use std::ffi::OsStr;
 use std::io::Write;

@@ -1,13 +1,14 @@
 //! Lists that were lent beside a session's words or a table, and those that a step would
 //! make: which one is too long, or doesn't ascend.
 
+use super::settings::pair;
 use super::written::{first_long, items, synced};
 use super::{message, table, tables, BAD_NUMBERS, LIMIT};
 use crate::cause::{Cause, List, Rule};
 use crate::index::Index;
 use crate::limits::LIST_SIZE;
 use crate::refusal::{answer, Refusal};
-use crate::{raw, ChangeHash, Have, Limits, SessionParts};
+use crate::{raw, ChangeHash, Choice, Have, Limits, SessionParts};
 
 /// The refusal of a session that is made of its parts.
 pub(crate) fn session(parts: &SessionParts, refusal: Refusal) -> Refusal {
@@ -49,10 +50,16 @@ fn descent(sent: &[ChangeHash]) -> Option<Cause> {
     Some(Cause::new(Rule::SentOrder(before + 1), None))
 }
 
-/// The refusal of a plan over these tables, for a peer that said these heads. The tables are
-/// tested first, and the lists that would be made last.
-pub(crate) fn planning(own: &[u8], waiting: &[u8], heads: &[u8], refusal: Refusal) -> Refusal {
-    made(tables(own, waiting, refusal), |limits| {
+/// The refusal of a plan over these tables with this choice, for a peer that said these
+/// heads. The choice is tested first, then the tables, and the lists that would be made last.
+pub(crate) fn planning(
+    choice: Choice,
+    own: &[u8],
+    waiting: &[u8],
+    heads: &[u8],
+    refusal: Refusal,
+) -> Refusal {
+    made(tables(own, waiting, pair(choice, refusal)), |limits| {
         let index = Index::of(own).unwrap_or_default();
         let mut needs = vec![0; LIST_SIZE];
         let missing = raw::missing(own, index.as_bytes(), waiting, heads, &mut needs);

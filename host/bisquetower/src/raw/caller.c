@@ -1,9 +1,10 @@
 // Calls the proved library for a host that runs on another processor than the library's.
 //
 // Standard input carries batches. A batch is three words: the length of its requests in bytes, what fresh words hold
-// before a call, and how many bytes of stack a call has, 0 for the program's own; then the requests. A request is two words, the call's number and above it, from bit 32, how many
-// arguments it has; the arguments' kinds, two bits each, lowest first; then a word for each argument, and what stands in
-// the memory of those that are read or written, each up to a whole word.
+// before a call, and how many bytes of stack a call has, 0 for the program's own; then the requests. A request is three
+// words, the call's number and above it, from bit 32, how many arguments it has, and two of the arguments' kinds, two bits
+// each, lowest first, 32 of them a word; then a word for each argument, and what stands in the memory of those that are
+// read or written, each up to a whole word.
 //
 //     number     its word is passed
 //     read       its word is a length in bytes, and a pointer to memory of that length is passed
@@ -23,7 +24,8 @@ typedef unsigned long u64;
 // In this processor's C convention a caller puts the arguments away and a function looks at its own alone, so one type
 // with more of them than any function has serves them all.
 typedef void function(u64, u64, u64, u64, u64, u64, u64, u64, u64, u64, u64, u64, u64, u64, u64, u64,
-                      u64, u64, u64, u64, u64, u64, u64, u64, u64, u64, u64, u64, u64, u64, u64, u64);
+                      u64, u64, u64, u64, u64, u64, u64, u64, u64, u64, u64, u64, u64, u64, u64, u64,
+                      u64, u64, u64, u64, u64, u64, u64, u64);
 
 // calls.h is written by build.rs: CALL(name) for every exported function, in the order of their numbers.
 #define CALL(name) function name;
@@ -34,7 +36,10 @@ static function *const calls[] = {
 #include "calls.h"
 };
 
-enum { CALLS = sizeof calls / sizeof *calls, ARGUMENTS = 32 };
+enum { CALLS = sizeof calls / sizeof *calls, ARGUMENTS = 40 };
+
+// Words before a request's arguments, and how many kinds stand in one of them.
+enum { HEAD = 3, KINDS = 32 };
 
 enum kind { NUMBER, READ, WRITTEN, FRESH };
 
@@ -132,7 +137,8 @@ typedef void short_function(u64, u64, u64, u64, u64, u64);
 void call(function *f, const u64 *a, u64 count) {
     if (count <= 6) return ((short_function *)(u64)f)(a[0], a[1], a[2], a[3], a[4], a[5]);
     f(a[0], a[1], a[2], a[3], a[4], a[5], a[6], a[7], a[8], a[9], a[10], a[11], a[12], a[13], a[14], a[15],
-      a[16], a[17], a[18], a[19], a[20], a[21], a[22], a[23], a[24], a[25], a[26], a[27], a[28], a[29], a[30], a[31]);
+      a[16], a[17], a[18], a[19], a[20], a[21], a[22], a[23], a[24], a[25], a[26], a[27], a[28], a[29], a[30], a[31],
+      a[32], a[33], a[34], a[35], a[36], a[37], a[38], a[39]);
 }
 
 // A stack for calls that are to have a number of bytes and no more: below them is memory that can't be touched, so that one
@@ -174,15 +180,20 @@ static u64 call_on(u64 bytes, function *f, const u64 *arguments, u64 count) {
 // is read is lent where it stands. Returns the place after the request.
 static u64 *serve(u64 *request, const u64 *end, u64 unwritten, u64 stack_bytes, u64 *used, u64 *deepest) {
     static struct buffer buffers[ARGUMENTS];
-    if (end - request < 2) finish(BAD_BATCH);
+    if (end - request < HEAD) finish(BAD_BATCH);
     u64 which = *request & 0xffffffff, count = *request >> 32, written = 0;
-    if (CALLS <= which || ARGUMENTS < count || (u64)(end - request) < 2 + count) finish(BAD_BATCH);
-    u64 *arguments = request + 2, *at = arguments + count;
+    if (CALLS <= which || ARGUMENTS < count || (u64)(end - request) < HEAD + count) finish(BAD_BATCH);
+    u64 *arguments = request + HEAD, *at = arguments + count;
     u64 *free = lent + GUARD, *last = lent + ROOM;
-    for (u64 kinds = request[1]; kinds != 0;) {
-        u64 k = (u64)__builtin_ctzl(kinds) / 2;
-        enum kind kind = kinds >> 2 * k & 3;
-        kinds &= ~(3ul << 2 * k);
+    for (u64 k = 0; k < (HEAD - 1) * KINDS;) {
+        // The next one that isn't a number.
+        u64 kinds = request[1 + k / KINDS] >> 2 * (k % KINDS);
+        if (kinds == 0) {
+            k += KINDS - k % KINDS;
+            continue;
+        }
+        k += (u64)__builtin_ctzl(kinds) / 2;
+        enum kind kind = request[1 + k / KINDS] >> 2 * (k % KINDS) & 3;
         u64 length = arguments[k], words = whole_words(length), standing = kind == FRESH ? 0 : words;
         if (count <= k || (u64)(end - at) < standing) finish(BAD_BATCH);
         arguments[k] = (u64)(kind == READ ? at : free);
@@ -196,6 +207,7 @@ static u64 *serve(u64 *request, const u64 *end, u64 unwritten, u64 stack_bytes, 
             free += words + GUARD;
         }
         at += standing;
+        k++;
     }
     if (stack_bytes == 0) {
         call(calls[which], arguments, count);

@@ -67,6 +67,10 @@ const EXCHANGE: usize = 1 << 18;
 
 const WORD: usize = 8;
 
+/// Words before a request's arguments, and how many kinds stand in one of them.
+const HEAD: usize = 3;
+const KINDS: usize = 32;
+
 /// How caller.c ends when the bytes around a lent buffer changed: this and the
 /// call's number.
 const WROTE_OUTSIDE: usize = 16;
@@ -128,8 +132,8 @@ impl<'a> Batch<'a> {
     /// Adds a call: its head, a word for each argument, what stands in memory.
     pub(super) fn call<const N: usize>(&mut self, number: u64, args: [Arg<'_, 'a>; N]) {
         let start = self.requests.len();
-        self.requests.resize(start + (2 + N) * WORD, 0);
-        let mut kinds = 0;
+        self.requests.resize(start + (HEAD + N) * WORD, 0);
+        let mut kinds = [0; HEAD - 1];
         let mut items = 0;
         for (k, arg) in args.into_iter().enumerate() {
             let (kind, word) = match arg {
@@ -141,11 +145,13 @@ impl<'a> Batch<'a> {
                     (kind, (length * size) as u64)
                 }
             };
-            kinds |= (kind as u64) << (2 * k);
-            self.set_word(start + (2 + k) * WORD, word);
+            kinds[k / KINDS] |= (kind as u64) << (2 * (k % KINDS));
+            self.set_word(start + (HEAD + k) * WORD, word);
         }
         self.set_word(start, number | (N as u64) << 32);
-        self.set_word(start + WORD, kinds);
+        for (k, kinds) in kinds.into_iter().enumerate() {
+            self.set_word(start + (1 + k) * WORD, kinds);
+        }
         self.calls += 1;
         if self.requests.len().max(self.coming) >= EXCHANGE {
             self.exchange();

@@ -5,7 +5,7 @@ use crate::hash::{hashes_in, ChangeHash, HASH};
 use crate::have::haves_in;
 use crate::limits::{HAVE_SIZE, LIST_SIZE, SENT_SIZE, TO_SEND_SIZE};
 use crate::refusal::{answer, Refusal};
-use crate::{explain, raw, Error, Host, Message, MessageFlags, MessageVersion};
+use crate::{explain, raw, Choice, Error, Host, Message, MessageFlags, MessageVersion};
 use std::borrow::Cow;
 
 /// How the answer says that there is nothing to say.
@@ -35,7 +35,37 @@ impl Session {
     ///
     /// Where the library is linked this takes up to 256 KiB of the thread's stack.
     pub fn next_message<H: Host>(&mut self, host: &H) -> Result<Option<Vec<u8>>, Error<H::Error>> {
-        self.say(host, |message| message.encode())
+        self.next_message_with(host, Choice::default())
+    }
+
+    /// [`next_message`](Session::next_message) with a filter of other bits per entry and
+    /// probes, as a station's [`Settings`](crate::Settings) have them; each message may have
+    /// its own. Bits outside 1 to [`BITS`](crate::limits::BITS), and more probes than
+    /// [`PROBES`](crate::limits::PROBES), are refusal 10, before all else. Whether the choice
+    /// is read-only isn't looked at: [`set_read_only`](Session::set_read_only) is told that.
+    ///
+    /// ```
+    /// use bisquetower::{Choice, Memory, Message, Session};
+    ///
+    /// let wide = Choice { bits: 16, probes: 11, ..Choice::default() };
+    /// let mut session = Session::new();
+    /// assert!(session.next_message_with(&Memory::new(), wide)?.is_some());
+    ///
+    /// let wider = Choice { bits: 33, ..wide };
+    /// let refused = session.next_message_with(&Memory::new(), wider).unwrap_err();
+    /// assert_eq!(
+    ///     refused.to_string(),
+    ///     "refusal 10, value 0: the filter that is to be built has 33 bits per entry; \
+    ///      1 to 32 are allowed"
+    /// );
+    /// # Ok::<(), Box<dyn std::error::Error>>(())
+    /// ```
+    pub fn next_message_with<H: Host>(
+        &mut self,
+        host: &H,
+        choice: Choice,
+    ) -> Result<Option<Vec<u8>>, Error<H::Error>> {
+        self.say(host, choice, |message| message.encode())
     }
 
     /// What to say to the peer next, as a value: for programs that look at what they send.
@@ -43,7 +73,17 @@ impl Session {
     /// [`next_message`](Session::next_message). One that [`Message::encode`] would refuse
     /// is refused here, with the session as it was.
     pub fn generate<H: Host>(&mut self, host: &H) -> Result<Option<Message>, Error<H::Error>> {
-        self.say(host, |message| message.check().map(|()| message))
+        self.generate_with(host, Choice::default())
+    }
+
+    /// [`generate`](Session::generate) with a filter of other bits per entry and probes, as
+    /// [`next_message_with`](Session::next_message_with) has it.
+    pub fn generate_with<H: Host>(
+        &mut self,
+        host: &H,
+        choice: Choice,
+    ) -> Result<Option<Message>, Error<H::Error>> {
+        self.say(host, choice, |message| message.check().map(|()| message))
     }
 
     /// [`generate`](Session::generate) by the name that it has in automerge.
@@ -59,10 +99,11 @@ impl Session {
     fn say<H: Host, T>(
         &mut self,
         host: &H,
+        choice: Choice,
         make: impl FnOnce(Message) -> Result<T, Refusal>,
     ) -> Result<Option<T>, Error<H::Error>> {
         let mut next = self.clone();
-        let plan = next.plan(&host.table(), &host.waiting())?;
+        let plan = next.plan_with(&host.table(), &host.waiting(), choice)?;
         let message = plan.map(|plan| plan.lend(host)).transpose();
         let made = message.map_err(Error::Lend)?.map(make).transpose()?;
         *self = next;
@@ -74,13 +115,27 @@ impl Session {
     /// so such a host keeps a clone of the session until the message is encoded, and goes
     /// back to it where that fails.
     pub fn plan(&mut self, table: &[u8], waiting: &[u8]) -> Result<Option<Plan>, Refusal> {
+        self.plan_with(table, waiting, Choice::default())
+    }
+
+    /// [`plan`](Session::plan) with a filter of other bits per entry and probes, as
+    /// [`next_message_with`](Session::next_message_with) has it.
+    pub fn plan_with(
+        &mut self,
+        table: &[u8],
+        waiting: &[u8],
+        choice: Choice,
+    ) -> Result<Option<Plan>, Refusal> {
+        let (bits, probes) = (choice.bits.into(), choice.probes.into());
         let (mut heads, mut need) = (vec![0; LIST_SIZE], vec![0; LIST_SIZE]);
         let (mut have, mut list) = (vec![0; HAVE_SIZE], vec![0; TO_SEND_SIZE]);
         let (session, lists) = (&mut self.words, &mut self.lists);
         lists.last_sent.resize(LIST_SIZE, 0);
         lists.sent.resize(SENT_SIZE, 0);
         let words = self.index.beside(table, |index| {
-            raw::plan(
+            raw::plan_with(
+                bits,
+                probes,
                 session,
                 &lists.shared,
                 &mut lists.last_sent,
@@ -100,7 +155,9 @@ impl Session {
         });
         self.trim();
         let heard = &self.lists.their_heads;
-        let answer = answer(words).map_err(|why| explain::planning(table, waiting, heard, why))?;
+        let planned = answer(words);
+        let answer =
+            planned.map_err(|why| explain::planning(choice, table, waiting, heard, why))?;
         let [what, version, flags, document, head_count, need_count, have_count, ..] = answer;
         if what == NOTHING {
             return Ok(None);

@@ -1,6 +1,6 @@
 //! Units over chains of changes, and how two of them talk.
 
-use bisquetower::{Change, ChangeHash, Memory, Message, Session};
+use bisquetower::{Change, ChangeHash, Choice, Memory, Message, Session};
 
 pub fn hash(n: u32) -> ChangeHash {
     let mut hash = [0; 32];
@@ -46,9 +46,14 @@ pub fn unit(host: Memory) -> Unit {
 /// What one says to the other, if there is something to say. As bytes it is the same, and
 /// leaves the same session.
 pub fn say(from: &mut Unit, to: &mut Unit) -> Option<Message> {
+    say_with(from, to, Choice::default())
+}
+
+/// What one says to the other with a filter as chosen.
+pub fn say_with(from: &mut Unit, to: &mut Unit, choice: Choice) -> Option<Message> {
     let mut same = from.session.clone();
-    let bytes = same.next_message(&from.host).unwrap();
-    let message = from.session.generate(&from.host).unwrap();
+    let bytes = same.next_message_with(&from.host, choice).unwrap();
+    let message = from.session.generate_with(&from.host, choice).unwrap();
     let encoded = message.as_ref().map(|one| one.encode().unwrap());
     assert_eq!(encoded, bytes);
     assert_eq!(same, from.session);

@@ -1,15 +1,11 @@
-//! A talk as JSON: numbers, true and false, null, hashes and a few words, so nothing to
-//! escape.
+//! A talk as JSON.
 
 use super::premises::{Difference, How};
 use super::talk::{Round, Talk};
+use crate::json::{document, list, object, option};
 
 pub fn text(talk: &Talk) -> String {
     let rounds: Vec<String> = talk.rounds.iter().map(round).collect();
-    let rounds = match rounds.is_empty() {
-        true => "[]".to_string(),
-        false => format!("[\n    {}\n  ]", rounds.join(",\n    ")),
-    };
     let differs = talk.differs.as_ref();
     let differs = differs.map_or("null".to_string(), difference);
     let fields = [
@@ -30,10 +26,9 @@ pub fn text(talk: &Talk) -> String {
         ("took", option(talk.took())),
         ("messages", talk.messages.len().to_string()),
         ("bytes", talk.bytes().to_string()),
-        ("rounds", rounds),
+        ("rounds", list(&rounds)),
     ];
-    let fields = fields.map(|(name, value)| format!("  \"{name}\": {value}"));
-    format!("{{\n{}\n}}\n", fields.join(",\n"))
+    document(&fields)
 }
 
 /// The row of the validator's that isn't as the station has it: `lacks` a dependency of
@@ -75,16 +70,4 @@ fn round(round: &Round) -> String {
         ("bytes_to_validator", round.reply_bytes.to_string()),
     ];
     object(&fields)
-}
-
-/// An object in a line.
-fn object(fields: &[(&str, String)]) -> String {
-    let fields = fields
-        .iter()
-        .map(|(name, value)| format!("\"{name}\": {value}"));
-    format!("{{{}}}", fields.collect::<Vec<_>>().join(", "))
-}
-
-fn option(n: Option<usize>) -> String {
-    n.map_or("null".to_string(), |n| n.to_string())
 }

@@ -2,6 +2,7 @@
 //! first. Those that it held from the start would dwarf them.
 
 use super::talk::{Round, Talk};
+use crate::drawing::{begin, level, text};
 use crate::text::{count, number};
 
 /// Where the bars stand, in the drawing's units.
@@ -33,12 +34,7 @@ pub fn draw(talk: &Talk) -> String {
     );
     let told = told(talk);
     let (width, height) = (LEFT + WIDTH + 24.0, TOP + HEIGHT + 72.0);
-    let mut svg = format!(
-        "<svg xmlns=\"http://www.w3.org/2000/svg\" viewBox=\"0 0 {width} {height}\" \
-         font-family=\"sans-serif\" font-size=\"13\" role=\"img\">\n\
-         <title>{title}</title>\n\
-         <rect width=\"{width}\" height=\"{height}\" fill=\"#ffffff\"/>\n"
-    );
+    let mut svg = begin(width, height, &title);
     svg += &text(LEFT, 26.0, "start", 17, &title);
     svg += &text(LEFT, 46.0, "start", 13, &told);
     svg += &scale(talk.missing);
@@ -71,11 +67,7 @@ fn told(talk: &Talk) -> String {
 fn scale(rows: usize) -> String {
     let mark = |(n, part): (usize, f64)| {
         let y = TOP + HEIGHT * (1.0 - part);
-        let end = LEFT + WIDTH;
-        let line = format!(
-            "<line x1=\"{LEFT}\" y1=\"{y:.1}\" x2=\"{end}\" y2=\"{y:.1}\" stroke=\"#e2e8f0\"/>\n"
-        );
-        line + &text(LEFT - 8.0, y + 4.0, "end", 13, &number(n))
+        level(LEFT, LEFT + WIDTH, y, &number(n))
     };
     [(0, 0.0), (rows, 1.0)].map(mark).concat()
 }
@@ -128,10 +120,4 @@ fn legend() -> String {
         svg += &text(x + 18.0, y, "start", 13, name);
     }
     svg
-}
-
-fn text(x: f64, y: f64, anchor: &str, size: u32, words: &str) -> String {
-    format!(
-        "<text x=\"{x:.1}\" y=\"{y:.1}\" text-anchor=\"{anchor}\" font-size=\"{size}\">{words}</text>\n"
-    )
 }

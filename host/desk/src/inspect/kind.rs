@@ -6,7 +6,7 @@ use bisquetower::limits::{CHUNKS, HAVES_WORDS};
 use bisquetower::message::CHUNK_WORDS;
 use bisquetower::raw;
 use bisquetower::refusal::answer;
-use bisquetower::{message, Filter, Message, Refusal, SavedState, Table, Waiting};
+use bisquetower::{message, Filter, Message, Refusal, SavedState, Settings, Table, Waiting};
 use std::ffi::OsStr;
 use std::fmt;
 use std::ops::Range;
@@ -18,11 +18,21 @@ pub enum Kind {
     State,
     Filter,
     Table,
+    Settings,
     Waiting,
 }
 
 /// Those that are told by the bytes, in the order in which they are tried.
-const TOLD: [Kind; 4] = [Kind::Message, Kind::State, Kind::Table, Kind::Filter];
+const TOLD: [Kind; 5] = [
+    Kind::Message,
+    Kind::State,
+    Kind::Table,
+    Kind::Settings,
+    Kind::Filter,
+];
+
+/// The kinds, as they are named to whoever is to choose one.
+pub const NAMES: &str = "message, state, filter, table, settings or waiting";
 
 impl Kind {
     pub fn named(name: &OsStr) -> Option<Kind> {
@@ -89,6 +99,7 @@ impl Kind {
             }
             Kind::Filter => Filter::parse_first(bytes).map(|(_, next)| next),
             Kind::Table => Rows::of(bytes).table(bytes).map(|_| bytes.len()),
+            Kind::Settings => Settings::parse(bytes).map(|_| bytes.len()),
             Kind::Waiting => rows::waiting(bytes).map(|_| bytes.len()),
         }
     }
@@ -106,6 +117,7 @@ impl Kind {
                 let rows = Rows::of(bytes);
                 shown::table(&rows.table(bytes)?, rows, full)
             }
+            Kind::Settings => shown::settings(&Settings::parse(bytes)?),
             Kind::Waiting => {
                 let (waiting, rows) = rows::waiting(bytes)?;
                 shown::waiting(&waiting, rows, full)
@@ -127,6 +139,7 @@ impl Kind {
             (2, _) => 0,
             (6, _) => Table::ROW * value,
             (9, _) => Waiting::ROW * value,
+            (14, _) => Settings::RECORD * value,
             // As a whole, not at its first byte.
             (4, Kind::Message | Kind::Table | Kind::Waiting) if value == 0 => return None,
             (1 | 3 | 4 | 5, _) => value,
@@ -147,6 +160,7 @@ impl Kind {
             (6, _) => "look at that row: it must be whole, its hash stand once, what it depends on ascend and come before it.",
             (13, _) => "a unit of before can't hold that change: leave it out with all that depend on it, or keep the rows as they are.",
             (9, _) => "look at that row: it must be whole, its hash stand once, what is unused be zero.",
+            (14, _) => "look at that record: it must be whole, its version above the one before, its bits and probes allowed, its read-only byte 0 or 1, and zeros behind that.",
             _ => "the bytes break a rule of the format: have them sent or copied again.",
         }
     }
@@ -157,6 +171,7 @@ impl Kind {
             Kind::State => "state",
             Kind::Filter => "filter",
             Kind::Table => "table",
+            Kind::Settings => "settings",
             Kind::Waiting => "waiting",
         }
     }
@@ -167,6 +182,7 @@ impl fmt::Display for Kind {
         f.write_str(match self {
             Kind::State => "saved state",
             Kind::Table => "change table",
+            Kind::Settings => "settings list",
             Kind::Waiting => "waiting table",
             other => other.name(),
         })

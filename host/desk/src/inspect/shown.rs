@@ -1,11 +1,12 @@
-//! What a message, a saved state, a filter and a table hold, in columns.
+//! What a message, a saved state, a filter, a table and a settings list hold, in columns.
 
 use crate::files::most;
 use crate::paint::Paint;
 use crate::rows::Rows;
 use crate::text::{count, hashes, number, Columns};
 use bisquetower::{ChangeHash, Filter, Have, Message, MessageFlags, MessageVersion};
-use bisquetower::{SavedState, Table, Waiting};
+use bisquetower::{SavedState, Settings, Table, Waiting};
+use std::collections::BTreeSet;
 
 fn told_version(version: MessageVersion) -> u64 {
     match version {
@@ -121,6 +122,18 @@ pub fn table(table: &Table, rows: Rows, full: bool) -> String {
     );
     let title = Paint::of_output().bold("a change table");
     format!("{title}{}\n{columns}", rows.told())
+}
+
+/// How much a settings list has; `settings` shows it whole.
+pub fn settings(list: &Settings) -> String {
+    let mut columns = Columns::default();
+    let records = list.records().map(|record| record.station);
+    let stations: BTreeSet<u32> = records.collect();
+    columns.row("records", &number(list.records().len()), "");
+    columns.row("stations", &number(stations.len()), "");
+    columns.row("version", &number(list.version() as usize), "the newest");
+    let title = Paint::of_output().bold("a settings list");
+    format!("{title}\n{columns}")
 }
 
 /// Changes that wait, and what they depend on that is neither held nor waits.
