@@ -15,6 +15,7 @@ mod message;
 mod runs;
 mod selection;
 mod session;
+mod settings;
 mod steep;
 mod tables;
 mod wire;
@@ -34,6 +35,7 @@ fn main() -> ExitCode {
         message::measure_all();
         selection::measure_all();
         session::measure_all();
+        settings::measure_all();
         steep::measure_all();
         return ExitCode::SUCCESS;
     }

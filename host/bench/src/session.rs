@@ -143,6 +143,32 @@ pub struct Desk {
     message: Vec<u8>,
 }
 
+/// A call that plans: what tells the numbers of its filter, then what all of them are lent.
+macro_rules! planned {
+    ($desk:ident, $lent:ident, $waiting:expr, $call:ident $(, $numbers:expr)*) => {{
+        let [shared, last_sent, their_heads, their_need, sent] = &mut $desk.hashes;
+        let [heads, need, have, list] = &mut $desk.said;
+        raw::$call(
+            $($numbers,)*
+            &mut $desk.words,
+            shared,
+            last_sent,
+            their_heads,
+            their_need,
+            &$desk.haves,
+            &$desk.bytes,
+            sent,
+            &$lent.table,
+            &$lent.index,
+            $waiting,
+            heads,
+            need,
+            have,
+            list,
+        )
+    }};
+}
+
 impl Desk {
     pub fn fresh() -> Desk {
         Desk {
@@ -156,25 +182,23 @@ impl Desk {
     }
 
     pub fn plan(&mut self, lent: &Indexed, waiting: &[u8]) -> [u64; ANSWER_WORDS] {
-        let [shared, last_sent, their_heads, their_need, sent] = &mut self.hashes;
-        let [heads, need, have, list] = &mut self.said;
-        raw::plan(
-            &mut self.words,
-            shared,
-            last_sent,
-            their_heads,
-            their_need,
-            &self.haves,
-            &self.bytes,
-            sent,
-            &lent.table,
-            &lent.index,
-            waiting,
-            heads,
-            need,
-            have,
-            list,
-        )
+        planned!(self, lent, waiting, plan)
+    }
+
+    /// By bits and probes that are passed, with nothing waiting.
+    pub fn plan_with(&mut self, bits: u64, probes: u64, lent: &Indexed) -> [u64; ANSWER_WORDS] {
+        planned!(self, lent, &[], plan_with, bits, probes)
+    }
+
+    /// By a settings list, with nothing waiting.
+    pub fn plan_settled(
+        &mut self,
+        settings: &[u8],
+        station: u64,
+        version: u64,
+        lent: &Indexed,
+    ) -> [u64; ANSWER_WORDS] {
+        planned!(self, lent, &[], plan_settled, settings, station, version)
     }
 
     /// Writes what was planned, with these chunks; the message's length.

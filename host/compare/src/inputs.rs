@@ -6,6 +6,7 @@ pub mod index;
 pub mod message;
 pub mod selection;
 pub mod session;
+pub mod settings;
 pub mod table;
 
 use crate::model::{number_bytes, prefixed_bytes};

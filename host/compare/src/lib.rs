@@ -14,9 +14,9 @@
 //! (`wire::Difference`, and `filters::Difference` for filters), and there they must
 //! differ.
 //!
-//! A module for each subject: `wire`, `filters`, `tables`, `states`, `messages` and
-//! `selections` (the hashes to send) make the comparisons, and `writes` those of every
-//! call that writes one buffer. `inputs` and `model` have a module for each of them
+//! A module for each subject: `wire`, `filters`, `tables`, `settings`, `states`, `messages`
+//! and `selections` (the hashes to send) make the comparisons, and `writes` those of every
+//! call that writes one buffer and that the crate has. `inputs` and `model` have a module for each of them
 //! too. The models of messages, of hashes to send and of sessions are also held against
 //! the crate alone; the crate's graph can't be had, and its stand-in takes the crate's
 //! place there. `samples` is what is stored of the crate's answers.
@@ -39,6 +39,7 @@ pub mod scale;
 pub mod scenarios;
 pub mod selections;
 pub mod sessions;
+pub mod settings;
 pub mod stack;
 pub mod states;
 pub mod tables;

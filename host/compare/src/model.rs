@@ -9,6 +9,7 @@ pub mod plan;
 pub mod receive;
 pub mod selection;
 pub mod session;
+pub mod settings;
 pub mod state;
 pub mod table;
 pub mod walk;

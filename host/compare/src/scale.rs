@@ -13,6 +13,7 @@ mod report;
 pub mod script;
 mod selections;
 mod sessions;
+mod settings;
 mod smallest;
 mod states;
 mod tables;

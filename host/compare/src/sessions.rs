@@ -9,11 +9,12 @@ pub mod published;
 
 use crate::inputs::session::{Hearing, Saying};
 use crate::inputs::shown;
-use crate::model::plan::{self, Plan, Planned};
+use crate::model::plan::{self, Plan, Planned, A_MESSAGE};
 use crate::model::receive::{self, Received, Said};
 use crate::model::session::Value;
 use crate::model::state::READ_ONLY;
 use crate::model::table::{self, Table};
+use crate::sessions::library::PlanLeft;
 use crate::tables::document;
 use crate::tally::Tally;
 use crate::units::table_of;
@@ -47,7 +48,7 @@ pub fn compare_plans(steps: &[Saying]) -> Result<Tally, String> {
     for step in steps {
         let table = good_table(&step.table);
         let waiting = table::waiting(&table, &step.waiting).expect("a good table");
-        let Ok(planned) = plan::planned(&table, &waiting, &step.session) else {
+        let Ok(planned) = plan::planned(plan::OF_THE_CRATE, &table, &waiting, &step.session) else {
             tally.count(APART);
             continue;
         };
@@ -76,6 +77,20 @@ pub fn same_as_the_crate(step: &Saying, plan: Option<&Plan>, after: &Value) -> R
         true => same_session(after, &state).map_err(|why| format!("{step:?}: {why}")),
         false => Err(format!("{step:?}: {message:?} isn't the crate's {said:?}")),
     }
+}
+
+/// That what the library planned is what the crate says, but for the numbers of its own
+/// filter, which may be others here.
+pub fn same_but_for_numbers(step: &Saying, left: &PlanLeft) -> Result<(), String> {
+    let after = left.session.value().expect("a good session");
+    let mut plan = left.plan.clone();
+    // A reset's filter has the crate's numbers in any case.
+    if let (A_MESSAGE, Some(plan)) = (left.answer[1], &mut plan) {
+        let table = good_table(&step.table);
+        let have = || plan::own_have(plan::OF_THE_CRATE, &table, &step.session);
+        plan.haves.iter_mut().for_each(|own| *own = have());
+    }
+    same_as_the_crate(step, plan.as_ref(), &after)
 }
 
 /// That a session is the crate's.

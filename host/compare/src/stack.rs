@@ -5,10 +5,13 @@ mod painted;
 
 use crate::inputs::index::index_of;
 use crate::inputs::message::{filter_string, Draft};
+use crate::inputs::settings::{settings_bytes, LARGEST};
 use crate::inputs::table::{table_bytes, waiting_bytes, Likeness, Shape, WaitingRow};
 use crate::inputs::Random;
 use crate::messages::parts::Chunks;
 use crate::model::number_bytes;
+use crate::model::plan::By;
+use crate::model::settings::{Choice, Setting, RECORD};
 use crate::model::state::{Session, READ_ONLY, V2, WORDS};
 use crate::model::table::{converted, Hash, HASH, NOW, OLD};
 use crate::sessions::lent::Lent;
@@ -21,6 +24,7 @@ use bisquetower::limits::{
 use bisquetower::message::{View, CHUNK_WORDS, HAVE_WORDS};
 use bisquetower::raw;
 use std::collections::BTreeMap;
+use std::sync::Arc;
 
 /// A call on inputs of its own; its answer's words, or what it wrote if it has none.
 pub type Call = Box<dyn Fn() -> Vec<u64> + Send + Sync>;
@@ -54,6 +58,7 @@ pub fn calls() -> Vec<Deep> {
     calls.extend(filters(&mut random));
     calls.extend(tables(&mut random));
     calls.extend(beside_no_index(&mut random));
+    calls.extend(settings());
     calls.extend(states(&mut random));
     calls.extend(messages(&mut random));
     calls.extend(sessions(&mut random));
@@ -270,6 +275,42 @@ fn beside_no_index(random: &mut Random) -> Vec<Deep> {
     ]
 }
 
+/// A list of many records, each of another station.
+fn settings_list() -> Vec<u8> {
+    let choice = Choice {
+        bits: LARGEST.bits,
+        probes: LARGEST.probes,
+        read_only: 1,
+    };
+    let records = (1..=10_000).map(|version| Setting {
+        version,
+        station: version,
+        choice,
+    });
+    settings_bytes(&records.collect::<Vec<_>>())
+}
+
+/// Lists that are good to their end, and ones whose last record is bad.
+fn settings() -> Vec<Deep> {
+    let good = settings_list();
+    let mut bad = good.clone();
+    bad[good.len() - 1] = 1;
+    let mut deep_calls = Vec::new();
+    for list in [good, bad] {
+        let [first, second, third] = [(); 3].map(|()| list.clone());
+        deep_calls.extend([
+            deep("bt_check_settings", move || raw::check_settings(&first)),
+            deep("bt_setting_at", move || {
+                raw::setting_at(&second, 9_999, u64::MAX)
+            }),
+            deep("bt_append_setting", move || {
+                raw::append_setting(&third, 7, 32, 64, 1, &mut [0; RECORD])
+            }),
+        ]);
+    }
+    deep_calls
+}
+
 /// The words of a session in which every list is as long as it may be, with these flags.
 fn full_session(flags: [bool; 7]) -> [u64; WORDS] {
     let full = Session {
@@ -368,6 +409,35 @@ fn messages(random: &mut Random) -> Vec<Deep> {
     ]
 }
 
+/// The three calls that plan, each also with nothing shared, so that the filter is over
+/// all rows. They share what they are lent, which is large.
+fn plans(planning: Planning) -> Vec<Deep> {
+    let mut nothing_shared = planning.clone();
+    nothing_shared.session.words[0] = 0;
+    let mut deep_calls = Vec::new();
+    for planning in [planning, nothing_shared].map(Arc::new) {
+        let settled = By::Settings {
+            list: settings_list(),
+            station: 9_999,
+            version: u64::MAX,
+        };
+        let calls = [
+            ("bt_plan", By::Crate),
+            ("bt_plan_with", By::Passed(LARGEST)),
+            ("bt_plan_settled", settled),
+        ];
+        deep_calls.extend(calls.map(|(name, by)| {
+            let planning = Arc::clone(&planning);
+            let own = move || Planning {
+                by: by.clone(),
+                ..Planning::clone(&planning)
+            };
+            deep(name, move || plan(&own()).answer)
+        }));
+    }
+    deep_calls
+}
+
 /// Sessions in which every list is as long as it may be, over as many rows as there may
 /// be, with and without version 2.
 fn sessions(random: &mut Random) -> Vec<Deep> {
@@ -397,13 +467,14 @@ fn sessions(random: &mut Random) -> Vec<Deep> {
             session.words[3] = (list.len() / HASH) as u64;
             session.their_heads = list;
             let planning = Planning {
+                by: By::Crate,
                 session,
                 table: table_bytes(&rows),
                 index: index_of(&table_bytes(&rows)),
                 waiting,
                 rooms: [TO_SEND_SIZE; 6],
             };
-            deep_calls.push(deep("bt_plan", move || plan(&planning).answer));
+            deep_calls.extend(plans(planning));
         }
         // The last head is unknown, so that all the others are joined: after a load, and by a
         // session that takes no changes without one.

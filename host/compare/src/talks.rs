@@ -5,9 +5,10 @@ use crate::inputs::session::record;
 use crate::inputs::table::Row;
 use crate::inputs::Random;
 use crate::model::message::parse;
+use crate::model::plan::By;
 use crate::model::session::Value;
 use crate::model::table::{Hash, DEPENDENCIES};
-use crate::units::{load, published, Heard, Make, Unit};
+use crate::units::{load, modelled, published, Heard, Make, Unit};
 use crate_under_test::facade::{Automerge, Change, ChangeHash};
 use std::collections::BTreeSet;
 
@@ -68,7 +69,14 @@ impl Pair {
     }
 
     pub fn speak(&mut self, unit: usize) -> Option<Vec<u8>> {
-        let said = self.units[unit].speak();
+        self.speak_by(unit, &By::Crate)
+    }
+
+    pub fn speak_by(&mut self, unit: usize, by: &By) -> Option<Vec<u8>> {
+        let said = match by {
+            By::Crate => self.units[unit].speak(),
+            other => self.units[unit].speak_by(other),
+        };
         self.note(unit, What::Spoke(said.clone()));
         said
     }
@@ -81,7 +89,11 @@ impl Pair {
 
     /// A message of one unit goes to the other; none if it says nothing.
     pub fn send(&mut self, from: usize) -> Option<Vec<u8>> {
-        let message = self.speak(from)?;
+        self.send_by(from, &By::Crate)
+    }
+
+    fn send_by(&mut self, from: usize, by: &By) -> Option<Vec<u8>> {
+        let message = self.speak_by(from, by)?;
         self.hear(1 - from, &message);
         Some(message)
     }
@@ -89,9 +101,14 @@ impl Pair {
     /// The units take turns until both are silent, or for too long: how many
     /// messages there were.
     pub fn talk(&mut self, first: usize) -> usize {
+        self.talk_by(first, |_| By::Crate)
+    }
+
+    /// The same, and each unit is told by which numbers it speaks, each time.
+    pub fn talk_by(&mut self, first: usize, mut by: impl FnMut(usize) -> By) -> usize {
         let (mut messages, mut silent, mut turn) = (0, 0, first);
         while silent < 2 && messages < TOO_LONG {
-            match self.send(turn) {
+            match self.send_by(turn, &by(turn)) {
                 Some(_) => (messages, silent) = (messages + 1, 0),
                 None => silent += 1,
             }
@@ -123,17 +140,22 @@ const PAIRS: usize = 3;
 /// Has the same done by two units of the crate, and by pairs of which one or both are
 /// of another kind. Every step must be the same. Returns the crate's.
 pub fn compare_pairs(make: Make, run: impl Fn([Make; 2]) -> Vec<Step>) -> Vec<Step> {
-    let crates = run([published, published]);
-    let pairs: [[Make; 2]; PAIRS] = [[make, make], [make, published], [published, make]];
+    compare_kinds(make, published, run)
+}
+
+/// The same beside two units of another kind than the crate's. Returns theirs.
+fn compare_kinds(make: Make, beside: Make, run: impl Fn([Make; 2]) -> Vec<Step>) -> Vec<Step> {
+    let others = run([beside, beside]);
+    let pairs: [[Make; 2]; PAIRS] = [[make, make], [make, beside], [beside, make]];
     for (number, makes) in pairs.into_iter().enumerate() {
         let steps = run(makes);
-        let differs = |k: &usize| steps.get(*k) != crates.get(*k);
-        if let Some(k) = (0..steps.len().max(crates.len())).find(differs) {
-            let (ours, theirs) = (steps.get(k), crates.get(k));
-            panic!("pair {number}, step {k}: {ours:?} isn't the crate's {theirs:?}");
+        let differs = |k: &usize| steps.get(*k) != others.get(*k);
+        if let Some(k) = (0..steps.len().max(others.len())).find(differs) {
+            let (ours, theirs) = (steps.get(k), others.get(k));
+            panic!("pair {number}, step {k}: {ours:?} isn't the others' {theirs:?}");
         }
     }
-    crates
+    others
 }
 
 /// What sessions two units start with.
@@ -283,6 +305,31 @@ pub fn talks(make: Make, random: &mut Random, count: usize, rows: usize) -> usiz
             pair.steps
         };
         compared += PAIRS * compare_pairs(make, run).len();
+    }
+    compared
+}
+
+/// Has `count` random pairs talk until both are silent, by numbers that are others at each
+/// end and each time; the crate has no others, so the units beside them are the model's.
+/// Counts the steps that were compared. Those whose sessions aren't odd come to hold the
+/// same rows.
+pub fn talks_by(make: Make, random: &mut Random, count: usize, rows: usize) -> usize {
+    let mut compared = 0;
+    for _ in 0..count {
+        let sessions = random.of(&SESSIONS);
+        let starts = random.starts(rows, sessions);
+        let (first, seed) = (random.below(2), random.word());
+        let run = |makes| {
+            let mut random = Random(seed);
+            let mut pair = Pair::new(makes, starts.clone());
+            let messages = pair.talk_by(first, |_| random.by_good());
+            if sessions != Sessions::Any {
+                assert!(messages < TOO_LONG);
+                assert_eq!(pair.held(0), pair.held(1));
+            }
+            pair.steps
+        };
+        compared += PAIRS * compare_kinds(make, modelled, run).len();
     }
     compared
 }

@@ -12,7 +12,7 @@ pub use published::published;
 
 use crate::inputs::message::OwnParts;
 use crate::inputs::table::{table_bytes, waiting_bytes, Row, WaitingRow};
-use crate::model::plan::Plan;
+use crate::model::plan::{By, Plan};
 use crate::model::session::{laid, Value};
 use crate_under_test::facade::{Automerge, Change, ChangeHash};
 use crate_under_test::PatchLog;
@@ -28,6 +28,12 @@ pub enum Heard {
 pub trait Unit {
     /// The bytes of what it says next, if there is something to say.
     fn speak(&mut self) -> Option<Vec<u8>>;
+
+    /// The same with a filter of other numbers. The crate's own unit has no other.
+    fn speak_by(&mut self, by: &By) -> Option<Vec<u8>> {
+        assert_eq!(*by, By::Crate, "this unit has the crate's numbers");
+        self.speak()
+    }
 
     fn hear(&mut self, message: &[u8]) -> Heard;
 

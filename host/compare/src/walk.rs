@@ -6,14 +6,13 @@ pub mod outside;
 
 use crate::inputs::table::{table_bytes, Row, SHAPES};
 use crate::inputs::Random;
-use crate::model::filter::{DEFAULT_BITS, DEFAULT_PROBES};
-use crate::model::plan::Plan;
+use crate::model::plan::{By, Plan, OF_THE_CRATE};
 use crate::model::session::Value;
 use crate::model::table::{table, Hash};
 use crate::model::walk::{Giving, Stated, Walk};
 use crate::sessions::published::plan_of;
 use crate::talks::{document_of, Pair};
-use crate::units::{Heard, Make};
+use crate::units::{proved, published, Heard, Make};
 use crate_under_test::facade::Message;
 use std::collections::{BTreeMap, BTreeSet};
 use std::fmt;
@@ -32,11 +31,11 @@ pub struct Apart {
 }
 
 impl Apart {
-    /// Two fresh units of a kind.
-    pub fn pair(&self, make: Make) -> Pair {
+    /// Two fresh units of these kinds.
+    pub fn pair(&self, makes: [Make; 2]) -> Pair {
         let all: Vec<usize> = (0..self.rows.len()).collect();
         let fresh = |rows: &[usize]| (document_of(&self.rows, rows), Value::default());
-        Pair::new([make; 2], [fresh(&all), fresh(&self.held)])
+        Pair::new(makes, [fresh(&all), fresh(&self.held)])
     }
 
     /// The walk before its first round.
@@ -140,11 +139,22 @@ pub struct CaughtUp {
 /// validator first. Everything that they say and keep is the walk's. None if a reply
 /// goes as the document, which ends what is promised.
 pub fn catch_up(make: Make, apart: &Apart) -> Option<CaughtUp> {
-    let (mut pair, mut walk) = (apart.pair(make), apart.walk());
+    catch_up_by([make; 2], apart, |_| By::Crate)
+}
+
+/// The same of units of two kinds, each of which is told by which numbers it speaks, in
+/// each round.
+pub fn catch_up_by(
+    makes: [Make; 2],
+    apart: &Apart,
+    mut by: impl FnMut(usize) -> By,
+) -> Option<CaughtUp> {
+    let (mut pair, mut walk) = (apart.pair(makes), apart.walk());
     let mut promised = Promised::of(&walk);
     let mut replies = Vec::new();
     while replies.is_empty() || walk.lacks() > 0 {
-        let reply = round(&mut pair, &mut walk, &mut promised)?;
+        let bys = [by(STATION), by(VALIDATOR)];
+        let reply = round(&mut pair, &mut walk, &mut promised, &bys)?;
         replies.push(reply);
     }
     promised.look_at_the_end();
@@ -152,22 +162,42 @@ pub fn catch_up(make: Make, apart: &Apart) -> Option<CaughtUp> {
     Some(CaughtUp { lacking, replies })
 }
 
+/// A catch-up of units of the library, of which one now and then is the crate's, by
+/// numbers that are others at each end and in each round; the crate's are 10 and 7.
+pub fn catch_up_freely(random: &mut Random, apart: &Apart) -> Option<CaughtUp> {
+    let mut makes: [Make; 2] = [proved; 2];
+    let crates = random.below(4);
+    if let Some(make) = makes.get_mut(crates) {
+        *make = published;
+    }
+    catch_up_by(makes, apart, |unit| match unit == crates {
+        true => By::Crate,
+        false => random.by_good(),
+    })
+}
+
 /// One round of both; the reply.
-fn round(pair: &mut Pair, walk: &mut Walk, promised: &mut Promised) -> Option<Vec<Hash>> {
+fn round(
+    pair: &mut Pair,
+    walk: &mut Walk,
+    promised: &mut Promised,
+    bys: &[By; 2],
+) -> Option<Vec<Hash>> {
+    let numbers = bys[VALIDATOR].numbers().expect("good numbers");
     let giving = Giving {
         last_sync: pair.units[VALIDATOR].session().shared,
-        bits: DEFAULT_BITS,
-        probes: DEFAULT_PROBES,
+        bits: numbers.bits,
+        probes: numbers.probes,
     };
-    let stated = walk.state(&giving);
-    let (_, asked) = send(pair, VALIDATOR);
+    let stated = read_back(walk.state(&giving));
+    let (_, asked) = send(pair, VALIDATOR, bys);
     assert_eq!(stated_in(&asked), stated);
     assert_eq!((asked.document, asked.hashes), (false, Vec::new()));
 
     let offer = walk.offer(&stated);
     let sent = pair.units[STATION].session().sent;
     assert_eq!(&sent, walk.sent(), "T, without what the validator has");
-    let (reply, answered) = speak(pair, STATION);
+    let (reply, answered) = speak(pair, STATION, bys);
     if answered.document {
         return None;
     }
@@ -184,17 +214,29 @@ fn round(pair: &mut Pair, walk: &mut Walk, promised: &mut Promised) -> Option<Ve
 }
 
 /// What a unit says, which it must, and what that says.
-fn speak(pair: &mut Pair, unit: usize) -> (Vec<u8>, Plan) {
-    let message = pair.speak(unit).expect("it has something to say");
+fn speak(pair: &mut Pair, unit: usize, bys: &[By; 2]) -> (Vec<u8>, Plan) {
+    let message = pair.speak_by(unit, &bys[unit]);
+    let message = message.expect("it has something to say");
     let plan = plan_of(&Message::decode(&message).expect("a good message"));
     (message, plan)
 }
 
 /// Has a unit say its next message, and the other one hear it.
-fn send(pair: &mut Pair, unit: usize) -> (Vec<u8>, Plan) {
-    let (message, plan) = speak(pair, unit);
+fn send(pair: &mut Pair, unit: usize, bys: &[By; 2]) -> (Vec<u8>, Plan) {
+    let (message, plan) = speak(pair, unit, bys);
     assert_eq!(pair.hear(1 - unit, &message), Heard::Taken);
     (message, plan)
+}
+
+/// As it comes from bytes: a filter of no entries is written as no bytes, which are read as
+/// one with the crate's numbers.
+fn read_back(mut stated: Stated) -> Stated {
+    if let Some(have) = &mut stated.have {
+        if have.numbers[0] == 0 {
+            have.numbers = [0, OF_THE_CRATE.bits, OF_THE_CRATE.probes];
+        }
+    }
+    stated
 }
 
 fn stated_in(plan: &Plan) -> Stated {
@@ -223,8 +265,8 @@ pub fn walk_freely(random: &mut Random, apart: &Apart) -> CaughtUp {
         let held: Vec<Hash> = walk.held().into_iter().collect();
         let giving = Giving {
             last_sync: (0..random.below(4)).map(|_| random.of(&held)).collect(),
-            bits: 1 + random.below(12) as u64,
-            probes: random.below(9) as u64,
+            bits: 1 + random.below(32) as u64,
+            probes: random.below(65) as u64,
         };
         let stated = walk.state(&giving);
         let mut reply = walk.offer(&stated);

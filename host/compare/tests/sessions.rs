@@ -4,6 +4,8 @@
 
 #[path = "sessions/literal.rs"]
 mod literal;
+#[path = "sessions/numbers.rs"]
+mod numbers;
 #[path = "sessions/random.rs"]
 mod random;
 #[path = "sessions/refused_plans.rs"]

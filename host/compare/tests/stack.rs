@@ -58,7 +58,13 @@ fn what_is_taken_is_within_the_promise() {
 }
 
 /// The functions whose calls take more than the smallest stack that a thread can have.
-const DEEP: [&str; 3] = ["bt_missing", "bt_plan", "bt_receive"];
+const DEEP: [&str; 5] = [
+    "bt_missing",
+    "bt_plan",
+    "bt_plan_with",
+    "bt_plan_settled",
+    "bt_receive",
+];
 
 /// On the stack that it takes a call is answered; on the next smaller one, and on others
 /// below it, the program that makes it ends at the guard below the stack. Where the library

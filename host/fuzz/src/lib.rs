@@ -1,11 +1,19 @@
 //! What is compared of the bytes that libFuzzer makes. A difference panics.
 
 use compare::filters::{compare_reads as compare_filters, Build, Haves, Part};
+use compare::guarded::FILLS;
 use compare::inputs::index::Beside;
+use compare::inputs::settings::settings_bytes;
 use compare::inputs::table::{table_bytes, Row};
 use compare::messages::{compare as compare_messages, compare_lists};
 use compare::model::filter::{self, Filter};
+use compare::model::plan::{By, Numbers};
+use compare::model::session::Value;
+use compare::model::settings::{Choice, Setting};
 use compare::scale::script;
+use compare::sessions::lent::Lent;
+use compare::sessions::library::{compare_plans, Planning};
+use compare::settings::{compare as compare_settings, Call as SettingsCall};
 use compare::states::{compare_reads as compare_states, Reading};
 use compare::tables::{compare as compare_tables, Call, Rooms};
 use compare::writes::{compare_rooms, Write};
@@ -125,6 +133,70 @@ pub fn table(data: &[u8]) {
     let calls = calls.chain(alone);
     let calls: Vec<(Call, Rooms)> = calls.map(|call| (call, Rooms::Enough)).collect();
     agreed(compare_tables(&calls));
+}
+
+/// How many records a list has; a station, a version, bits, probes and read-only to ask and
+/// append; of each record four bytes, how far its version is from the one before, its
+/// station, its bits, and its probes with read-only as their highest bit; and what stands
+/// behind the records. The three calls on the list, and a plan by it.
+pub fn settings(data: &[u8]) {
+    let [count, station, version, bits, probes, read_only, rest @ ..] = data else {
+        return;
+    };
+    let (records, behind) = rest.split_at((4 * usize::from(*count)).min(rest.len()));
+    let mut before = 0;
+    let record = |four: &[u8]| {
+        before += u64::from(four[0]);
+        Setting {
+            version: before,
+            station: four[1].into(),
+            choice: Choice {
+                bits: four[2].into(),
+                probes: u64::from(four[3] & 127),
+                read_only: u64::from(four[3] >> 7),
+            },
+        }
+    };
+    let records: Vec<Setting> = records.chunks_exact(4).map(record).collect();
+    let list = [settings_bytes(&records), behind.to_vec()].concat();
+    let [station, version] = [station, version].map(|byte| u64::from(*byte));
+    let [bits, probes, read_only] = [bits, probes, read_only].map(|byte| u64::from(*byte));
+    let choice = Choice {
+        bits,
+        probes,
+        read_only,
+    };
+    let settings = &list[..];
+    let calls = [
+        SettingsCall::Check { settings },
+        SettingsCall::At {
+            settings,
+            station,
+            version,
+        },
+        SettingsCall::Append {
+            settings,
+            station,
+            choice,
+        },
+    ];
+    agreed(compare_settings(&calls.map(|call| (call, Rooms::Around))));
+    let row = |first: u8, dependencies: Vec<usize>| Row {
+        hash: [first; 32],
+        dependencies,
+    };
+    let table = table_bytes(&[row(9, vec![]), row(4, vec![0]), row(6, vec![0])]);
+    let passed = By::Passed(Numbers { bits, probes });
+    let settled = By::Settings {
+        list,
+        station,
+        version,
+    };
+    let plans = [passed, settled].map(|by| {
+        let session = Lent::laid(&Value::default());
+        Planning::by(by, session, table.clone(), Vec::new())
+    });
+    agreed(compare_plans(&plans, &FILLS));
 }
 
 /// A session script.

@@ -1,16 +1,18 @@
 //! Document 01's "Writing follows `generate_sync_message` step by step": what a unit
-//! says next, the session after it, and the buffers and words of the call.
+//! says next, the session after it, and the buffers and words of the call; and by which
+//! bits and probes its filter is built (02, M-107).
 
-use super::filter::{DEFAULT_BITS, DEFAULT_PROBES};
+use super::filter::{field_size, keeps_rules, DEFAULT_BITS, DEFAULT_PROBES};
 use super::have::{Have, OwnHave};
 use super::selection::chosen;
 use super::session::{laid, put, short, Value};
+use super::settings::setting_at;
 use super::state::{
     Lists, HAVE_RESPONDED, IN_FLIGHT, NEEDS_RESET, PEER_READ_ONLY, READ_ONLY, RESET, V2, WORDS,
 };
 use super::table::{self, Hash, Table, Waiting};
 use super::Refused;
-use bisquetower::limits::SENT_HASHES;
+use bisquetower::limits::{ROWS, SENT_HASHES};
 
 /// "reset 1, read-only 2, supports reset 4".
 pub const FLAG_RESET: u64 = 1;
@@ -24,6 +26,73 @@ pub const ANSWER_WORDS: usize = 16;
 pub const NOTHING: u64 = 0;
 pub const A_RESET: u64 = 1;
 pub const A_MESSAGE: u64 = 2;
+
+/// Bits per entry and probes of the filter that a plan builds.
+#[derive(Clone, Copy, Debug, PartialEq, Eq)]
+pub struct Numbers {
+    pub bits: u64,
+    pub probes: u64,
+}
+
+/// The crate's 10 and 7.
+pub const OF_THE_CRATE: Numbers = Numbers {
+    bits: DEFAULT_BITS,
+    probes: DEFAULT_PROBES,
+};
+
+impl Numbers {
+    /// Whether a filter over every number of rows keeps the filter rules: over none, over
+    /// one, and over the most, which has the largest field.
+    pub fn keep_rules(self) -> bool {
+        let Numbers { bits, probes } = self;
+        let over = |rows: u64| keeps_rules(rows, bits, probes, field_size(rows, bits));
+        [0, 1, ROWS as u64].into_iter().all(over)
+    }
+}
+
+/// How a call knows the numbers of its filter.
+#[derive(Clone, Debug, PartialEq, Eq)]
+pub enum By {
+    /// They are the crate's.
+    Crate,
+    /// They are passed.
+    Passed(Numbers),
+    /// They are a station's, at a version of a settings list.
+    Settings {
+        list: Vec<u8>,
+        station: u64,
+        version: u64,
+    },
+}
+
+impl By {
+    /// "10" for numbers that are passed, before all else.
+    fn passed(&self) -> Result<(), Refused> {
+        match self {
+            By::Passed(numbers) if !numbers.keep_rules() => Err((10, 0)),
+            _ => Ok(()),
+        }
+    }
+
+    /// The numbers; "14, bad settings list, with its first bad record".
+    pub fn numbers(&self) -> Result<Numbers, Refused> {
+        match self {
+            By::Crate => Ok(OF_THE_CRATE),
+            By::Passed(numbers) => Ok(*numbers),
+            By::Settings {
+                list,
+                station,
+                version,
+            } => {
+                let choice = setting_at(list, *station, *version)?;
+                Ok(Numbers {
+                    bits: choice.bits,
+                    probes: choice.probes,
+                })
+            }
+        }
+    }
+}
 
 /// A message but for its chunks: the hashes of the body, and whether that is the
 /// document.
@@ -48,8 +117,14 @@ pub enum Planned {
 }
 
 /// What is planned over good tables: 4 for a need that is too long, "even before a
-/// reset or silence", and for too many sent hashes only where something is said.
-pub fn planned(table: &Table, waiting: &Waiting, s: &Value) -> Result<Planned, Refused> {
+/// reset or silence", and for too many sent hashes only where something is said. The
+/// numbers keep the filter rules.
+pub fn planned(
+    numbers: Numbers,
+    table: &Table,
+    waiting: &Waiting,
+    s: &Value,
+) -> Result<Planned, Refused> {
     let heads = table.heads(table.rows.len()).expect("all rows");
     let heard = s.their_heads.clone().unwrap_or_default();
     let need = match s.is(READ_ONLY) {
@@ -94,7 +169,10 @@ pub fn planned(table: &Table, waiting: &Waiting, s: &Value) -> Result<Planned, R
         flags,
         heads: said,
         need,
-        haves: gives.then(|| own_have(table, s)).into_iter().collect(),
+        haves: gives
+            .then(|| own_have(numbers, table, s))
+            .into_iter()
+            .collect(),
         document,
         hashes,
     };
@@ -125,9 +203,9 @@ fn reset(heads: Vec<Hash>) -> Plan {
 }
 
 /// The shared heads as they stand, and a filter over the rows beyond them.
-fn own_have(table: &Table, s: &Value) -> OwnHave {
+pub fn own_have(numbers: Numbers, table: &Table, s: &Value) -> OwnHave {
     let beyond = table.beyond(&s.shared);
-    OwnHave::over(s.shared.clone(), DEFAULT_BITS, DEFAULT_PROBES, &beyond)
+    OwnHave::over(s.shared.clone(), numbers.bits, numbers.probes, &beyond)
 }
 
 /// "none, a list, or the whole document (list longer than rows / 3 rounded down and
@@ -153,18 +231,20 @@ fn body(table: &Table, s: &Value) -> (bool, Vec<Hash>) {
 }
 
 /// The plan over what is lent: "10, 6, 9", each table's 4 just before its rows, and 12
-/// "directly after 6".
+/// "directly after 6"; then 14 of a settings list, "after 11", which a plan hasn't.
 pub fn of_lent(
+    by: &By,
     words: &[u64; WORDS],
     lists: &Lists,
     table: &[u8],
     index: &[u8],
     waiting: &[u8],
 ) -> Result<Planned, Refused> {
+    by.passed()?;
     let s = Value::of(words, lists)?;
     let table = table::indexed(table, index)?;
     let waiting = table::waiting(&table, waiting)?;
-    planned(&table, &waiting, &s)
+    planned(by.numbers()?, &table, &waiting, &s)
 }
 
 /// The buffers that a call writes, in the order in which their room is tested.

@@ -2,7 +2,8 @@
 //! those of another.
 
 use super::case::Kind;
-use super::{filters, messages, selections, sessions, states, tables, wire};
+use super::{filters, messages, selections, sessions, settings, states, tables, wire};
+use crate::model::settings::RECORD;
 use bisquetower::limits::{HASH_SIZE, ROW_SIZE, WAITING_ROW_SIZE};
 
 const AT_END: &[&str] = &["at", "end"];
@@ -122,6 +123,14 @@ pub const KINDS: &[Kind] = &[
         held: tables::calls,
     },
     Kind {
+        name: "settings",
+        bytes: &[("settings list", RECORD)],
+        numbers: &["station", "version", "bits", "probes", "read-only", "room"],
+        a_round: 12_000,
+        make: settings::settings,
+        held: settings::calls,
+    },
+    Kind {
         name: "hashes to send",
         bytes: &[],
         numbers: CHOICE,
@@ -154,6 +163,14 @@ pub const KINDS: &[Kind] = &[
         held: sessions::plan,
     },
     Kind {
+        name: "plans by settings",
+        bytes: &[],
+        numbers: UNIT,
+        a_round: 1_000,
+        make: sessions::unit,
+        held: sessions::plan_by,
+    },
+    Kind {
         name: "receipts",
         bytes: &[],
         numbers: UNIT,
@@ -168,6 +185,22 @@ pub const KINDS: &[Kind] = &[
         a_round: 60,
         make: sessions::two_units,
         held: sessions::talk,
+    },
+    Kind {
+        name: "talks by settings",
+        bytes: &[],
+        numbers: UNIT,
+        a_round: 40,
+        make: sessions::two_units,
+        held: sessions::talk_by,
+    },
+    Kind {
+        name: "catch-ups by settings",
+        bytes: &[],
+        numbers: UNIT,
+        a_round: 200,
+        make: sessions::two_units,
+        held: sessions::catch_up,
     },
     Kind {
         name: "scripts",

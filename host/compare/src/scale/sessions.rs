@@ -4,15 +4,19 @@ use super::case::{apart, Case, Compared};
 use super::script;
 use crate::guarded::FILLS;
 use crate::inputs::Random;
+use crate::model::plan::By;
 use crate::model::state::{checked, Session, WORDS};
 use crate::model::table::{ROW, ROWS};
 use crate::same_answer;
 use crate::sessions::lent::Lent;
-use crate::sessions::library::{compare_plans, compare_receipts, Planning, Receiving};
-use crate::sessions::{publish, same_as_the_crate, same_session};
+use crate::sessions::library::{
+    compare_plans, compare_receipts, same_as_plan, Planning, Receiving,
+};
+use crate::sessions::{publish, same_but_for_numbers, same_session};
 use crate::states::{check_many, published, words_of};
-use crate::talks::talks;
+use crate::talks::{talks, talks_by};
 use crate::units::proved;
+use crate::walk::catch_up_freely;
 use bisquetower::raw;
 use std::ops::Range;
 
@@ -90,8 +94,19 @@ pub fn check(case: &Case) -> Compared {
 /// What a unit says next: beside the model's in every word and byte, and beside the
 /// crate's if nothing is spoilt.
 pub fn plan(case: &Case) -> Compared {
+    planned(case, |_| By::Crate)
+}
+
+/// The same by numbers that are passed or stand in a settings list; where these are the
+/// crate's, beside `bt_plan` too.
+pub fn plan_by(case: &Case) -> Compared {
+    planned(case, Random::by)
+}
+
+fn planned(case: &Case, by: fn(&mut Random) -> By) -> Compared {
     let (mut random, rows) = drawn(case);
     let saying = random.saying(rows);
+    let by = by(&mut random);
     let mut session = Lent::in_guise(&saying.session, &mut random);
     let (mut table, mut waiting) = (saying.table.clone(), saying.waiting.clone());
     let spoilt = random.one_in(5);
@@ -102,18 +117,18 @@ pub fn plan(case: &Case) -> Compared {
             _ => random.damage(&mut waiting),
         }
     }
-    let mut planning = Planning::new(session, table, waiting);
+    let mut planning = Planning::by(by, session, table, waiting);
     if random.one_in(10) {
         planning.index = random.other_index(&planning.table);
     }
     if random.one_in(3) {
         resize(&mut random, &mut planning.rooms);
     }
-    let left = compare_plans(&[planning.clone(), planning], &FILLS)?;
+    let left = compare_plans(&[planning.clone(), planning.clone()], &FILLS)?;
     let left = &left[0];
+    same_as_plan(&planning)?;
     if left.answer[0] == 0 && !spoilt {
-        let after = left.session.value().expect("a good session");
-        same_as_the_crate(&saying, left.plan.as_ref(), &after)?;
+        same_but_for_numbers(&saying, left)?;
     }
     Ok(apart(left.answer[0]))
 }
@@ -164,6 +179,22 @@ pub fn receive(case: &Case) -> Compared {
 pub fn talk(case: &Case) -> Compared {
     let (mut random, rows) = drawn(case);
     talks(proved, &mut random, 1, rows.len());
+    Ok(false)
+}
+
+/// Two units that talk so by numbers that are others at each end and each time, beside
+/// two of the model.
+pub fn talk_by(case: &Case) -> Compared {
+    let (mut random, rows) = drawn(case);
+    talks_by(proved, &mut random, 1, rows.len());
+    Ok(false)
+}
+
+/// A catch-up by such numbers, beside the walk.
+pub fn catch_up(case: &Case) -> Compared {
+    let (mut random, rows) = drawn(case);
+    let apart = random.apart(3..3 + rows.len());
+    catch_up_freely(&mut random, &apart);
     Ok(false)
 }
 

@@ -4,7 +4,7 @@
 mod planning;
 mod receiving;
 
-pub use planning::{compare_plans, plan, plan_answer, PlanLeft, Planning};
+pub use planning::{compare_plans, plan, plan_answer, same_as_plan, PlanLeft, Planning};
 pub use receiving::{compare_receipts, receive, receive_answer, ReceiptLeft, Receiving};
 
 use crate::model::state::WORDS;

@@ -2,7 +2,7 @@
 
 use super::{load, parts_for, table_of, waiting_of, Heard, Unit};
 use crate::model::message;
-use crate::model::plan::{self, Planned};
+use crate::model::plan::{self, By, Planned};
 use crate::model::receive::{self, Received, Said};
 use crate::model::session::Value;
 use crate::model::state::{self, READ_ONLY, WORDS};
@@ -21,9 +21,15 @@ pub fn modelled(document: Automerge, session: Value) -> Box<dyn Unit> {
 
 impl Unit for Modelled {
     fn speak(&mut self) -> Option<Vec<u8>> {
+        self.speak_by(&By::Crate)
+    }
+
+    fn speak_by(&mut self, by: &By) -> Option<Vec<u8>> {
         let table = table::table(&table_of(&self.document)).expect("a good table");
         let waiting = table::waiting(&table, &waiting_of(&self.document)).expect("a good table");
-        let planned = plan::planned(&table, &waiting, &self.session).expect("within the limits");
+        let numbers = by.numbers().expect("a good list");
+        let planned = plan::planned(numbers, &table, &waiting, &self.session);
+        let planned = planned.expect("within the limits");
         let plan = match planned {
             Planned::Nothing => return None,
             Planned::Reset(plan) => plan,

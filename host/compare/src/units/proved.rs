@@ -6,6 +6,7 @@ use crate::guarded::FILLS;
 use crate::inputs::index::index_of;
 use crate::messages::parts;
 use crate::model::message;
+use crate::model::plan::By;
 use crate::model::session::Value;
 use crate::model::state::{READ_ONLY, WORDS};
 use crate::model::table::ROW;
@@ -62,8 +63,12 @@ impl Proved {
 
 impl Unit for Proved {
     fn speak(&mut self) -> Option<Vec<u8>> {
+        self.speak_by(&By::Crate)
+    }
+
+    fn speak_by(&mut self, by: &By) -> Option<Vec<u8>> {
         let (table, waiting) = (self.indexed(), waiting_of(&self.document));
-        let mut planning = Planning::new(self.session.clone(), table, waiting);
+        let mut planning = Planning::by(by.clone(), self.session.clone(), table, waiting);
         planning.index.clone_from(&self.index);
         let left = compare_plans(&[planning], &FILLS).unwrap_or_else(|why| panic!("{why}"));
         let left = left.into_iter().next().expect("one answer");

@@ -97,7 +97,7 @@ pub fn talks(make: Make, random: &mut Random, case: Case, count: usize) -> Seen 
     let mut seen = Seen::default();
     for _ in 0..count {
         let apart = random.outside(case);
-        let mut pair = apart.pair(make);
+        let mut pair = apart.pair([make; 2]);
         seen.lacking += pair.held(STATION).len() - pair.held(VALIDATOR).len();
         let messages = talk(random, &mut pair, case, UNQUIET, &mut seen);
         seen.messages.push(messages);

@@ -3,6 +3,7 @@
 use crate::{count, stored};
 use compare::inputs::index::index_of;
 use compare::inputs::table::waiting_bytes;
+use compare::model::plan::By;
 use compare::samples::sessions::{lists_of, Record, Step, KINDS, OF_EACH};
 use compare::sessions::lent::Lent;
 use compare::sessions::library::{plan, receive, Planning, Receiving};
@@ -23,6 +24,7 @@ fn the_library_takes_the_steps() {
                 lists,
             } => {
                 let left = plan(&Planning {
+                    by: By::Crate,
                     session,
                     table,
                     index,

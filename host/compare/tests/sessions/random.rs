@@ -5,11 +5,14 @@ use bisquetower::limits::{ROWS, ROW_SIZE as ROW};
 use compare::guarded::FILLS;
 use compare::inputs::session::{Hearing, Saying};
 use compare::inputs::{Random, Seed};
+use compare::model::plan::By;
 use compare::model::state::WORDS;
 use compare::scaled;
 use compare::sessions::lent::Lent;
-use compare::sessions::library::{compare_plans, compare_receipts, Planning, Receiving};
-use compare::sessions::{publish, same_as_the_crate, same_session};
+use compare::sessions::library::{
+    compare_plans, compare_receipts, same_as_plan, Planning, Receiving,
+};
+use compare::sessions::{publish, same_but_for_numbers, same_session};
 use compare::tables::ANSWERS;
 use std::ops::Range;
 
@@ -40,6 +43,18 @@ fn spoil(random: &mut Random, session: &mut Lent) {
 }
 
 fn plan_steps(random: &mut Random, batches: usize, of: usize, rows: Range<usize>) -> Seen {
+    plan_steps_by(|_| By::Crate, random, batches, of, rows)
+}
+
+/// The same by numbers that are told each time: those that are the crate's are also held
+/// against `bt_plan`, and the others against the crate but for their filters.
+fn plan_steps_by(
+    by: fn(&mut Random) -> By,
+    random: &mut Random,
+    batches: usize,
+    of: usize,
+    rows: Range<usize>,
+) -> Seen {
     let mut seen = Seen::default();
     for _ in 0..batches {
         let sayings: Vec<Saying> = (0..of).map(|_| random.saying(rows.clone())).collect();
@@ -55,7 +70,7 @@ fn plan_steps(random: &mut Random, batches: usize, of: usize, rows: Range<usize>
                     _ => random.damage(&mut waiting),
                 }
             }
-            let mut planning = Planning::new(session, table, waiting);
+            let mut planning = Planning::by(by(random), session, table, waiting);
             if random.one_in(10) {
                 planning.index = random.other_index(&planning.table);
             }
@@ -66,11 +81,13 @@ fn plan_steps(random: &mut Random, batches: usize, of: usize, rows: Range<usize>
         });
         let plannings: Vec<Planning> = plannings.collect();
         let left = compare_plans(&plannings, &FILLS).unwrap_or_else(|why| panic!("{why}"));
+        for planning in &plannings {
+            same_as_plan(planning).unwrap_or_else(|why| panic!("{why}"));
+        }
         for ((saying, left), spoilt) in sayings.iter().zip(&left).zip(spoilt) {
             seen[left.answer[0] as usize] += 1;
             if left.answer[0] == 0 && !spoilt {
-                let after = left.session.value().expect("a good session");
-                let same = same_as_the_crate(saying, left.plan.as_ref(), &after);
+                let same = same_but_for_numbers(saying, left);
                 same.unwrap_or_else(|why| panic!("{why}"));
             }
         }
@@ -139,6 +156,15 @@ fn random_plans() {
     often(&seen, 100, &[0, 6, 7, 9, 10, 12]);
 }
 
+/// By numbers that are passed and by settings lists, good and bad.
+#[test]
+fn random_plans_by_settings() {
+    let seed = Seed::fixed();
+    let batches = scaled(100, 1_000);
+    let seen = plan_steps_by(Random::by, &mut seed.random(4), batches, 200, 0..10);
+    often(&seen, 100, &[0, 6, 7, 9, 10, 12, 14]);
+}
+
 #[test]
 fn random_receipts() {
     let seed = Seed::fixed();
@@ -154,6 +180,8 @@ fn random_large_steps() {
     often(&seen, 20, &[0]);
     let seen = receive_steps(&mut seed.random(3), 4, 20, 300..ROWS + 1);
     often(&seen, 20, &[0]);
+    let seen = plan_steps_by(Random::by, &mut seed.random(5), 4, 20, 300..ROWS + 1);
+    often(&seen, 20, &[0]);
 }
 
 /// A few with another seed each time.
@@ -161,5 +189,6 @@ fn random_large_steps() {
 fn steps_of_a_fresh_seed() {
     let seed = Seed::fresh();
     plan_steps(&mut seed.random(0), 5, 200, 0..12);
+    plan_steps_by(Random::by, &mut seed.random(2), 5, 200, 0..12);
     receive_steps(&mut seed.random(1), 5, 200, 0..12);
 }

@@ -2,8 +2,12 @@
 
 use crate::{hash, hashes, planning, table};
 use bisquetower::limits::{LIST_SIZE, SENT_HASHES, SENT_SIZE};
+use compare::inputs::settings::{settings_bytes, LARGEST, LEAST};
 use compare::inputs::table::{waiting_bytes, WaitingRow};
+use compare::inputs::Random;
+use compare::model::plan::{By, Numbers};
 use compare::model::session::Value;
+use compare::model::settings::{Setting, RECORD};
 use compare::model::state::{HAVE_RESPONDED, IN_FLIGHT, READ_ONLY};
 use compare::model::table::{DEPENDENCIES, HASHES, ROW, ROWS, WAITING_ROW, WAITING_ROWS};
 use compare::sessions::lent::Lent;
@@ -103,6 +107,112 @@ fn refused(planning: &Planning, why: &str, (number, value): (u64, u64)) {
 
 #[test]
 fn refusals_in_their_order() {
+    in_their_order(&By::Crate);
+}
+
+/// By good numbers that are passed, and by a good list, they are the same.
+#[test]
+fn refusals_in_their_order_by_other_numbers() {
+    in_their_order(&By::Passed(LEAST));
+    in_their_order(&By::Passed(LARGEST));
+    in_their_order(&settled(None));
+}
+
+/// Numbers that are passed come first of all, whatever else is wrong.
+#[test]
+fn bad_numbers_come_first() {
+    for (bits, probes) in [
+        (0, 7),
+        (33, 7),
+        (10, 65),
+        (1 << 32, 7),
+        (10, 1 << 32),
+        (u64::MAX, u64::MAX),
+    ] {
+        let bad = Planning {
+            by: By::Passed(Numbers { bits, probes }),
+            ..sound()
+        };
+        refused(&bad, "numbers alone", (10, 0));
+        for (name, fault, _) in &FAULTS {
+            let mut two = bad.clone();
+            fault(&mut two);
+            refused(&two, name, (10, 0));
+        }
+    }
+}
+
+/// A bad settings list comes behind what is wrong with session, table, index and waiting
+/// table, and before what planning itself refuses.
+#[test]
+fn a_bad_list_behind_the_tables() {
+    let planned = FAULTS.iter().position(|(name, ..)| *name == "a long need");
+    let planned = planned.expect("it stands there");
+    for record in 0..4 {
+        let bad = Planning {
+            by: settled(Some(record)),
+            ..sound()
+        };
+        refused(&bad, "a bad list", (14, record as u64));
+        for (k, (name, fault, refusal)) in FAULTS.iter().enumerate() {
+            let mut two = bad.clone();
+            fault(&mut two);
+            let first = match k < planned {
+                true => *refusal,
+                false => (14, record as u64),
+            };
+            refused(&two, &format!("{name}, a bad list"), first);
+        }
+    }
+}
+
+/// A bad list is a refusal where a good one leads to silence and to a reset too.
+#[test]
+fn a_bad_list_before_a_reset_and_silence() {
+    let mut one = sound();
+    one.session.last_sent = hashes([2, 3]).concat();
+    one.session.words[1] = 2;
+    for flag in [IN_FLIGHT, HAVE_RESPONDED] {
+        one.session.words[9 + flag] = 1;
+    }
+    let mut reset = one.clone();
+    reset.session.words[7] = 1;
+    reset.session.haves = vec![0, 1, 0, 10, 7, 0, 0];
+    reset.session.bytes = hash(999).to_vec();
+    for (what, mut unit) in [(0, one), (1, reset)] {
+        unit.by = settled(None);
+        assert_eq!(plan_answer(&unit)[..2], [0, what]);
+        unit.by = settled(Some(1));
+        refused(&unit, "a bad list", (14, 1));
+    }
+}
+
+/// A list of three records, of which one is bad, or that has a few bytes more.
+fn settled(bad: Option<usize>) -> By {
+    let mut random = Random(6);
+    let settings = [1, 2, 5].map(|version| Setting {
+        version,
+        station: 40,
+        choice: random.choice(),
+    });
+    let mut list = settings_bytes(&settings);
+    match bad {
+        Some(3) => list.push(0),
+        Some(record) => list[RECORD * record + 16] = 2,
+        None => {}
+    }
+    By::Settings {
+        list,
+        station: 40,
+        version: 4,
+    }
+}
+
+fn in_their_order(by: &By) {
+    let sound = || Planning {
+        by: by.clone(),
+        ..sound()
+    };
     assert_eq!(plan_answer(&sound())[..2], [0, 2]);
     for (k, (name, fault, refusal)) in FAULTS.iter().enumerate() {
         let mut one = sound();

@@ -1,10 +1,12 @@
 //! Rows to which the validator's filter says yes, wrongly, every one: their hashes
 //! have the same words.
 
+use compare::inputs::settings::{LARGEST, LEAST};
 use compare::inputs::table::Row;
+use compare::model::plan::By;
 use compare::model::table::Hash;
 use compare::units::proved;
-use compare::walk::{catch_up, Apart};
+use compare::walk::{catch_up_by, Apart};
 
 /// The hash of a row, by which rows lie as their numbers do.
 fn hash(row: usize) -> Hash {
@@ -25,14 +27,19 @@ fn hidden(on: Vec<Vec<usize>>, held: usize) -> Apart {
     }
 }
 
-/// That these are the replies, by the numbers of their rows.
+/// That these are the replies, by the numbers of their rows, with filters of the crate's
+/// numbers, of the least and of the most that are allowed: a filter of any numbers says
+/// yes to a hash whose words are those of one that is in it.
 fn replies(apart: &Apart, expected: &[Vec<usize>]) {
-    let done = catch_up(proved, apart).expect("replies by list");
     let expected: Vec<Vec<Hash>> = expected
         .iter()
         .map(|rows| rows.iter().copied().map(hash).collect())
         .collect();
-    assert_eq!(done.replies, expected);
+    for by in [By::Crate, By::Passed(LEAST), By::Passed(LARGEST)] {
+        let done = catch_up_by([proved; 2], apart, |_| by.clone());
+        let done = done.expect("replies by list");
+        assert_eq!(done.replies, expected, "{by:?}");
+    }
 }
 
 /// A chain of `rows` rows, each on the one before it; the first is held. Round one brings

@@ -4,7 +4,7 @@ use super::{sixteen, sixteen_of, SPARE};
 use crate::guarded::{Fill, Guarded, FILLS};
 use crate::inputs::index::index_of;
 use crate::model::have::haves;
-use crate::model::plan::{self, Plan, Planned, ANSWER_WORDS, NOTHING};
+use crate::model::plan::{self, By, Plan, Planned, ANSWER_WORDS, NOTHING, OF_THE_CRATE};
 use crate::model::state::{Lists, WORDS};
 use crate::model::table::{hashes_of, HASH};
 use crate::model::Refused;
@@ -15,6 +15,7 @@ use bisquetower::raw::{Batch, UNWRITTEN};
 /// What a call is lent that plans.
 #[derive(Clone, Debug)]
 pub struct Planning {
+    pub by: By,
     pub session: Lent,
     pub table: Vec<u8>,
     pub index: Vec<u8>,
@@ -25,9 +26,15 @@ pub struct Planning {
 }
 
 impl Planning {
-    /// With the table's own index, and room to spare.
+    /// By the crate's numbers, with the table's own index and room to spare.
     pub fn new(session: Lent, table: Vec<u8>, waiting: Vec<u8>) -> Planning {
+        Planning::by(By::Crate, session, table, waiting)
+    }
+
+    /// By other numbers.
+    pub fn by(by: By, session: Lent, table: Vec<u8>, waiting: Vec<u8>) -> Planning {
         let mut planning = Planning {
+            by,
             session,
             index: index_of(&table),
             table,
@@ -42,7 +49,8 @@ impl Planning {
     pub fn model(&self) -> Result<Planned, Refused> {
         let Lent { words, .. } = &self.session;
         let (table, index) = (&self.table, &self.index);
-        plan::of_lent(words, &self.session.lists(), table, index, &self.waiting)
+        let lists = self.session.lists();
+        plan::of_lent(&self.by, words, &lists, table, index, &self.waiting)
     }
 
     /// How long the buffers have to be, those of the session for what they have too.
@@ -55,7 +63,7 @@ impl Planning {
 }
 
 /// What a call left that plans.
-#[derive(Clone, Debug)]
+#[derive(Clone, Debug, PartialEq, Eq)]
 pub struct PlanLeft {
     pub answer: [u64; ANSWER_WORDS],
     pub plan: Option<Plan>,
@@ -96,6 +104,7 @@ impl<'a> PlanCall<'a> {
     /// Has the model write what is expected; returns its answer.
     fn expect(&mut self) -> [u64; ANSWER_WORDS] {
         let Planning {
+            by,
             session,
             table,
             index,
@@ -107,7 +116,7 @@ impl<'a> PlanCall<'a> {
             sent: self.buffers[5].left(),
             ..session.lists()
         };
-        let planned = plan::of_lent(&session.words, &lists, table, index, waiting);
+        let planned = plan::of_lent(by, &session.words, &lists, table, index, waiting);
         let [heads, need, have, list, last_sent, sent] =
             self.buffers.each_mut().map(Guarded::expected);
         let mut buffers = plan::Buffers {
@@ -123,6 +132,7 @@ impl<'a> PlanCall<'a> {
 
     fn ask<'m>(&'m mut self, batch: &mut Batch<'m>) {
         let Planning {
+            by,
             session,
             table,
             index,
@@ -130,24 +140,39 @@ impl<'a> PlanCall<'a> {
             ..
         } = self.planning;
         let [heads, need, have, list, last_sent, sent] = self.buffers.each_mut().map(Guarded::lent);
-        batch.plan(
-            sixteen(self.words.lent()),
-            &session.shared,
-            last_sent,
-            &session.their_heads,
-            &session.their_need,
-            &session.haves,
-            &session.bytes,
-            sent,
-            table,
-            index,
-            waiting,
-            heads,
-            need,
-            have,
-            list,
-            &mut self.answer,
-        );
+        // What all three are lent, behind what tells the numbers.
+        macro_rules! ask {
+            ($call:ident, $($numbers:expr),*) => {
+                batch.$call(
+                    $($numbers,)*
+                    sixteen(self.words.lent()),
+                    &session.shared,
+                    last_sent,
+                    &session.their_heads,
+                    &session.their_need,
+                    &session.haves,
+                    &session.bytes,
+                    sent,
+                    table,
+                    index,
+                    waiting,
+                    heads,
+                    need,
+                    have,
+                    list,
+                    &mut self.answer,
+                )
+            };
+        }
+        match by {
+            By::Crate => ask!(plan,),
+            By::Passed(numbers) => ask!(plan_with, numbers.bits, numbers.probes),
+            By::Settings {
+                list: settings,
+                station,
+                version,
+            } => ask!(plan_settled, settings, *station, *version),
+        }
     }
 
     fn agrees(&self, expected: [u64; ANSWER_WORDS]) -> Result<(), String> {
@@ -231,6 +256,24 @@ pub fn compare_plans(plannings: &[Planning], fills: &[Fill]) -> Result<Vec<PlanL
         Ok(call.left())
     };
     calls.iter().zip(expected).map(left).collect()
+}
+
+/// That a call by numbers that happen to be the crate's leaves what `bt_plan` does, in every
+/// word and byte; whether it is one.
+pub fn same_as_plan(planning: &Planning) -> Result<bool, String> {
+    let by = &planning.by;
+    if *by == By::Crate || by.numbers() != Ok(OF_THE_CRATE) {
+        return Ok(false);
+    }
+    let left = plan(planning);
+    let plain = plan(&Planning {
+        by: By::Crate,
+        ..planning.clone()
+    });
+    match left == plain {
+        true => Ok(true),
+        false => Err(format!("{planning:?}: {left:?} isn't bt_plan's {plain:?}")),
+    }
 }
 
 /// The answer to one that plans, the same over both fills.
