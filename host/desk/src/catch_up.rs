@@ -6,10 +6,11 @@ mod premises;
 mod svg;
 mod talk;
 
-use crate::args::Options;
+use crate::args::{Args, Options};
 use crate::failure::Failure;
 use crate::text::number;
-use crate::{files, table};
+use crate::{files, settings, table};
+use bisquetower::Choice;
 use std::ffi::OsString;
 use std::path::Path;
 
@@ -18,7 +19,7 @@ pub use talk::{Said, Talk};
 const OPTIONS: Options = Options {
     command: "catch-up",
     switches: &["--json", "--force"],
-    valued: &["--svg"],
+    valued: &["--svg", "--settings", "--station", "--at"],
 };
 
 pub fn run(words: &[OsString]) -> Result<String, Failure> {
@@ -32,8 +33,9 @@ pub fn run(words: &[OsString]) -> Result<String, Failure> {
     if json && drawn_alone {
         return Err(OPTIONS.wrong("standard output can be the JSON or the drawing, not both"));
     }
+    let choice = chosen(&args)?;
     let [station, validator] = names.map(|name| table::read(&name));
-    let talk = Talk::of(&station?, &validator?)?;
+    let talk = Talk::of(&station?, &validator?, choice)?;
     if drawn_alone {
         return judged(&talk, svg::draw(&talk));
     }
@@ -48,6 +50,20 @@ pub fn run(words: &[OsString]) -> Result<String, Failure> {
         false => lines::text(&talk) + &drawn,
     };
     judged(&talk, shown)
+}
+
+/// What the station has by a settings list, at a version or at the newest; the crate's
+/// choice without a list.
+fn chosen(args: &Args) -> Result<Choice, Failure> {
+    let number = |option: &str| OPTIONS.number_in(args, option, 0..=u32::MAX.into());
+    let (station, at) = (number("--station")?, number("--at")?);
+    match (args.value("--settings"), station) {
+        (Some(file), Some(station)) => {
+            settings::choice(file, station as u32, at.map(|at| at as u32))
+        }
+        (None, None) if at.is_none() => Ok(Choice::default()),
+        _ => Err(OPTIONS.wrong("--settings and --station go together, and --at with both")),
+    }
 }
 
 /// What is shown of a talk that ended well; of another it is shown and has failed.

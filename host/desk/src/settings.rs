@@ -103,6 +103,12 @@ fn wanted(args: &Args) -> Result<Wanted, Failure> {
     }
 }
 
+/// What a list gives a station, at a version or at the newest.
+pub fn choice(file: &OsStr, station: u32, version: Option<u32>) -> Result<Choice, Failure> {
+    let list = read(file)?;
+    Ok(list.at(station, version.unwrap_or(list.version())))
+}
+
 /// A list's bytes, however many.
 pub fn read_bytes(file: &OsStr) -> Result<Vec<u8>, Failure> {
     files::read_on(file, |first| {

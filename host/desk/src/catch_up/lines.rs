@@ -3,6 +3,7 @@
 use super::talk::{Round, Talk};
 use crate::paint::Paint;
 use crate::text::{count, number};
+use bisquetower::Choice;
 
 const HEADS: [&str; 8] = [
     "round",
@@ -23,9 +24,10 @@ pub fn text(talk: &Talk) -> String {
         rows => format!(" and with {} of its own", number(rows)),
     };
     let mut text = format!(
-        "A station of {station} and a validator of {}, {} short{own}.\n\n",
+        "A station of {station} and a validator of {}, {} short{own}.\n{}\n",
         number(talk.validator_rows),
         number(talk.missing),
+        chosen(talk.choice),
     );
     if !talk.rounds.is_empty() {
         text += &format!("{}\n", rounds(&talk.rounds, paint));
@@ -33,6 +35,20 @@ pub fn text(talk: &Talk) -> String {
     text += &outcome(talk, paint);
     let messages = count(talk.messages.len(), "message");
     text + &format!("{messages}, {} in all.\n", count(talk.bytes(), "byte"))
+}
+
+/// What the station chose, where it isn't as the crate has it.
+fn chosen(choice: Choice) -> String {
+    if choice == Choice::default() {
+        return String::new();
+    }
+    let bits = count(choice.bits as usize, "bit");
+    let probes = count(choice.probes as usize, "probe");
+    let takes = match choice.read_only {
+        true => "; the station is read-only and takes no changes",
+        false => "",
+    };
+    format!("Filters have {bits} an entry and {probes}{takes}.\n")
 }
 
 fn outcome(talk: &Talk, paint: Paint) -> String {
@@ -58,6 +74,9 @@ fn outcome(talk: &Talk, paint: Paint) -> String {
     let bound = number(bound);
     let promise = match talk.proved() {
         true => format!("proved: at most {bound} (m + 1)"),
+        false if talk.by_list() => {
+            format!("m + 1 is {bound}, promised where both take changes, and the station doesn't")
+        }
         false => {
             format!("m + 1 is {bound}, promised for replies by list, and the document went here")
         }

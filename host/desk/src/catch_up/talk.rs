@@ -4,7 +4,7 @@ use super::premises::Difference;
 use crate::failure::Failure;
 use bisquetower::refusal::grouped;
 use bisquetower::{
-    Change, ChangeHash, Error, Host, Limits, Memory, MemoryError, Plan, Session, Table,
+    Change, ChangeHash, Choice, Error, Host, Limits, Memory, MemoryError, Plan, Session, Table,
 };
 use std::collections::HashSet;
 
@@ -37,6 +37,8 @@ pub struct Talk {
     /// Rows that the validator lacked, and those that the station did.
     pub missing: usize,
     pub foreign: usize,
+    /// What both build their filters with, and whether the station takes no changes.
+    pub choice: Choice,
     /// Where the validator's table isn't a part of the station's.
     pub differs: Option<Difference>,
     /// The rounds until both held the rows of both tables.
@@ -94,9 +96,10 @@ impl Talk {
         !self.document
     }
 
-    /// Whether it is a talk of which the bound is proved.
+    /// Whether it is a talk of which the bound is proved: of sessions that take changes.
     pub fn proved(&self) -> bool {
-        self.bound().is_some() && self.by_list() && self.holds
+        let takes = !self.choice.read_only;
+        self.bound().is_some() && self.by_list() && self.holds && takes
     }
 
     /// The row of which the tables say two things.
@@ -129,8 +132,9 @@ impl Talk {
     }
 
     /// Has units with these tables talk until both are silent, or have talked for longer
-    /// than any two tables ask that agree.
-    pub fn of(station: &Table, validator: &Table) -> Result<Talk, Failure> {
+    /// than any two tables ask that agree. Their filters are as the station chose, and so
+    /// is whether it takes changes.
+    pub fn of(station: &Table, validator: &Table, choice: Choice) -> Result<Talk, Failure> {
         let (mut all, own) = (station.hashes(), validator.hashes());
         let foreign = lacking(&all, &own);
         let mut talk = Talk {
@@ -138,11 +142,13 @@ impl Talk {
             validator_rows: own.len(),
             missing: lacking(&own, &all).len(),
             foreign: foreign.len(),
+            choice,
             differs: Difference::first(station, validator),
             ..Talk::default()
         };
         all.extend(foreign);
         let mut units = [unit(station)?, unit(validator)?];
+        units[0].session.set_read_only(choice.read_only);
         // Twice the bound of either way is never reached.
         let most = 2 * (talk.missing + talk.foreign) + 8;
         while talk.talked < most && !talk.silent {
@@ -170,13 +176,13 @@ impl Talk {
             waited,
             ..Round::default()
         };
-        let question = say(validator, station)?;
+        let question = say(validator, station, self.choice)?;
         if let Some((plan, bytes)) = &question {
             round.asks(plan, &lacked);
             round.asked_bytes = bytes.len();
             self.said(false, bytes);
         }
-        let reply = say(station, validator)?;
+        let reply = say(station, validator, self.choice)?;
         if let Some((plan, bytes)) = &reply {
             (round.sent, round.document) = (plan.hashes.len(), plan.document);
             self.document |= plan.document;
@@ -226,9 +232,11 @@ fn unit(table: &Table) -> Result<Unit, Failure> {
 }
 
 /// What one unit says to the other, if there is something to say.
-fn say(from: &mut Unit, to: &mut Unit) -> Result<Option<(Plan, Vec<u8>)>, Failure> {
+fn say(from: &mut Unit, to: &mut Unit, choice: Choice) -> Result<Option<(Plan, Vec<u8>)>, Failure> {
     let memory = &from.memory;
-    let planned = from.session.plan(&memory.table(), &memory.waiting());
+    let planned = from
+        .session
+        .plan_with(&memory.table(), &memory.waiting(), choice);
     let Some(plan) = planned.map_err(|refusal| failed(refusal.into()))? else {
         return Ok(None);
     };

@@ -51,6 +51,37 @@ fn field(json: &str, name: &str) -> usize {
     value(json, name).parse().expect("a number")
 }
 
+/// Filters as a station chose, and a station that takes no changes.
+#[test]
+fn a_station_talks_as_it_chose() {
+    let here = folder("catch-up-settings");
+    let rows: Vec<u32> = (1..=12).collect();
+    let station = chain(&here, "station.table", &rows);
+    let validator = chain(&here, "validator.table", &rows[..10]);
+    let list = here.join("stations.settings");
+    let list = text(&list);
+    for set in ["bits=1,probes=1", "bits=32,probes=64", "read-only=on"] {
+        run(&["settings", list, "--station", "4", "--set", set]).ended(0);
+    }
+    let words = ["catch-up", &station, &validator, "--settings", list];
+    let talk = |at: &str| {
+        let asked = ["--station", "4", "--at", at, "--json"];
+        let shown = run(&[&words[..], &asked].concat()).ended(0).out;
+        ["bits", "probes", "read_only", "proved"].map(|name| value(&shown, name).to_string())
+    };
+    assert_eq!(talk("0"), ["10", "7", "false", "true"]);
+    assert_eq!(talk("1"), ["1", "1", "false", "true"]);
+    assert_eq!(talk("2"), ["32", "64", "false", "true"]);
+    assert_eq!(talk("3"), ["32", "64", "true", "false"]);
+    let shown = run(&[&words[..], &["--station", "4"]].concat());
+    let shown = shown.ended(0).out;
+    let chosen = "Filters have 32 bits an entry and 64 probes; the station is read-only and takes no changes.\n";
+    assert!(shown.contains(chosen), "{shown}");
+    let promise = "m + 1 is 3, promised where both take changes, and the station doesn't.\n";
+    assert!(shown.contains(promise), "{shown}");
+    run(&words).ended(2);
+}
+
 /// Three false yeses hide each other: a round for each, and the first.
 #[test]
 fn the_sample_takes_four_rounds() {
