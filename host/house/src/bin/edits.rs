@@ -16,6 +16,10 @@ Each is a wrong program, or a wrong definition, of the same shape as what stands
 const READ: &[(&str, &str)] = &[
     ("bloom/have_hashes", "`returns-3` of `have::have_good`"),
     (
+        "settings/other_filter",
+        "`returns` of `choice::crate_choice`",
+    ),
+    (
         "message_read/total_size",
         "`returns-3` of `opening::parse_opening`",
     ),
