@@ -1,9 +1,9 @@
 -- A table written with room for d dependencies is read back, bytes that are read are written again, and what is written is good. 02, M-106.
-use Prim.Native.Nat.{ℕ, zero, suc, _+_, _-_, _*_, _/_, _%_, _^_, _≤_, _<_}
+use Prim.Native.Nat.{ℕ, zero, suc, _+_, _-_, _*_, _/_, _%_, _≤_, _<_}
 use mathlib.Core.Bool.{true, false}
 use mathlib.Core.List.{List, [], _∷_, _++_, append-assoc}
 use mathlib.Core.Path.{_≡_, refl, sym, ap, ap₂, _∙_}
-use native.Mathlib.Nat.{zero-add, mul-div-cancel, mul-mod-left, mul-le-mul-right, le-trans, le-of-eq, mod-lt}
+use native.Mathlib.Nat.{zero-add, mul-div-cancel, mul-mod-left, mul-le-mul-right, le-trans, le-of-eq}
 use native.Mathlib.Omega.{arith}
 use borrow.Author.Tests.{eqb-true, eqb-false, lt-ltb, le-leb}
 use lib.Dec.{ltb, eqb}
@@ -15,7 +15,7 @@ use Rattle.hash_order.specs.Order.{member, every, ascends}
 use Rattle.rules.proofs.ByteLaws.{bytes-append, zeros-bytes}
 use Rattle.rules.proofs.Cases.{split, both, and-true}
 use Rattle.rules.proofs.Hash.{big-endian-bytes-bytes, hash-there-and-back, hash-bytes, length-hash-bytes, slice-append}
-use Rattle.rules.specs.Hash.{Bytes, bigEndian, bigEndianBytes, IsHash, AreHashes, hashAt, hashBytes}
+use Rattle.rules.specs.Hash.{Bytes, bigEndian, IsHash, AreHashes, hashAt, hashBytes}
 use Rattle.rules.specs.LittleEndian.{u16At}
 use Rattle.rules.specs.Sizes.{sizes}
 use Rattle.rules.specs.Zeros.{zeros}

@@ -3,9 +3,9 @@
 -- A row has room for d dependencies. All of it is said over d, in names that end in `Of`; the names without it are for as many dependencies as a
 -- change may have.
 use Prim.Native.Nat.{ℕ, zero, suc, _+_, _-_, _*_, _/_, _%_, _≤_, _<_}
-use mathlib.Core.Bool.{Bool, true, cond, not, _&&_}
+use mathlib.Core.Bool.{Bool, cond, not, _&&_}
 use mathlib.Core.List.{List, [], _∷_}
-use lib.Dec.{ltb, leb, eqb}
+use lib.Dec.{ltb, leb}
 use lib.ListN.{length}
 use Rattle.hash_order.specs.Order.{member, every, ascends}
 use Rattle.rules.specs.Hash.{hashAt}
