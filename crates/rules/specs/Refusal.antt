@@ -1,5 +1,5 @@
--- 01, Refusal numbers, and 02, M-100 for 12, M-106 for 13, M-107 for 14 and 15: the number of each refusal, and the value that it returns. Every
--- promise about a refusal speaks of these two.
+-- 01, Refusal numbers, and 02, M-100 for 12, M-106 for 13, M-107 for 14 and 15, M-108 for 16: the number of each refusal, and the value that it
+-- returns. Every promise about a refusal speaks of these two.
 use Prim.Native.Nat.{ℕ}
 use Rattle.rules.specs.declared.refusal.Refusal.{Refusal}
 use Rattle.rules.specs.declared.refusal.Refusal.the-variants.{
@@ -18,6 +18,7 @@ use Rattle.rules.specs.declared.refusal.Refusal.the-variants.{
   TooWide,
   BadSettings,
   BadSetting,
+  PastTotal,
 }
 
 -- The column "No.".
@@ -37,6 +38,7 @@ numberOf BadIndex = 12
 numberOf (TooWide row) = 13
 numberOf (BadSettings i) = 14
 numberOf BadSetting = 15
+numberOf PastTotal = 16
 
 -- The column "Returns".
 abbrev pub valueOf : Refusal → ℕ
@@ -55,3 +57,4 @@ valueOf BadIndex = 0
 valueOf (TooWide row) = row
 valueOf (BadSettings i) = i
 valueOf BadSetting = 0
+valueOf PastTotal = 0

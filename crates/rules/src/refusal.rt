@@ -33,6 +33,8 @@ pub enum Refusal {
     BadSettings(usize),
     // 15: a new setting that isn't allowed, or no version left for it.
     BadSetting,
+    // 16: a total would pass 64 bits.
+    PastTotal,
 }
 
 impl Refusal {
@@ -55,6 +57,7 @@ impl Refusal {
             Refusal::TooWide(_) => 13,
             Refusal::BadSettings(_) => 14,
             Refusal::BadSetting => 15,
+            Refusal::PastTotal => 16,
         }
     }
 
@@ -77,6 +80,7 @@ impl Refusal {
             Refusal::TooWide(row) => row as u64,
             Refusal::BadSettings(number) => number as u64,
             Refusal::BadSetting => 0,
+            Refusal::PastTotal => 0,
         }
     }
 }

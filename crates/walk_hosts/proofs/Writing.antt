@@ -47,6 +47,7 @@ use Rattle.rules.specs.declared.refusal.Refusal.the-variants.{
   TooWide,
   BadSettings,
   BadSetting,
+  PastTotal,
 }
 use Rattle.rules.proofs.Hash.{length-hashes-bytes, hashes-there-and-back}
 use Rattle.rules.proofs.Outputs.{take-sets, written-gathered}
@@ -92,6 +93,7 @@ number-some BadIndex = refl
 number-some (TooWide row) = refl
 number-some (BadSettings i) = refl
 number-some BadSetting = refl
+number-some PastTotal = refl
 
 -- the words of the have are its record
 records-read : (what : ℕ) (q : Plan) (vs : List Have) → q .haves ≡ vs → length vs ≤ 1 → haveWordsIn (statedWords what (statedOf q)) ≡ laidWords vs
