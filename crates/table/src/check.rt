@@ -20,7 +20,7 @@ pub enum Checked {
 }
 
 // Whether the numbers in use of row i ascend and are below it.
-fn numbers_good(d: usize, table: &[u8], i: usize) -> bool
+pub fn numbers_good(d: usize, table: &[u8], i: usize) -> bool
     requires { ⌜ ((i + 1) * rowSizeOf d ≤ length (now table)) × (countOf d (now table) i ≤ d) ⌝ }
     ensures { λ r. ⌜ r ≡ numbersGood i (usedOf d (now (table .entry)) i) ⌝ }
 {
@@ -42,7 +42,7 @@ fn numbers_good(d: usize, table: &[u8], i: usize) -> bool
 }
 
 // Whether the other numbers of row i are 0: all their bytes at once, as most of a row isn't in use.
-fn zeros_good(d: usize, table: &[u8], i: usize) -> bool
+pub fn zeros_good(d: usize, table: &[u8], i: usize) -> bool
     requires { ⌜ ((i + 1) * rowSizeOf d ≤ length (now table)) × (countOf d (now table) i ≤ d) ⌝ }
     ensures { λ r. ⌜ r ≡ zeros (unusedOf d (now (table .entry)) i) ⌝ }
 {

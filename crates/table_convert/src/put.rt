@@ -12,7 +12,7 @@ ghost use Rattle.table.specs.TableWritten.{rowBytesOf, tableBytesOf};
 ghost use Rattle.table_convert.specs.Internal.RowsPut.{Fitting};
 
 // Puts zeros at a place of the buffer.
-fn put_zeros(out: &mut [u8], at: usize, count: usize)
+pub fn put_zeros(out: &mut [u8], at: usize, count: usize)
     requires { ⌜ at + count ≤ length (now out) ⌝ }
     ensures { λ _. ⌜ now (out .exit) ≡ sets (now (out .entry)) at (replicate count 0) ⌝ }
 {
