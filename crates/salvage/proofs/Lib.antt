@@ -1,0 +1,5 @@
+pub mod AnswerLaws
+pub mod NewTableLaws
+pub mod Promises
+pub mod PutLaws
+pub mod SalvagedLaws

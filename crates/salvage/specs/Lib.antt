@@ -1,0 +1,2 @@
+pub mod Internal
+pub mod Salvaged

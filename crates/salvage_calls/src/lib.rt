@@ -1,0 +1,3 @@
+// Exported calls of the crate `salvage`.
+pub mod answer;
+pub mod calls;
