@@ -35,6 +35,8 @@ use Rattle.settings_calls.proofs.calls.bt_check_settings as of-bt-check-setting
 use Rattle.settings_calls.proofs.calls.bt_setting_at as of-bt-setting-at
 use Rattle.settings_calls.proofs.calls.bt_append_setting as of-bt-append-setting
 use Rattle.settings_calls.proofs.answer.setting_words as of-setting-words
+use Rattle.salvage_calls.proofs.calls.bt_salvage as of-bt-salvage
+use Rattle.salvage_calls.proofs.answer.salvage_words as of-salvage-words
 use Rattle.state_calls.proofs.calls.bt_fresh as of-bt-fresh
 use Rattle.state_calls.proofs.calls.bt_fresh_read_only as of-bt-fresh-read-only
 use Rattle.state_calls.proofs.calls.bt_set_read_only as of-bt-set-read-only
@@ -105,6 +107,9 @@ pub record ExportedBind : Type 0 where
   pub bt-setting-at : Binds of-bt-setting-at.ended of-bt-setting-at.Reads.Post
   pub bt-append-setting : Binds of-bt-append-setting.ended of-bt-append-setting.Reads.Post
   pub setting-words : Binds of-setting-words.ended of-setting-words.Reads.Post
+  -- the crate salvage_calls
+  pub bt-salvage : Binds of-bt-salvage.ended of-bt-salvage.Reads.Post
+  pub salvage-words : Binds of-salvage-words.ended of-salvage-words.Reads.Post
   -- the crate state_calls
   pub bt-fresh : Binds of-bt-fresh.ended of-bt-fresh.Reads.Post
   pub bt-fresh-read-only : Binds of-bt-fresh-read-only.ended of-bt-fresh-read-only.Reads.Post

@@ -7,7 +7,7 @@ use mathlib.Core.Path.{_≡_, refl, sym, ap, ap₂, _∙_}
 use native.Mathlib.Nat.{mul-le-mul-right, le-trans}
 use native.Mathlib.Numerals.{add-one}
 use native.Mathlib.Omega.{arith}
-use borrow.Author.Tests.{eq-eqb, ne-eqb, eqb-true, eqb-false, leb-true, lt-ltb, le-ltb, ltb-true, ltb-false}
+use borrow.Author.Tests.{eq-eqb, ne-eqb, eqb-true, eqb-false, leb-true, lt-ltb, le-ltb}
 use lib.Dec.{ltb, leb, eqb}
 use lib.ListN.{length, getD, set, take, drop, replicate, length-append, length-map}
 use lib.Seq.{sets, slice}
@@ -21,11 +21,10 @@ use Rattle.rules.specs.Hash.{Bytes, hashBytes, hashAt}
 use Rattle.rules.specs.LittleEndian.{u16At}
 use Rattle.rules.specs.Sizes.{sizes}
 use Rattle.rules.specs.Zeros.{zeros}
-use Rattle.salvage_rules.proofs.DecideLaws.{byte-none, kept-byte, kept-few, count-next}
-use Rattle.salvage_rules.proofs.KeptLaws.{isNone, kept-first, kept-ascends, kept-inside, is-kept}
-use Rattle.salvage_rules.specs.Internal.Decided.{ruleByte, ruleOf, Decided}
+use Rattle.salvage_rules.proofs.DecideLaws.{byte-none, kept-byte, count-next}
+use Rattle.salvage_rules.proofs.KeptLaws.{kept-first, kept-ascends, kept-inside, is-kept}
+use Rattle.salvage_rules.specs.Internal.Decided.{ruleByte, ruleOf}
 use Rattle.salvage_rules.specs.Kept.{Rule, ruleNumber, rowHash, brokenRule, keptIf, keptOf}
-use Rattle.table.proofs.RowLaws.{row-within}
 use Rattle.table.proofs.TableLaws.{numberPlaceOf, length-used-of}
 use Rattle.table.proofs.TwoBytes.{length-twos-bytes, twos-at-bytes}
 use Rattle.table.proofs.WrittenLaws.{row-long}
@@ -173,7 +172,6 @@ module _ (d : ℕ) (s : List ℕ) (n : ℕ) where
   pub kept-sound : (i : ℕ) → member i (keptOf d s n) ≡ true
       → (countOf d s i ≤ d) × (numbersGood i (usedOf d s i) ≡ true) × ((u : ℕ) → member u (usedOf d s i) ≡ true → member u (keptOf d s n) ≡ true)
   kept-sound i m =
-      let K : List ℕ = keptOf d s n in
       let is = is-kept d s n in
       let tests = sym (is .exactly i (is .inside i m)) ∙ m in
       let a = both ((leb (countOf d s i) d && numbersGood i (usedOf d s i)) && zeros (unusedOf d s i))
@@ -181,10 +179,7 @@ module _ (d : ℕ) (s : List ℕ) (n : ℕ) where
       in
       let b = both (leb (countOf d s i) d) (numbersGood i (usedOf d s i)) (both (leb (countOf d s i) d && numbersGood i (usedOf d s i)) (zeros (unusedOf d s i)) (a .0) .0) in
       let c = both (not (member (rowHash d s i) (map (rowHash d s) (keep (λ k. ltb k i) (keptOf d s n))))) (every (λ k. member k (keptOf d s n)) (usedOf d s i)) (a .1) in
-      (leb-true (countOf d s i) d (b .0), b .1, every-at (usedOf d s i) (c .1))
-    where
-      every-at : (l : List ℕ) → every (λ k. member k (keptOf d s n)) l ≡ true → (u : ℕ) → member u l ≡ true → member u (keptOf d s n) ≡ true
-      every-at l e u m = every-member (λ k. member k (keptOf d s n)) l e u m
+      (leb-true (countOf d s i) d (b .0), b .1, every-member (λ k. member k (keptOf d s n)) (usedOf d s i) (c .1))
 
   if-none : (i : ℕ) → ruleOf d s i ≡ 0 → keptIf (brokenRule d s (keptOf d s i) i) i ≡ i ∷ []
   if-none i e = grown (brokenRule d s (keptOf d s i) i) e
@@ -267,9 +262,8 @@ module _ (d : ℕ) (s : List ℕ) (n : ℕ) where
       let row : length (rowBytesOf d (newRow d s (keptOf d s n) x)) ≡ rowSizeOf d = row-long d (newRow d s (keptOf d s n) x) (omega arith) in
       let rest = rows-size l (λ k m. f k (member-there k x l m)) in
       let one : length (x ∷ l) ≡ suc (length l) = refl in
-      length-append (rowBytesOf d (newRow d s (keptOf d s n) x)) (tableBytesOf d (map N l)) ∙ (
-        let z : length (rowBytesOf d (newRow d s (keptOf d s n) x)) + length (tableBytesOf d (map N l)) ≡ suc (length l) * rowSizeOf d = omega arith in z
-      )
+      let both-long : length (rowBytesOf d (newRow d s (keptOf d s n) x)) + length (tableBytesOf d (map N l)) ≡ suc (length l) * rowSizeOf d = omega arith in
+      length-append (rowBytesOf d (newRow d s (keptOf d s n) x)) (tableBytesOf d (map N l)) ∙ both-long
 
   kept-of : (i : ℕ) → i ≤ n → (k : ℕ) → member k (keptOf d s i) ≡ true → countOf d s k ≤ d
   kept-of i h k m =
@@ -357,9 +351,9 @@ module _ (rules : List ℕ) where
     words-more before report after next e put = (
       put .place ∙ sym words-next,
       rw (add-one i)
-      (put .content
-      ∙ ap₂ (λ (x : List ℕ) (k : ℕ). sets x k (wordsIf i (getD rules i 0))) e (let z : at ≡ 0 + length (wordsOf rules i) = omega arith in z)
-      ∙ sets-append (wordsOf rules i) (wordsIf i (getD rules i 0)) before 0),
+          (put .content
+          ∙ ap₂ (λ (x : List ℕ) (k : ℕ). sets x k (wordsIf i (getD rules i 0))) e (let z : at ≡ 0 + length (wordsOf rules i) = omega arith in z)
+          ∙ sets-append (wordsOf rules i) (wordsIf i (getD rules i 0)) before 0),
     )
 
   pub words-all : (before report : List ℕ) (n i : ℕ) → i ≤ n → n ≤ i → report ≡ sets before 0 (wordsOf rules i) → report ≡ sets before 0 (wordsOf rules n)

@@ -400,7 +400,7 @@ map-getD f [] p h = absurd (let z : p < 0 = h in omega arith)
 map-getD f (x ∷ l) zero h = refl
 map-getD f (x ∷ l) (suc p) h = map-getD f l p (let z : suc p < suc (length l) = h in omega arith)
 
-same-changes : (d : ℕ) (s : List ℕ) (p : ℕ) → p < length (keptOf d s (length s / rowSizeOf d))
+pub same-changes : (d : ℕ) (s : List ℕ) (p : ℕ) → p < length (keptOf d s (length s / rowSizeOf d))
     → map (hashOf (newTable d s)) (depsOf (newTable d s) p) ≡ map (rowHash d s) (usedOf d s (getD (keptOf d s (length s / rowSizeOf d)) p 0))
 unfolding hashOf newTable
 same-changes d s p h =
@@ -414,7 +414,7 @@ same-changes d s p h =
     ap (λ (l : List ℕ). getD l (indexIn K u) 0) (map-hashes d s K K) ∙ map-getD (rowHash d s) K (indexIn K u) at ∙ ap (rowHash d s) (entry-at-index K u at))
 
 -- kept rows stay in order
-same-order : (d : ℕ) (s : List ℕ) (p : ℕ) → p < length (keptOf d s (length s / rowSizeOf d))
+pub same-order : (d : ℕ) (s : List ℕ) (p : ℕ) → p < length (keptOf d s (length s / rowSizeOf d))
     → hashOf (newTable d s) p ≡ rowHash d s (getD (keptOf d s (length s / rowSizeOf d)) p 0)
 unfolding hashOf newTable
 same-order d s p h =

@@ -53,7 +53,16 @@ fn put_row(d: usize, table: &[u8], i: usize, places: &[u16], out: &mut [u8])
 }
 
 // Puts row i if it is kept.
-fn put_kept(d: usize, table: &[u8], n: usize, i: usize, rules: &[u8], places: &[u16], kept: usize, out: &mut [u8])
+fn put_kept(
+    d: usize,
+    table: &[u8],
+    n: usize,
+    i: usize,
+    rules: &[u8],
+    places: &[u16],
+    kept: usize,
+    out: &mut [u8],
+)
     requires { ⌜ Ready d (now table) n (now rules) (now places) kept × (n ≤ sizes .rows) × (i < n) × (kept * rowSizeOf d ≤ length (now out)) ⌝ }
     ensures { λ _. ⌜ now (out .exit)
         ≡ sets (now (out .entry)) (length (keptOf d (now (table .entry)) i) * rowSizeOf d) (tableBytesOf d (rowIf d (now (table .entry)) n i)) ⌝ }
@@ -65,7 +74,15 @@ fn put_kept(d: usize, table: &[u8], n: usize, i: usize, rules: &[u8], places: &[
 }
 
 // Puts the kept ones of n rows.
-pub fn put_rows(d: usize, table: &[u8], n: usize, rules: &[u8], places: &[u16], kept: usize, out: &mut [u8])
+pub fn put_rows(
+    d: usize,
+    table: &[u8],
+    n: usize,
+    rules: &[u8],
+    places: &[u16],
+    kept: usize,
+    out: &mut [u8],
+)
     requires { ⌜ Ready d (now table) n (now rules) (now places) kept × (n ≤ sizes .rows) × (kept * rowSizeOf d ≤ length (now out)) ⌝ }
     ensures { λ _. ⌜ now (out .exit)
         ≡ sets (now (out .entry)) 0 (tableBytesOf d (map (newRow d (now (table .entry)) (keptOf d (now (table .entry)) n)) (keptOf d (now (table .entry)) n))) ⌝ }

@@ -16,7 +16,7 @@ use Rattle.rules.proofs.Cases.{split, same-truth}
 use Rattle.rules.specs.LittleEndian.{u16At}
 use Rattle.table.specs.TableBytes.{u16sAt, rowSizeOf}
 use Rattle.table_check.specs.Internal.Repeats.{RowOrder}
-use Rattle.table_index.proofs.ByteLaws.{length-u16s, entry}
+use Rattle.table_index.proofs.ByteLaws.{entry}
 use Rattle.table_index.proofs.IndexLaws.{put-member, index-length, index-rises, index-has, index-member-below}
 use Rattle.table_index.proofs.ListLaws.{map-index, rises-tail, rises-first}
 use Rattle.table_index.specs.Index.{put, indexed, rises, recordHash}
@@ -187,10 +187,7 @@ module _ (d : ℕ) (s x : List ℕ) (n : ℕ) (o : RowOrder d s x n) where
       (λ q.
       let other : a ≡ k → ⊥ = eqb-false a k q in
       let less : a < k = split (ltb a k) (λ z. ltb-true a k z) (λ z. absurd (other (let y = ltb-false a k z in omega arith))) in
-      getD-set-other classes row (e a) r 0 (λ z. other (entries-apart a k (omega arith) h (z′ z at))) ∙ done a less)
-    where
-      z′ : {u v w : ℕ} → u ≡ v → v ≡ w → u ≡ w
-      z′ p q = p ∙ q
+      getD-set-other classes row (e a) r 0 (λ z. other (entries-apart a k (omega arith) h (z ∙ at))) ∙ done a less)
 
   pub classes-all : (classes : List ℕ) → ((a : ℕ) → a < n → getD classes (e a) 0 ≡ runStart (λ j. f (e j)) a) → Classes f n classes
   classes-all classes done =

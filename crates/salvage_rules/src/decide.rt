@@ -8,7 +8,7 @@ use table::row::dep_of;
 use table::row::row_size;
 use table_order::entry::INDEX_SIZE;
 use table_order::merge::build_by_rows;
-ghost use mathlib.Core.Bool.{Bool, true, _||_, cond};
+ghost use mathlib.Core.Bool.{true, _||_, cond};
 ghost use mathlib.Core.Path.{_≡_};
 ghost use Prim.Native.Nat.{_+_, _*_, _≤_, _<_};
 ghost use lib.Dec.{eqb};
@@ -112,13 +112,7 @@ fn decide_rows(
 }
 
 // Gives each of n rows the first rule that it breaks, or 0, and how many rows before it are kept; answers how many are.
-pub fn decide(
-    d: usize,
-    table: &[u8],
-    n: usize,
-    rules: &mut [u8],
-    places: &mut [u16],
-) -> usize
+pub fn decide(d: usize, table: &[u8], n: usize, rules: &mut [u8], places: &mut [u16]) -> usize
     requires { ⌜ (n * rowSizeOf d ≤ length (now table)) × (n ≤ sizes .rows) × (n ≤ length (now rules)) × (n ≤ length (now places))
         × (d < 65536) ⌝ }
     ensures { λ r. ⌜ Decided d (now (table .entry)) n (now (rules .exit)) (now (places .exit)) r ⌝ }

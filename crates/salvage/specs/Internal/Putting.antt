@@ -1,5 +1,5 @@
 -- Rows and a report put by what was decided: the rule of each row, and how many rows before it are kept.
-use Prim.Native.Nat.{ℕ, zero, suc, _+_, _*_, _≤_, _<_}
+use Prim.Native.Nat.{ℕ, zero, suc, _+_, _*_, _≤_}
 use mathlib.Core.Bool.{cond}
 use mathlib.Core.List.{List, [], _∷_, _++_, map}
 use mathlib.Core.Path.{_≡_}
@@ -9,7 +9,7 @@ use lib.Seq.{sets}
 use Rattle.salvage_rules.specs.Internal.Decided.{Decided}
 use Rattle.salvage_rules.specs.Kept.{rowHash, brokenRule, keptIf, keptOf}
 use Rattle.table.specs.Table.{Row}
-use Rattle.table.specs.TableBytes.{rowSizeOf, countOf, usedOf}
+use Rattle.table.specs.TableBytes.{rowSizeOf, usedOf}
 use Rattle.salvage.specs.Salvaged.{newRow}
 
 -- Row i, its numbers adjusted by what stands beside each row.

@@ -2,7 +2,6 @@
 use mathlib.Core.Path.{refl}
 use native.Mathlib.Omega.{arith}
 use Rattle.rules.specs.Sizes.{sizes}
-use Rattle.table_check.proofs.CheckLaws.{whole-inside, whole-few}
 use Rattle.salvage.proofs.AnswerLaws.{called-long, decided-ready}
 use borrow.Author.Needs.{needs}
 use Rattle.salvage.proofs.salvage.salvage_table.Statement.{statement}

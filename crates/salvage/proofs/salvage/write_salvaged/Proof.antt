@@ -1,5 +1,4 @@
 -- `salvage::salvage::write_salvaged` meets its contract: both tests of room come before anything is put (AnswerLaws). Assumes nothing.
-use native.Mathlib.Omega.{arith}
 use Rattle.salvage.proofs.AnswerLaws.{kept-most, kept-fits, words-fit, called-rows, called-report, called-done}
 use borrow.Author.Needs.{needs}
 use Rattle.salvage.proofs.salvage.write_salvaged.Statement.{statement}

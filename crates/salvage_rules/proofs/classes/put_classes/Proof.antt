@@ -1,7 +1,7 @@
 -- `salvage_rules::classes::put_classes` meets its contract: no two entries of the order name one row, so that each turn settles one row and touches no
 -- other (ClassLaws). Assumes nothing.
 use Prim.Native.Nat.{ℕ, _-_, _*_, _≤_, _<_}
-use mathlib.Core.Path.{_≡_, refl, _∙_}
+use mathlib.Core.Path.{_≡_, refl}
 use native.Mathlib.Omega.{arith}
 use lib.ListN.{length, getD, length-set}
 use Rattle.rules.specs.LittleEndian.{u16At}

@@ -1,7 +1,7 @@
 -- `salvage_rules::decide::decide_rows` meets its contract: each turn decides one row, and keeps whether a kept row has a class (DecideLaws). Assumes
 -- nothing.
 use Prim.Native.Nat.{ℕ, _-_, _≤_, _<_}
-use mathlib.Core.Path.{_≡_, refl, _∙_}
+use mathlib.Core.Path.{_≡_, refl}
 use native.Mathlib.Omega.{arith}
 use lib.ListN.{length, getD, length-set}
 use Rattle.table.proofs.RowLaws.{row-within}

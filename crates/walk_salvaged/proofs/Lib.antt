@@ -1,0 +1,2 @@
+pub mod CatchUpLaws
+pub mod Promises
