@@ -132,7 +132,13 @@ module _ (d : ℕ) (s : List ℕ) (i : ℕ) (rules : List ℕ) (taken : Bool) (b
 
 -- ---- one row more
 
-set-next : (R : ℕ → ℕ) (l : List ℕ) (i r : ℕ) {n : ℕ} → i < n → (full : ℕ) → length l ≡ full → n ≤ full → ((j : ℕ) → j < i → getD l j 0 ≡ R j) → r ≡ R i → (j : ℕ) → j < i + 1 → getD (set l i r) j 0 ≡ R j
+-- the first i numbers of a list are those that R tells, and one more after the next is set
+set-next : (R : ℕ → ℕ) (l : List ℕ) (i r : ℕ) {n : ℕ} → i < n → (full : ℕ) → length l ≡ full → n ≤ full
+    → ((j : ℕ) → j < i → getD l j 0 ≡ R j)
+    → r ≡ R i
+    → (j : ℕ)
+    → j < i + 1
+    → getD (set l i r) j 0 ≡ R j
 set-next R l i r more full long room each is j h =
     split (eqb j i)
     (λ q. let same = eqb-true j i q in rw same (getD-set-same l i r 0 (omega arith) ∙ is))
@@ -142,13 +148,17 @@ set-next R l i r more full long room each is j h =
     getD-set-other l i j r 0 other ∙ each j less)
 
 module _ (d : ℕ) (s : List ℕ) where
-  pub rules-next : (rules : List ℕ) (i r : ℕ) {n : ℕ} → i < n → (full : ℕ) → length rules ≡ full → n ≤ full → ((j : ℕ) → j < i → getD rules j 0 ≡ ruleOf d s j) → r ≡ ruleOf d s i
+  pub rules-next : (rules : List ℕ) (i r : ℕ) {n : ℕ} → i < n → (full : ℕ) → length rules ≡ full → n ≤ full
+      → ((j : ℕ) → j < i → getD rules j 0 ≡ ruleOf d s j)
+      → r ≡ ruleOf d s i
       → (j : ℕ)
       → j < i + 1
       → getD (set rules i r) j 0 ≡ ruleOf d s j
   rules-next = set-next (ruleOf d s)
 
-  pub places-next : (places : List ℕ) (i k : ℕ) {n : ℕ} → i < n → (full : ℕ) → length places ≡ full → n ≤ full → ((j : ℕ) → j < i → getD places j 0 ≡ length (keptOf d s j)) → k ≡ length (keptOf d s i)
+  pub places-next : (places : List ℕ) (i k : ℕ) {n : ℕ} → i < n → (full : ℕ) → length places ≡ full → n ≤ full
+      → ((j : ℕ) → j < i → getD places j 0 ≡ length (keptOf d s j))
+      → k ≡ length (keptOf d s i)
       → (j : ℕ)
       → j < i + 1
       → getD (set places i k) j 0 ≡ length (keptOf d s j)

@@ -4,6 +4,7 @@
 //     rule       0    3    0    5            4      0: kept, 3: not zero, 4: repeated, 5: lost dependency
 //     place      0    1    1    2            2      how many rows before it are kept
 //
-// Rows are decided in table order, so that whatever a row depends on is decided before it. A repeat is one of a kept row: one of a dropped row is kept.
+// Rows are decided in table order, so that whatever a row depends on is decided before it. Only kept rows take a hash: the second b is kept, since the
+// first is dropped.
 pub mod classes;
 pub mod decide;
