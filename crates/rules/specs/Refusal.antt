@@ -1,5 +1,5 @@
--- 01, Refusal numbers, and 02, M-100 for 12, M-106 for 13, M-107 for 14 and 15, M-108 for 16: the number of each refusal, and the value that it
--- returns. Every promise about a refusal speaks of these two.
+-- 01, Refusal numbers, and 02, M-100 for 12, M-106 for 13, M-107 for 14 and 15, M-108 for 16: the number of each refusal, and the value that it returns. Every
+-- promise about a refusal speaks of these two.
 use Prim.Native.Nat.{ℕ}
 use Rattle.rules.specs.declared.refusal.Refusal.{Refusal}
 use Rattle.rules.specs.declared.refusal.Refusal.the-variants.{
