@@ -35,6 +35,12 @@ use Rattle.settings_calls.proofs.calls.bt_check_settings as of-bt-check-setting
 use Rattle.settings_calls.proofs.calls.bt_setting_at as of-bt-setting-at
 use Rattle.settings_calls.proofs.calls.bt_append_setting as of-bt-append-setting
 use Rattle.settings_calls.proofs.answer.setting_words as of-setting-words
+use Rattle.counts_calls.proofs.calls.bt_count_capture as of-bt-count-capture
+use Rattle.counts_calls.proofs.calls.bt_add_counts as of-bt-add-counts
+use Rattle.counts_calls.proofs.answer.counted_words as of-counted-words
+use Rattle.counts_calls.proofs.answer.added_words as of-added-words
+use Rattle.counts_calls.proofs.answer.totals_of as of-totals-of
+use Rattle.counts_calls.proofs.answer.totals_after as of-totals-after
 use Rattle.salvage_calls.proofs.calls.bt_salvage as of-bt-salvage
 use Rattle.salvage_calls.proofs.answer.salvage_words as of-salvage-words
 use Rattle.state_calls.proofs.calls.bt_fresh as of-bt-fresh
@@ -107,6 +113,13 @@ pub record ExportedBind : Type 0 where
   pub bt-setting-at : Binds of-bt-setting-at.ended of-bt-setting-at.Reads.Post
   pub bt-append-setting : Binds of-bt-append-setting.ended of-bt-append-setting.Reads.Post
   pub setting-words : Binds of-setting-words.ended of-setting-words.Reads.Post
+  -- the crate counts_calls
+  pub bt-count-capture : Binds of-bt-count-capture.ended of-bt-count-capture.Reads.Post
+  pub bt-add-counts : Binds of-bt-add-counts.ended of-bt-add-counts.Reads.Post
+  pub counted-words : Binds of-counted-words.ended of-counted-words.Reads.Post
+  pub added-words : Binds of-added-words.ended of-added-words.Reads.Post
+  pub totals-of : Binds of-totals-of.ended of-totals-of.Reads.Post
+  pub totals-after : Binds of-totals-after.ended of-totals-after.Reads.Post
   -- the crate salvage_calls
   pub bt-salvage : Binds of-bt-salvage.ended of-bt-salvage.Reads.Post
   pub salvage-words : Binds of-salvage-words.ended of-salvage-words.Reads.Post

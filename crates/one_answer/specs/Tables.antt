@@ -1,4 +1,4 @@
--- Calls over tables, the hashes to send, settings, and tables that are salvaged. 01, How tightly the statements bind.
+-- Calls over tables, the hashes to send, settings, counts, and tables that are salvaged. 01, How tightly the statements bind.
 use Rattle.one_answer.specs.Binds.{Binds}
 use Rattle.table_check.proofs.check.check_alone as of-check-alone
 use Rattle.table_check.proofs.check.check_indexed as of-check-indexed
@@ -6,6 +6,8 @@ use Rattle.table_index_build.proofs.build.build_index as of-build-index
 use Rattle.table_index_build.proofs.build.extend_index as of-extend-index
 use Rattle.table_convert.proofs.convert.widen_rows as of-widen-rows
 use Rattle.table_convert.proofs.convert.narrow_rows as of-narrow-rows
+use Rattle.counts.proofs.count.count_capture as of-count-capture
+use Rattle.counts.proofs.totals.add_counts as of-add-counts
 use Rattle.salvage.proofs.salvage.salvage_table as of-salvage-table
 use Rattle.settings.proofs.append.append_setting as of-append-setting
 use Rattle.settings.proofs.check.check_settings as of-check-settings
@@ -19,7 +21,7 @@ use Rattle.waiting_missing.proofs.missing.missing as of-missing
 use Rattle.send.proofs.to_send.get_hashes_to_send as of-get-hashes-to-send
 use Rattle.send_records.proofs.summary.summary_in as of-summary-in
 
--- Tables, their index, what waits, what is computed over them, settings, and tables that are salvaged.
+-- Tables, their index, what waits, what is computed over them, settings, counts, and tables that are salvaged.
 pub record TablesBind : Type 0 where
   -- the crate table_check
   pub check-alone : Binds of-check-alone.ended of-check-alone.Reads.Post
@@ -47,5 +49,8 @@ pub record TablesBind : Type 0 where
   pub check-settings : Binds of-check-settings.ended of-check-settings.Reads.Post
   pub setting-at : Binds of-setting-at.ended of-setting-at.Reads.Post
   pub append-setting : Binds of-append-setting.ended of-append-setting.Reads.Post
+  -- the crate counts
+  pub count-capture : Binds of-count-capture.ended of-count-capture.Reads.Post
+  pub add-counts : Binds of-add-counts.ended of-add-counts.Reads.Post
   -- the crate salvage
   pub salvage-table : Binds of-salvage-table.ended of-salvage-table.Reads.Post

@@ -18,7 +18,7 @@ use Rattle.sample_replay.specs.declared.record.Record.{Record}
 use Rattle.sample_replay.specs.declared.record.Record.the-variants.{Read, Bad}
 use Rattle.sample_replay.specs.declared.record.Verdict.{Verdict}
 use Rattle.sample_replay.specs.declared.record.Verdict.the-variants.{Same, Different, Unknown}
-use Rattle.sample_replay.specs.declared.walk.Counts.{Counts}
+use Rattle.sample_replay.specs.declared.walk.ReplayCounts.{ReplayCounts}
 use Rattle.sample_replay.proofs.Records.{of-none, header-cut, input-cut, judged}
 
 -- ---- what a record that was read is like
@@ -136,7 +136,7 @@ counted l kind x j h =
 
 -- ---- the loop's invariant
 
-pub record Replaying (s : List ℕ) (at : ℕ) (c : Counts) : Type 0 where
+pub record Replaying (s : List ℕ) (at : ℕ) (c : ReplayCounts) : Type 0 where
   pub left : ℕ
   pub enough : length s ≤ at + left
   pub upto : at ≤ length s
@@ -167,7 +167,7 @@ starts s =
       stop = refl;
     }
 
-module _ (s : List ℕ) (at : ℕ) (c : Counts) (g : Replaying s at c) where
+module _ (s : List ℕ) (at : ℕ) (c : ReplayCounts) (g : Replaying s at c) where
   -- where the walk stops, nothing is left to count
   stopped : walkFrom (g .left) s at ≡ stops at → SampleCounted (walkOf s) c
   unfolding recordsIn agreeIn stopOf

@@ -8,7 +8,7 @@ use lib.ListN.{length, getD, set, replicate}
 use Rattle.sample_replay.specs.Record.{recordAt}
 use Rattle.sample_replay.specs.declared.record.Record.{Record}
 use Rattle.sample_replay.specs.declared.record.Record.the-variants.{Read, Bad}
-use Rattle.sample_replay.specs.declared.walk.Counts.{Counts}
+use Rattle.sample_replay.specs.declared.walk.ReplayCounts.{ReplayCounts}
 
 -- Kinds are below this; 0 is none.
 abbrev pub kinds : ℕ
@@ -57,11 +57,11 @@ stopOf (stops at) = at
 stopOf (meets kind same w) = stopOf w
 
 -- The counts before any record.
-abbrev pub noneCounted : Counts
+abbrev pub noneCounted : ReplayCounts
 noneCounted = record { records = replicate kinds 0; agree = replicate kinds 0; end = 0 }
 
 -- The counts with one record more.
-abbrev pub added : Counts → ℕ → Bool → ℕ → Counts
+abbrev pub added : ReplayCounts → ℕ → Bool → ℕ → ReplayCounts
 added c kind same next =
     record {
       records = set (c .records) kind (getD (c .records) kind 0 + 1);
@@ -70,13 +70,13 @@ added c kind same next =
     }
 
 -- A kind that is counted, and counts that one more fits.
-pub record CountRoom (c : Counts) (kind : ℕ) (same : Bool) : Type 0 where
+pub record CountRoom (c : ReplayCounts) (kind : ℕ) (same : Bool) : Type 0 where
   pub known : kind < kinds
   pub records : getD (c .records) kind 0 + 1 < 2 ^ 64
   pub agree : getD (c .agree) kind 0 + oneIf same < 2 ^ 64
 
 -- The counts of a walk, for each kind.
-pub record SampleCounted (w : Replayed) (r : Counts) : Type 0 where
+pub record SampleCounted (w : Replayed) (r : ReplayCounts) : Type 0 where
   pub records : (k : ℕ) → getD (r .records) k 0 ≡ recordsIn k w
   pub agree : (k : ℕ) → getD (r .agree) k 0 ≡ agreeIn k w
   pub end : r .end ≡ stopOf w

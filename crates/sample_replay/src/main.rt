@@ -12,7 +12,7 @@ mod little_endian;
 mod record;
 mod walk;
 
-use walk::Counts;
+use walk::ReplayCounts;
 ghost use mathlib.Core.Path.{_≡_};
 ghost use lib.ListN.{length};
 
@@ -40,7 +40,7 @@ fn report_kind(name: &[u8], records: u64, agree: u64) {
 }
 
 // A line for each kind (a new one adds its own here, beside its arm in `record::replayed`), and one more where the walk stopped before the end of the `n` bytes.
-fn report(counts: Counts, n: usize) {
+fn report(counts: ReplayCounts, n: usize) {
     let records = counts.records;
     let agree = counts.agree;
     let end = counts.end;

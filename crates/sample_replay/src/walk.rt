@@ -14,17 +14,17 @@ fn one_if(b: bool) -> u64
 }
 
 // How many records of each kind there are, and how many of them agree, up to the place `end`: the sample's end, or the first bad record.
-pub struct Counts {
+pub struct ReplayCounts {
     pub records: [u64; KINDS],
     pub agree: [u64; KINDS],
     pub end: usize,
 }
 
-impl Counts {
+impl ReplayCounts {
     fn new() -> Self
         ensures { λ r. ⌜ r ≡ noneCounted ⌝ }
     {
-        Counts {
+        ReplayCounts {
             records: [0; KINDS],
             agree: [0; KINDS],
             end: 0,
@@ -44,10 +44,10 @@ impl Counts {
 }
 
 // Walks from record to record, and counts. It stops at a bad record, since nothing says where the next one starts.
-pub fn walk(bytes: &[u8]) -> Counts
+pub fn walk(bytes: &[u8]) -> ReplayCounts
     ensures { λ r. ⌜ SampleCounted (walkOf (now (bytes .entry))) r ⌝ }
 {
-    let mut counts = Counts::new();
+    let mut counts = ReplayCounts::new();
     let mut at = 0;
     while at < bytes.len() {
         let Record::Read { kind, same, next } = record_at(bytes, at) else {

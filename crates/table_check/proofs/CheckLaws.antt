@@ -17,7 +17,7 @@ use Rattle.rules.specs.Sizes.{sizes}
 use Rattle.rules.specs.declared.refusal.Refusal.the-variants.{PastSize, BadRow, BadIndex}
 use Rattle.rules.specs.declared.refusal.Refusal.{Refusal}
 use Rattle.table.proofs.CheckLaws.{fewer, table-past, table-past-of, table-bad-of, table-partial-of, table-fine-of}
-use Rattle.table.proofs.TableLaws.{length-rows, length-rows-at, hash-of-row}
+use Rattle.table.proofs.TableLaws.{length-rows, length-rows-at, hash-of-row, good-table-of}
 use Rattle.table.proofs.Today.{rowGood}
 use Rattle.table.specs.Internal.OwnBytes.{rowSoundOf}
 use Rattle.table.specs.TableBytes.{u16sAt, rowSizeOf, rowGoodOf, rowSize, rowsAt, firstBad, tableChecked}
@@ -25,12 +25,13 @@ use Rattle.table.specs.TableCalls.{passedOn}
 use Rattle.table.specs.Table.{rows, hashOf}
 use Rattle.table.specs.Widths.{Sized, WithinRows, checkedAs}
 use Rattle.table.specs.declared.width.Width.{Width}
+use Rattle.table.specs.declared.check.Checked.{Checked}
 use Rattle.table.specs.declared.check.Checked.the-variants.{Good, Refused}
 use Rattle.table_index.proofs.CheckLaws.{unfit-decides}
 use Rattle.table_index.proofs.FitLaws.{index-fitting}
 use Rattle.table_index.proofs.LookLaws.{hash-once}
 use Rattle.table_index.specs.Index.{indexed, indexFits, indexChecked, recordHash}
-use Rattle.table_check.specs.Internal.Repeats.{RowOrder, newHash, fitsWithin}
+use Rattle.table_check.specs.Internal.Repeats.{CheckedInOrder, RowOrder, newHash, fitsWithin}
 use Rattle.table_check.proofs.RepeatLaws.{first-both, first-within}
 
 -- ---- the first bad row
@@ -117,6 +118,23 @@ module _ (w : Width) (s : List ℕ) (size : ℕ) (is : size ≡ rowSizeOf (w .de
 
     pub answer-good : length s / size ≤ bad → length s % size ≡ 0 → Good (length s / size) ≡ checkedAs w s
     answer-good h rest = rw is (sym (table-fine-of (w .dependencies) (w .rows) s few bad e (rw is at h) (rw is at rest)))
+
+  pub past-in-order : (x : List ℕ) → w .rows * size < length s → CheckedInOrder w s x (Refused (PastSize 0))
+  past-in-order x h = record { answer = past-limit h; order = λ n q. absurd (let z : _≡_ {A = ℕ} 0 1 = cc in omega arith) }
+
+-- the order that a table was checked by, of as many rows as it has if it is good
+pub left-in-order : (w : Width) (s x : List ℕ) (n : ℕ) (r : Checked) → n ≡ length s / rowSizeOf (w .dependencies) → RowOrder (w .dependencies) s x n
+    → r ≡ checkedAs w s
+    → CheckedInOrder w s x r
+left-in-order w s x n r all rows is =
+    record {
+      answer = is;
+      order =
+          λ m good.
+          let d = good-table-of (w .dependencies) (w .rows) s m (sym is ∙ good) in
+          let same : n ≡ m = all ∙ sym (d .count) in
+          rw same at rows;
+    }
 
 -- ---- each answer
 

@@ -13,7 +13,7 @@ use table_index::fit::index_fits;
 use table_order::entry::INDEX_SIZE;
 use table_order::merge::build_by_rows;
 ghost use mathlib.Core.Path.{_≡_};
-ghost use Prim.Native.Nat.{_/_, _≤_};
+ghost use Prim.Native.Nat.{_*_, _/_, _≤_};
 ghost use lib.ListN.{length};
 ghost use Rattle.rules.specs.Sizes.{sizes};
 ghost use Rattle.rules.specs.declared.refusal.Refusal.the-variants.{BadIndex};
@@ -22,7 +22,7 @@ ghost use Rattle.table.specs.TableCalls.{passedOn};
 ghost use Rattle.table.specs.Widths.{Sized, WithinRows, checkedAs};
 ghost use Rattle.table.specs.declared.check.Checked.the-variants.{Refused};
 ghost use Rattle.table_index.specs.Index.{indexChecked};
-ghost use Rattle.table_check.specs.Internal.Repeats.{RowOrder, fitsWithin};
+ghost use Rattle.table_check.specs.Internal.Repeats.{CheckedInOrder, RowOrder, fitsWithin};
 
 // What is answered of a table within its limit, by the first of its whole rows that isn't good. A partial row at its end is a bad one.
 fn answer(width: Width, table: &[u8], bad: usize) -> Checked
@@ -63,19 +63,27 @@ pub fn check_ordered(width: Width, table: &[u8], order: &[u8], n: usize) -> Chec
     answer(width, table, first_bad(width.dependencies, table, order, n))
 }
 
-// The check of a table of a width that is lent with no index: its rows are put in order in memory of the call's own.
-pub fn check_as(width: Width, table: &[u8]) -> Checked
-    requires { ⌜ Sized width × (width .rows ≤ sizes .rows) ⌝ }
-    ensures { λ r. ⌜ r ≡ checkedAs width (now (table .entry)) ⌝ }
+// The check of a table of a width, by the order of its whole rows, which is made in what is lent for it and left there.
+pub fn check_in_order(width: Width, table: &[u8], order: &mut [u8]) -> Checked
+    requires { ⌜ Sized width × (width .rows ≤ sizes .rows) × (2 * sizes .rows ≤ length (now order)) ⌝ }
+    ensures { λ r. ⌜ CheckedInOrder width (now (table .entry)) (now (order .exit)) r ⌝ }
 {
     let size = row_size(width.dependencies);
     if width.rows * size < table.len() {
         return Checked::Refused(Refusal::PastSize(0));
     }
     let n = table.len() / size;
+    build_by_rows(table, size, order, n);
+    check_ordered(width, table, order, n)
+}
+
+// The check of a table of a width that is lent with no index: its rows are put in order in memory of the call's own.
+pub fn check_as(width: Width, table: &[u8]) -> Checked
+    requires { ⌜ Sized width × (width .rows ≤ sizes .rows) ⌝ }
+    ensures { λ r. ⌜ r ≡ checkedAs width (now (table .entry)) ⌝ }
+{
     let mut order = [0u8; INDEX_SIZE];
-    build_by_rows(table, size, &mut order, n);
-    check_ordered(width, table, &order, n)
+    check_in_order(width, table, &mut order)
 }
 
 // The check of a table as rows are.

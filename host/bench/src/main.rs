@@ -9,6 +9,7 @@
 //!   measure    the times of one line
 //! ```
 
+mod counts;
 mod filter;
 mod measure;
 mod message;
@@ -36,6 +37,7 @@ fn main() -> ExitCode {
         selection::measure_all();
         session::measure_all();
         settings::measure_all();
+        counts::measure_all();
         steep::measure_all();
         return ExitCode::SUCCESS;
     }

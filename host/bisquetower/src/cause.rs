@@ -40,6 +40,35 @@ impl Cause {
     pub fn place(&self) -> Option<Range<usize>> {
         self.place.map(|(start, end)| start..end)
     }
+
+    /// Which part of a capture breaks the rule; none where no capture was counted.
+    pub fn captured(&self) -> Option<Captured> {
+        match self.rule {
+            Rule::Rows { table, .. } | Rule::Row { table, .. } => table.captured(),
+            Rule::Captured(_) => Some(Captured::Filter),
+            _ => None,
+        }
+    }
+
+    /// The same of a capture's filter, which stands alone: its numbers have no place.
+    pub(crate) fn of_captured_filter(self) -> Cause {
+        let rule = match self.rule {
+            Rule::Filter { rule, .. } => Rule::Captured(InFilter::Numbers(rule)),
+            other => other,
+        };
+        Cause { rule, ..self }
+    }
+}
+
+/// A part of a capture ([`Counts::of_capture`](crate::Counts::of_capture)).
+#[derive(Clone, Copy, Debug, PartialEq, Eq)]
+pub enum Captured {
+    /// The table of the unit that sent the filter.
+    Sender,
+    /// The table of the unit that heard it.
+    Listener,
+    /// The filter itself.
+    Filter,
 }
 
 /// A rule, and what breaks it.
@@ -65,6 +94,10 @@ pub(crate) enum Rule {
     Made { items: &'static str, most: u64 },
     /// A setting keeps to what settings are.
     Setting { of: Chosen, rule: Setting },
+    /// A capture's filter is one.
+    Captured(InFilter),
+    /// A total of counts, by what is counted, stays within 64 bits.
+    Total(&'static str),
 }
 
 /// Whose items are counted.
@@ -101,6 +134,29 @@ pub(crate) enum Numbers {
 pub(crate) enum Rows {
     Change,
     Waiting,
+    /// The change table of the one who sent a captured filter, and of the one who heard it.
+    Sender,
+    Listener,
+}
+
+impl Rows {
+    fn captured(self) -> Option<Captured> {
+        match self {
+            Rows::Change | Rows::Waiting => None,
+            Rows::Sender => Some(Captured::Sender),
+            Rows::Listener => Some(Captured::Listener),
+        }
+    }
+}
+
+/// What is wrong with a filter that stands alone.
+#[derive(Clone, Copy, Debug, PartialEq, Eq)]
+pub(crate) enum InFilter {
+    /// It ends inside the item at this place.
+    Cut(usize),
+    /// The number at this place has a bad form.
+    Number(usize),
+    Numbers(Numbers),
 }
 
 /// What is wrong with a row.
@@ -207,6 +263,8 @@ impl fmt::Display for Cause {
                 write!(f, "the {items} would be more than {}", grouped(most))
             }
             Rule::Setting { of, rule } => write!(f, "{of} {rule}"),
+            Rule::Captured(rule) => write!(f, "the filter {rule}"),
+            Rule::Total(counted) => write!(f, "the total of {counted} would pass 64 bits"),
         }
     }
 }
@@ -253,7 +311,26 @@ impl fmt::Display for Rows {
         f.write_str(match self {
             Rows::Change => "change table",
             Rows::Waiting => "waiting table",
+            Rows::Sender => "sender's table",
+            Rows::Listener => "listener's table",
         })
+    }
+}
+
+impl fmt::Display for InFilter {
+    fn fmt(&self, f: &mut fmt::Formatter<'_>) -> fmt::Result {
+        match *self {
+            InFilter::Cut(place) => {
+                let place = shown(place);
+                write!(f, "ends inside the item that starts at its place {place}")
+            }
+            InFilter::Number(place) => {
+                let place = shown(place);
+                let form = "isn't in its shortest form or is too large";
+                write!(f, "has a number at its place {place} that {form}")
+            }
+            InFilter::Numbers(rule) => rule.fmt(f),
+        }
     }
 }
 

@@ -5,12 +5,14 @@
 //! walked with the library's own readers. Where nothing is found the refusal keeps its
 //! general sentence.
 
+mod counts;
 mod lent;
 mod read;
 mod rows;
 mod settings;
 mod written;
 
+pub(crate) use counts::{adding, capture};
 pub(crate) use lent::{passed, planning, receiving, selecting, session};
 pub(crate) use read::{filter, message, state};
 pub(crate) use rows::{narrowed, old_table, table, tables};
@@ -20,9 +22,12 @@ pub(crate) use written::{building, parts, saved, writing};
 use crate::cause::Numbers;
 use crate::Limits;
 
-/// The refusals that are looked into: a limit, a filter without bits, a bad change table, a
-/// bad waiting table, bad numbers, a row that is too wide for the rows of before, a bad
-/// settings list, a bad new setting.
+/// The refusals that are looked into: an item that is cut, a number in a bad form, a limit, a
+/// filter without bits, a bad change table, a bad waiting table, bad numbers, a row that is
+/// too wide for the rows of before, a bad settings list, a bad new setting, a total that
+/// would pass 64 bits.
+const CUT: u64 = 1;
+const BAD_NUMBER: u64 = 3;
 const LIMIT: u64 = 4;
 const NO_BITS: u64 = 5;
 const BAD_TABLE: u64 = 6;
@@ -31,6 +36,7 @@ const BAD_NUMBERS: u64 = 10;
 const TOO_WIDE: u64 = 13;
 const BAD_SETTINGS: u64 = 14;
 const BAD_SETTING: u64 = 15;
+const TOTAL: u64 = 16;
 
 /// What is wrong with a filter's numbers, in the order in which 01 tests them. Without
 /// entries the others may be any.

@@ -8,7 +8,7 @@
 //! ```text
 //!   Session  next_message, receive   Host, Memory    the document's side
 //!     |
-//!   Message, Have, Filter, SavedState, Settings, Table, Waiting, hashes_to_send
+//!   Message, Have, Filter, SavedState, Settings, Table, Waiting, Counts, hashes_to_send
 //!     |
 //!   message     a message that was read, part by part, without a copy
 //!     |
@@ -39,6 +39,7 @@
 #![deny(missing_docs)]
 
 mod cause;
+mod counts;
 mod error;
 mod explain;
 mod filter;
@@ -60,7 +61,8 @@ mod session;
 mod settings;
 mod table;
 
-pub use cause::Cause;
+pub use cause::{Captured, Cause};
+pub use counts::{Counts, Totals};
 pub use error::Error;
 pub use filter::Filter;
 pub use flags::{MessageFlags, MessageVersion};

@@ -8,7 +8,7 @@ use std::fmt;
 /// them.
 #[derive(Clone, Copy, Debug)]
 pub struct Refusal {
-    /// 1 to 15.
+    /// 1 to 16.
     pub number: u64,
     /// A place, a row, a record, a byte, a length or 0, by the number.
     pub value: u64,
@@ -75,7 +75,8 @@ impl Refusal {
     }
 
     /// What broke in particular, where it was looked for and found: in messages, saved
-    /// states, filters, tables, settings and sessions that are values of this crate.
+    /// states, filters, tables, settings and sessions that are values of this crate, and in
+    /// captures and totals.
     pub fn cause(&self) -> Option<Cause> {
         self.cause
     }
@@ -109,6 +110,7 @@ impl Refusal {
             13 => format!("row {value} has more dependencies than a row of before has room for"),
             14 => format!("record {value} is the first bad record of the settings list"),
             15 => "the new setting is bad, or no version is left for it".to_string(),
+            16 => "a total would pass 64 bits".to_string(),
             number => format!("no refusal has the number {number} (its value: {value})"),
         }
     }
@@ -158,23 +160,23 @@ mod tests {
         assert_eq!(answer(words), Err(refusal));
     }
 
-    /// Refusals 8, 10 to 12 and 15 have the value 0 always, so theirs don't show it.
+    /// Refusals 8, 10 to 12, 15 and 16 have the value 0 always, so theirs don't show it.
     #[test]
     fn each_sentence_is_its_own_and_shows_its_value() {
-        let sentences: Vec<String> = (1..=15).map(|number| sentence(number, 66)).collect();
+        let sentences: Vec<String> = (1..=16).map(|number| sentence(number, 66)).collect();
         for (k, one) in sentences.iter().enumerate() {
             let number = k + 1;
             let shown = if number == 2 { "42" } else { "66" };
             assert_eq!(
                 one.contains(shown),
-                ![8, 10, 11, 12, 15].contains(&number),
+                ![8, 10, 11, 12, 15, 16].contains(&number),
                 "{one}"
             );
             assert!(!sentences[..k].contains(one), "{one}");
         }
         assert_eq!(
-            sentence(16, 0),
-            "no refusal has the number 16 (its value: 0)"
+            sentence(17, 0),
+            "no refusal has the number 17 (its value: 0)"
         );
     }
 }

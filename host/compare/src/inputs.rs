@@ -1,6 +1,7 @@
 //! Inputs that are worth trying: boundary numbers in good and bad forms, and
 //! random items, damaged.
 
+pub mod counts;
 pub mod filter;
 pub mod index;
 pub mod message;

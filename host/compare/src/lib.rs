@@ -14,9 +14,9 @@
 //! (`wire::Difference`, and `filters::Difference` for filters), and there they must
 //! differ.
 //!
-//! A module for each subject: `wire`, `filters`, `tables`, `settings`, `states`, `messages`
-//! and `selections` (the hashes to send) make the comparisons, and `writes` those of every
-//! call that writes one buffer and that the crate has. `inputs` and `model` have a module for each of them
+//! A module for each subject: `wire`, `filters`, `tables`, `settings`, `states`, `messages`,
+//! `counts` and `selections` (the hashes to send) make the comparisons, and `writes` those of
+//! every call that writes one buffer and that the crate has. `inputs` and `model` have a module for each of them
 //! too. The models of messages, of hashes to send and of sessions are also held against
 //! the crate alone; the crate's graph can't be had, and its stand-in takes the crate's
 //! place there. `samples` is what is stored of the crate's answers.
@@ -28,6 +28,7 @@
 //! knows nothing of sessions.
 //! `scale` runs all of these comparisons for as long as is asked.
 
+pub mod counts;
 pub mod filters;
 pub mod guarded;
 pub mod inputs;

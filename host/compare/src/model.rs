@@ -2,6 +2,7 @@
 //! Refusal numbers), in plain Rust: written from the document's sentences, by
 //! walking byte after byte and hash after hash, with no eye to speed.
 
+pub mod counts;
 pub mod filter;
 pub mod have;
 pub mod message;

@@ -6,6 +6,7 @@
 //! anything takes.
 
 pub mod case;
+mod counts;
 mod filters;
 mod kinds;
 mod messages;

@@ -3,6 +3,7 @@
 
 mod painted;
 
+use crate::inputs::counts::filter_bytes;
 use crate::inputs::index::index_of;
 use crate::inputs::message::{filter_string, Draft};
 use crate::inputs::settings::{settings_bytes, LARGEST};
@@ -19,7 +20,7 @@ use crate::sessions::library::{plan, receive, Planning, Receiving};
 use crate::tables::but_the_last;
 use bisquetower::limits::{
     CHUNKS, DEPENDENCIES, FIELD_SIZE, HASHES, HAVES, HAVES_SIZE, HAVES_WORDS, HAVE_SIZE, LIST_SIZE,
-    MESSAGE_SIZE, PROBES, ROWS, SENT_HASHES, SENT_SIZE, TO_SEND_SIZE, WAITING_ROWS,
+    MESSAGE_SIZE, PROBES, ROWS, ROW_SIZE, SENT_HASHES, SENT_SIZE, TO_SEND_SIZE, WAITING_ROWS,
 };
 use bisquetower::message::{View, CHUNK_WORDS, HAVE_WORDS};
 use bisquetower::raw;
@@ -59,6 +60,7 @@ pub fn calls() -> Vec<Deep> {
     calls.extend(tables(&mut random));
     calls.extend(beside_no_index(&mut random));
     calls.extend(settings());
+    calls.extend(counts(&mut random));
     calls.extend(states(&mut random));
     calls.extend(messages(&mut random));
     calls.extend(sessions(&mut random));
@@ -309,6 +311,36 @@ fn settings() -> Vec<Deep> {
         ]);
     }
     deep_calls
+}
+
+/// Captures of the largest tables and filter: of tables that share no row, and so test each,
+/// and of twice the same; with the last row of either bad, and a bad filter.
+fn counts(random: &mut Random) -> Vec<Deep> {
+    let mut table = |likeness| table_bytes(&random.rows(ROWS, Shape::Any, likeness));
+    let (own, other) = (table(Likeness::Descending), table(Likeness::Spread));
+    let mut bad = own.clone();
+    bad.copy_within(..ROW_SIZE, ROW_SIZE * (ROWS - 1));
+    let full = filter_bytes(ENTRIES, 1, MOST_PROBES, &vec![0xff; FIELD_SIZE]);
+    let no_bits = filter_string(1, 0, MOST_PROBES);
+    let captures = [
+        (&own, &other, &full),
+        (&own, &own, &full),
+        (&bad, &other, &full),
+        (&own, &bad, &full),
+        (&own, &other, &no_bits),
+    ];
+    let captures = captures.map(|(sender, listener, filter)| {
+        let [sender, listener, filter] = [sender, listener, filter].map(Clone::clone);
+        deep("bt_count_capture", move || {
+            raw::count_capture(&sender, &listener, &filter)
+        })
+    });
+    let additions = [0, u64::MAX].map(|total| {
+        deep("bt_add_counts", move || {
+            raw::add_counts(&mut [0, 0, 0, 0, total], 1, 1, 1, 1, 1)
+        })
+    });
+    captures.into_iter().chain(additions).collect()
 }
 
 /// The words of a session in which every list is as long as it may be, with these flags.

@@ -58,7 +58,8 @@ fn what_is_taken_is_within_the_promise() {
 }
 
 /// The functions whose calls take more than the smallest stack that a thread can have.
-const DEEP: [&str; 5] = [
+const DEEP: [&str; 6] = [
+    "bt_count_capture",
     "bt_missing",
     "bt_plan",
     "bt_plan_with",

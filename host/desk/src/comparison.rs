@@ -3,10 +3,10 @@
 
 use crate::args::{Args, Options};
 use crate::failure::Failure;
+use crate::progress::Line;
 use compare::scale::case::Kind;
 use compare::scale::{progress, run as run_kinds, table, told, Until, KINDS};
 use std::ffi::OsString;
-use std::io::{IsTerminal, Write};
 use std::time::{Duration, Instant};
 
 const OPTIONS: Options = Options {
@@ -24,7 +24,7 @@ pub fn run(words: &[OsString]) -> Result<String, Failure> {
     let until = until(&args)?;
     let kinds = named(&args)?;
     let began = Instant::now();
-    let mut line = Line::new();
+    let mut line = Line::often_or_seldom();
     let counts = quietly(|| {
         run_kinds(&kinds, seed, until, |counts| {
             line.show(&progress(counts, began.elapsed()))
@@ -90,40 +90,4 @@ fn quietly<T>(run: impl FnOnce() -> T) -> T {
     let done = run();
     std::panic::set_hook(before);
     done
-}
-
-/// How far it is: on a terminal one line that changes, elsewhere a new one now and then.
-struct Line {
-    terminal: bool,
-    pause: Duration,
-    last: Instant,
-}
-
-impl Line {
-    fn new() -> Line {
-        let terminal = std::io::stderr().is_terminal();
-        Line {
-            terminal,
-            pause: Duration::from_millis(if terminal { 200 } else { 30_000 }),
-            last: Instant::now(),
-        }
-    }
-
-    fn show(&mut self, text: &str) {
-        if self.last.elapsed() < self.pause {
-            return;
-        }
-        self.last = Instant::now();
-        let mut out = std::io::stderr();
-        let _ = match self.terminal {
-            true => write!(out, "\r{text}\x1b[K"),
-            false => writeln!(out, "{text}"),
-        };
-    }
-
-    fn clear(&self) {
-        if self.terminal {
-            let _ = write!(std::io::stderr(), "\r\x1b[K");
-        }
-    }
 }

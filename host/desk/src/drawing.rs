@@ -23,3 +23,19 @@ pub fn level(left: f64, right: f64, y: f64, number: &str) -> String {
     );
     line + &text(left - 8.0, y + 4.0, "end", 13, number)
 }
+
+/// Words as they stand in a drawing.
+pub fn escaped(words: &str) -> String {
+    let mut text = String::new();
+    for letter in words.chars() {
+        match letter {
+            '&' => text += "&amp;",
+            '<' => text += "&lt;",
+            '>' => text += "&gt;",
+            // No drawing can have these, however they are written.
+            '\0'..' ' | '\u{fffe}' | '\u{ffff}' => text.push('\u{fffd}'),
+            other => text.push(other),
+        }
+    }
+    text
+}

@@ -21,6 +21,13 @@ pub fn read(name: &OsStr) -> Result<Vec<u8>, Failure> {
     read_on(name, |_| false)
 }
 
+/// The first bytes of a file, as many as any that is read has.
+pub fn first_bytes(path: &Path) -> Result<Vec<u8>, Error> {
+    let mut bytes = Vec::new();
+    File::open(path)?.take(most()).read_to_end(&mut bytes)?;
+    Ok(bytes)
+}
+
 /// The first bytes of a file, or of standard input for `-`, and where there are more all of
 /// it, if the first ones are worth that.
 pub fn read_on(name: &OsStr, worth: impl FnOnce(&[u8]) -> bool) -> Result<Vec<u8>, Failure> {
@@ -60,12 +67,24 @@ pub fn write(path: &Path, bytes: &[u8], force: bool) -> Result<(), Failure> {
         .open(path)
         .and_then(|mut file| file.write_all(bytes));
     done.map_err(|error| match error.kind() {
-        ErrorKind::AlreadyExists => Failure::file(
-            format!("{} is there already", path.display()),
-            "name another, or write over it with --force.",
-        ),
+        ErrorKind::AlreadyExists => there(path),
         _ => unwritten(path, &error),
     })
+}
+
+/// What `write` would say of a file that is there, before there is anything to write.
+pub fn may_write(path: &Path, force: bool) -> Result<(), Failure> {
+    match path.exists() && !force {
+        true => Err(there(path)),
+        false => Ok(()),
+    }
+}
+
+fn there(path: &Path) -> Failure {
+    Failure::file(
+        format!("{} is there already", path.display()),
+        "name another, or write over it with --force.",
+    )
 }
 
 /// Writes a file anew, at once: whoever reads it finds what was there before or all that is

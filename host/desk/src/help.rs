@@ -1,7 +1,7 @@
 //! Help, a screen at the most for each command.
 
 use crate::failure::Failure;
-use crate::sample::{LACKING, ROWS};
+use crate::sample::{CAPTURES, LACKING, ROWS};
 use bisquetower::limits::{DEPENDENCIES, OLD_DEPENDENCIES, OLD_ROWS, OLD_ROW_SIZE};
 use bisquetower::refusal::grouped;
 use bisquetower::Table;
@@ -15,6 +15,7 @@ bisquetower: messages, tables and catch-ups, through the proved sync library
   catch-up STATION VALIDATOR  two units talk until both hold the same rows
   convert IN OUT              a table in rows of before, in rows of now; or back
   settings FILE               what stations chose for their filters, and when
+  count NIGHT                 what captured filters did: the night's false yeses
   sample DIR                  tables and captures to try it on
   compare                     the library beside the crate's own code
 
@@ -130,17 +131,44 @@ records before the first bad one are shown.
   --json       the same as JSON
 ";
 
+const COUNT: &str = "\
+bisquetower count NIGHT [--json | --csv] [--svg FILE [--force]] [--threads N]
+
+Counts what captured filters did. NIGHT is a folder with a captures.txt, a line
+a capture: station, filter or message, the sender's table and the listener's.
+Blanks part these, a name with blanks stands in double quotes, and files count
+from NIGHT; lines that are empty or begin with # are skipped. A file is a filter
+or a message as its name ends (.filter, .message); another is a message if it
+can be read as one, else a filter. Each have of a message is a capture.
+
+A row of the listener's table that isn't in the sender's is tested; it is a
+false yes if the filter contains it. A line a station: captures, refused ones,
+entries of the filters, bits of their fields, those set, and rows contained of
+those tested. What is refused or can't be read is named and adds to nothing.
+
+  --json       an object a line: of each capture, then each station, then all
+  --csv        a row a capture
+  --svg FILE   draws the share of each station beside what its bits and probes
+               would have; the drawing is all that is shown if FILE is -
+  --threads N  N lines at a time; as many as there are cores if not told
+";
+
 fn sample() -> String {
     let rows = grouped(ROWS as u64);
+    let captures = grouped(CAPTURES);
     format!(
         "\
 bisquetower sample DIR [--force]
+bisquetower sample --night DIR [--captures N] [--seed N] [--force]
 
 Writes files to try the other commands on: a station's table of {rows} rows and
 that of a validator {LACKING} rows short, each message of their catch-up, what waited,
 both saved states, a filter, a settings list, and damaged ones.
 
-  --force     write over files that are there
+  --night DIR   a night's captures at five stations instead, for `count`
+  --captures N  how many; {captures} if not told
+  --seed N      the tables and filters of this seed
+  --force       write over files that are there
 "
     )
 }
@@ -169,6 +197,7 @@ pub fn run(words: &[OsString]) -> Result<String, Failure> {
         Some("catch-up") => CATCH_UP.to_string(),
         Some("convert") => convert(),
         Some("settings") => SETTINGS.to_string(),
+        Some("count") => COUNT.to_string(),
         Some("sample") => sample(),
         Some("compare") => COMPARE.to_string(),
         Some(other) => return Err(Failure::usage(format!("there is no command {other}"), "")),

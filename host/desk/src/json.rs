@@ -1,5 +1,6 @@
-//! JSON of numbers, true and false, null, hashes and a few words, so that there is nothing to
-//! escape.
+//! JSON of numbers, true and false, null, hashes and words.
+
+use std::fmt::Write as _;
 
 /// An object, a field a line.
 pub fn document(fields: &[(&str, String)]) -> String {
@@ -23,6 +24,21 @@ pub fn object(fields: &[(&str, String)]) -> String {
         .iter()
         .map(|(name, value)| format!("\"{name}\": {value}"));
     format!("{{{}}}", fields.collect::<Vec<_>>().join(", "))
+}
+
+/// A text, in quotes, with what can't stand between them as it is.
+pub fn string(text: &str) -> String {
+    let mut quoted = String::from("\"");
+    for letter in text.chars() {
+        match letter {
+            '"' | '\\' => quoted.extend(['\\', letter]),
+            '\0'..' ' | '\u{7f}'..'\u{a0}' => {
+                let _ = write!(quoted, "\\u{:04x}", u32::from(letter));
+            }
+            _ => quoted.push(letter),
+        }
+    }
+    quoted + "\""
 }
 
 pub fn option(n: Option<impl ToString>) -> String {

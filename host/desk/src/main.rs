@@ -1,10 +1,12 @@
 //! The desk command: what a message, a state, a filter, a table or a settings list holds,
-//! and how a validator catches up. Every answer is the proved library's.
+//! how a validator catches up, and what the filters of a night did. Every answer is the
+//! proved library's.
 
 mod args;
 mod catch_up;
 mod comparison;
 mod convert;
+mod count;
 mod drawing;
 mod failure;
 mod files;
@@ -12,7 +14,10 @@ mod help;
 mod hex;
 mod inspect;
 mod json;
+mod output;
 mod paint;
+mod progress;
+mod rate;
 mod rows;
 mod sample;
 mod settings;
@@ -21,7 +26,7 @@ mod text;
 
 use failure::Failure;
 use std::ffi::OsString;
-use std::io::{ErrorKind, Write};
+use std::io::Write;
 use std::process::ExitCode;
 
 fn main() -> ExitCode {
@@ -30,27 +35,13 @@ fn main() -> ExitCode {
         Ok(shown) => (shown, None),
         Err(failure) => (failure.shown.clone(), Some(failure)),
     };
-    let unwritten = print(&shown).err();
+    let unwritten = output::print(&shown).err();
     let failures = failed.into_iter().chain(unwritten);
     failures.fold(ExitCode::SUCCESS, |_, failure| {
         // Where standard error can't be written either, the status is all that is left.
         let _ = write!(std::io::stderr(), "{failure}");
         failure.status()
     })
-}
-
-/// Writes what is shown to standard output.
-fn print(shown: &str) -> Result<(), Failure> {
-    let mut out = std::io::stdout().lock();
-    let written = out.write_all(shown.as_bytes()).and_then(|()| out.flush());
-    match written {
-        // A reader that stops reading has what it wanted.
-        Err(error) if error.kind() != ErrorKind::BrokenPipe => Err(Failure::file(
-            format!("standard output can't be written: {error}"),
-            "make room where it goes, or have it go elsewhere: what was shown isn't whole.",
-        )),
-        _ => Ok(()),
-    }
 }
 
 /// What is to be shown.
@@ -65,6 +56,7 @@ fn run(words: &[OsString]) -> Result<String, Failure> {
         "catch-up" => catch_up::run,
         "convert" => convert::run,
         "settings" => settings::run,
+        "count" => count::run,
         "sample" => sample::run,
         "compare" => comparison::run,
         "help" | "--help" | "-h" => help::run,

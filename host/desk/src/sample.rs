@@ -1,7 +1,9 @@
 //! `sample`: tables and captures to try the other commands on.
 
+mod night;
 mod tables;
 
+pub use night::CAPTURES;
 pub use tables::{LACKING, ROWS};
 
 use crate::args::Options;
@@ -10,43 +12,73 @@ use crate::failure::Failure;
 use crate::files;
 use crate::text::count;
 use bisquetower::{Choice, Filter, Refusal, Settings, Table};
-use std::ffi::OsString;
+use std::ffi::{OsStr, OsString};
 use std::path::Path;
 
 const OPTIONS: Options = Options {
     command: "sample",
     switches: &["--force"],
-    valued: &[],
+    valued: &["--night", "--captures", "--seed"],
 };
+
+/// The most captures that a night may have.
+const MOST_CAPTURES: u64 = 100_000;
 
 pub fn run(words: &[OsString]) -> Result<String, Failure> {
     let args = OPTIONS.read(words)?;
-    let [folder] = OPTIONS.names(&args, "one folder")?;
+    let captures = OPTIONS.number_in(&args, "--captures", 1..=MOST_CAPTURES)?;
+    let seed = OPTIONS.number(&args, "--seed")?;
     let force = args.has("--force");
+    if let Some(folder) = args.value("--night") {
+        let [] = OPTIONS.names(&args, "no folder but the night's")?;
+        let (captures, seed) = (captures.unwrap_or(CAPTURES), seed.unwrap_or(night::SEED));
+        let all = night::files(captures, seed)?;
+        write(folder, &all, force)?;
+        return Ok(night_told(folder, captures, all.len()));
+    }
+    if captures.is_some() || seed.is_some() {
+        return Err(OPTIONS.wrong("--captures and --seed want a --night"));
+    }
+    let [folder] = OPTIONS.names(&args, "one folder")?;
     let all = samples()?;
-    let paths = all.iter().map(|(name, _)| Path::new(&folder).join(name));
+    write(&folder, &all, force)?;
+    Ok(told(&folder, all.len()))
+}
+
+/// Writes files into a folder: where one is there, none.
+fn write(folder: &OsStr, all: &[(String, Vec<u8>)], force: bool) -> Result<(), Failure> {
+    let paths = all.iter().map(|(name, _)| Path::new(folder).join(name));
     let paths: Vec<_> = paths.collect();
-    // Where one is there, none is written.
     if let Some(there) = paths.iter().find(|path| path.exists() && !force) {
         return Err(Failure::file(
             format!("{} is there already", there.display()),
             "name another folder, or write over its files with --force.",
         ));
     }
-    files::make_folder(Path::new(&folder))?;
-    for (path, (_, bytes)) in paths.iter().zip(&all) {
+    files::make_folder(Path::new(folder))?;
+    for (path, (_, bytes)) in paths.iter().zip(all) {
         files::write(path, bytes, force)?;
     }
-    let (files, at) = (count(all.len(), "file"), Path::new(&folder).display());
+    Ok(())
+}
+
+fn night_told(folder: &OsStr, captures: u64, files: usize) -> String {
+    let captures = count(captures as usize, "capture");
+    let (files, at) = (count(files, "file"), Path::new(folder).display());
+    format!("{captures} in {files} in {at}. To count them:\n  bisquetower count {at}\n")
+}
+
+fn told(folder: &OsStr, files: usize) -> String {
+    let (files, at) = (count(files, "file"), Path::new(folder).display());
     let look = "bisquetower inspect";
-    Ok(format!(
+    format!(
         "{files} in {at}. To look at them:\n  \
          bisquetower table {at}/station.table\n  \
          bisquetower catch-up {at}/station.table {at}/validator.table\n  \
          bisquetower settings {at}/stations.settings\n  \
          {look} {at}/2-station.message\n  \
          {look} {at}/cut.message\n"
-    ))
+    )
 }
 
 /// Names and bytes: good ones, then damaged ones.

@@ -3,7 +3,6 @@
 mod chosen;
 mod json;
 mod lines;
-mod rate;
 mod svg;
 
 use crate::args::{Args, Options};

@@ -9,6 +9,8 @@ mod command;
 mod comparison;
 #[path = "desk/convert.rs"]
 mod convert;
+#[path = "desk/count.rs"]
+mod count;
 #[path = "desk/inspect.rs"]
 mod inspect;
 #[path = "desk/settings.rs"]

@@ -1,5 +1,6 @@
 //! What is compared of the bytes that libFuzzer makes. A difference panics.
 
+use compare::counts::{compare as compare_captures, compare_additions, Addition, Capture};
 use compare::filters::{compare_reads as compare_filters, Build, Haves, Part};
 use compare::guarded::FILLS;
 use compare::inputs::index::Beside;
@@ -197,6 +198,46 @@ pub fn settings(data: &[u8]) {
         Planning::by(by, session, table.clone(), Vec::new())
     });
     agreed(compare_plans(&plans, &FILLS));
+}
+
+/// How many bytes are a filter; the filter; and of each row two bytes: that its hash begins
+/// with, and by whose bits it is the sender's, the listener's, on the row before it in either,
+/// and bad. The capture of them; and its bytes as numbers that are added.
+pub fn counts(data: &[u8]) {
+    let [length, rest @ ..] = data else {
+        return;
+    };
+    let (filter, rows) = rest.split_at(usize::from(*length).min(rest.len()));
+    let table = |bit: u8| {
+        let own = rows.chunks_exact(2).filter(|two| two[1] >> bit & 1 == 1);
+        let row = |(number, two): (usize, &[u8])| {
+            let mut hash = [two[0]; 32];
+            hash[31] = two[1] >> 4;
+            let on = match (two[1] >> 2 & 1, two[1] >> 3 & 1) {
+                (_, 1) => number..number + 1,
+                (1, _) => number.saturating_sub(1)..number,
+                _ => 0..0,
+            };
+            Row {
+                hash,
+                dependencies: on.collect(),
+            }
+        };
+        table_bytes(&own.enumerate().map(row).collect::<Vec<_>>())
+    };
+    let [sender, listener] = [&table(0)[..], &table(1)[..]];
+    let capture = Capture {
+        sender,
+        listener,
+        filter,
+    };
+    agreed(compare_captures(&[capture]));
+    let mut words = data
+        .chunks_exact(8)
+        .map(|word| u64::from_le_bytes(word.try_into().expect("eight bytes")));
+    let mut five = || std::array::from_fn(|_| words.next().unwrap_or(0));
+    let (totals, counts) = (five(), five());
+    agreed(compare_additions(&[Addition { totals, counts }]));
 }
 
 /// A session script.

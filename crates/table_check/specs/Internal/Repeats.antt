@@ -11,6 +11,10 @@ use Rattle.rules.specs.Hash.{hashAt}
 use Rattle.rules.specs.Sizes.{sizes}
 use Rattle.table.specs.TableBytes.{u16sAt, rowSizeOf, rowsOf, rowSize, rowsAt}
 use Rattle.table.specs.Table.{rows}
+use Rattle.table.specs.Widths.{checkedAs}
+use Rattle.table.specs.declared.check.Checked.{Checked}
+use Rattle.table.specs.declared.check.Checked.the-variants.{Good}
+use Rattle.table.specs.declared.width.Width.{Width}
 use Rattle.table_index.specs.Index.{indexed, indexFits, recordHash}
 
 -- Whether no earlier row has row i's hash, where rows have room for d dependencies.
@@ -26,6 +30,11 @@ pub record RowOrder (d : ℕ) (s x : List ℕ) (n : ℕ) : Type 0 where
   pub inside : n * rowSizeOf d ≤ length s
   pub entries : 2 * n ≤ length x
   pub order : u16sAt x 0 n ≡ indexed (recordHash s (rowSizeOf d)) n
+
+-- A table of a width as it is checked, and if it is good, the order of its rows that was left.
+pub record CheckedInOrder (w : Width) (s x : List ℕ) (r : Checked) : Type 0 where
+  pub answer : r ≡ checkedAs w s
+  pub order : (n : ℕ) → r ≡ Good n → RowOrder (w .dependencies) s x n
 
 -- Whether a table is within its limit and an index fits its whole rows.
 unfoldable pub fitsWithin : List ℕ → List ℕ → Bool

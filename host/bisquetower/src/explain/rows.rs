@@ -44,7 +44,7 @@ pub(crate) fn table(table: &[u8], refusal: Refusal) -> Refusal {
 pub(crate) fn old_table(table: &[u8], refusal: Refusal) -> Refusal {
     let cause = match (refusal.number, refusal.value) {
         (LIMIT, 0) => too_many(Rows::Change, Width::OLD.rows),
-        (BAD_TABLE, row) => change_row(Width::OLD, table, row as usize),
+        (BAD_TABLE, row) => change_row(Rows::Change, Width::OLD, table, row as usize),
         _ => None,
     };
     cause.map_or(refusal, |cause| refusal.because(cause))
@@ -74,11 +74,20 @@ pub(crate) fn tables(table: &[u8], waiting: &[u8], refusal: Refusal) -> Refusal 
     let row = refusal.value as usize;
     let cause = match (refusal.number, refusal.value) {
         (LIMIT, 0) => long(table, waiting),
-        (BAD_TABLE, _) => change_row(Width::now(), table, row),
+        (BAD_TABLE, _) => change_row(Rows::Change, Width::now(), table, row),
         (BAD_WAITING, _) => waiting_row(table, waiting, row),
         _ => None,
     };
     cause.map_or(refusal, |cause| refusal.because(cause))
+}
+
+/// What is wrong with a change table that is called so, which was refused.
+pub(super) fn captured(table: Rows, bytes: &[u8], refusal: Refusal) -> Option<Cause> {
+    let width = Width::now();
+    match refusal.number {
+        LIMIT => too_many(table, width.rows),
+        _ => change_row(table, width, bytes, refusal.value as usize),
+    }
 }
 
 /// The table that has more bytes than the most rows.
@@ -100,7 +109,7 @@ fn long(table: &[u8], waiting: &[u8]) -> Option<Cause> {
 /// What is wrong with a row, and which of its bytes are.
 type Wrong = (Row, Range<usize>);
 
-fn change_row(width: Width, table: &[u8], row: usize) -> Option<Cause> {
+fn change_row(called: Rows, width: Width, table: &[u8], row: usize) -> Option<Cause> {
     let size = width.size();
     let own = record(table, size, row)?;
     let wrong = cut(own, size)
@@ -109,7 +118,7 @@ fn change_row(width: Width, table: &[u8], row: usize) -> Option<Cause> {
             let earlier = row_of(own, table, size, row)?;
             Some((Row::Twice(earlier), 0..HASH))
         });
-    wrong.map(|wrong| in_row(Rows::Change, size, row, wrong))
+    wrong.map(|wrong| in_row(called, size, row, wrong))
 }
 
 fn waiting_row(table: &[u8], waiting: &[u8], row: usize) -> Option<Cause> {

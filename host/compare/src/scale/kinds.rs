@@ -2,7 +2,7 @@
 //! those of another.
 
 use super::case::Kind;
-use super::{filters, messages, selections, sessions, settings, states, tables, wire};
+use super::{counts, filters, messages, selections, sessions, settings, states, tables, wire};
 use crate::model::settings::RECORD;
 use bisquetower::limits::{HASH_SIZE, ROW_SIZE, WAITING_ROW_SIZE};
 
@@ -129,6 +129,37 @@ pub const KINDS: &[Kind] = &[
         a_round: 12_000,
         make: settings::settings,
         held: settings::calls,
+    },
+    Kind {
+        name: "counts",
+        bytes: &[
+            ("sender's table", ROW_SIZE),
+            ("listener's table", ROW_SIZE),
+            ("filter", 1),
+        ],
+        numbers: &[],
+        a_round: 3_000,
+        make: counts::capture,
+        held: counts::count,
+    },
+    Kind {
+        name: "totals",
+        bytes: &[],
+        numbers: &[
+            "total of entries",
+            "total of field bits",
+            "total of set bits",
+            "total of tested rows",
+            "total of contained rows",
+            "entries",
+            "field bits",
+            "set bits",
+            "tested rows",
+            "contained rows",
+        ],
+        a_round: 12_000,
+        make: counts::addition,
+        held: counts::add,
     },
     Kind {
         name: "hashes to send",

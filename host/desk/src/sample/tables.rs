@@ -81,7 +81,7 @@ fn mistaken(filter: &Filter) -> Vec<ChangeHash> {
 }
 
 /// A hash whose words are spread; other numbers have others.
-fn hash(n: u64) -> ChangeHash {
+pub fn hash(n: u64) -> ChangeHash {
     let mut hash = [0; 32];
     let mut word = n;
     for part in hash.chunks_mut(8) {

@@ -1,8 +1,8 @@
 //! Settings as JSON.
 
-use super::rate::expected;
 use super::{Answer, Shown};
 use crate::json::{document, list, object, option};
+use crate::rate::expected;
 use bisquetower::{Choice, Setting};
 
 type Fields = Vec<(&'static str, String)>;

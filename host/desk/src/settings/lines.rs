@@ -1,8 +1,8 @@
 //! Settings in lines.
 
-use super::rate::{expected, told};
 use super::{Answer, Shown};
 use crate::paint::Paint;
+use crate::rate::{expected, told};
 use crate::text::{count, number};
 use bisquetower::{Choice, Setting};
 

@@ -1,8 +1,8 @@
 //! The choice as a drawing: false yeses by bits per entry and probes, and below it the bytes
 //! that the bits cost. Bits per entry go from left to right in both.
 
-use super::rate::{expected, told};
 use crate::drawing::{begin, level, text};
+use crate::rate::{expected, told};
 use crate::text::{count, number};
 use bisquetower::limits::BITS;
 use bisquetower::{ChangeHash, Choice, Filter, Settings};

@@ -1,8 +1,8 @@
--- `sample_replay::walk::Counts::add` meets its contract, which says what the code does; `Room` has the sums fit. Assumes nothing.
+-- `sample_replay::walk::ReplayCounts::add` meets its contract, which says what the code does; `Room` has the sums fit. Assumes nothing.
 use native.Mathlib.Omega.{arith}
 use borrow.Author.Needs.{needs}
-use Rattle.sample_replay.proofs.walk.Counts.add.Statement.{statement}
-use Rattle.sample_replay.proofs.walk.Counts.add.Tie as tie
+use Rattle.sample_replay.proofs.walk.ReplayCounts.add.Statement.{statement}
+use Rattle.sample_replay.proofs.walk.ReplayCounts.add.Tie as tie
 
 mul-self : tie.Need-mul-self
 mul-self c = search needs

@@ -1,0 +1,6 @@
+pub mod BitLaws
+pub mod CountLaws
+pub mod Promises
+pub mod TestedLaws
+pub mod TotalLaws
+pub mod WalkLaws

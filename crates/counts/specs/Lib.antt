@@ -1,0 +1,3 @@
+pub mod Captures
+pub mod Internal
+pub mod Totals

@@ -1,0 +1,3 @@
+// Exported calls of the crate `counts`.
+pub mod answer;
+pub mod calls;
