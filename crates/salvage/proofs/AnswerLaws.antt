@@ -11,11 +11,11 @@ use Rattle.rules.specs.Sizes.{sizes}
 use Rattle.rules.specs.declared.refusal.Refusal.the-variants.{PastSize, NoRoom}
 use Rattle.salvage_rules.proofs.DecideLaws.{kept-few}
 use Rattle.salvage_rules.specs.Internal.Decided.{Decided}
-use Rattle.salvage_rules.specs.Kept.{keptOf}
+use Rattle.salvage_rules.specs.KeptRows.{keptOf}
 use Rattle.table.specs.TableBytes.{rowSizeOf}
 use Rattle.table.specs.TableWritten.{tableBytesOf}
 use Rattle.table_check.proofs.CheckLaws.{whole-inside, whole-few}
-use Rattle.salvage.specs.Internal.Putting.{Ready, wordsOf}
+use Rattle.salvage.specs.Internal.Putting.{RowsDecided, toldWords}
 use Rattle.salvage.specs.Salvaged.{reportOf, newRow, newTable, salvage, reportWords, salvageAnswer, SalvageCalled}
 use Rattle.salvage.specs.declared.salvage.Salvaging.the-variants.{Done, Refused}
 use Rattle.salvage.proofs.PutLaws.{rows-long, report-long, words-told}
@@ -37,12 +37,12 @@ pub decided-ready : (d most : ℕ) (s : List ℕ) (rules places : List ℕ) (kep
     → most ≤ length rules
     → most ≤ length places
     → Decided d s (length s / rowSizeOf d) rules places kept
-    → Ready d s (length s / rowSizeOf d) rules places kept
+    → RowsDecided d s (length s / rowSizeOf d) rules places kept
 decided-ready d most s rules places kept some short rulesLong placesLong decided =
     let few = whole-few most (length s) (rowSizeOf d) some short in
     record { inside = whole-inside (length s) (rowSizeOf d); rules-long = omega arith; places-long = omega arith; decided = decided }
 
-module _ (d : ℕ) (s : List ℕ) (n : ℕ) (rules places : List ℕ) (kept : ℕ) (r : Ready d s n rules places kept) where
+module _ (d : ℕ) (s : List ℕ) (n : ℕ) (rules places : List ℕ) (kept : ℕ) (r : RowsDecided d s n rules places kept) where
   pub kept-most : kept ≤ n
   kept-most = omega (arith, r .decided .count, kept-few d s n)
 
@@ -60,7 +60,7 @@ module _ (d : ℕ) (s : List ℕ) (n : ℕ) (rules places : List ℕ) (kept : �
   unfolding salvage
   report-is e = ap (reportOf d s) e
 
-  words-are : n ≡ length s / rowSizeOf d → wordsOf rules n ≡ reportWords (salvage d s .report)
+  words-are : n ≡ length s / rowSizeOf d → toldWords rules n ≡ reportWords (salvage d s .report)
   words-are e = words-told d s rules n (r .decided .rule) ∙ ap reportWords (report-is e)
 
   size-is : (size : ℕ) → n ≡ length s / rowSizeOf d → size ≡ kept * rowSizeOf d → length (salvage d s .bytes) ≡ size
@@ -69,7 +69,7 @@ module _ (d : ℕ) (s : List ℕ) (n : ℕ) (rules places : List ℕ) (kept : �
   entries-are : n ≡ length s / rowSizeOf d → length (salvage d s .report) ≡ n - kept
   entries-are e = sym (ap length (report-is e)) ∙ (let z : length (reportOf d s n) ≡ n - kept = omega (arith, all-told d s n, r .decided .count) in z)
 
-  pub words-fit : (long : ℕ) → n ≡ length s / rowSizeOf d → n - kept ≤ long / 2 → length (wordsOf rules n) ≤ long
+  pub words-fit : (long : ℕ) → n ≡ length s / rowSizeOf d → n - kept ≤ long / 2 → length (toldWords rules n) ≤ long
   words-fit long e room =
       omega (arith, ap length (words-are e), report-long (salvage d s .report), entries-are e, div-add-mod' long 2)
 
@@ -99,7 +99,7 @@ module _ (d : ℕ) (s : List ℕ) (n : ℕ) (rules places : List ℕ) (kept : �
       -- all of it put
       pub called-done : (rows-after report-after : List ℕ) (row : ℕ) → n - kept ≤ length report / 2
           → rows-after ≡ sets rows 0 (tableBytesOf d (map (newRow d s (keptOf d s n)) (keptOf d s n)))
-          → report-after ≡ sets report 0 (wordsOf rules n)
+          → report-after ≡ sets report 0 (toldWords rules n)
           → row ≡ rowSizeOf d
           → SalvageCalled d most s rows rows-after report report-after (Done (record { rows = size; report = n - kept; partial = length s % row }))
       unfolding salvageAnswer

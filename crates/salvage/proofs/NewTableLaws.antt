@@ -15,7 +15,7 @@ use Rattle.hash_order.specs.Order.{member, keep, every, ascends, Once}
 use Rattle.rules.proofs.Cases.{split, both, true-false}
 use Rattle.rules.specs.Zeros.{zeros}
 use Rattle.salvage_rules.proofs.KeptLaws.{only-one, isNone, sound, new, has, broken-tests, kept-ascends, is-kept}
-use Rattle.salvage_rules.specs.Kept.{Rule, rowHash, brokenRule, keptIf, keptOf}
+use Rattle.salvage_rules.specs.KeptRows.{Rule, rowHash, brokenRule, keptIf, keptOf}
 use Rattle.table.proofs.TableLaws.{index-of-member, entry-at-index, index-of-entry}
 use Rattle.table.specs.Table.{Row, noRow, rows, depsOf, indexIn, GoodTable}
 use Rattle.table.specs.TableBytes.{rowSizeOf, countOf, usedOf, unusedOf, numbersGood}

@@ -24,14 +24,14 @@ use Rattle.rules.specs.Zeros.{zeros}
 use Rattle.salvage_rules.proofs.DecideLaws.{byte-none, kept-byte, count-next}
 use Rattle.salvage_rules.proofs.KeptLaws.{kept-first, kept-ascends, kept-inside, is-kept}
 use Rattle.salvage_rules.specs.Internal.Decided.{ruleByte, ruleOf}
-use Rattle.salvage_rules.specs.Kept.{Rule, ruleNumber, rowHash, brokenRule, keptIf, keptOf}
+use Rattle.salvage_rules.specs.KeptRows.{Rule, ruleNumber, rowHash, brokenRule, keptIf, keptOf}
 use Rattle.table.proofs.TableLaws.{numberPlaceOf, length-used-of}
 use Rattle.table.proofs.TwoBytes.{length-twos-bytes, twos-at-bytes}
 use Rattle.table.proofs.WrittenLaws.{row-long}
 use Rattle.table.specs.Table.{Row, indexIn}
 use Rattle.table.specs.TableBytes.{u16sAt, u16sBytes, rowSizeOf, countOf, usedOf, unusedOf, numbersGood}
 use Rattle.table.specs.TableWritten.{rowBytesOf, tableBytesOf}
-use Rattle.salvage.specs.Internal.Putting.{movedRow, rowIf, Ready, wordsIf, wordsOf, EntryPut}
+use Rattle.salvage.specs.Internal.Putting.{movedRow, rowIf, RowsDecided, wordsIf, toldWords, ToldPut}
 use Rattle.salvage.specs.Salvaged.{Entry, droppedIf, reportOf, newRow, reportWords}
 
 -- ---- numbers
@@ -195,7 +195,7 @@ module _ (d : ℕ) (s : List ℕ) (n : ℕ) where
       grown none e = absurd (e (eqb-true (ruleByte none) 0 (byte-none none)))
       grown (some r) e = refl
 
-  module _ (rules places : List ℕ) (kept : ℕ) (r : Ready d s n rules places kept) where
+  module _ (rules places : List ℕ) (kept : ℕ) (r : RowsDecided d s n rules places kept) where
     pub mark-kept : (i : ℕ) → i < n → getD rules i 0 ≡ 0 → member i (keptOf d s n) ≡ true
     mark-kept i h e = kept-byte d s i n h ∙ eq-eqb (ruleOf d s i) 0 (sym (r .decided .rule i h) ∙ e)
 
@@ -298,7 +298,7 @@ module _ (d : ℕ) (s : List ℕ) (n : ℕ) where
 
 -- ---- entries
 
-pub entry-none : (report : List ℕ) (at i rule : ℕ) → rule ≡ 0 → EntryPut report report at i rule at
+pub entry-none : (report : List ℕ) (at i rule : ℕ) → rule ≡ 0 → ToldPut report report at i rule at
 unfolding wordsIf
 entry-none report at i rule e = record { place = rw (eq-eqb rule 0 e) (let z : at ≡ at + 0 = omega arith in z); content = rw (eq-eqb rule 0 e) }
 
@@ -310,7 +310,7 @@ module _ (at i rule : ℕ) (e : rule ≡ 0 → ⊥) where
   pub entry-room : (long : ℕ) → at + length (wordsIf i rule) ≤ long → at + 2 ≤ long
   entry-room long h = omega (arith, two)
 
-  pub entry-told : (report : List ℕ) → EntryPut report (set (set report at i) (at + 1) rule) at i rule (at + 2)
+  pub entry-told : (report : List ℕ) → ToldPut report (set (set report at i) (at + 1) rule) at i rule (at + 2)
   unfolding wordsIf
   entry-told report =
       record {
@@ -319,45 +319,45 @@ module _ (at i rule : ℕ) (e : rule ≡ 0 → ⊥) where
       }
 
 module _ (rules : List ℕ) where
-  words-grow : (i j : ℕ) → length (wordsOf rules i) ≤ length (wordsOf rules (j + i))
-  unfolding wordsOf
+  words-grow : (i j : ℕ) → length (toldWords rules i) ≤ length (toldWords rules (j + i))
+  unfolding toldWords
   words-grow i zero = let z : 0 + i ≡ i = omega arith in rw z (omega arith)
   words-grow i (suc j) =
       let next : suc j + i ≡ suc (j + i) = omega arith in
-      rw next (omega (arith, words-grow i j, length-append (wordsOf rules (j + i)) (wordsIf (j + i) (getD rules (j + i) 0))))
+      rw next (omega (arith, words-grow i j, length-append (toldWords rules (j + i)) (wordsIf (j + i) (getD rules (j + i) 0))))
 
-  pub words-none : 0 ≡ length (wordsOf rules 0)
-  unfolding wordsOf
+  pub words-none : 0 ≡ length (toldWords rules 0)
+  unfolding toldWords
   words-none = refl
 
-  pub words-start : (report : List ℕ) → report ≡ sets report 0 (wordsOf rules 0)
-  unfolding wordsOf
+  pub words-start : (report : List ℕ) → report ≡ sets report 0 (toldWords rules 0)
+  unfolding toldWords
   words-start report = refl
 
-  module _ (n i at : ℕ) (h : i < n) (place : at ≡ length (wordsOf rules i)) where
-    words-next : length (wordsOf rules (i + 1)) ≡ at + length (wordsIf i (getD rules i 0))
-    unfolding wordsOf
-    words-next = rw (add-one i) (omega (arith, length-append (wordsOf rules i) (wordsIf i (getD rules i 0))))
+  module _ (n i at : ℕ) (h : i < n) (place : at ≡ length (toldWords rules i)) where
+    words-next : length (toldWords rules (i + 1)) ≡ at + length (wordsIf i (getD rules i 0))
+    unfolding toldWords
+    words-next = rw (add-one i) (omega (arith, length-append (toldWords rules i) (wordsIf i (getD rules i 0))))
 
-    pub words-room : (long full : ℕ) → length (wordsOf rules n) ≤ full → long ≡ full → at + length (wordsIf i (getD rules i 0)) ≤ long
+    pub words-room : (long full : ℕ) → length (toldWords rules n) ≤ full → long ≡ full → at + length (wordsIf i (getD rules i 0)) ≤ long
     words-room long full room same =
         let all : n - (i + 1) + (i + 1) ≡ n = omega arith in
-        let grows : length (wordsOf rules (i + 1)) ≤ length (wordsOf rules n) = rw all at (words-grow (i + 1) (n - (i + 1))) in
+        let grows : length (toldWords rules (i + 1)) ≤ length (toldWords rules n) = rw all at (words-grow (i + 1) (n - (i + 1))) in
         omega (arith, words-next)
 
-    pub words-more : (before report after : List ℕ) (next : ℕ) → report ≡ sets before 0 (wordsOf rules i) → EntryPut report after at i (getD rules i 0) next
-        → (next ≡ length (wordsOf rules (i + 1))) × (after ≡ sets before 0 (wordsOf rules (i + 1)))
-    unfolding wordsOf
+    pub words-more : (before report after : List ℕ) (next : ℕ) → report ≡ sets before 0 (toldWords rules i) → ToldPut report after at i (getD rules i 0) next
+        → (next ≡ length (toldWords rules (i + 1))) × (after ≡ sets before 0 (toldWords rules (i + 1)))
+    unfolding toldWords
     words-more before report after next e put = (
       put .place ∙ sym words-next,
       rw (add-one i)
           (put .content
-          ∙ ap₂ (λ (x : List ℕ) (k : ℕ). sets x k (wordsIf i (getD rules i 0))) e (let z : at ≡ 0 + length (wordsOf rules i) = omega arith in z)
-          ∙ sets-append (wordsOf rules i) (wordsIf i (getD rules i 0)) before 0),
+          ∙ ap₂ (λ (x : List ℕ) (k : ℕ). sets x k (wordsIf i (getD rules i 0))) e (let z : at ≡ 0 + length (toldWords rules i) = omega arith in z)
+          ∙ sets-append (toldWords rules i) (wordsIf i (getD rules i 0)) before 0),
     )
 
-  pub words-all : (before report : List ℕ) (n i : ℕ) → i ≤ n → n ≤ i → report ≡ sets before 0 (wordsOf rules i) → report ≡ sets before 0 (wordsOf rules n)
-  words-all before report n i a b e = e ∙ ap (λ (k : ℕ). sets before 0 (wordsOf rules k)) (let z : i ≡ n = omega arith in z)
+  pub words-all : (before report : List ℕ) (n i : ℕ) → i ≤ n → n ≤ i → report ≡ sets before 0 (toldWords rules i) → report ≡ sets before 0 (toldWords rules n)
+  words-all before report n i a b e = e ∙ ap (λ (k : ℕ). sets before 0 (toldWords rules k)) (let z : i ≡ n = omega arith in z)
 
 -- ---- the report's words
 
@@ -380,8 +380,8 @@ unfolding wordsIf reportWords ruleByte
 told-words n none = refl
 told-words n (some r) = rw (byte-none (some r))
 
-pub words-told : (d : ℕ) (s rules : List ℕ) (n : ℕ) → ((i : ℕ) → i < n → getD rules i 0 ≡ ruleOf d s i) → wordsOf rules n ≡ reportWords (reportOf d s n)
-unfolding wordsOf reportOf reportWords
+pub words-told : (d : ℕ) (s rules : List ℕ) (n : ℕ) → ((i : ℕ) → i < n → getD rules i 0 ≡ ruleOf d s i) → toldWords rules n ≡ reportWords (reportOf d s n)
+unfolding toldWords reportOf reportWords
 words-told d s rules zero f = refl
 words-told d s rules (suc n) f =
     ap₂ (λ (a b : List ℕ). a ++ b) (words-told d s rules n (λ i h. f i (omega arith)))

@@ -18,7 +18,7 @@ use Rattle.rules.proofs.Hash.{hash-is-hash}
 use Rattle.rules.specs.Hash.{Bytes}
 use Rattle.rules.specs.Zeros.{zeros}
 use Rattle.salvage_rules.proofs.KeptLaws.{ascends-end, isNone, sound, new, has, broken-tests, kept-first, kept-one, is-kept}
-use Rattle.salvage_rules.specs.Kept.{Rule, rowHash, brokenRule, keptIf, keptOf}
+use Rattle.salvage_rules.specs.KeptRows.{Rule, rowHash, brokenRule, keptIf, keptOf}
 use Rattle.table.proofs.ExtendLaws.{rows-append}
 use Rattle.table.proofs.TableLaws.{length-used-of, index-of-member, entry-at-index, index-of-entry, good-row-has, good-table-of, good-accepted-of}
 use Rattle.table.proofs.WrittenLaws.{table-read, table-accepted, round-trip}

@@ -1,4 +1,4 @@
--- A change table hurt in the field: the new table, the report and the answer. 02, M-109. Which rows are kept is said in salvage_rules Kept. A row has room
+-- A change table hurt in the field: the new table, the report and the answer. 02, M-109. Which rows are kept is said in salvage_rules KeptRows. A row has room
 -- for d dependencies, a table for `most` rows.
 use Prim.Native.Nat.{ℕ, zero, suc, _+_, _*_, _/_, _%_, _≤_, _<_}
 use mathlib.Core.Bool.{true, cond, not, _&&_}
@@ -15,7 +15,7 @@ use Rattle.table.specs.Table.{Row, GoodTable, hashOf, depsOf, indexIn}
 use Rattle.table.specs.TableBytes.{rowSizeOf, usedOf, wholeRowsOf, tableCheckedOf}
 use Rattle.table.specs.TableWritten.{tableBytesOf}
 use Rattle.table.specs.declared.check.Checked.the-variants.{Good}
-use Rattle.salvage_rules.specs.Kept.{Rule, ruleNumber, rowHash, brokenRule, keptOf, IsKept}
+use Rattle.salvage_rules.specs.KeptRows.{Rule, ruleNumber, rowHash, brokenRule, keptOf, IsKept}
 use Rattle.salvage.specs.declared.salvage.Salvaging.{Salvaging}
 use Rattle.salvage.specs.declared.salvage.Salvaging.the-variants.{Done, Refused}
 

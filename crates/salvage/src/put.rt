@@ -12,10 +12,10 @@ ghost use Prim.Native.Nat.{_+_, _*_, _≤_, _<_};
 ghost use lib.ListN.{length, getD};
 ghost use lib.Seq.{sets};
 ghost use Rattle.rules.specs.Sizes.{sizes};
-ghost use Rattle.salvage_rules.specs.Kept.{keptOf};
+ghost use Rattle.salvage_rules.specs.KeptRows.{keptOf};
 ghost use Rattle.table.specs.TableBytes.{u16sBytes, rowSizeOf, countOf, usedOf, numbersGood};
 ghost use Rattle.table.specs.TableWritten.{rowBytesOf, tableBytesOf};
-ghost use Rattle.salvage.specs.Internal.Putting.{movedRow, rowIf, Ready, wordsIf, wordsOf, EntryPut};
+ghost use Rattle.salvage.specs.Internal.Putting.{movedRow, rowIf, RowsDecided, wordsIf, toldWords, ToldPut};
 ghost use Rattle.salvage.specs.Salvaged.{newRow};
 
 // Puts the numbers of row i at a place of the buffer, each adjusted.
@@ -63,7 +63,7 @@ fn put_kept(
     kept: usize,
     out: &mut [u8],
 )
-    requires { ⌜ Ready d (now table) n (now rules) (now places) kept × (n ≤ sizes .rows) × (i < n) × (kept * rowSizeOf d ≤ length (now out)) ⌝ }
+    requires { ⌜ RowsDecided d (now table) n (now rules) (now places) kept × (n ≤ sizes .rows) × (i < n) × (kept * rowSizeOf d ≤ length (now out)) ⌝ }
     ensures { λ _. ⌜ now (out .exit)
         ≡ sets (now (out .entry)) (length (keptOf d (now (table .entry)) i) * rowSizeOf d) (tableBytesOf d (rowIf d (now (table .entry)) n i)) ⌝ }
 {
@@ -83,7 +83,7 @@ pub fn put_rows(
     kept: usize,
     out: &mut [u8],
 )
-    requires { ⌜ Ready d (now table) n (now rules) (now places) kept × (n ≤ sizes .rows) × (kept * rowSizeOf d ≤ length (now out)) ⌝ }
+    requires { ⌜ RowsDecided d (now table) n (now rules) (now places) kept × (n ≤ sizes .rows) × (kept * rowSizeOf d ≤ length (now out)) ⌝ }
     ensures { λ _. ⌜ now (out .exit)
         ≡ sets (now (out .entry)) 0 (tableBytesOf d (map (newRow d (now (table .entry)) (keptOf d (now (table .entry)) n)) (keptOf d (now (table .entry)) n))) ⌝ }
 {
@@ -97,7 +97,7 @@ pub fn put_rows(
 // Puts row i's entry at a place of the report, if the row is dropped; answers the next entry's place.
 fn put_entry(report: &mut [u64], at: usize, i: usize, rule: u8) -> usize
     requires { ⌜ at + length (wordsIf i rule) ≤ length (now report) ⌝ }
-    ensures { λ r. ⌜ EntryPut (now (report .entry)) (now (report .exit)) at i rule r ⌝ }
+    ensures { λ r. ⌜ ToldPut (now (report .entry)) (now (report .exit)) at i rule r ⌝ }
 {
     if rule == 0 {
         return at;
@@ -109,8 +109,8 @@ fn put_entry(report: &mut [u64], at: usize, i: usize, rule: u8) -> usize
 
 // Puts the entries of n rows.
 pub fn put_report(n: usize, rules: &[u8], report: &mut [u64])
-    requires { ⌜ (n ≤ length (now rules)) × (length (wordsOf (now rules) n) ≤ length (now report)) ⌝ }
-    ensures { λ _. ⌜ now (report .exit) ≡ sets (now (report .entry)) 0 (wordsOf (now (rules .entry)) n) ⌝ }
+    requires { ⌜ (n ≤ length (now rules)) × (length (toldWords (now rules) n) ≤ length (now report)) ⌝ }
+    ensures { λ _. ⌜ now (report .exit) ≡ sets (now (report .entry)) 0 (toldWords (now (rules .entry)) n) ⌝ }
 {
     let mut at = 0;
     let mut i = 0;

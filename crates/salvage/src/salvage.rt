@@ -13,7 +13,7 @@ ghost use Prim.Native.Nat.{_*_, _/_, _≤_, _<_};
 ghost use lib.ListN.{length};
 ghost use Rattle.rules.specs.Sizes.{sizes};
 ghost use Rattle.table.specs.TableBytes.{rowSizeOf};
-ghost use Rattle.salvage.specs.Internal.Putting.{Ready};
+ghost use Rattle.salvage.specs.Internal.Putting.{RowsDecided};
 ghost use Rattle.salvage.specs.Salvaged.{SalvageCalled};
 
 // Bytes of the new table, entries of the report, and bytes of a partial last record.
@@ -40,7 +40,7 @@ fn write_salvaged(
     rows: &mut [u8],
     report: &mut [u64],
 ) -> Salvaging
-    requires { ⌜ Ready d (now table) n (now rules) (now places) kept × (n ≡ length (now table) / rowSizeOf d) × (n ≤ sizes .rows) × (d < 65536)
+    requires { ⌜ RowsDecided d (now table) n (now rules) (now places) kept × (n ≡ length (now table) / rowSizeOf d) × (n ≤ sizes .rows) × (d < 65536)
         × (length (now table) ≤ sizes .rows * rowSizeOf d) ⌝ }
     ensures { λ r. ⌜ SalvageCalled d (sizes .rows) (now (table .entry)) (now (rows .entry)) (now (rows .exit)) (now (report .entry)) (now (report .exit)) r ⌝ }
 {

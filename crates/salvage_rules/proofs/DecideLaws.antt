@@ -22,7 +22,7 @@ use Rattle.table.specs.TableBytes.{u16sAt, rowSizeOf, countOf, usedOf, unusedOf
 use Rattle.table_index.proofs.ListLaws.{ascending-few}
 use Rattle.table_index.specs.Index.{recordHash}
 use Rattle.salvage_rules.specs.Internal.Decided.{Classes, ruleByte, ruleOf, Before, Decided, Taken}
-use Rattle.salvage_rules.specs.Kept.{Rule, ruleNumber, rowHash, brokenRule, keptIf, keptOf}
+use Rattle.salvage_rules.specs.KeptRows.{Rule, ruleNumber, rowHash, brokenRule, keptIf, keptOf}
 use Rattle.salvage_rules.proofs.KeptLaws.{isNone, every-same, kept-is, kept-inside, kept-ascends}
 
 -- ---- dependencies that are kept

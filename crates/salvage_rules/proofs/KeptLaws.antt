@@ -14,7 +14,7 @@ use Rattle.hash_order.specs.Order.{member, keep, every, ascends}
 use Rattle.rules.proofs.Cases.{split, both, true-false, same-truth, either}
 use Rattle.rules.specs.Zeros.{zeros}
 use Rattle.table.specs.TableBytes.{countOf, usedOf, unusedOf, numbersGood}
-use Rattle.salvage_rules.specs.Kept.{Rule, rowHash, brokenRule, keptIf, keptOf, IsKept}
+use Rattle.salvage_rules.specs.KeptRows.{Rule, rowHash, brokenRule, keptIf, keptOf, IsKept}
 
 -- ---- lists that grow at their end
 

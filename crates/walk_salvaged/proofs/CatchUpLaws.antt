@@ -13,7 +13,7 @@ use Rattle.rules.specs.Sizes.{sizes}
 use Rattle.salvage.proofs.NewTableLaws.{new-long, new-good}
 use Rattle.salvage.proofs.SalvagedLaws.{same-order, same-changes, m109}
 use Rattle.salvage.specs.Salvaged.{newTable, salvage}
-use Rattle.salvage_rules.specs.Kept.{rowHash, keptOf}
+use Rattle.salvage_rules.specs.KeptRows.{rowHash, keptOf}
 use Rattle.table.proofs.TableLaws.{length-rows, row-of-held, hash-of-held}
 use Rattle.table.specs.Table.{Row, GoodTable, rows, rowNumber, held, deps}
 use Rattle.table.specs.TableBytes.{rowSizeOf, tableOf}

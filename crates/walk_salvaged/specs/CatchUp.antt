@@ -9,7 +9,7 @@ use Rattle.hash_order.specs.Order.{member}
 use Rattle.rules.specs.Hash.{Bytes}
 use Rattle.rules.specs.Sizes.{sizes}
 use Rattle.salvage.specs.Salvaged.{newTable, salvage}
-use Rattle.salvage_rules.specs.Kept.{rowHash, keptOf}
+use Rattle.salvage_rules.specs.KeptRows.{rowHash, keptOf}
 use Rattle.table.specs.Table.{Row, GoodTable, held, deps}
 use Rattle.table.specs.TableBytes.{rowSizeOf, usedOf, rowSize, tableOf}
 use Rattle.walk.specs.Round.{Part}

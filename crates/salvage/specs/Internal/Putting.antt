@@ -7,7 +7,7 @@ use lib.Dec.{eqb}
 use lib.ListN.{length, getD}
 use lib.Seq.{sets}
 use Rattle.salvage_rules.specs.Internal.Decided.{Decided}
-use Rattle.salvage_rules.specs.Kept.{rowHash, brokenRule, keptIf, keptOf}
+use Rattle.salvage_rules.specs.KeptRows.{rowHash, brokenRule, keptIf, keptOf}
 use Rattle.table.specs.Table.{Row}
 use Rattle.table.specs.TableBytes.{rowSizeOf, usedOf}
 use Rattle.salvage.specs.Salvaged.{newRow}
@@ -21,7 +21,7 @@ abbrev pub rowIf : ℕ → List ℕ → ℕ → ℕ → List Row
 rowIf d s n i = map (newRow d s (keptOf d s n)) (keptIf (brokenRule d s (keptOf d s i) i) i)
 
 -- The first n rows decided, with room for the kept ones.
-pub record Ready (d : ℕ) (s : List ℕ) (n : ℕ) (rules places : List ℕ) (kept : ℕ) : Type 0 where
+pub record RowsDecided (d : ℕ) (s : List ℕ) (n : ℕ) (rules places : List ℕ) (kept : ℕ) : Type 0 where
   pub inside : n * rowSizeOf d ≤ length s
   pub rules-long : n ≤ length rules
   pub places-long : n ≤ length places
@@ -32,11 +32,11 @@ unfoldable pub wordsIf : ℕ → ℕ → List ℕ
 wordsIf i rule = cond (eqb rule 0) [] (i ∷ rule ∷ [])
 
 -- The words of the first n rows' entries.
-unfoldable pub wordsOf : List ℕ → ℕ → List ℕ
-wordsOf rules zero = []
-wordsOf rules (suc n) = wordsOf rules n ++ wordsIf n (getD rules n 0)
+unfoldable pub toldWords : List ℕ → ℕ → List ℕ
+toldWords rules zero = []
+toldWords rules (suc n) = toldWords rules n ++ wordsIf n (getD rules n 0)
 
 -- A row's entry put at a place, and the next place.
-pub record EntryPut (before after : List ℕ) (at i rule next : ℕ) : Type 0 where
+pub record ToldPut (before after : List ℕ) (at i rule next : ℕ) : Type 0 where
   pub place : next ≡ at + length (wordsIf i rule)
   pub content : after ≡ sets before at (wordsIf i rule)

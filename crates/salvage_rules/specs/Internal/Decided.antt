@@ -9,7 +9,7 @@ use lib.Dec.{eqb}
 use lib.ListN.{length, getD}
 use Rattle.hash_order.specs.Order.{member}
 use Rattle.table.specs.TableBytes.{rowSizeOf}
-use Rattle.salvage_rules.specs.Kept.{Rule, ruleNumber, rowHash, brokenRule, keptOf}
+use Rattle.salvage_rules.specs.KeptRows.{Rule, ruleNumber, rowHash, brokenRule, keptOf}
 
 -- Where the run of equal numbers that entry k is in begins.
 unfoldable pub runStart : (ℕ → ℕ) → ℕ → ℕ

@@ -4,7 +4,7 @@ use mathlib.Core.Path.{_≡_, refl, _∙_}
 use native.Mathlib.Omega.{arith}
 use lib.ListN.{length}
 use lib.Seq.{sets}
-use Rattle.salvage.specs.Internal.Putting.{wordsOf}
+use Rattle.salvage.specs.Internal.Putting.{toldWords}
 use Rattle.salvage.proofs.PutLaws.{words-none, words-start, words-room, words-more, words-all}
 use borrow.Author.Needs.{needs}
 use Rattle.salvage.proofs.put.put_report.Statement.{statement}
@@ -15,8 +15,8 @@ Inv-loop n rules report₀ at₀ i₀ report at i =
     record {
       upto : i ≤ n;
       long : length report ≡ length report₀;
-      place : at ≡ length (wordsOf rules i);
-      done : report ≡ sets report₀ 0 (wordsOf rules i);
+      place : at ≡ length (toldWords rules i);
+      done : report ≡ sets report₀ 0 (toldWords rules i);
     }
 
 abbrev μ-loop : tie.MeasureT-loop

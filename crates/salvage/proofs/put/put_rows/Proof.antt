@@ -5,7 +5,7 @@ use mathlib.Core.Path.{_≡_, refl, _∙_}
 use native.Mathlib.Omega.{arith}
 use lib.ListN.{length}
 use lib.Seq.{sets}
-use Rattle.salvage_rules.specs.Kept.{keptOf}
+use Rattle.salvage_rules.specs.KeptRows.{keptOf}
 use Rattle.table.specs.TableWritten.{tableBytesOf}
 use Rattle.salvage.specs.Salvaged.{newRow}
 use Rattle.salvage.proofs.PutLaws.{rows-start, rows-more, rows-all}

@@ -6,7 +6,7 @@ use native.Mathlib.Omega.{arith}
 use lib.ListN.{length, getD, length-set}
 use Rattle.table.proofs.RowLaws.{row-within}
 use Rattle.salvage_rules.specs.Internal.Decided.{ruleOf, Taken}
-use Rattle.salvage_rules.specs.Kept.{keptOf}
+use Rattle.salvage_rules.specs.KeptRows.{keptOf}
 use Rattle.salvage_rules.proofs.DecideLaws.{none-kept, count-few, rules-next, places-next, count-next, taken-next, before-row, class-low, all-decided}
 use borrow.Author.Needs.{needs}
 use Rattle.salvage_rules.proofs.decide.decide_rows.Statement.{statement}
