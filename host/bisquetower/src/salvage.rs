@@ -151,6 +151,17 @@ impl Rule {
         self as u64 + 1
     }
 
+    /// 02's word for it.
+    pub fn name(self) -> &'static str {
+        match self {
+            Rule::Count => "count",
+            Rule::RowNumbers => "row numbers",
+            Rule::Zeros => "zeros",
+            Rule::RepeatedHash => "repeated hash",
+            Rule::LostDependency => "lost dependency",
+        }
+    }
+
     fn of_number(number: u64) -> Rule {
         let mut all = Rule::ALL.into_iter();
         let own = all.find(|rule| rule.number() == number);

@@ -220,6 +220,8 @@ fn the_largest_table() {
 fn rules_have_numbers_and_words() {
     let numbers: Vec<u64> = Rule::ALL.iter().map(|rule| rule.number()).collect();
     assert_eq!(numbers, [1, 2, 3, 4, 5]);
-    let words: BTreeSet<String> = Rule::ALL.iter().map(Rule::to_string).collect();
-    assert_eq!(words.len(), Rule::ALL.len());
+    let words = Rule::ALL.iter().map(Rule::to_string);
+    let names = Rule::ALL.iter().map(|rule| rule.name().to_string());
+    let all: BTreeSet<String> = words.chain(names).collect();
+    assert_eq!(all.len(), 2 * Rule::ALL.len());
 }
