@@ -14,6 +14,7 @@ mod filter;
 mod measure;
 mod message;
 mod runs;
+mod salvage;
 mod selection;
 mod session;
 mod settings;
@@ -38,6 +39,7 @@ fn main() -> ExitCode {
         session::measure_all();
         settings::measure_all();
         counts::measure_all();
+        salvage::measure_all();
         steep::measure_all();
         return ExitCode::SUCCESS;
     }

@@ -5,7 +5,8 @@ use std::fmt;
 use std::ops::Range;
 
 /// What broke a rule, where what was lent shows it: which list is too long and by how
-/// much, which field of a row is wrong. [`Refusal::cause`](crate::Refusal::cause) has it.
+/// much, which field of a row is wrong. [`Refusal::cause`](crate::Refusal::cause) has it, and
+/// of a row that was dropped [`Dropped::cause`](crate::Dropped::cause).
 ///
 /// ```
 /// use bisquetower::limits::{DEPENDENCIES, HASH_SIZE};
@@ -86,6 +87,8 @@ pub(crate) enum Rule {
     FieldSize { bytes: u64, asked: u64 },
     /// A row keeps to what rows are.
     Row { table: Rows, row: usize, rule: Row },
+    /// The same of a row that was dropped.
+    Dropped { row: usize, rule: Row },
     /// A row of before has room for `most` dependencies, and this one has `count`.
     TooWide { row: usize, count: u64, most: u64 },
     /// The sent hashes of a session ascend: the one at an index doesn't.
@@ -180,6 +183,8 @@ pub(crate) enum Row {
     Twice(usize),
     /// A row of the change table has its hash.
     Held(usize),
+    /// It depends on a row that was dropped.
+    Lost(usize),
 }
 
 /// Where a setting stands, or what it was for.
@@ -248,6 +253,7 @@ impl fmt::Display for Cause {
                 write!(f, "{has}; its entries and bits ask for {asked}")
             }
             Rule::Row { table, row, rule } => write!(f, "row {} of the {table} {rule}", shown(row)),
+            Rule::Dropped { row, rule } => write!(f, "row {} {rule}", shown(row)),
             Rule::TooWide { row, count, most } => {
                 let (row, count, most) = (shown(row), grouped(count), grouped(most));
                 write!(
@@ -372,6 +378,7 @@ impl fmt::Display for Row {
             }
             Row::Twice(row) => write!(f, "has the hash of row {}", shown(row)),
             Row::Held(row) => write!(f, "has the hash of row {} of the change table", shown(row)),
+            Row::Lost(row) => write!(f, "depends on row {}, which is dropped", shown(row)),
         }
     }
 }

@@ -9,6 +9,7 @@ mod counts;
 mod lent;
 mod read;
 mod rows;
+mod salvage;
 mod settings;
 mod written;
 
@@ -16,6 +17,7 @@ pub(crate) use counts::{adding, capture};
 pub(crate) use lent::{passed, planning, receiving, selecting, session};
 pub(crate) use read::{filter, message, state};
 pub(crate) use rows::{narrowed, old_table, table, tables};
+pub(crate) use salvage::dropped;
 pub(crate) use settings::{list, setting};
 pub(crate) use written::{building, parts, saved, writing};
 

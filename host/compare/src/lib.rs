@@ -15,9 +15,9 @@
 //! differ.
 //!
 //! A module for each subject: `wire`, `filters`, `tables`, `settings`, `states`, `messages`,
-//! `counts` and `selections` (the hashes to send) make the comparisons, and `writes` those of
-//! every call that writes one buffer and that the crate has. `inputs` and `model` have a module for each of them
-//! too. The models of messages, of hashes to send and of sessions are also held against
+//! `counts`, `salvage` and `selections` (the hashes to send) make the comparisons, and `writes`
+//! those of every call that writes one buffer and that the crate has. `inputs` and `model` have
+//! a module for each of them too. The models of messages, of hashes to send and of sessions are also held against
 //! the crate alone; the crate's graph can't be had, and its stand-in takes the crate's
 //! place there. `samples` is what is stored of the crate's answers.
 //!
@@ -35,6 +35,7 @@ pub mod inputs;
 pub mod messages;
 pub mod model;
 pub mod published;
+pub mod salvage;
 pub mod samples;
 pub mod scale;
 pub mod scenarios;

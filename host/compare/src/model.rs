@@ -8,6 +8,7 @@ pub mod have;
 pub mod message;
 pub mod plan;
 pub mod receive;
+pub mod salvage;
 pub mod selection;
 pub mod session;
 pub mod settings;

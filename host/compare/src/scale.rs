@@ -11,6 +11,7 @@ mod filters;
 mod kinds;
 mod messages;
 mod report;
+mod salvage;
 pub mod script;
 mod selections;
 mod sessions;

@@ -7,7 +7,7 @@ use crate::inputs::counts::filter_bytes;
 use crate::inputs::index::index_of;
 use crate::inputs::message::{filter_string, Draft};
 use crate::inputs::settings::{settings_bytes, LARGEST};
-use crate::inputs::table::{table_bytes, waiting_bytes, Likeness, Shape, WaitingRow};
+use crate::inputs::table::{set_number, table_bytes, waiting_bytes, Likeness, Shape, WaitingRow};
 use crate::inputs::Random;
 use crate::messages::parts::Chunks;
 use crate::model::number_bytes;
@@ -64,6 +64,7 @@ pub fn calls() -> Vec<Deep> {
     calls.extend(states(&mut random));
     calls.extend(messages(&mut random));
     calls.extend(sessions(&mut random));
+    calls.extend(salvages(&mut random));
     calls
 }
 
@@ -341,6 +342,30 @@ fn counts(random: &mut Random) -> Vec<Deep> {
         })
     });
     captures.into_iter().chain(additions).collect()
+}
+
+/// The largest tables: good ones, one in which every second row is bad by itself, one whose
+/// rows all have the same hash, and a chain that is lost but for its first row.
+fn salvages(random: &mut Random) -> Vec<Deep> {
+    let mut table = |shape| table_bytes(&random.rows(ROWS, shape, Likeness::Descending));
+    let [any, full, wide, chain] =
+        [Shape::Any, Shape::Full, Shape::Wide, Shape::Deep].map(&mut table);
+    let (mut every_second, mut alike, mut lost) = (any.clone(), wide, chain);
+    for row in every_second.chunks_exact_mut(2 * ROW_SIZE) {
+        set_number(row, 0, DEPENDENCIES + 1);
+    }
+    let first = alike[..HASH].to_vec();
+    for row in alike.chunks_exact_mut(ROW_SIZE) {
+        row[..HASH].copy_from_slice(&first);
+    }
+    set_number(&mut lost[ROW_SIZE..], 1, 1);
+    let tables = [any, full, every_second, alike, lost];
+    let calls = tables.map(|table| {
+        deep("bt_salvage", move || {
+            raw::salvage(&table, &mut vec![0; table.len()], &mut vec![0; 2 * ROWS])
+        })
+    });
+    calls.into()
 }
 
 /// The words of a session in which every list is as long as it may be, with these flags.

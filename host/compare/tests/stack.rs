@@ -58,13 +58,14 @@ fn what_is_taken_is_within_the_promise() {
 }
 
 /// The functions whose calls take more than the smallest stack that a thread can have.
-const DEEP: [&str; 6] = [
+const DEEP: [&str; 7] = [
     "bt_count_capture",
     "bt_missing",
     "bt_plan",
     "bt_plan_with",
     "bt_plan_settled",
     "bt_receive",
+    "bt_salvage",
 ];
 
 /// On the stack that it takes a call is answered; on the next smaller one, and on others

@@ -57,6 +57,12 @@ impl Failure {
         Failure { shown, ..self }
     }
 
+    /// The same with another thing to do next.
+    pub fn advising(self, next: impl Into<String>) -> Failure {
+        let next = next.into();
+        Failure { next, ..self }
+    }
+
     pub fn status(&self) -> ExitCode {
         self.status.into()
     }

@@ -14,6 +14,7 @@ bisquetower: messages, tables and catch-ups, through the proved sync library
   table FILE                  rows, heads, widest, deepest, first bad row
   catch-up STATION VALIDATOR  two units talk until both hold the same rows
   convert IN OUT              a table in rows of before, in rows of now; or back
+  salvage IN OUT              what is good of a hurt table, and what isn't
   settings FILE               what stations chose for their filters, and when
   count NIGHT                 what captured filters did: the night's false yeses
   sample DIR                  tables and captures to try it on
@@ -51,7 +52,8 @@ bisquetower table FILE [--full]
 
 Checks a change table and shows its rows and heads, the first row that depends
 on most rows (widest), the first with the longest way down (deepest), and the
-first bad row. Of a bad table the rows before that one are shown.
+first bad row, with the rule that it broke. Of a bad table the rows before that
+one are shown; `bisquetower salvage` keeps what is good behind it too.
 
   --full      hashes whole and all of them
 ";
@@ -108,6 +110,31 @@ is the same bytes, and the same index fits.
   --force     write over OUT
 
 The other commands read rows of before as they are.
+"
+    )
+}
+
+fn salvage() -> String {
+    let before = grouped(OLD_ROW_SIZE as u64);
+    format!(
+        "\
+bisquetower salvage IN OUT [--report FILE] [--json] [--force]
+
+Writes the good rows of a hurt change table: those whose count, row numbers and
+zeros are right, whose hash no earlier kept row has, and which depend on kept
+rows alone. They stay in order, and row numbers are adjusted. A line for each
+row that is dropped has the first rule that it broke, with the bytes that did
+and their place in IN; then what was kept and dropped is counted. A unit goes on
+with OUT and catches up: its station sends what is missing. What was hurt and
+keeps these rules nevertheless, as a hash may, isn't seen.
+
+  --report FILE  the lines go to FILE
+  --json         the rows that are dropped, and the counts, as JSON
+  --force        write over OUT and FILE; IN is never written over
+
+A table with rows of before ({before} bytes) is widened if it is good; then nothing
+is dropped. If it is hurt, nothing is written: how many of its first rows are
+good is told, which `bisquetower convert` takes.
 "
     )
 }
@@ -196,6 +223,7 @@ pub fn run(words: &[OsString]) -> Result<String, Failure> {
         Some("table") => table(),
         Some("catch-up") => CATCH_UP.to_string(),
         Some("convert") => convert(),
+        Some("salvage") => salvage(),
         Some("settings") => SETTINGS.to_string(),
         Some("count") => COUNT.to_string(),
         Some("sample") => sample(),

@@ -1,6 +1,6 @@
 //! The desk command: what a message, a state, a filter, a table or a settings list holds,
-//! how a validator catches up, and what the filters of a night did. Every answer is the
-//! proved library's.
+//! how a validator catches up, what is good of a hurt table, and what the filters of a night
+//! did. Every answer is the proved library's.
 
 mod args;
 mod catch_up;
@@ -19,6 +19,7 @@ mod paint;
 mod progress;
 mod rate;
 mod rows;
+mod salvage;
 mod sample;
 mod settings;
 mod table;
@@ -55,6 +56,7 @@ fn run(words: &[OsString]) -> Result<String, Failure> {
         "table" => table::run,
         "catch-up" => catch_up::run,
         "convert" => convert::run,
+        "salvage" => salvage::run,
         "settings" => settings::run,
         "count" => count::run,
         "sample" => sample::run,

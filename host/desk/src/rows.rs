@@ -52,6 +52,16 @@ impl Rows {
         }
     }
 
+    /// What is said of a table that was read so and is written in rows of now.
+    pub fn told_of_widened(self) -> String {
+        match self {
+            Rows::Now => String::new(),
+            Rows::Before => {
+                format!(", whose rows of {OLD_ROW_SIZE} bytes, as they were before, are widened")
+            }
+        }
+    }
+
     /// What is said of a table's title.
     pub fn told(self) -> String {
         match self {

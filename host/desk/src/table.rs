@@ -7,7 +7,7 @@ use crate::inspect;
 use crate::paint::Paint;
 use crate::rows::Rows;
 use crate::text::{count, hashes, number, Columns};
-use bisquetower::{Refusal, Table};
+use bisquetower::{Refusal, Salvaged, Table};
 use std::ffi::{OsStr, OsString};
 
 const OPTIONS: Options = Options {
@@ -25,7 +25,7 @@ pub fn run(words: &[OsString]) -> Result<String, Failure> {
     let rows = Rows::of(&bytes);
     match rows.table(&bytes) {
         Ok(table) => {
-            let shown = shown(&table, "none", full);
+            let shown = shown(&table, ("none", ""), full);
             let good = paint.good("a good change table");
             Ok(format!("{name}: {good}{}\n{shown}", rows.told()))
         }
@@ -35,12 +35,20 @@ pub fn run(words: &[OsString]) -> Result<String, Failure> {
                 number: 6, value, ..
             },
         ) => {
-            let before = rows.table(&bytes[..rows.size() * value as usize]);
+            let row = value as usize;
+            let before = rows.table(&bytes[..rows.size() * row]);
             let before = before.expect("rows before the first bad one are good");
             let bad = paint.bad("a bad change table; of its rows before the first bad one");
-            let shown = shown(&before, &number(value as usize), full);
+            let salvaged = salvaged(rows, &bytes);
+            let broke = salvaged.as_ref().map(|salvaged| broken(salvaged, row));
+            let first_bad = (&number(row)[..], broke.as_deref().unwrap_or_default());
+            let shown = shown(&before, first_bad, full);
             let shown = format!("{name}: {bad}{}\n{shown}", rows.told());
-            Err(refused(&file, &bytes, refusal).showing(shown))
+            let failure = refused(&file, &bytes, refusal).showing(shown);
+            Err(match salvaged {
+                Some(salvaged) => failure.advising(offer(&file, &salvaged)),
+                None => failure,
+            })
         }
         Err(refusal) => Err(refused(&file, &bytes, refusal)),
     }
@@ -57,8 +65,30 @@ fn refused(file: &OsStr, bytes: &[u8], refusal: Refusal) -> Failure {
     inspect::refused(file, inspect::Kind::Table, bytes, refusal)
 }
 
+/// What can be kept of a bad table. Rows of before can't be salvaged.
+fn salvaged(rows: Rows, bytes: &[u8]) -> Option<Salvaged> {
+    match rows {
+        Rows::Now => Table::salvage(bytes).ok(),
+        Rows::Before => None,
+    }
+}
+
+/// The rule that a bad row broke. One that isn't whole is none that is dropped.
+fn broken(salvaged: &Salvaged, row: usize) -> String {
+    let dropped = salvaged.report.iter().find(|dropped| dropped.row == row);
+    dropped.map_or("it isn't whole".to_string(), |dropped| {
+        format!("{}: {}", dropped.rule.name(), dropped.rule)
+    })
+}
+
+/// What to do with a bad table.
+fn offer(file: &OsStr, salvaged: &Salvaged) -> String {
+    let (file, kept) = (file.display(), count(salvaged.table.rows(), "row"));
+    format!("`bisquetower salvage {file} OUT` keeps {kept} of it; what is missing a station sends.")
+}
+
 /// What good rows are, in columns.
-fn shown(table: &Table, first_bad: &str, full: bool) -> String {
+fn shown(table: &Table, first_bad: (&str, &str), full: bool) -> String {
     let mut columns = Columns::default();
     let heads = table.heads();
     columns.row("rows", &number(table.rows()), "");
@@ -73,7 +103,8 @@ fn shown(table: &Table, first_bad: &str, full: bool) -> String {
         let told = format!("the longest way down passes {below}");
         columns.row("deepest", &number(deepest), &told);
     }
-    columns.row("first bad row", first_bad, "");
+    let (row, broke) = first_bad;
+    columns.row("first bad row", row, broke);
     columns.to_string()
 }
 

@@ -13,6 +13,8 @@ mod convert;
 mod count;
 #[path = "desk/inspect.rs"]
 mod inspect;
+#[path = "desk/salvage.rs"]
+mod salvage;
 #[path = "desk/settings.rs"]
 mod settings;
 

@@ -5,12 +5,14 @@ use compare::filters::{compare_reads as compare_filters, Build, Haves, Part};
 use compare::guarded::FILLS;
 use compare::inputs::index::Beside;
 use compare::inputs::settings::settings_bytes;
-use compare::inputs::table::{table_bytes, Row};
+use compare::inputs::table::{set_number, table_bytes, Row};
 use compare::messages::{compare as compare_messages, compare_lists};
 use compare::model::filter::{self, Filter};
 use compare::model::plan::{By, Numbers};
 use compare::model::session::Value;
 use compare::model::settings::{Choice, Setting};
+use compare::model::table::DEPENDENCIES;
+use compare::salvage::{compare as compare_salvaged, Rooms as Buffers};
 use compare::scale::script;
 use compare::sessions::lent::Lent;
 use compare::sessions::library::{compare_plans, Planning};
@@ -238,6 +240,36 @@ pub fn counts(data: &[u8]) {
     let mut five = || std::array::from_fn(|_| words.next().unwrap_or(0));
     let (totals, counts) = (five(), five());
     agreed(compare_additions(&[Addition { totals, counts }]));
+}
+
+/// The bytes as a table; and of each five of them a row: the one that its hash is made of, on
+/// which of the eight rows before it is, and a number that is written over its count or one of
+/// its row numbers, if it isn't 0. What is left over of five is the partial row.
+pub fn salvage(data: &[u8]) {
+    let mut table = Vec::new();
+    let fives = data.chunks_exact(5);
+    let partial = fives.remainder();
+    for (number, five) in fives.enumerate() {
+        let on = (0..8).rev().filter(|bit| five[1] >> bit & 1 == 1);
+        let row = Row {
+            hash: [five[0]; 32],
+            // Where there are no such rows, the number is none that a table has.
+            dependencies: on.map(|bit| number.wrapping_sub(1 + bit)).collect(),
+        };
+        let mut record = row.bytes();
+        let [which, low, high] = [five[2], five[3], five[4]].map(usize::from);
+        if (low, high) != (0, 0) {
+            set_number(&mut record, which % (1 + DEPENDENCIES), low + 256 * high);
+        }
+        table.extend(record);
+    }
+    table.extend(partial);
+    let short = (table.len() / 2, data.len() / 5);
+    agreed(compare_salvaged(&[
+        (data, Buffers::Enough),
+        (&table, Buffers::Enough),
+        (&table, Buffers::One(short)),
+    ]));
 }
 
 /// A session script.

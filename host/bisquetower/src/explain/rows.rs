@@ -107,7 +107,7 @@ fn long(table: &[u8], waiting: &[u8]) -> Option<Cause> {
 }
 
 /// What is wrong with a row, and which of its bytes are.
-type Wrong = (Row, Range<usize>);
+pub(super) type Wrong = (Row, Range<usize>);
 
 fn change_row(called: Rows, width: Width, table: &[u8], row: usize) -> Option<Cause> {
     let size = width.size();
@@ -153,16 +153,20 @@ fn cut(own: &[u8], whole: usize) -> Option<Wrong> {
     (bytes < whole).then_some((Row::Cut { bytes, whole }, 0..bytes))
 }
 
+/// Where a change row's count (0) or one of its row numbers (from 1) stands in it.
+pub(super) fn field(k: usize) -> Range<usize> {
+    HASH + 2 * k..HASH + 2 * (k + 1)
+}
+
 /// The count and the row numbers of a change row that has room for `most`.
-fn row_numbers(own: &[u8], row: usize, most: u64) -> Option<Wrong> {
+pub(super) fn row_numbers(own: &[u8], row: usize, most: u64) -> Option<Wrong> {
     let fields = own[HASH..].chunks_exact(2);
     let fields: Vec<u64> = fields
         .map(|f| u16::from_le_bytes([f[0], f[1]]).into())
         .collect();
-    let place = |k: usize| HASH + 2 * k..HASH + 2 * (k + 1);
     let count = fields[0];
     if count > most {
-        return Some((Row::Count { count, most }, place(0)));
+        return Some((Row::Count { count, most }, field(0)));
     }
     let wrong = |k: usize| {
         let (number, after) = (fields[k], fields[k - 1]);
@@ -173,7 +177,7 @@ fn row_numbers(own: &[u8], row: usize, most: u64) -> Option<Wrong> {
             _ => None,
         }
     };
-    (1..fields.len()).find_map(|k| Some((wrong(k)?, place(k))))
+    (1..fields.len()).find_map(|k| Some((wrong(k)?, field(k))))
 }
 
 /// The count and the hashes of a waiting row.

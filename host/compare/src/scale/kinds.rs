@@ -2,7 +2,9 @@
 //! those of another.
 
 use super::case::Kind;
-use super::{counts, filters, messages, selections, sessions, settings, states, tables, wire};
+use super::{
+    counts, filters, messages, salvage, selections, sessions, settings, states, tables, wire,
+};
 use crate::model::settings::RECORD;
 use bisquetower::limits::{HASH_SIZE, ROW_SIZE, WAITING_ROW_SIZE};
 
@@ -160,6 +162,14 @@ pub const KINDS: &[Kind] = &[
         a_round: 12_000,
         make: counts::addition,
         held: counts::add,
+    },
+    Kind {
+        name: "salvage",
+        bytes: &[("table", ROW_SIZE)],
+        numbers: &["room for rows", "room for the report"],
+        a_round: 2_000,
+        make: salvage::hurt,
+        held: salvage::salvage,
     },
     Kind {
         name: "hashes to send",

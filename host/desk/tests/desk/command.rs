@@ -5,8 +5,8 @@ use bisquetower::Table;
 use std::fs;
 use std::process::Stdio;
 
-const COMMANDS: [&str; 8] = [
-    "inspect", "table", "catch-up", "convert", "settings", "count", "sample", "compare",
+const COMMANDS: [&str; 9] = [
+    "inspect", "table", "catch-up", "convert", "salvage", "settings", "count", "sample", "compare",
 ];
 
 /// Lines and columns of a screen.
