@@ -118,7 +118,7 @@ fn salvage() -> String {
     let before = grouped(OLD_ROW_SIZE as u64);
     format!(
         "\
-bisquetower salvage IN OUT [--report FILE] [--json] [--force]
+bisquetower salvage IN OUT [--old] [--report FILE] [--json] [--force]
 
 Writes the good rows of a hurt change table: those whose count, row numbers and
 zeros are right, whose hash no earlier kept row has, and which depend on kept
@@ -128,13 +128,15 @@ and their place in IN; then what was kept and dropped is counted. A unit goes on
 with OUT and catches up: its station sends what is missing. What was hurt and
 keeps these rules nevertheless, as a hash may, isn't seen.
 
+  --old          IN has rows of before, however hurt it is
   --report FILE  the lines go to FILE
   --json         the rows that are dropped, and the counts, as JSON
   --force        write over OUT and FILE; IN is never written over
 
-A table with rows of before ({before} bytes) is widened if it is good; then nothing
-is dropped. If it is hurt, nothing is written: how many of its first rows are
-good is told, which `bisquetower convert` takes.
+A table with rows of before ({before} bytes) is widened first, hurt or not. It is
+taken for one if more of its first rows are good so than in rows of now, and more
+than half of all are kept. A row that counts more than there was room for then
+is told for its row numbers.
 "
     )
 }

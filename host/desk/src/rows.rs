@@ -43,6 +43,28 @@ impl Rows {
         }
     }
 
+    /// The bytes of a table, good or hurt, as rows of now: each whole row of before gets the
+    /// bytes that it lacks as zeros.
+    pub fn laid(self, bytes: &[u8]) -> Vec<u8> {
+        if self == Rows::Now {
+            return bytes.to_vec();
+        }
+        let rows = bytes.chunks_exact(OLD_ROW_SIZE);
+        let rest = rows.remainder();
+        let mut laid = Vec::with_capacity(Table::ROW * (rows.len() + 1));
+        for row in rows {
+            laid.extend(row);
+            laid.resize(laid.len() + Table::ROW - OLD_ROW_SIZE, 0);
+        }
+        laid.extend(rest);
+        laid
+    }
+
+    /// Where in the file a byte stands whose place is counted in rows of now.
+    pub fn place(self, laid: usize) -> usize {
+        laid / Table::ROW * self.size() + laid % Table::ROW
+    }
+
     /// Bytes of the rows before the first bad one.
     fn good(self, bytes: &[u8]) -> usize {
         match self.table(bytes) {

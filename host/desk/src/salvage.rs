@@ -9,8 +9,6 @@ use crate::failure::Failure;
 use crate::files;
 use crate::inspect::{self, Kind};
 use crate::rows::Rows;
-use crate::text::{count, number};
-use bisquetower::limits::OLD_ROW_SIZE;
 use bisquetower::{Dropped, Rule, Salvaged, Table};
 use std::ffi::{OsStr, OsString};
 use std::fs;
@@ -18,7 +16,7 @@ use std::path::Path;
 
 const OPTIONS: Options = Options {
     command: "salvage",
-    switches: &["--json", "--force"],
+    switches: &["--old", "--json", "--force"],
     valued: &["--report"],
 };
 
@@ -26,7 +24,8 @@ const OPTIONS: Options = Options {
 struct Done<'a> {
     from: &'a OsStr,
     to: &'a OsStr,
-    bytes: Vec<u8>,
+    /// The hurt table's bytes, in rows of now.
+    laid: Vec<u8>,
     rows: Rows,
     salvaged: Salvaged,
 }
@@ -35,7 +34,7 @@ impl Done<'_> {
     /// The bytes of a dropped row's field that broke its rule, and their place in the file.
     fn field(&self, dropped: &Dropped) -> Option<(usize, &[u8])> {
         let place = dropped.cause()?.place()?;
-        Some((place.start, &self.bytes[place]))
+        Some((self.rows.place(place.start), &self.laid[place]))
     }
 
     /// How many rows broke a rule first.
@@ -54,11 +53,15 @@ pub fn run(words: &[OsString]) -> Result<String, Failure> {
     let force = args.has("--force");
     may_write(&from, &to, report, force)?;
     let bytes = files::read(&from)?;
-    let (rows, salvaged) = salvage(&from, &bytes)?;
+    let rows = match args.has("--old") || is_of_before(&bytes) {
+        true => Rows::Before,
+        false => Rows::Now,
+    };
+    let (laid, salvaged) = salvage(&from, &bytes, rows)?;
     let done = Done {
         from: &from,
         to: &to,
-        bytes,
+        laid,
         rows,
         salvaged,
     };
@@ -103,40 +106,18 @@ fn may_write(from: &OsStr, to: &OsStr, report: Option<&OsStr>, force: bool) -> R
     }
 }
 
-/// What is kept of a file's rows, and which rows it has. Rows of before are widened if they
-/// are good, and then nothing of them is dropped.
-fn salvage(file: &OsStr, bytes: &[u8]) -> Result<(Rows, Salvaged), Failure> {
-    let rows = Rows::of(bytes);
-    let refused = |refusal| inspect::refused(file, Kind::Table, bytes, refusal);
-    if rows == Rows::Before {
-        if let Ok(table) = Table::from_old(bytes) {
-            let salvaged = Table::salvage(table.as_bytes()).map_err(refused)?;
-            return Ok((rows, salvaged));
-        }
-    }
-    let salvaged = Table::salvage(bytes).map_err(refused)?;
-    // A row of now has none of a hurt table of before: what would be written is empty.
-    match rows == Rows::Before && salvaged.table.rows() == 0 {
-        true => Err(hurt_of_before(file, bytes)),
-        false => Ok((Rows::Now, salvaged)),
-    }
+/// Whether a table, hurt or not, has rows of before: its first ones are good so, and more than
+/// half of all are kept. A row of now is four of before, of which most have the same hash.
+fn is_of_before(bytes: &[u8]) -> bool {
+    let kept = |salvaged: Salvaged| salvaged.table.rows() > salvaged.report.len();
+    Rows::of(bytes) == Rows::Before && Table::salvage(&Rows::Before.laid(bytes)).is_ok_and(kept)
 }
 
-/// Rows of before that are bad: the library widens good tables alone.
-fn hurt_of_before(file: &OsStr, bytes: &[u8]) -> Failure {
-    let good = match Table::from_old(bytes) {
-        Err(refusal) => refusal.value as usize,
-        Ok(table) => table.rows(),
-    };
-    let (file, first) = (file.display(), count(good, "row"));
-    Failure::refused(
-        format!(
-            "{file} looks like a hurt table with rows of {OLD_ROW_SIZE} bytes, as they were before: nothing of it is a row of {} bytes",
-            number(Table::ROW)
-        ),
-        format!(
-            "its first {first} are good: copy them with `head -c {}`, and `bisquetower convert` makes rows of now.",
-            good * OLD_ROW_SIZE
-        ),
-    )
+/// What is kept of a file, read in these rows. Rows of before are widened first, hurt or not:
+/// the bytes that they lack are zeros, so that what is kept of them is good in either width.
+fn salvage(file: &OsStr, bytes: &[u8], rows: Rows) -> Result<(Vec<u8>, Salvaged), Failure> {
+    let laid = rows.laid(bytes);
+    let refused = |refusal| inspect::refused(file, Kind::Table, &laid, refusal);
+    let salvaged = Table::salvage(&laid).map_err(refused)?;
+    Ok((laid, salvaged))
 }

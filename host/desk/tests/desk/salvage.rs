@@ -206,8 +206,8 @@ fn what_cant_be_salvaged() {
     assert!(refused.err.contains("can't be written"), "{refused:?}");
 }
 
-/// Rows of before are widened if they are good. If they are hurt, nothing is written, and
-/// what is advised then works.
+/// Rows of before are widened, good or hurt, and what is told of a hurt one counts in the
+/// file's own rows.
 #[test]
 fn rows_of_before() {
     let old = good().to_old().unwrap();
@@ -221,20 +221,29 @@ fn rows_of_before() {
 
     let mut bad = old.clone();
     bad[OLD_ROW_SIZE * 5 + 32] = 16;
+    bad.extend([7; 20]);
     fs::write(&table, &bad).unwrap();
-    fs::remove_file(&out).unwrap();
-    let refused = salvage(&table, &out, &[]).ended(1);
-    assert!(
-        refused.err.contains("its first 5 rows are good"),
-        "{refused:?}"
-    );
-    assert!(refused.err.contains("`head -c 320`"), "{refused:?}");
-    assert!(!out.exists());
-    fs::write(&table, &bad[..320]).unwrap();
-    run(&["convert", text(&table), text(&out)]).ended(0);
+    let shown = salvage(&table, &out, &["--force"]).ended(0).out;
+    assert!(shown.starts_with("row 5 "), "{shown}");
+    assert!(shown.contains("rows of 64 bytes"), "{shown}");
+    let kept = Table::new(fs::read(&out).unwrap()).unwrap();
     assert_eq!(
-        fs::read(&out).unwrap(),
+        &kept.as_bytes()[..5 * Table::ROW],
         &good().as_bytes()[..5 * Table::ROW]
+    );
+    let json = salvage(&table, &out, &["--json", "--force"]).ended(0).out;
+    assert!(json.contains("\"partial\": 20"), "{json}");
+
+    // Hurt from its first row on, a table isn't known to be of before unless that is said.
+    bad[32] = 1;
+    fs::write(&table, &bad).unwrap();
+    let shown = salvage(&table, &out, &["--old", "--force"]).ended(0).out;
+    let place = OLD_ROW_SIZE - 2 * 15;
+    assert!(
+        shown.starts_with(&format!(
+            "row 0 depends on row 0, which doesn't stand before it (number 00 00 at place {place})"
+        )),
+        "{shown}"
     );
 }
 
