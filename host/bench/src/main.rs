@@ -12,6 +12,7 @@
 mod filter;
 mod measure;
 mod message;
+mod pool;
 mod runs;
 mod selection;
 mod session;
