@@ -11,7 +11,7 @@ use bisquetower::raw;
 use compare::inputs::table::{table_bytes, waiting_bytes, Likeness, Shape, WaitingRow};
 use compare::inputs::Random;
 use compare::model::session::Value;
-use compare::model::state::{V2, WORDS};
+use compare::model::state::V2;
 use compare::model::table::{Hash, HASH, WAITING_ROWS};
 use compare::sessions::lent::Lent;
 use compare::sessions::published::state;
@@ -42,10 +42,11 @@ fn falling(count: usize, random: &mut Random) -> Vec<Hash> {
     (0..count).map(one).collect()
 }
 
-const LINES: [(&str, Measure); 4] = [
+const LINES: [(&str, Measure); 5] = [
     ("plan document", plan_document),
     ("plan unknown heads", plan_unknown_heads),
     ("receive one unknown", receive_one_unknown),
+    ("receive many shared", receive_many_shared),
     ("index unfit", index_unfit),
 ];
 
@@ -191,25 +192,55 @@ fn plan(pool: &Pool<Case>, name: &str, size: &str, note: &str, session: impl Fn(
     line_of(what, library, pool.at_a_time(), given, published);
 }
 
-/// A message with as many heads as there are rows, of which the last is unknown. A
-/// run's number is how many the session shares then.
+/// A message with as many heads as there are rows, of which the last is unknown.
 fn receive_one_unknown(pool: &Pool<Case>, name: &str, size: &str) {
-    let pool = pool.map(|case| {
+    let heard = |case: &Case| {
         let heads = [&case.held[1..], &case.unknown[..1]].concat();
-        (case, of_heads(&heads))
+        (Value::default(), of_heads(&heads))
+    };
+    let note = "a message with as many heads as rows, all but one held, in the table's order";
+    receive(pool, name, size, note, heard);
+}
+
+/// A message with one head, in a session that shares as many heads as there are rows. None
+/// of them is held.
+fn receive_many_shared(pool: &Pool<Case>, name: &str, size: &str) {
+    let heard = |case: &Case| {
+        let session = Value {
+            shared: case.unknown.clone(),
+            ..Value::default()
+        };
+        (session, of_heads(&case.unknown[..1]))
+    };
+    let note =
+        "as many shared heads as rows, in the order of a table; one head is heard; none is held";
+    receive(pool, name, size, note, heard);
+}
+
+/// A run's number is how many heads the session shares then.
+fn receive(
+    pool: &Pool<Case>,
+    name: &str,
+    size: &str,
+    note: &str,
+    heard: impl Fn(&Case) -> (Value, Vec<u8>),
+) {
+    let pool = pool.map(|case| {
+        let (session, message) = heard(case);
+        (case, Lent::laid(&session), session, message)
     });
     let mut desk = Desk::fresh();
     let mut next = pool.turn();
     let library = || {
-        let (case, message) = next();
-        desk.words = [0; WORDS];
+        let (case, session, _, message) = next();
+        desk.lay(session);
         desk.receive(black_box(&case.lent), case.held.len(), message);
         desk.words[0]
     };
     let mut next = pool.turn();
     let given = || {
-        let (case, message) = next();
-        (case.document.clone(), State::new(), message)
+        let (case, _, session, message) = next();
+        (case.document.clone(), state(session), message)
     };
     let published = |(mut document, mut state, message): (Automerge, State, &Vec<u8>)| {
         let message = Message::decode(black_box(message)).expect("a good message");
@@ -217,7 +248,6 @@ fn receive_one_unknown(pool: &Pool<Case>, name: &str, size: &str) {
         heard.expect("nothing to load");
         state.shared_heads.len() as u64
     };
-    let note = "a message with as many heads as rows, all but one held, in the table's order";
     let what = Line {
         name,
         size,
