@@ -13,6 +13,7 @@ mod counts;
 mod filter;
 mod measure;
 mod message;
+mod pool;
 mod runs;
 mod salvage;
 mod selection;
@@ -25,22 +26,37 @@ mod wire;
 use bisquetower::raw;
 use std::process::ExitCode;
 
+/// What is measured, in this order.
+const SUBJECTS: [(&str, fn()); 10] = [
+    ("wire", wire::measure_all),
+    ("filter", filter::measure_all),
+    ("tables", tables::measure_all),
+    ("message", message::measure_all),
+    ("selection", selection::measure_all),
+    ("session", session::measure_all),
+    ("settings", settings::measure_all),
+    ("counts", counts::measure_all),
+    ("salvage", salvage::measure_all),
+    ("steep", steep::measure_all),
+];
+
+/// One run over the subjects that are named, or over all of them.
+fn run_once(named: &[String]) {
+    for (name, measure_all) in SUBJECTS {
+        if named.is_empty() || named.iter().any(|one| one == name) {
+            measure_all();
+        }
+    }
+}
+
 fn main() -> ExitCode {
     if !raw::LINKED {
         eprintln!("An emulator's times say nothing of the library's: use `make bench` at the repository's root.");
         return ExitCode::FAILURE;
     }
-    if std::env::args().nth(1).as_deref() == Some(runs::ONCE) {
-        wire::measure_all();
-        filter::measure_all();
-        tables::measure_all();
-        message::measure_all();
-        selection::measure_all();
-        session::measure_all();
-        settings::measure_all();
-        counts::measure_all();
-        salvage::measure_all();
-        steep::measure_all();
+    let words: Vec<String> = std::env::args().skip(1).collect();
+    if let Some((runs::ONCE, named)) = words.split_first().map(|(word, rest)| (&word[..], rest)) {
+        run_once(named);
         return ExitCode::SUCCESS;
     }
     let processor = std::env::consts::ARCH;

@@ -24,6 +24,9 @@ pub const SIZES: [(&str, usize); 5] = [
     ("8,192 rows", 8_192),
 ];
 
+/// The most of these rows.
+pub const MOST_ROWS: usize = SIZES[SIZES.len() - 1].1;
+
 /// How many copies of what the crate takes away or changes are made at a time.
 pub const AT_A_TIME: usize = 8;
 

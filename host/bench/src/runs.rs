@@ -80,7 +80,7 @@ fn differences(lines: &[Times]) -> Vec<Times> {
 
 fn print_columns([name, size, library, published, ratio, growth]: [&str; 6], note: &str) {
     let line = format!(
-        "{name:<20} {size:<13} {library:>12} {published:>12} {ratio:>8} {growth:>8}  {note}"
+        "{name:<28} {size:<16} {library:>12} {published:>12} {ratio:>8} {growth:>8}  {note}"
     );
     println!("{}", line.trim_end());
 }

@@ -2,7 +2,8 @@
 //! reached through a first message, and the library tests its table and index in each
 //! call; both are measured apart, as the rest.
 
-use crate::measure::{line, Line, SIZES};
+use crate::measure::{line, Line, MOST_ROWS, SIZES};
+use crate::pool::Pool;
 use bisquetower::limits::TO_SEND_SIZE;
 use bisquetower::raw;
 use compare::inputs::index::index_of;
@@ -21,17 +22,15 @@ const NAMES: [(usize, &str, &str); 2] = [
     (16, "send, 16 haves", "send, 16 haves: rest"),
 ];
 
-/// In how many orders the haves are lent in turn.
-const ORDERS: usize = 256;
-
 pub fn measure_all() {
     for (haves, name, rest) in NAMES {
-        let choices = SIZES.map(|(size, rows)| (size, Choice::new(rows, haves)));
-        for (size, choice) in &choices {
-            choice.whole(name, size);
+        let pool = |rows| Pool::of(rows, MOST_ROWS, |random| Choice::new(rows, haves, random));
+        let pools = SIZES.map(|(size, rows)| (size, pool(rows)));
+        for (size, pool) in &pools {
+            whole_of(pool, name, size);
         }
-        for (size, choice) in &choices {
-            choice.rest(rest, size);
+        for (size, pool) in &pools {
+            rest_of(pool, rest, size);
         }
     }
 }
@@ -43,8 +42,7 @@ struct Choice {
     table: Vec<u8>,
     index: Vec<u8>,
     s: Vec<u8>,
-    /// In many orders, so that the processor learns none of them.
-    haves: Vec<Vec<u64>>,
+    haves: Vec<u64>,
     need: Hash,
     document: Automerge,
     published: Vec<Have>,
@@ -52,8 +50,7 @@ struct Choice {
 }
 
 impl Choice {
-    fn new(rows: usize, count: usize) -> Choice {
-        let mut random = Random(2);
+    fn new(rows: usize, count: usize, mut random: Random) -> Choice {
         let hashes = random.hashes(rows, Likeness::Spread);
         let table = table_bytes(&random.rows_of(&hashes, Shape::Recent));
         let held = &hashes[..rows * 3 / 4];
@@ -65,18 +62,14 @@ impl Choice {
         let document = document(&table, &[]);
         let published = published::haves(&s, &haves);
         let mut records: Vec<&[u64]> = haves.chunks(HAVE_WORDS).collect();
-        let mut shuffled = || {
-            random.shuffle(&mut records);
-            records.concat()
-        };
-        let haves = (0..ORDERS).map(|_| shuffled()).collect();
+        random.shuffle(&mut records);
         let need = hashes[rows / 2];
         let chosen = hashes_to_send(&document, &published, &[ChangeHash(need)]);
         let choice = Choice {
             index: index_of(&table),
             table,
             s,
-            haves,
+            haves: records.concat(),
             need,
             document,
             published,
@@ -90,61 +83,64 @@ impl Choice {
     fn compare(&self) {
         let mut out = vec![0; TO_SEND_SIZE];
         let chosen: Vec<u8> = self.chosen.iter().flat_map(|hash| hash.0).collect();
-        for haves in &self.haves {
-            let written = self.library(haves, &mut out) as usize;
-            assert_eq!(out[..written], chosen);
-        }
+        let written = self.library(&mut out) as usize;
+        assert_eq!(out[..written], chosen);
         let rows = self.document.rows().len();
         assert!((rows / 8..rows).contains(&self.chosen.len()));
     }
 
-    fn library(&self, haves: &[u64], out: &mut [u8]) -> u64 {
+    fn library(&self, out: &mut [u8]) -> u64 {
         let (table, index) = (black_box(&self.table), black_box(&self.index));
-        let s = black_box(&self.s);
+        let (s, haves) = (black_box(&self.s), black_box(&self.haves));
         let [first, written, ..] = raw::hashes_to_send(table, index, s, haves, &self.need, out);
         assert_eq!(first, 0);
         written
     }
-
-    /// A run's number is how many bytes the hashes have.
-    fn whole(&self, name: &str, size: &str) {
-        let mut out = vec![0; TO_SEND_SIZE];
-        let mut orders = self.haves.iter().cycle();
-        let library = || {
-            let haves = orders.next().expect("haves in some order");
-            let written = self.library(haves, &mut out);
-            black_box(&out);
-            written
-        };
-        let need = [ChangeHash(self.need)];
-        let published = || {
-            let chosen = hashes_to_send(&self.document, black_box(&self.published), &need);
-            (HASH * black_box(chosen).len()) as u64
-        };
-        let note = "library: tests table, index and haves too; crate: a whole first message";
-        measure(name, size, note, library, published);
-    }
-
-    /// What is no choosing: the library's call without haves and needs, which tests
-    /// the table and the index, and the crate's message for a peer who has said nothing
-    /// but that it needs all that was chosen.
-    fn rest(&self, name: &str, size: &str) {
-        let mut out = [];
-        let library = || {
-            let (table, index) = (black_box(&self.table), black_box(&self.index));
-            raw::hashes_to_send(table, index, &[], &[], &[], &mut out)[0]
-        };
-        let published = || {
-            let sent = hashes_to_send(&self.document, &[], black_box(&self.chosen));
-            u64::from(black_box(sent).is_empty())
-        };
-        let note =
-            "library: no haves, no needs; crate: the message with the same hashes, all needed";
-        measure(name, size, note, library, published);
-    }
 }
 
-fn measure(
+/// A run's number is how many bytes the hashes have.
+fn whole_of(pool: &Pool<Choice>, name: &str, size: &str) {
+    let mut out = vec![0; TO_SEND_SIZE];
+    let mut next = pool.turn();
+    let library = || {
+        let written = next().library(&mut out);
+        black_box(&out);
+        written
+    };
+    let mut next = pool.turn();
+    let published = || {
+        let choice = next();
+        let need = [ChangeHash(choice.need)];
+        let chosen = hashes_to_send(&choice.document, black_box(&choice.published), &need);
+        (HASH * black_box(chosen).len()) as u64
+    };
+    let note = "library: tests table, index and haves too; crate: a whole first message";
+    measure(pool, name, size, note, library, published);
+}
+
+/// What is no choosing: the library's call without haves and needs, which tests
+/// the table and the index, and the crate's message for a peer who has said nothing
+/// but that it needs all that was chosen.
+fn rest_of(pool: &Pool<Choice>, name: &str, size: &str) {
+    let mut out = [];
+    let mut next = pool.turn();
+    let library = || {
+        let choice = next();
+        let (table, index) = (black_box(&choice.table), black_box(&choice.index));
+        raw::hashes_to_send(table, index, &[], &[], &[], &mut out)[0]
+    };
+    let mut next = pool.turn();
+    let published = || {
+        let choice = next();
+        let sent = hashes_to_send(&choice.document, &[], black_box(&choice.chosen));
+        u64::from(black_box(sent).is_empty())
+    };
+    let note = "library: no haves, no needs; crate: the message with the same hashes, all needed";
+    measure(pool, name, size, note, library, published);
+}
+
+fn measure<T>(
+    pool: &Pool<T>,
     name: &str,
     size: &str,
     note: &str,
@@ -155,7 +151,7 @@ fn measure(
         name,
         size,
         calls: 1,
-        note,
+        note: &pool.note(note),
     };
     line(what, library, published);
 }

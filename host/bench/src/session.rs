@@ -3,7 +3,8 @@
 //! message brings, which here is the host's to do; both are measured apart, as the rest.
 //! The host's index is ready: what it takes to build and extend one stands with the tables.
 
-use crate::measure::{line_of, Line, AT_A_TIME, SIZES};
+use crate::measure::{line_of, Line, MOST_ROWS, SIZES};
+use crate::pool::Pool;
 use bisquetower::limits::{HAVES_SIZE, HAVES_WORDS, HAVE_SIZE, LIST_SIZE, TO_SEND_SIZE};
 use bisquetower::raw;
 use compare::inputs::index::index_of;
@@ -22,6 +23,7 @@ use compare::units::{load, published, table_of, waiting_of};
 use compare::walk::{STATION, VALIDATOR};
 use crate_under_test::facade::{Automerge, Message, State, SyncDoc};
 use std::hint::black_box;
+use std::rc::Rc;
 
 /// One head or two: two rows on one and one on the two, again and again.
 const NARROW: Shape = Shape::Diamonds;
@@ -71,51 +73,106 @@ const CATCH_UPS: [CatchUp; 7] = [
     ),
 ];
 
-type Measure = fn(&Talk, &str, &str);
+type Measure = fn(&Pool<Talk>, &str, &str);
 
-const RECEIVE_HAVE: Measure = |talk, name, size| talk.receive(name, size, 0);
-const REST_OF_HAVE: Measure = |talk, name, size| talk.rest_of_receive(name, size, 0);
-const RECEIVE_ROWS: Measure = |talk, name, size| talk.receive(name, size, 1);
-const REST_OF_ROWS: Measure = |talk, name, size| talk.rest_of_receive(name, size, 1);
+const RECEIVE_HAVE: Measure = |pool, name, size| receive(pool, name, size, 0);
+const REST_OF_HAVE: Measure = |pool, name, size| rest_of_receive(pool, name, size, 0);
+const RECEIVE_ROWS: Measure = |pool, name, size| receive(pool, name, size, 1);
+const REST_OF_ROWS: Measure = |pool, name, size| rest_of_receive(pool, name, size, 1);
 
-const STEPS: [(&str, Shape, Measure); 18] = [
-    ("plan", NARROW, Talk::plan),
-    ("plan: rest", NARROW, Talk::rest_of_plan),
-    ("receive have", NARROW, RECEIVE_HAVE),
-    ("receive have: rest", NARROW, REST_OF_HAVE),
-    ("receive rows", NARROW, RECEIVE_ROWS),
-    ("receive rows: rest", NARROW, REST_OF_ROWS),
-    ("plan wide", WIDE, Talk::plan),
-    ("plan wide: rest", WIDE, Talk::rest_of_plan),
-    ("have wide", WIDE, RECEIVE_HAVE),
-    ("have wide: rest", WIDE, REST_OF_HAVE),
-    ("rows wide", WIDE, RECEIVE_ROWS),
-    ("rows wide: rest", WIDE, REST_OF_ROWS),
-    ("plan merged", MERGED, Talk::plan),
-    ("plan merged: rest", MERGED, Talk::rest_of_plan),
-    ("have merged", MERGED, RECEIVE_HAVE),
-    ("have merged: rest", MERGED, REST_OF_HAVE),
-    ("rows merged", MERGED, RECEIVE_ROWS),
-    ("rows merged: rest", MERGED, REST_OF_ROWS),
+/// Which talks the calls of a line meet.
+#[derive(Clone, Copy)]
+enum Talks {
+    /// The same one each time.
+    One,
+    /// One after the other.
+    Many,
+}
+
+/// The lines of the steps of a shape's talks.
+type Steps = (Shape, Talks, [(&'static str, Measure); 6]);
+
+const STEPS: [Steps; 3] = [
+    (
+        NARROW,
+        Talks::One,
+        [
+            ("plan", plan),
+            ("plan: rest", rest_of_plan),
+            ("receive have", RECEIVE_HAVE),
+            ("receive have: rest", REST_OF_HAVE),
+            ("receive rows", RECEIVE_ROWS),
+            ("receive rows: rest", REST_OF_ROWS),
+        ],
+    ),
+    (
+        WIDE,
+        Talks::Many,
+        [
+            ("plan wide", plan),
+            ("plan wide: rest", rest_of_plan),
+            ("have wide", RECEIVE_HAVE),
+            ("have wide: rest", REST_OF_HAVE),
+            ("rows wide", RECEIVE_ROWS),
+            ("rows wide: rest", REST_OF_ROWS),
+        ],
+    ),
+    (
+        MERGED,
+        Talks::One,
+        [
+            ("plan merged", plan),
+            ("plan merged: rest", rest_of_plan),
+            ("have merged", RECEIVE_HAVE),
+            ("have merged: rest", REST_OF_HAVE),
+            ("rows merged", RECEIVE_ROWS),
+            ("rows merged: rest", REST_OF_ROWS),
+        ],
+    ),
 ];
 
 pub fn measure_all() {
-    for (name, shape, measure) in STEPS {
-        for (size, rows) in SIZES {
-            measure(&Talk::new(rows, shape, rows / 10), name, size);
+    for (shape, talks, lines) in STEPS {
+        let talk = |rows: usize, random: &mut Random| Talk::begun(rows, shape, rows / 10, random);
+        let pools = pools(&SIZES, talks, talk);
+        for (name, measure) in lines {
+            for (size, pool) in &pools {
+                measure(pool, name, size);
+            }
         }
     }
     for (name, rest, shape, lacking, sizes) in CATCH_UPS {
-        let talks = sizes.iter();
-        let talks = talks.map(|&(size, rows)| (size, Talk::new(rows, shape, lacking)));
-        let talks: Vec<(&str, Talk)> = talks.collect();
-        for (size, talk) in &talks {
-            talk.whole(name, size);
+        let talk = |rows: usize, random: &mut Random| Talk::whole(rows, shape, lacking, random);
+        let pools = pools(sizes, Talks::Many, talk);
+        for (size, pool) in &pools {
+            whole(pool, name, size);
         }
-        for (size, talk) in &talks {
-            talk.rest_of_whole(rest, size);
+        for (size, pool) in &pools {
+            rest_of_whole(pool, rest, size);
         }
     }
+}
+
+/// The talks of each size, which the library holds as the crate does.
+fn pools<'a>(
+    sizes: &[(&'a str, usize)],
+    talks: Talks,
+    talk: impl Fn(usize, &mut Random) -> Talk,
+) -> Vec<(&'a str, Pool<Talk>)> {
+    let mut desks = [Desk::fresh(), Desk::fresh()];
+    let mut pool = |rows| {
+        let one = |mut random| {
+            let talk = talk(rows, &mut random);
+            talk.compare(&mut desks);
+            talk
+        };
+        match talks {
+            Talks::One => Pool::alone(one),
+            Talks::Many => Pool::of(rows, MOST_ROWS, one),
+        }
+    };
+    let sizes = sizes.iter();
+    sizes.map(|&(size, rows)| (size, pool(rows))).collect()
 }
 
 /// A table and its index, as a host keeps them.
@@ -274,201 +331,255 @@ impl Desk {
 /// A message: over what it is planned, what it brings and beside what it is heard.
 struct Step {
     from: usize,
-    table: Indexed,
+    table: Rc<Indexed>,
     waiting: Vec<u8>,
     chunks: Vec<u8>,
     lengths: Vec<u64>,
     before: usize,
-    after: Indexed,
+    after: Rc<Indexed>,
     message: Vec<u8>,
     /// The hearer's session before it.
     hearer: Value,
 }
 
-/// A station, a validator that lacks the last of its rows, and the messages by which it
-/// comes to hold them.
+/// A station, a validator that lacks the last of its rows, and the first two messages, of
+/// the validator and of the station.
 struct Talk {
     documents: [Automerge; 2],
-    steps: Vec<Step>,
+    steps: [Step; 2],
+    /// Whether the validator holds all rows after these.
+    ended: bool,
 }
 
 impl Talk {
-    fn new(rows: usize, shape: Shape, lacking: usize) -> Talk {
-        let mut random = Random(3);
+    fn begun(rows: usize, shape: Shape, lacking: usize, random: &mut Random) -> Talk {
         let hashes = random.hashes(rows, Likeness::Spread);
         let table = table_bytes(&random.rows_of(&hashes, shape));
         let held = &table[..ROW * (rows - lacking)];
         let documents = [document(&table, &[]), document(held, &[])];
+        let mut tables = [STATION, VALIDATOR].map(|unit| Rc::new(Indexed::of(&documents[unit])));
         let starts = documents.clone().map(|one| (one, Value::default()));
         let mut pair = Pair::new([published; 2], starts);
-        let (mut steps, mut turn) = (Vec::new(), VALIDATOR);
-        while steps.is_empty() || pair.held(STATION) != pair.held(VALIDATOR) {
-            steps.push(step(&mut pair, turn));
-            turn = 1 - turn;
+        let steps = [VALIDATOR, STATION].map(|from| step(&mut pair, &mut tables, from));
+        Talk {
+            documents,
+            steps,
+            ended: pair.held(STATION) == pair.held(VALIDATOR),
         }
-        let talk = Talk { documents, steps };
-        let mut desks = [Desk::fresh(), Desk::fresh()];
-        for step in &talk.steps {
-            let length = take(&mut desks, step);
+    }
+
+    /// A talk that two messages end. Nearly all do where the validator lacks little; others
+    /// would only be longer.
+    fn whole(rows: usize, shape: Shape, lacking: usize, random: &mut Random) -> Talk {
+        loop {
+            let talk = Talk::begun(rows, shape, lacking, random);
+            if talk.ended {
+                return talk;
+            }
+        }
+    }
+
+    /// The library says the same.
+    fn compare(&self, desks: &mut [Desk; 2]) {
+        for desk in &mut *desks {
+            desk.words = [0; WORDS];
+        }
+        for step in &self.steps {
+            let length = take(desks, step);
             assert_eq!(desks[step.from].message[..length], step.message);
         }
-        talk
     }
 
-    /// The station's first message, if it spoke first. A run's number is how many heads
-    /// and haves are said.
-    fn plan(&self, name: &str, size: &str) {
-        let document = &self.documents[STATION];
-        let table = Indexed::of(document);
-        let mut desk = Desk::fresh();
-        let plan = desk.plan(&table, &[]);
-        let length = desk.write(&plan, &[], &[]);
-        let first = document.generate_sync_message(&mut State::new());
-        assert_eq!(
-            desk.message[..length],
-            first.expect("a first message").encode()
-        );
-        let library = || {
-            desk.words = [0; WORDS];
-            let answer = desk.plan(black_box(&table), &[]);
-            black_box(&desk.said);
-            answer[5] + answer[7]
-        };
-        let published = |mut state: State| {
-            let message = document.generate_sync_message(&mut state);
-            let message = black_box(message).expect("a first message");
-            (message.heads.len() + message.have.len()) as u64
-        };
-        let note = "library: into lent buffers; crate: Vecs, over the stand-in document";
-        measure(name, size, note, library, State::new, published);
+    /// The station's table as it is first.
+    fn station(&self) -> (&Automerge, &Indexed) {
+        (&self.documents[STATION], &self.steps[1].table)
     }
 
-    fn rest_of_plan(&self, name: &str, size: &str) {
-        let table = Indexed::of(&self.documents[STATION]);
-        let rows = self.documents[STATION].rows().len() as u64;
-        let mut desk = Desk::fresh();
-        let library = || desk.test(black_box(&table));
-        let note = "library: table and index tested; crate: nothing";
-        measure(name, size, note, library, || rows, black_box);
-    }
-
-    /// A run's number is how many heads are shared, and heard.
-    fn receive(&self, name: &str, size: &str, step: usize) {
+    /// The crate's unit that hears a step's message, before it.
+    fn hearing(&self, step: usize) -> (Automerge, State) {
         let step = &self.steps[step];
-        let lent = Lent::laid(&step.hearer);
-        let mut desk = Desk::fresh();
-        let library = || {
-            desk.lay(&lent);
-            desk.receive(black_box(&step.after), step.before, &step.message);
-            black_box(&desk.hashes);
-            desk.heads()
-        };
-        let (document, state) = self.hearing(step);
-        let given = || (document.clone(), state.clone());
-        let published = |(mut document, mut state): (Automerge, State)| {
-            let message = Message::decode(black_box(&step.message)).expect("a good message");
-            let heard = document.receive_sync_message(&mut state, message);
-            heard.expect("it loads");
-            let theirs = state.their_heads.as_ref().map_or(0, Vec::len);
-            (state.shared_heads.len() + theirs) as u64
-        };
-        let note = "library: reads the bytes, tests table and index; crate: reads and loads";
-        measure(name, size, note, library, given, published);
-    }
-
-    /// The crate's unit that hears a message, before it.
-    fn hearing(&self, step: &Step) -> (&Automerge, State) {
-        (&self.documents[1 - step.from], state(&step.hearer))
-    }
-
-    fn rest_of_receive(&self, name: &str, size: &str, step: usize) {
-        let step = &self.steps[step];
-        let mut desk = Desk::fresh();
-        let library = || desk.test(black_box(&step.after));
-        let (document, state) = self.hearing(step);
-        let given = || (document.clone(), state.clone());
-        let published = |(mut document, state): (Automerge, State)| {
-            assert!(load(&mut document, black_box(&step.chunks)));
-            black_box(&state);
-            document.rows().len() as u64
-        };
-        let note = "library: table and index tested; crate: the changes loaded by the stand-in";
-        measure(name, size, note, library, given, published);
-    }
-
-    /// A run's number is how many bytes were said.
-    fn whole(&self, name: &str, size: &str) {
-        let mut desks = [Desk::fresh(), Desk::fresh()];
-        let library = || {
-            for desk in &mut desks {
-                desk.words = [0; WORDS];
-            }
-            let lengths = self.steps.iter().map(|step| take(&mut desks, step));
-            lengths.sum::<usize>() as u64
-        };
-        let published = |mut units: [(Automerge, State); 2]| {
-            let mut said = 0;
-            for step in &self.steps {
-                let (document, state) = &mut units[step.from];
-                let message = document.generate_sync_message(state);
-                let message = black_box(message.expect("something to say").encode());
-                said += message.len() as u64;
-                let message = Message::decode(&message).expect("a good message");
-                let (document, state) = &mut units[1 - step.from];
-                let heard = document.receive_sync_message(state, message);
-                heard.expect("it loads");
-            }
-            said
-        };
-        let note =
-            "library: change bytes and index ready, the host's loading left out; crate: loads too";
-        measure(name, size, note, library, || self.units(), published);
+        (self.documents[1 - step.from].clone(), state(&step.hearer))
     }
 
     fn units(&self) -> [(Automerge, State); 2] {
         self.documents.clone().map(|one| (one, State::new()))
     }
-
-    fn rest_of_whole(&self, name: &str, size: &str) {
-        let mut desk = Desk::fresh();
-        let library = || {
-            let mut rows = 0;
-            for step in &self.steps {
-                desk.test(black_box(&step.table));
-                rows = desk.test(black_box(&step.after));
-            }
-            rows
-        };
-        let published = |mut units: [(Automerge, State); 2]| {
-            for step in &self.steps {
-                let (document, _) = &mut units[1 - step.from];
-                assert!(load(document, black_box(&step.chunks)));
-            }
-            units[VALIDATOR].0.rows().len() as u64
-        };
-        let note = "library: tables and indexes tested; crate: the changes loaded by the stand-in";
-        measure(name, size, note, library, || self.units(), published);
-    }
 }
 
-/// The next message of two units of the crate.
-fn step(pair: &mut Pair, from: usize) -> Step {
+/// The station's first message, if it spoke first. A run's number is how many heads
+/// and haves are said.
+fn plan(pool: &Pool<Talk>, name: &str, size: &str) {
+    let mut desk = Desk::fresh();
+    for talk in pool.iter() {
+        let (document, table) = talk.station();
+        desk.words = [0; WORDS];
+        let plan = desk.plan(table, &[]);
+        let length = desk.write(&plan, &[], &[]);
+        let first = document.generate_sync_message(&mut State::new());
+        let first = first.expect("a first message").encode();
+        assert_eq!(desk.message[..length], first);
+    }
+    let mut next = pool.turn();
+    let library = || {
+        let (_, table) = next().station();
+        desk.words = [0; WORDS];
+        let answer = desk.plan(black_box(table), &[]);
+        black_box(&desk.said);
+        answer[5] + answer[7]
+    };
+    let mut next = pool.turn();
+    let given = || (next().station().0, State::new());
+    let published = |(document, mut state): (&Automerge, State)| {
+        let message = document.generate_sync_message(&mut state);
+        let message = black_box(message).expect("a first message");
+        (message.heads.len() + message.have.len()) as u64
+    };
+    let note = "library: into lent buffers; crate: Vecs, over the stand-in document";
+    measure(pool, name, size, note, library, given, published);
+}
+
+fn rest_of_plan(pool: &Pool<Talk>, name: &str, size: &str) {
+    let mut desk = Desk::fresh();
+    let mut next = pool.turn();
+    let library = || desk.test(black_box(next().station().1));
+    let mut next = pool.turn();
+    let given = || next().documents[STATION].rows().len() as u64;
+    let note = "library: table and index tested; crate: nothing";
+    measure(pool, name, size, note, library, given, black_box);
+}
+
+/// A run's number is how many heads are shared, and heard.
+fn receive(pool: &Pool<Talk>, name: &str, size: &str, step: usize) {
+    let pool = pool.map(|talk| (talk, Lent::laid(&talk.steps[step].hearer)));
+    let mut desk = Desk::fresh();
+    let mut next = pool.turn();
+    let library = || {
+        let (talk, lent) = next();
+        let step = &talk.steps[step];
+        desk.lay(lent);
+        desk.receive(black_box(&step.after), step.before, &step.message);
+        black_box(&desk.hashes);
+        desk.heads()
+    };
+    let mut next = pool.turn();
+    let given = || {
+        let (talk, _) = next();
+        (talk.hearing(step), &talk.steps[step].message)
+    };
+    type Given<'a> = ((Automerge, State), &'a Vec<u8>);
+    let published = |((mut document, mut state), message): Given| {
+        let message = Message::decode(black_box(message)).expect("a good message");
+        let heard = document.receive_sync_message(&mut state, message);
+        heard.expect("it loads");
+        let theirs = state.their_heads.as_ref().map_or(0, Vec::len);
+        (state.shared_heads.len() + theirs) as u64
+    };
+    let note = "library: reads the bytes, tests table and index; crate: reads and loads";
+    measure(&pool, name, size, note, library, given, published);
+}
+
+fn rest_of_receive(pool: &Pool<Talk>, name: &str, size: &str, step: usize) {
+    let mut desk = Desk::fresh();
+    let mut next = pool.turn();
+    let library = || desk.test(black_box(&next().steps[step].after));
+    let mut next = pool.turn();
+    let given = || {
+        let talk = next();
+        (talk.hearing(step), &talk.steps[step].chunks)
+    };
+    type Given<'a> = ((Automerge, State), &'a Vec<u8>);
+    let published = |((mut document, state), chunks): Given| {
+        assert!(load(&mut document, black_box(chunks)));
+        black_box(&state);
+        document.rows().len() as u64
+    };
+    let note = "library: table and index tested; crate: the changes loaded by the stand-in";
+    measure(pool, name, size, note, library, given, published);
+}
+
+/// A run's number is how many bytes were said.
+fn whole(pool: &Pool<Talk>, name: &str, size: &str) {
+    let mut desks = [Desk::fresh(), Desk::fresh()];
+    let mut next = pool.turn();
+    let library = || {
+        for desk in &mut desks {
+            desk.words = [0; WORDS];
+        }
+        let lengths = next().steps.iter().map(|step| take(&mut desks, step));
+        lengths.sum::<usize>() as u64
+    };
+    let mut next = pool.turn();
+    let given = || {
+        let talk = next();
+        (talk, talk.units())
+    };
+    let published = |(talk, mut units): (&Talk, [(Automerge, State); 2])| {
+        let mut said = 0;
+        for step in &talk.steps {
+            let (document, state) = &mut units[step.from];
+            let message = document.generate_sync_message(state);
+            let message = black_box(message.expect("something to say").encode());
+            said += message.len() as u64;
+            let message = Message::decode(&message).expect("a good message");
+            let (document, state) = &mut units[1 - step.from];
+            let heard = document.receive_sync_message(state, message);
+            heard.expect("it loads");
+        }
+        said
+    };
+    let note =
+        "library: change bytes and index ready, the host's loading left out; crate: loads too";
+    measure(pool, name, size, note, library, given, published);
+}
+
+fn rest_of_whole(pool: &Pool<Talk>, name: &str, size: &str) {
+    let mut desk = Desk::fresh();
+    let mut next = pool.turn();
+    let library = || {
+        let mut rows = 0;
+        for step in &next().steps {
+            desk.test(black_box(&step.table));
+            rows = desk.test(black_box(&step.after));
+        }
+        rows
+    };
+    let mut next = pool.turn();
+    let given = || {
+        let talk = next();
+        (talk, talk.units())
+    };
+    let published = |(talk, mut units): (&Talk, [(Automerge, State); 2])| {
+        for step in &talk.steps {
+            let (document, _) = &mut units[1 - step.from];
+            assert!(load(document, black_box(&step.chunks)));
+        }
+        units[VALIDATOR].0.rows().len() as u64
+    };
+    let note = "library: tables and indexes tested; crate: the changes loaded by the stand-in";
+    measure(pool, name, size, note, library, given, published);
+}
+
+/// The next message of two units of the crate, whose tables stand as they were until a
+/// message changes them.
+fn step(pair: &mut Pair, tables: &mut [Rc<Indexed>; 2], from: usize) -> Step {
     let hearer = pair.units[1 - from].session();
     let before = pair.rows(1 - from).len();
     let message = pair.speak(from).expect("something to say");
     let chunks = Message::decode(&message).expect("a good message").changes;
     let lengths = chunks.iter().map(|chunk| chunk.len() as u64).collect();
-    let speaker = pair.units[from].document();
-    let (table, waiting) = (Indexed::of(speaker), waiting_of(speaker));
+    let waiting = waiting_of(pair.units[from].document());
     pair.hear(1 - from, &message);
+    if pair.rows(1 - from).len() > before {
+        tables[1 - from] = Rc::new(Indexed::of(pair.units[1 - from].document()));
+    }
     Step {
         from,
-        table,
+        table: tables[from].clone(),
         waiting,
         chunks: chunks.iter().flatten().copied().collect(),
         lengths,
         before,
-        after: Indexed::of(pair.units[1 - from].document()),
+        after: tables[1 - from].clone(),
         message,
         hearer,
     }
@@ -488,7 +599,8 @@ fn take(desks: &mut [Desk; 2], step: &Step) -> usize {
     length
 }
 
-fn measure<T>(
+fn measure<T, U>(
+    pool: &Pool<U>,
     name: &str,
     size: &str,
     note: &str,
@@ -500,7 +612,7 @@ fn measure<T>(
         name,
         size,
         calls: 1,
-        note,
+        note: &pool.note(note),
     };
-    line_of(what, library, AT_A_TIME, given, published);
+    line_of(what, library, pool.at_a_time(), given, published);
 }

@@ -3,14 +3,15 @@
 //! with hashes that fall along the table and differ in their last bytes alone, since no
 //! order of hashes may be dear.
 
-use crate::measure::{line, line_of, Line, AT_A_TIME, SIZES};
+use crate::measure::{line, line_of, Line, MOST_ROWS, SIZES};
+use crate::pool::Pool;
 use crate::session::{Desk, Indexed};
 use bisquetower::limits::DEPENDENCIES;
 use bisquetower::raw;
 use compare::inputs::table::{table_bytes, waiting_bytes, Likeness, Shape, WaitingRow};
 use compare::inputs::Random;
 use compare::model::session::Value;
-use compare::model::state::{V2, WORDS};
+use compare::model::state::V2;
 use compare::model::table::{Hash, HASH, WAITING_ROWS};
 use compare::sessions::lent::Lent;
 use compare::sessions::published::state;
@@ -18,21 +19,22 @@ use compare::tables::document;
 use crate_under_test::facade::{Automerge, Message, State, SyncDoc};
 use std::hint::black_box;
 
-type Hashes = fn(usize) -> Vec<Hash>;
+type Hashes = fn(usize, &mut Random) -> Vec<Hash>;
 
-type Measure = fn(&Case, &str, &str);
+type Measure = fn(&Pool<Case>, &str, &str);
 
 /// How the hashes of a table stand.
 const ORDERS: [(&str, Hashes); 2] = [("", spread), (", falling", falling)];
 
-fn spread(count: usize) -> Vec<Hash> {
-    Random(4).hashes(count, Likeness::Spread)
+fn spread(count: usize, random: &mut Random) -> Vec<Hash> {
+    random.hashes(count, Likeness::Spread)
 }
 
 /// Each is below the one before it, by its last two bytes.
-fn falling(count: usize) -> Vec<Hash> {
+fn falling(count: usize, random: &mut Random) -> Vec<Hash> {
+    let base = random.hash();
     let one = |k: usize| {
-        let mut hash = [7; HASH];
+        let mut hash = base;
         let low = u16::MAX - u16::try_from(k).expect("two bytes of hashes");
         hash[HASH - 2..].copy_from_slice(&low.to_be_bytes());
         hash
@@ -41,50 +43,96 @@ fn falling(count: usize) -> Vec<Hash> {
 }
 
 const LINES: [(&str, Measure); 5] = [
-    ("plan document", Case::plan_document),
-    ("plan unknown heads", Case::plan_unknown_heads),
-    ("plan waiting", Case::plan_waiting),
-    ("receive one unknown", Case::receive_one_unknown),
-    ("index unfit", Case::index_unfit),
+    ("plan document", plan_document),
+    ("plan unknown heads", plan_unknown_heads),
+    ("receive one unknown", receive_one_unknown),
+    ("receive many shared", receive_many_shared),
+    ("index unfit", index_unfit),
 ];
 
 pub fn measure_all() {
+    let pools = ORDERS.map(|(order, hashes)| {
+        let pool = |rows| Pool::of(rows, MOST_ROWS, |random| Case::new(rows, hashes, random));
+        (order, SIZES.map(|(size, rows)| (size, pool(rows))))
+    });
     for (name, measure) in LINES {
-        for (order, hashes) in ORDERS {
-            for (size, rows) in SIZES {
-                measure(&Case::new(rows, hashes), &format!("{name}{order}"), size);
+        for (order, pools) in &pools {
+            for (size, pool) in pools {
+                measure(pool, &format!("{name}{order}"), size);
             }
+        }
+    }
+    drop(pools);
+    for (order, hashes) in ORDERS {
+        for (size, rows) in SIZES {
+            let waits = rows.min(WAITING_ROWS);
+            let one = |random| Case::waiting(rows, waits, hashes, random);
+            let pool = Pool::of(waits, WAITING_ROWS, one);
+            plan_waiting(&pool, &format!("plan waiting{order}"), size);
         }
     }
 }
 
-/// A table, and as many hashes that it doesn't hold, of two kinds.
+/// A table with what waits beside it, and as many hashes that are unknown.
 struct Case {
-    table: Vec<u8>,
     lent: Indexed,
+    waiting: Vec<u8>,
     document: Automerge,
     held: Vec<Hash>,
-    waiting: Vec<Hash>,
     unknown: Vec<Hash>,
 }
 
 impl Case {
-    fn new(rows: usize, hashes: Hashes) -> Case {
-        let all = hashes(3 * rows);
-        let table = table_bytes(&Random(5).rows_of(&all[..rows], Shape::Recent));
-        let document = document(&table, &[]);
+    /// As many unknown hashes as rows, and nothing that waits.
+    fn new(rows: usize, hashes: Hashes, mut random: Random) -> Case {
+        let mut held = hashes(2 * rows, &mut random);
+        let unknown = held.split_off(rows);
+        Case::of(held, &[], unknown, random)
+    }
+
+    /// As many waiting rows as there may be, each with as many hashes as it may ask for:
+    /// the next waiting row and unknown hashes, drawn of as many as there are waiting rows.
+    /// The unknown hash apart is that of the first waiting row.
+    fn waiting(rows: usize, waits: usize, hashes: Hashes, mut random: Random) -> Case {
+        let mut held = hashes(rows + 2 * waits, &mut random);
+        let unknown = held.split_off(rows + waits);
+        let own = held.split_off(rows);
+        let mut row = |k: usize| {
+            let asked = (1..DEPENDENCIES).map(|_| unknown[random.below(waits)]);
+            WaitingRow {
+                hash: own[k],
+                dependencies: std::iter::once(own[(k + 1) % waits]).chain(asked).collect(),
+            }
+        };
+        let waiting: Vec<WaitingRow> = (0..waits).map(&mut row).collect();
+        Case::of(held, &waiting, vec![own[0]], random)
+    }
+
+    fn of(held: Vec<Hash>, waiting: &[WaitingRow], unknown: Vec<Hash>, mut random: Random) -> Case {
+        let table = table_bytes(&random.rows_of(&held, Shape::Recent));
+        let waiting = waiting_bytes(waiting);
+        let document = document(&table, &waiting);
         Case {
             lent: Indexed::of(&document),
-            table,
+            waiting,
             document,
-            held: all[..rows].to_vec(),
-            waiting: all[rows..2 * rows].to_vec(),
-            unknown: all[2 * rows..].to_vec(),
+            held,
+            unknown,
         }
     }
 
-    /// To a peer that has no heads: the document, and every row joins the sent hashes.
-    fn plan_document(&self, name: &str, size: &str) {
+    /// The session of a unit that has heard these heads, and nothing else.
+    fn heard(&self) -> Value {
+        Value {
+            their_heads: Some(self.unknown.clone()),
+            ..Value::default()
+        }
+    }
+}
+
+/// To a peer that has no heads: the document, and every row joins the sent hashes.
+fn plan_document(pool: &Pool<Case>, name: &str, size: &str) {
+    let session = |_: &Case| {
         let mut session = Value {
             their_heads: Some(Vec::new()),
             their_need: Some(Vec::new()),
@@ -92,136 +140,161 @@ impl Case {
             ..Value::default()
         };
         session.flags[V2] = true;
-        let note = "to a peer without heads: the document";
-        self.plan(name, size, note, &session, &[], &self.document);
-    }
+        session
+    };
+    let note = "to a peer without heads: the document";
+    plan(pool, name, size, note, session);
+}
 
-    /// For a peer of whose heads none is held.
-    fn plan_unknown_heads(&self, name: &str, size: &str) {
+/// For a peer of whose heads none is held.
+fn plan_unknown_heads(pool: &Pool<Case>, name: &str, size: &str) {
+    let note = "as many unknown heads were heard as there are rows, in the table's order";
+    plan(pool, name, size, note, Case::heard);
+}
+
+/// For a peer whose head waits.
+fn plan_waiting(pool: &Pool<Case>, name: &str, size: &str) {
+    let note = "as many full waiting rows as rows, at most 1,024, that ask for one another";
+    plan(pool, name, size, note, Case::heard);
+}
+
+/// A run's number is how many hashes the message asks for and carries.
+fn plan(pool: &Pool<Case>, name: &str, size: &str, note: &str, session: impl Fn(&Case) -> Value) {
+    let pool = pool.map(|case| {
+        let session = session(case);
+        (case, Lent::laid(&session), session)
+    });
+    let mut desk = Desk::fresh();
+    let mut next = pool.turn();
+    let library = || {
+        let (case, session, _) = next();
+        desk.lay(session);
+        let answer = desk.plan(black_box(&case.lent), black_box(&case.waiting));
+        assert_eq!(answer[0], 0);
+        black_box(&desk.said);
+        answer[6]
+    };
+    let mut next = pool.turn();
+    let given = || {
+        let (case, _, session) = next();
+        (&case.document, state(session))
+    };
+    let published = |(document, mut state): (&Automerge, State)| {
+        let message = document.generate_sync_message(&mut state);
+        black_box(message).expect("something to say").need.len() as u64
+    };
+    let what = Line {
+        name,
+        size,
+        calls: 1,
+        note: &pool.note(note),
+    };
+    line_of(what, library, pool.at_a_time(), given, published);
+}
+
+/// A message with as many heads as there are rows, of which the last is unknown.
+fn receive_one_unknown(pool: &Pool<Case>, name: &str, size: &str) {
+    let heard = |case: &Case| {
+        let heads = [&case.held[1..], &case.unknown[..1]].concat();
+        (Value::default(), of_heads(&heads))
+    };
+    let note = "a message with as many heads as rows, all but one held, in the table's order";
+    receive(pool, name, size, note, heard);
+}
+
+/// A message with one head, in a session that shares as many heads as there are rows. None
+/// of them is held.
+fn receive_many_shared(pool: &Pool<Case>, name: &str, size: &str) {
+    let heard = |case: &Case| {
         let session = Value {
-            their_heads: Some(self.unknown.clone()),
+            shared: case.unknown.clone(),
             ..Value::default()
         };
-        let note = "as many unknown heads were heard as there are rows";
-        self.plan(name, size, note, &session, &[], &self.document);
-    }
+        (session, of_heads(&case.unknown[..1]))
+    };
+    let note =
+        "as many shared heads as rows, in the order of a table; one head is heard; none is held";
+    receive(pool, name, size, note, heard);
+}
 
-    /// Beside as many waiting rows as there may be, each with as many hashes as it may ask
-    /// for: the next waiting row and unknown hashes, most of which its neighbours ask for
-    /// too.
-    fn plan_waiting(&self, name: &str, size: &str) {
-        let count = self.waiting.len().min(WAITING_ROWS);
-        let row = |k: usize| {
-            let unknown = (1..DEPENDENCIES).map(|j| self.unknown[(k + j) % count]);
-            let next = self.waiting[(k + 1) % count];
-            WaitingRow {
-                hash: self.waiting[k],
-                dependencies: std::iter::once(next).chain(unknown).collect(),
-            }
-        };
-        let waiting: Vec<WaitingRow> = (0..count).map(row).collect();
-        let waiting = waiting_bytes(&waiting);
-        let session = Value {
-            their_heads: Some(vec![self.waiting[0]]),
-            ..Value::default()
-        };
-        let document = document(&self.table, &waiting);
-        let note = "beside as many full waiting rows that ask for one another";
-        self.plan(name, size, note, &session, &waiting, &document);
-    }
+/// A run's number is how many heads the session shares then.
+fn receive(
+    pool: &Pool<Case>,
+    name: &str,
+    size: &str,
+    note: &str,
+    heard: impl Fn(&Case) -> (Value, Vec<u8>),
+) {
+    let pool = pool.map(|case| {
+        let (session, message) = heard(case);
+        (case, Lent::laid(&session), session, message)
+    });
+    let mut desk = Desk::fresh();
+    let mut next = pool.turn();
+    let library = || {
+        let (case, session, _, message) = next();
+        desk.lay(session);
+        desk.receive(black_box(&case.lent), case.held.len(), message);
+        desk.words[0]
+    };
+    let mut next = pool.turn();
+    let given = || {
+        let (case, _, session, message) = next();
+        (case.document.clone(), state(session), message)
+    };
+    let published = |(mut document, mut state, message): (Automerge, State, &Vec<u8>)| {
+        let message = Message::decode(black_box(message)).expect("a good message");
+        let heard = document.receive_sync_message(&mut state, message);
+        heard.expect("nothing to load");
+        state.shared_heads.len() as u64
+    };
+    let what = Line {
+        name,
+        size,
+        calls: 1,
+        note: &pool.note(note),
+    };
+    line_of(what, library, pool.at_a_time(), given, published);
+}
 
-    /// A run's number is how many hashes the message asks for and carries.
-    fn plan(
-        &self,
-        name: &str,
-        size: &str,
-        note: &str,
-        session: &Value,
-        waiting: &[u8],
-        document: &Automerge,
-    ) {
-        let lent = Lent::laid(session);
-        let mut desk = Desk::fresh();
-        let library = || {
-            desk.lay(&lent);
-            let answer = desk.plan(black_box(&self.lent), waiting);
-            assert_eq!(answer[0], 0);
-            black_box(&desk.said);
-            answer[6]
-        };
-        let published = |mut state: State| {
-            let message = document.generate_sync_message(&mut state);
-            black_box(message).expect("something to say").need.len() as u64
-        };
-        let what = Line {
-            name,
-            size,
-            calls: 1,
-            note,
-        };
-        line_of(what, library, AT_A_TIME, || state(session), published);
-    }
+/// A message of heads alone.
+fn of_heads(heads: &[Hash]) -> Vec<u8> {
+    let mut message = vec![0; HASH * heads.len() + 16];
+    let flags = u64::MAX;
+    let heads = heads.concat();
+    let written = raw::write_message(1, &heads, &[], &[], &[], &[], &[], flags, &mut message);
+    assert_eq!(written[0], 0);
+    message.truncate(written[1] as usize);
+    message
+}
 
-    /// A message with as many heads as there are rows, of which the last is unknown. A
-    /// run's number is how many the session shares then.
-    fn receive_one_unknown(&self, name: &str, size: &str) {
-        let heads = [&self.held[1..], &self.unknown[..1]].concat();
-        let mut message = vec![0; HASH * heads.len() + 16];
-        let flags = u64::MAX;
-        let written = raw::write_message(
-            1,
-            &heads.concat(),
-            &[],
-            &[],
-            &[],
-            &[],
-            &[],
-            flags,
-            &mut message,
-        );
-        assert_eq!(written[0], 0);
-        message.truncate(written[1] as usize);
-        let mut desk = Desk::fresh();
-        let library = || {
-            desk.words = [0; WORDS];
-            desk.receive(black_box(&self.lent), self.held.len(), &message);
-            desk.words[0]
-        };
-        let published = |(mut document, mut state): (Automerge, State)| {
-            let message = Message::decode(black_box(&message)).expect("a good message");
-            let heard = document.receive_sync_message(&mut state, message);
-            heard.expect("nothing to load");
-            state.shared_heads.len() as u64
-        };
-        let given = || (self.document.clone(), State::new());
-        let what = Line {
-            name,
-            size,
-            calls: 1,
-            note: "a message with as many heads as rows, all but one held",
-        };
-        line_of(what, library, AT_A_TIME, given, published);
-    }
-
-    /// An index of which two entries are exchanged. A run's number is the refusal's.
-    fn index_unfit(&self, name: &str, size: &str) {
-        let mut index = self.lent.index.clone();
+/// An index of which two entries are exchanged. A run's number is the refusal's.
+fn index_unfit(pool: &Pool<Case>, name: &str, size: &str) {
+    let pool = pool.map(|case| {
+        let mut index = case.lent.index.clone();
         let last = index.len() - 2;
         index.swap(0, last);
         index.swap(1, last + 1);
-        let library = || raw::check_tables(black_box(&self.table), black_box(&index), &[])[0];
-        let rows = self.document.rows().to_vec();
-        let stand_in = || {
-            let document = Automerge::from_rows(black_box(&rows).clone(), Vec::new());
-            black_box(document).expect("a good table");
-            12
-        };
-        let what = Line {
-            name,
-            size,
-            calls: 1,
-            note: "crate: making the stand-in document, of copied changes, for it has no index",
-        };
-        line(what, library, stand_in);
-    }
+        (case, index)
+    });
+    let mut next = pool.turn();
+    let library = || {
+        let (case, index) = next();
+        raw::check_tables(black_box(&case.lent.table), black_box(index), &[])[0]
+    };
+    let mut next = pool.turn();
+    let stand_in = || {
+        let rows = black_box(next().0.document.rows()).to_vec();
+        let document = Automerge::from_rows(rows, Vec::new());
+        black_box(document).expect("a good table");
+        12
+    };
+    let note = "crate: making the stand-in document, of copied changes, for it has no index";
+    let what = Line {
+        name,
+        size,
+        calls: 1,
+        note: &pool.note(note),
+    };
+    line(what, library, stand_in);
 }
