@@ -17,11 +17,13 @@ pub enum Rows {
 impl Rows {
     /// The rows by which the bytes are a change table; of a bad one those by which more of
     /// it is good. Those of now are assumed unless three rows of before are good beyond
-    /// that: a row of now can be read as two of before, and its third is a repeated one.
+    /// that: a row of now can be read as two of before, and its third is a repeated one. A
+    /// hurt row of now may be more of them; but of rows of before nothing is kept as one of now.
     pub fn of(bytes: &[u8]) -> Rows {
         let (now, before) = (Rows::Now.good(bytes), Rows::Before.good(bytes));
         let whole = before == bytes.len() && now < bytes.len();
-        match whole || before > now + 2 * OLD_ROW_SIZE {
+        let more = before > now + 2 * OLD_ROW_SIZE;
+        match whole || (more && keeps_none(bytes)) {
             true => Rows::Before,
             false => Rows::Now,
         }
@@ -94,6 +96,11 @@ impl Rows {
             ),
         }
     }
+}
+
+/// Whether nothing of a table can be salvaged as rows of now.
+fn keeps_none(bytes: &[u8]) -> bool {
+    Table::salvage(bytes).is_ok_and(|salvaged| salvaged.table.rows() == 0)
 }
 
 /// A waiting table, beside a change table without rows: in rows of now, or else of before.

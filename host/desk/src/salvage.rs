@@ -53,9 +53,9 @@ pub fn run(words: &[OsString]) -> Result<String, Failure> {
     let force = args.has("--force");
     may_write(&from, &to, report, force)?;
     let bytes = files::read(&from)?;
-    let rows = match args.has("--old") || is_of_before(&bytes) {
+    let rows = match args.has("--old") {
         true => Rows::Before,
-        false => Rows::Now,
+        false => Rows::of(&bytes),
     };
     let (laid, salvaged) = salvage(&from, &bytes, rows)?;
     let done = Done {
@@ -104,13 +104,6 @@ fn may_write(from: &OsStr, to: &OsStr, report: Option<&OsStr>, force: bool) -> R
         true => Err(OPTIONS.wrong("the kept rows and the report are two files")),
         false => Ok(()),
     }
-}
-
-/// Whether a table, hurt or not, has rows of before: its first ones are good so, and more than
-/// half of all are kept. A row of now is four of before, of which most have the same hash.
-fn is_of_before(bytes: &[u8]) -> bool {
-    let kept = |salvaged: Salvaged| salvaged.table.rows() > salvaged.report.len();
-    Rows::of(bytes) == Rows::Before && Table::salvage(&Rows::Before.laid(bytes)).is_ok_and(kept)
 }
 
 /// What is kept of a file, read in these rows. Rows of before are widened first, hurt or not:

@@ -4,6 +4,7 @@ use crate::{agree_all, row, salvaged, table};
 use compare::inputs::table::{set_number, table_bytes, Likeness, Shape};
 use compare::inputs::Random;
 use compare::model::table::{ROW, ROWS};
+use compare::salvage::Tally;
 
 /// Rows that depend on none, on one, on several and on one that several depend on.
 fn small() -> Vec<u8> {
@@ -30,27 +31,32 @@ fn every_byte_of_a_table() {
     assert!(tally.whole > 100, "{tally:?}");
 }
 
-/// Every value of every byte of a row in the middle, but for its hash, of which a few
-/// bytes say as much as all of them.
+/// Every value of every byte of three rows, but for their hashes, of which a few bytes say as
+/// much as all of them.
 #[test]
 fn every_value_of_a_row() {
     let good = small();
-    let own = ROW * 2;
-    let mut tally = Vec::new();
-    for place in [0, 1, 31].into_iter().chain(32..ROW) {
-        let hurt: Vec<Vec<u8>> = (0..=255)
-            .map(|byte| {
-                let mut table = good.clone();
-                table[own + place] = byte;
-                table
-            })
-            .collect();
-        tally.push(agree_all(&hurt));
+    let mut tally = Tally::default();
+    for own in [0, 2, 5] {
+        for place in [0, 1, 31].into_iter().chain(32..ROW) {
+            let hurt: Vec<Vec<u8>> = (0..=255)
+                .map(|byte| {
+                    let mut table = good.clone();
+                    table[ROW * own + place] = byte;
+                    table
+                })
+                .collect();
+            tally.add(&agree_all(&hurt));
+        }
     }
-    let dropped = |rule: usize| tally.iter().map(|one| one.dropped[rule]).sum::<u64>();
-    assert!(dropped(1) > 255 && dropped(2) > 255 && dropped(3) > 255 * 200);
-    // What depends on the row is lost with it.
-    assert!(dropped(5) > 2 * 255 * 200);
+    for (rule, least) in [
+        (1, 3 * 255),
+        (2, 255),
+        (3, 3 * 255 * 200),
+        (5, 5 * 255 * 200),
+    ] {
+        assert!(tally.dropped[rule] > least, "{tally:?}");
+    }
 }
 
 /// Two rows of which one has the other's hash but for a byte, at each place.

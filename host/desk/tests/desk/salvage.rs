@@ -2,7 +2,7 @@
 
 use crate::{folder, run, run_with, samples, text, Run};
 use bisquetower::limits::{OLD_ROW_SIZE, TABLE_SIZE};
-use bisquetower::{ChangeHash, Table};
+use bisquetower::{ChangeHash, Refusal, Table};
 use std::fs;
 use std::path::{Path, PathBuf};
 
@@ -247,14 +247,18 @@ fn rows_of_before() {
     );
 }
 
-/// A hurt row of now that can be read as rows of before is still one of now.
+/// A hurt row of now that can be read as four rows of before is still one of now.
 #[test]
 fn rows_of_now_that_look_old() {
     let mut bytes = good().as_bytes().to_vec();
-    for place in [64, 192] {
-        bytes[place] = 1;
-    }
+    (bytes[64], bytes[192]) = (1, 2);
+    assert_eq!(Table::from_old(&bytes), Err(Refusal::new(6, 5)));
     let (table, out) = files("salvage-looks-old", &bytes);
+    let bad = run(&["table", text(&table)]).ended(1);
+    assert!(
+        bad.out.contains("zeros: what isn't in use isn't zero"),
+        "{bad:?}"
+    );
     let shown = salvage(&table, &out, &[]).ended(0).out;
     assert!(shown.starts_with("row 0 has 1 as a row number"), "{shown}");
     assert_eq!(Table::new(fs::read(&out).unwrap()).unwrap().rows(), 2);
