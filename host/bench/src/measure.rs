@@ -10,6 +10,10 @@ pub const BATCHES: usize = 10;
 /// How long a batch takes at least.
 const BATCH: Duration = Duration::from_millis(4);
 
+/// After how long no more runs are put into a batch: what a short call is given may take
+/// long to make.
+const MAKING: Duration = Duration::from_millis(60);
+
 /// What the name of a line ends in that measures a part of another line's calls; the
 /// table then has the difference of the two as well.
 pub const REST: &str = ": rest";
@@ -84,26 +88,26 @@ pub fn line(what: Line, mut library: impl FnMut() -> u64, mut published: impl Fn
     measure(what, library, published);
 }
 
-/// Measures a line whose call of the crate takes away what it is given: each run gets one
-/// of its own, made before the clock starts, `at_a_time` at a time.
+/// Measures a line whose call of the crate changes what it is given: each run gets one
+/// of its own, made before the clock starts, `at_a_time` at a time, and ended after it.
 pub fn line_of<T>(
     what: Line,
     mut library: impl FnMut() -> u64,
     at_a_time: usize,
     mut given: impl FnMut() -> T,
-    mut published: impl FnMut(T) -> u64,
+    mut published: impl FnMut(&mut T) -> u64,
 ) {
-    let theirs = published(given());
+    let theirs = published(&mut given());
     assert_eq!(library(), theirs, "{}, {}", what.name, what.size);
     let library = |runs| time(&mut library, runs);
     let published = |runs: usize| {
         let mut time = Duration::ZERO;
         let mut left = runs;
         while left > 0 {
-            let some: Vec<T> = (0..left.min(at_a_time)).map(|_| given()).collect();
+            let mut some: Vec<T> = (0..left.min(at_a_time)).map(|_| given()).collect();
             left -= some.len();
             let start = Instant::now();
-            for one in some {
+            for one in &mut some {
                 black_box(published(one));
             }
             time += start.elapsed();
@@ -137,10 +141,12 @@ fn measure(
     times.write();
 }
 
-/// How many runs fill a batch. Finding it out warms the side up.
+/// How many runs fill a batch, or as many as there is time to make what they are given.
+/// Finding it out warms the side up.
 fn runs_in_a_batch(side: &mut impl FnMut(usize) -> Duration) -> usize {
+    let start = Instant::now();
     let mut runs = 1;
-    while side(runs) < BATCH {
+    while side(runs) < BATCH && start.elapsed() < MAKING {
         runs *= 2;
     }
     runs

@@ -154,7 +154,10 @@ fn encode(size: &str, s: &[u8]) {
         black_box(&out);
         written
     };
-    let published = |message: Message| black_box(message.encode()).len() as u64;
+    let published = |message: &mut Option<Message>| {
+        let message = message.take().expect("a message of its own");
+        black_box(message.encode()).len() as u64
+    };
     let at_a_time = if s.len() < 1 << 20 { 32 } else { 2 };
     let what = Line {
         name: "encode message",
@@ -162,5 +165,11 @@ fn encode(size: &str, s: &[u8]) {
         calls: 1,
         note: "library: into a lent buffer; crate: into a Vec that grows, each filter made twice; its message's end counts",
     };
-    line_of(what, library, at_a_time, || message.clone(), published);
+    line_of(
+        what,
+        library,
+        at_a_time,
+        || Some(message.clone()),
+        published,
+    );
 }

@@ -429,8 +429,8 @@ fn plan(pool: &Pool<Talk>, name: &str, size: &str) {
     };
     let mut next = pool.turn();
     let given = || (next().station().0, State::new());
-    let published = |(document, mut state): (&Automerge, State)| {
-        let message = document.generate_sync_message(&mut state);
+    let published = |(document, state): &mut (&Automerge, State)| {
+        let message = document.generate_sync_message(state);
         let message = black_box(message).expect("a first message");
         (message.heads.len() + message.have.len()) as u64
     };
@@ -445,7 +445,9 @@ fn rest_of_plan(pool: &Pool<Talk>, name: &str, size: &str) {
     let mut next = pool.turn();
     let given = || next().documents[STATION].rows().len() as u64;
     let note = "library: table and index tested; crate: nothing";
-    measure(pool, name, size, note, library, given, black_box);
+    measure(pool, name, size, note, library, given, |rows| {
+        black_box(*rows)
+    });
 }
 
 /// A run's number is how many heads are shared, and heard.
@@ -467,9 +469,9 @@ fn receive(pool: &Pool<Talk>, name: &str, size: &str, step: usize) {
         (talk.hearing(step), &talk.steps[step].message)
     };
     type Given<'a> = ((Automerge, State), &'a Vec<u8>);
-    let published = |((mut document, mut state), message): Given| {
+    let published = |((document, state), message): &mut Given| {
         let message = Message::decode(black_box(message)).expect("a good message");
-        let heard = document.receive_sync_message(&mut state, message);
+        let heard = document.receive_sync_message(state, message);
         heard.expect("it loads");
         let theirs = state.their_heads.as_ref().map_or(0, Vec::len);
         (state.shared_heads.len() + theirs) as u64
@@ -488,8 +490,8 @@ fn rest_of_receive(pool: &Pool<Talk>, name: &str, size: &str, step: usize) {
         (talk.hearing(step), &talk.steps[step].chunks)
     };
     type Given<'a> = ((Automerge, State), &'a Vec<u8>);
-    let published = |((mut document, state), chunks): Given| {
-        assert!(load(&mut document, black_box(chunks)));
+    let published = |((document, state), chunks): &mut Given| {
+        assert!(load(document, black_box(chunks)));
         black_box(&state);
         document.rows().len() as u64
     };
@@ -513,7 +515,7 @@ fn whole(pool: &Pool<Talk>, name: &str, size: &str) {
         let talk = next();
         (talk, talk.units())
     };
-    let published = |(talk, mut units): (&Talk, [(Automerge, State); 2])| {
+    let published = |(talk, units): &mut (&Talk, [(Automerge, State); 2])| {
         let mut said = 0;
         for step in &talk.steps {
             let (document, state) = &mut units[step.from];
@@ -548,7 +550,7 @@ fn rest_of_whole(pool: &Pool<Talk>, name: &str, size: &str) {
         let talk = next();
         (talk, talk.units())
     };
-    let published = |(talk, mut units): (&Talk, [(Automerge, State); 2])| {
+    let published = |(talk, units): &mut (&Talk, [(Automerge, State); 2])| {
         for step in &talk.steps {
             let (document, _) = &mut units[1 - step.from];
             assert!(load(document, black_box(&step.chunks)));
@@ -606,7 +608,7 @@ fn measure<T, U>(
     note: &str,
     library: impl FnMut() -> u64,
     given: impl FnMut() -> T,
-    published: impl FnMut(T) -> u64,
+    published: impl FnMut(&mut T) -> u64,
 ) {
     let what = Line {
         name,

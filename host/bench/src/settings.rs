@@ -133,10 +133,10 @@ impl Unit {
     }
 
     /// The list's setting looked up in plain Rust, and the crate's first message.
-    fn published(&self, list: &[u8], mut state: State) -> u64 {
+    fn published(&self, list: &[u8], state: &mut State) -> u64 {
         let asked = plain_ask(black_box(list), ASKED as u32);
         black_box(asked).expect("a record of the station");
-        let message = self.document.generate_sync_message(&mut state);
+        let message = self.document.generate_sync_message(state);
         let message = black_box(message).expect("a first message");
         (message.heads.len() + message.have.len()) as u64
     }
@@ -148,7 +148,7 @@ impl Unit {
             calls: 1,
             note,
         };
-        let published = |state| self.published(list, state);
+        let published = |state: &mut State| self.published(list, state);
         line_of(what, library, AT_A_TIME, State::new, published);
     }
 

@@ -179,8 +179,8 @@ fn plan(pool: &Pool<Case>, name: &str, size: &str, note: &str, session: impl Fn(
         let (case, _, session) = next();
         (&case.document, state(session))
     };
-    let published = |(document, mut state): (&Automerge, State)| {
-        let message = document.generate_sync_message(&mut state);
+    let published = |(document, state): &mut (&Automerge, State)| {
+        let message = document.generate_sync_message(state);
         black_box(message).expect("something to say").need.len() as u64
     };
     let what = Line {
@@ -242,9 +242,9 @@ fn receive(
         let (case, _, session, message) = next();
         (case.document.clone(), state(session), message)
     };
-    let published = |(mut document, mut state, message): (Automerge, State, &Vec<u8>)| {
+    let published = |(document, state, message): &mut (Automerge, State, &Vec<u8>)| {
         let message = Message::decode(black_box(message)).expect("a good message");
-        let heard = document.receive_sync_message(&mut state, message);
+        let heard = document.receive_sync_message(state, message);
         heard.expect("nothing to load");
         state.shared_heads.len() as u64
     };
