@@ -150,32 +150,56 @@ pub fn compare(tables: &[(&[u8], Rooms)]) -> Result<Tally, String> {
     Ok(tally)
 }
 
-/// What a table gave, and what other calls say of it and of what was kept.
+/// A table with room enough, what it gave, and what other calls say of it and of what was
+/// kept.
 struct Looked<'a> {
     table: &'a [u8],
     kept: Vec<u8>,
     report: Vec<u64>,
-    partial: u64,
+    answer: [u64; 4],
     /// The checks of the table and of what was kept, and that salvaged again.
     checks: [[u64; 4]; 2],
     again: ([u64; 4], Vec<u8>),
 }
 
 impl<'a> Looked<'a> {
-    fn new(table: &'a [u8]) -> Option<Self> {
-        let (answer, kept, report) = ask(table);
-        (answer[0] == 0).then(|| Looked {
+    fn new(table: &'a [u8]) -> Self {
+        Looked {
             table,
-            again: ([raw::UNWRITTEN; 4], vec![0; kept.len()]),
-            kept,
-            report,
-            partial: answer[3],
+            kept: vec![0; table.len()],
+            report: vec![0; 2 * (table.len() / ROW)],
+            answer: [raw::UNWRITTEN; 4],
             checks: [[raw::UNWRITTEN; 4]; 2],
-        })
+            again: ([raw::UNWRITTEN; 4], Vec::new()),
+        }
+    }
+
+    fn lend<'m>(&'m mut self, batch: &mut Batch<'m>) {
+        let (kept, report) = (&mut self.kept, &mut self.report);
+        batch.salvage(self.table, kept, report, &mut self.answer);
+    }
+
+    /// Leaves of both buffers what was written.
+    fn cut(&mut self) {
+        let [bytes, entries] = match self.answer {
+            [0, bytes, entries, _] => [bytes, entries].map(|n| n as usize),
+            _ => [0; 2],
+        };
+        self.kept.truncate(bytes);
+        self.report.truncate(2 * entries);
+    }
+
+    fn lend_again<'m>(&'m mut self, batch: &mut Batch<'m>) {
+        let [good, kept_good] = &mut self.checks;
+        batch.check_table(self.table, good);
+        batch.check_table(&self.kept, kept_good);
+        let (answer, rows) = &mut self.again;
+        rows.resize(self.kept.len(), 0);
+        batch.salvage(&self.kept, rows, &mut [], answer);
     }
 
     fn is_whole(&self) -> bool {
-        self.report.is_empty() && self.partial == 0
+        self.report.is_empty() && self.answer[3] == 0
     }
 
     fn agrees(&self) -> Result<(), &'static str> {
@@ -191,7 +215,7 @@ impl<'a> Looked<'a> {
             ),
             (
                 good == self.is_whole(),
-                "only good tables are kept as a whole",
+                "a bad table is kept as a whole, or a good one isn't",
             ),
             (
                 !good || self.kept == self.table,
@@ -228,18 +252,14 @@ impl<'a> Looked<'a> {
 
 /// What is true of every table that isn't too long, by the library's other calls.
 fn compare_every(tables: &[&[u8]]) -> Result<Tally, String> {
-    let mut looked: Vec<Looked> = tables
-        .iter()
-        .filter_map(|table| Looked::new(table))
-        .collect();
+    let mut looked: Vec<Looked> = tables.iter().map(|table| Looked::new(table)).collect();
     let mut batch = Batch::new();
-    for one in &mut looked {
-        let [good, kept_good] = &mut one.checks;
-        batch.check_table(one.table, good);
-        batch.check_table(&one.kept, kept_good);
-        let (answer, rows) = &mut one.again;
-        batch.salvage(&one.kept, rows, &mut [], answer);
-    }
+    looked.iter_mut().for_each(|one| one.lend(&mut batch));
+    batch.run();
+    looked.iter_mut().for_each(Looked::cut);
+    looked.retain(|one| one.answer[0] == 0);
+    let mut batch = Batch::new();
+    looked.iter_mut().for_each(|one| one.lend_again(&mut batch));
     batch.run();
     let mut tally = Tally::default();
     for one in &looked {
@@ -252,15 +272,12 @@ fn compare_every(tables: &[&[u8]]) -> Result<Tally, String> {
 
 /// The library's answer to a table, the rows that it wrote and its report's words.
 pub fn ask(table: &[u8]) -> ([u64; 4], Vec<u8>, Vec<u64>) {
-    let (mut rows, mut report) = (vec![0; table.len()], vec![0; table.len().div_ceil(ROW) * 2]);
-    let answer = raw::salvage(table, &mut rows, &mut report);
-    let [bytes, entries] = match answer {
-        [0, bytes, entries, _] => [bytes, entries].map(|n| n as usize),
-        _ => [0; 2],
-    };
-    rows.truncate(bytes);
-    report.truncate(2 * entries);
-    (answer, rows, report)
+    let mut one = Looked::new(table);
+    let mut batch = Batch::new();
+    one.lend(&mut batch);
+    batch.run();
+    one.cut();
+    (one.answer, one.kept, one.report)
 }
 
 /// The table of a validator that holds a part of a station's rows.
