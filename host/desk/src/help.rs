@@ -134,9 +134,9 @@ keeps these rules nevertheless, as a hash may, isn't seen.
   --force        write over OUT and FILE; IN is never written over
 
 A table with rows of before ({before} bytes) is widened first, hurt or not. It is
-taken for one if more of its first rows are good so than in rows of now, of which
-none would be kept. A row that counts more than there was room for then is told
-for its row numbers.
+taken for one if more of its first rows are good so than in rows of now, and in
+rows of now none would be kept. A row that counts more than there was room for
+then is told for its row numbers.
 "
     )
 }
