@@ -11,7 +11,7 @@ use lib.Seq.{slice, slice-empty, length-slice, take-length}
 use Rattle.bloom_probe.specs.Probes.{bitAt}
 use Rattle.hash_order.proofs.Words.{last-byte}
 use Rattle.hash_order.specs.Internal.Word.{wordSize, wordAt}
-use Rattle.rules.proofs.Hash.{bytes-head, bytes-tail, bytes-slice, big-endian-below, slice-append}
+use Rattle.rules.proofs.Hash.{bytes-tail, bytes-slice, big-endian-below, slice-append}
 use Rattle.rules.specs.Hash.{Bytes, bigEndian}
 use Rattle.counts.specs.Captures.{bitsBelow, bitsSet}
 

@@ -1,17 +1,17 @@
 -- A capture's counts: tables that were put in order have an index each, a filter that was read is good and stands alone in a have's words, and what is
 -- counted of the listener's rows by both is what the definition counts.
 use Prim.Native.Nat.{ℕ, _+_, _-_, _*_, _≤_}
-use mathlib.Core.Bool.{Bool, true, false, not, _||_, _&&_}
+use mathlib.Core.Bool.{Bool, true, false, not, _||_}
 use mathlib.Core.List.{List, [], _∷_}
-use mathlib.Core.Path.{_≡_, refl, sym, ap, ap₂, _∙_}
+use mathlib.Core.Path.{_≡_, refl, ap, _∙_}
 use native.Mathlib.Omega.{arith}
 use borrow.Author.Tests.{ltb-true, ltb-false, leb-true, le-leb}
-use lib.Dec.{ltb, leb, eqb}
+use lib.Dec.{ltb, leb}
 use lib.ListN.{length, take, drop}
 use lib.Seq.{slice, length-slice}
 use Rattle.bloom.proofs.Filters.{filter-inside, filter-ruled}
 use Rattle.bloom.proofs.Rules.{ruled, capacity-none}
-use Rattle.bloom.specs.Filter.{Filter, filterRules, fieldSize}
+use Rattle.bloom.specs.Filter.{filterRules, fieldSize}
 use Rattle.bloom.specs.FilterRead.{filterAt, afterFilter}
 use Rattle.bloom.specs.Have.{filtersFrom, filtersOf, filterGood, filterWith, GoodFilters}
 use Rattle.bloom.specs.declared.have.FilterNumbers.{FilterNumbers}
@@ -27,7 +27,7 @@ use Rattle.rules.specs.declared.refusal.Refusal.{Refusal}
 use Rattle.table.proofs.GoodLaws.{accepted-rows}
 use Rattle.table.proofs.TableLaws.{length-rows, length-rows-at, hash-of-row, table-good}
 use Rattle.table.specs.Table.{Row, rows, held, hashOf}
-use Rattle.table.specs.TableBytes.{rowsAt, tableOf, tableChecked}
+use Rattle.table.specs.TableBytes.{rowsAt, tableChecked}
 use Rattle.table.specs.declared.check.Checked.the-variants.{Good, Refused as BadTable}
 use Rattle.table_check.specs.Internal.Repeats.{RowOrder}
 use Rattle.table_graph.specs.Internal.Marks.{Marks}
@@ -39,7 +39,6 @@ use Rattle.counts.specs.Internal.Walked.{testedOf, TestedBy, aloneWords}
 use Rattle.counts.specs.declared.count.Counted.{Counted}
 use Rattle.counts.specs.declared.count.Counted.the-variants.{Counts as Made, Refused}
 use Rattle.counts.specs.declared.tested.Tested.{Tested}
-use Rattle.counts.specs.declared.totals.Counts.{Counts}
 
 -- ---- tables
 

@@ -1,7 +1,7 @@
 -- Rows tested one by one, in table order: what is counted of a row and of those behind it is what is counted of all.
-use Prim.Native.Nat.{ℕ, zero, suc, _+_, _-_, _*_, _≤_, _<_}
-use mathlib.Core.Bool.{Bool, true, false, not, _&&_}
-use mathlib.Core.List.{List, [], _∷_}
+use Prim.Native.Nat.{ℕ, suc, _+_, _-_, _*_, _≤_, _<_}
+use mathlib.Core.Bool.{Bool, true, false}
+use mathlib.Core.List.{List, _∷_}
 use mathlib.Core.Path.{_≡_, refl, sym, ap, ap₂, _∙_}
 use native.Mathlib.Omega.{arith}
 use lib.ListN.{length, getD}
@@ -12,7 +12,7 @@ use Rattle.table.proofs.TableLaws.{length-rows, length-rows-at, hash-of-row}
 use Rattle.table.specs.Table.{rows, hashOf}
 use Rattle.table.specs.TableBytes.{rowsOf, rowOf, rowsAt, rowSize}
 use Rattle.table_graph.specs.Internal.Marks.{Marks}
-use Rattle.counts.specs.Internal.Walked.{oneOrNone, testedNext, testedOf, TestedBy}
+use Rattle.counts.specs.Internal.Walked.{testedNext, testedOf, TestedBy}
 use Rattle.counts.specs.declared.tested.Tested.{Tested}
 
 made : (a b c d : ℕ) → a ≡ b → c ≡ d → _≡_ {A = Tested} (record { rows = a; contained = c }) (record { rows = b; contained = d })

@@ -1,23 +1,23 @@
 -- One walk along two indexes. Hashes ascend along both, so the place of the next of the one in the other isn't before that of the last; and what stands at
 -- its place tells whether a hash is held.
-use Prim.Native.Nat.{ℕ, suc, _+_, _*_, _≤_, _<_}
+use Prim.Native.Nat.{ℕ, _+_, _*_, _≤_, _<_}
 use mathlib.Core.Bool.{Bool, true, false}
 use mathlib.Core.List.{List, [], _∷_, map}
 use mathlib.Core.Path.{_≡_, refl, sym, ap, _∙_}
 use native.Mathlib.Omega.{arith}
-use borrow.Author.Tests.{ltb-true, ltb-false, lt-ltb, le-ltb, eqb-true, eqb-false}
+use borrow.Author.Tests.{ltb-true, ltb-false, lt-ltb, eqb-true, eqb-false}
 use lib.Dec.{ltb, eqb}
 use lib.ListN.{length, getD, set, length-map}
 use lib.Seq.{getD-set-same, getD-set-other}
-use Rattle.hash_order.proofs.OrderLaws.{ascends-index, member-index, place-within}
-use Rattle.hash_order.specs.Order.{member, placeOf}
+use Rattle.hash_order.proofs.OrderLaws.{ascends-index, member-index}
+use Rattle.hash_order.specs.Order.{placeOf}
 use Rattle.rules.proofs.Cases.{split}
 use Rattle.rules.specs.Hash.{hashAt}
 use Rattle.rules.specs.LittleEndian.{u16At}
 use Rattle.rules.specs.Sizes.{sizes}
 use Rattle.table.proofs.TableLaws.{length-rows, length-rows-at, hash-of-row, member-of-index, unknown-of-index}
 use Rattle.table.specs.Table.{rows, held, hashOf, indexIn}
-use Rattle.table.specs.TableBytes.{u16sAt, rowsAt, rowSize, GoodRows}
+use Rattle.table.specs.TableBytes.{u16sAt, rowsAt, rowSize}
 use Rattle.table_graph.specs.Internal.Marks.{Marks}
 use Rattle.table_index.proofs.ByteLaws.{length-u16s, entry}
 use Rattle.table_index.proofs.HalveLaws.{record-inside, rows-are-records, fit-records, look-ordered, look-end, look-here, look-other, entry-below, halve-up, halve-down, halve-most}

@@ -10,7 +10,6 @@ use Rattle.bloom.specs.Have.{filterWith}
 use Rattle.bloom_probe.specs.Contains.{contains}
 use Rattle.bloom_probe.specs.Probes.{bitAt}
 use Rattle.hash_order.specs.Order.{keep}
-use Rattle.rules.specs.declared.refusal.Refusal.{Refusal}
 use Rattle.table.specs.Table.{Row, rows, held}
 use Rattle.table.specs.TableBytes.{tableOf, tableChecked}
 use Rattle.table.specs.declared.check.Checked.{Checked}

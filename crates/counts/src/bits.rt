@@ -7,7 +7,7 @@ ghost use lib.Count.{ones};
 ghost use lib.ListN.{length};
 ghost use lib.Seq.{slice};
 ghost use Rattle.counts.specs.Captures.{bitsSet};
-ghost use Rattle.hash_order.specs.Internal.Word.{wordSize, wordAt};
+ghost use Rattle.hash_order.specs.Internal.Word.{wordSize};
 ghost use Rattle.rules.specs.Hash.{bigEndian};
 ghost use Rattle.rules.specs.Sizes.{sizes};
 
@@ -25,7 +25,7 @@ fn rest_at(field: &[u8], at: usize) -> u64
     word
 }
 
-// How many bits of a word are set, by the processor's own instruction.
+// How many bits of a word are set: one instruction, where the processor that is compiled for has it.
 fn ones_in(word: u64) -> u64
     ensures { λ r. ⌜ (r ≡ ones word) × (r ≤ 64) ⌝ }
 {

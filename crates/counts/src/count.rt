@@ -23,7 +23,7 @@ ghost use Rattle.counts.specs.Captures.{withTable, captureCounts, captur
 ghost use Rattle.counts.specs.Internal.Walked.{testedOf};
 ghost use Rattle.counts.specs.declared.count.Counted.the-variants.{Counts as Made, Refused};
 ghost use Rattle.table.specs.Table.{held, rows};
-ghost use Rattle.table.specs.TableBytes.{rowsAt, tableOf};
+ghost use Rattle.table.specs.TableBytes.{rowsAt};
 ghost use Rattle.table_index.specs.Index.{Indexed};
 
 // What a capture counts, or its refusal.

@@ -2,7 +2,6 @@
 use mathlib.Core.Path.{refl}
 use native.Mathlib.Omega.{arith}
 use lib.Count.{ones-le}
-use borrow.Author.Needs.{needs}
 use Rattle.counts.proofs.bits.ones_in.Statement.{statement}
 use Rattle.counts.proofs.bits.ones_in.Tie as tie
 

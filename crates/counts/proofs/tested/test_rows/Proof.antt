@@ -1,6 +1,5 @@
 -- `counts::tested::test_rows` meets its contract: the rows before row i are counted (Counting). Assumes nothing.
 use Prim.Native.Nat.{_+_, _-_, _*_, _≤_}
-use mathlib.Core.Path.{_≡_}
 use native.Mathlib.Omega.{arith}
 use denote.Ref.{now}
 use lib.ListN.{length}
