@@ -6,9 +6,9 @@ use mathlib.Core.Path.{_≡_, refl, sym, ap₂, _∙_}
 use lib.Dec.{eqb}
 use Rattle.rules.specs.Refusal.{numberOf, valueOf}
 use Rattle.rules.specs.declared.refusal.Refusal.{Refusal}
-use Rattle.rules.specs.declared.refusal.Refusal.the-variants.{Cut, WrongType, BadNumber, PastSize, NoBits, BadRow, NoRoom, LoadFailed, BadWaitingRow, BadNumbers, BadRowsBefore, BadIndex, TooWide, BadSettings, BadSetting, PastTotal}
+use Rattle.rules.specs.declared.refusal.Refusal.the-variants.{Cut, WrongType, BadNumber, PastSize, NoBits, BadRow, NoRoom, LoadFailed, BadWaitingRow, BadNumbers, BadRowsBefore, BadIndex, TooWide, BadSettings, BadSetting, PastTotal, BadPick}
 
--- A number that no refusal has is read as 16.
+-- A number that no refusal has is read as 17.
 unfoldable pub refusalOf : ℕ → ℕ → Refusal
 refusalOf n v =
     cond (eqb n 1) (Cut v)
@@ -25,7 +25,8 @@ refusalOf n v =
     (cond (eqb n 12) BadIndex
     (cond (eqb n 13) (TooWide v)
     (cond (eqb n 14) (BadSettings v)
-    (cond (eqb n 15) BadSetting PastTotal))))))))))))))
+    (cond (eqb n 15) BadSetting
+    (cond (eqb n 16) PastTotal (BadPick v))))))))))))))))
 
 pub refusal-told : (r : Refusal) → refusalOf (numberOf r) (valueOf r) ≡ r
 unfolding refusalOf
@@ -45,6 +46,7 @@ refusal-told (TooWide row) = refl
 refusal-told (BadSettings i) = refl
 refusal-told BadSetting = refl
 refusal-told PastTotal = refl
+refusal-told (BadPick place) = refl
 
 pub refusals-differ : (a b : Refusal) → numberOf a ≡ numberOf b → valueOf a ≡ valueOf b → a ≡ b
 refusals-differ a b n v = sym (refusal-told a) ∙ ap₂ refusalOf n v ∙ refusal-told b

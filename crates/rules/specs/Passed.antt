@@ -10,14 +10,18 @@ use Rattle.rules.specs.declared.passed.Passed.the-variants.{Hashes, Refu
 use Rattle.rules.specs.declared.refusal.Refusal.{Refusal}
 use Rattle.rules.specs.declared.refusal.Refusal.the-variants.{Cut, PastSize}
 
--- How many hashes the bytes s are: 4 for more than a list may have, then 1 with the start of a hash that isn't whole.
-unfoldable pub passedHashes : List ℕ → Passed
-passedHashes s =
-    cond (ltb (sizes .hashes * sizes .hash) (length s))
+-- How many hashes the bytes s are: 4 for more than so many, then 1 with the start of a hash that isn't whole.
+unfoldable pub passedUpTo : ℕ → List ℕ → Passed
+passedUpTo most s =
+    cond (ltb (most * sizes .hash) (length s))
     (Refused (PastSize 0))
     (cond (eqb (length s % sizes .hash) 0)
     (Hashes (length s / sizes .hash))
     (Refused (Cut (sizes .hash * (length s / sizes .hash)))))
+
+-- A list of hashes as messages and sessions have them.
+abbrev pub passedHashes : List ℕ → Passed
+passedHashes s = passedUpTo (sizes .hashes) s
 
 -- What follows a list that was passed, or its refusal passed on.
 unfoldable pub afterPassed : {A : Type 0} → Passed → (Refusal → A) → (ℕ → A) → A

@@ -1,5 +1,5 @@
--- 01, Refusal numbers, and 02, M-100 for 12, M-106 for 13, M-107 for 14 and 15, M-108 for 16: the number of each refusal, and the value that it returns. Every
--- promise about a refusal speaks of these two.
+-- 01, Refusal numbers, and 02, M-100 for 12, M-106 for 13, M-107 for 14 and 15, M-108 for 16, M-110 for 17: the number of each refusal, and the value that it
+-- returns. Every promise about a refusal speaks of these two.
 use Prim.Native.Nat.{ℕ}
 use Rattle.rules.specs.declared.refusal.Refusal.{Refusal}
 use Rattle.rules.specs.declared.refusal.Refusal.the-variants.{
@@ -19,6 +19,7 @@ use Rattle.rules.specs.declared.refusal.Refusal.the-variants.{
   BadSettings,
   BadSetting,
   PastTotal,
+  BadPick,
 }
 
 -- The column "No.".
@@ -39,6 +40,7 @@ numberOf (TooWide row) = 13
 numberOf (BadSettings i) = 14
 numberOf BadSetting = 15
 numberOf PastTotal = 16
+numberOf (BadPick place) = 17
 
 -- The column "Returns".
 abbrev pub valueOf : Refusal → ℕ
@@ -58,3 +60,4 @@ valueOf (TooWide row) = row
 valueOf (BadSettings i) = i
 valueOf BadSetting = 0
 valueOf PastTotal = 0
+valueOf (BadPick place) = place

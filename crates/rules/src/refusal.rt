@@ -35,6 +35,8 @@ pub enum Refusal {
     BadSetting,
     // 16: a total would pass 64 bits.
     PastTotal,
+    // 17: a pick that isn't accepted; the place of its first hash that breaks a rule, else how many hashes it has.
+    BadPick(usize),
 }
 
 impl Refusal {
@@ -58,6 +60,7 @@ impl Refusal {
             Refusal::BadSettings(_) => 14,
             Refusal::BadSetting => 15,
             Refusal::PastTotal => 16,
+            Refusal::BadPick(_) => 17,
         }
     }
 
@@ -81,6 +84,7 @@ impl Refusal {
             Refusal::BadSettings(number) => number as u64,
             Refusal::BadSetting => 0,
             Refusal::PastTotal => 0,
+            Refusal::BadPick(place) => place as u64,
         }
     }
 }

@@ -32,7 +32,10 @@ use Rattle.rules.specs.Hash.{Bytes, AreHashes, hashesAt}
 use Rattle.rules.specs.Sizes.{sizes}
 use Rattle.rules.specs.declared.refusal.Refusal.the-variants.{BadRowsBefore}
 use Rattle.rules.specs.declared.refusal.Refusal.{Refusal}
+use Rattle.pick.specs.declared.check.Picked.{Picked}
+use Rattle.pick.specs.declared.check.Picked.the-variants.{Fine}
 use Rattle.session.specs.Plan.{
+  Body,
   Plan,
   Planned,
   heard,
@@ -45,6 +48,7 @@ use Rattle.session.specs.Plan.{
   headsFor,
   planOf,
   planned,
+  planBody,
   plan,
   after,
 }
@@ -178,12 +182,12 @@ heads-fit a rows most h k l = omega arith
 pub heads-sound : (t : List Row) → SoundTable t → SoundHashes (heads t)
 heads-sound t w = record { few = heads-fit _ _ _ (heads-few t) (w .few) (omega arith); are = heads-hashes t (w .are) }
 
-sent-hashes : (t : List Row) → SoundTable t → (s : State) → GoodState s → AreHashes (sentAfter t s)
-sent-hashes t w s g =
-    hashes-each (sentAfter t s)
+sent-hashes : (s : State) → GoodState s → (b : Body) → AreHashes (b .hashes) → AreHashes (sentAfter s b)
+sent-hashes s g b are =
+    hashes-each (sentAfter s b)
     (λ h m.
-    either (member h (bodyOf t s .hashes)) (member h (s .sentHashes)) (sym (sent-members t s h) ∙ m)
-    (λ e. hashes-member (bodyOf t s .hashes) (body-hashes t (w .good) s (w .are)) h e)
+    either (member h (b .hashes)) (member h (s .sentHashes)) (sym (sent-members s b h) ∙ m)
+    (λ e. hashes-member (b .hashes) are h e)
     (λ e. hashes-member (s .sentHashes) (g .sentAre) h e))
 
 -- what holds where something was heard holds of what was
@@ -197,8 +201,9 @@ where-heard P (some y) h x e =
 pub body-few : (t : List Row) (s : State) → SoundTable t → GoodState s → length (bodyOf t s .hashes) ≤ sizes .hashesToSend
 body-few t s w g = list-few t s (w .few) (λ need e. where-heard SoundHashes (s .theirNeed) (g .theirNeed) need e .few)
 
-module _ (bits probes : ℕ) (t : List Row) (w : List Waiting) (s : State) (sound : SoundTable t) (g : GoodState s) where
-  good-after : length (sentAfter t s) ≤ sizes .sentHashes → GoodState (planned t s)
+module _ (bits probes : ℕ) (t : List Row) (w : List Waiting) (s : State) (sound : SoundTable t) (g : GoodState s) (b : Body) (c : Picked)
+    (are : AreHashes (b .hashes)) where
+  good-after : length (sentAfter s b) ≤ sizes .sentHashes → GoodState (planned t s b)
   unfolding planned
   good-after few =
       record {
@@ -208,25 +213,33 @@ module _ (bits probes : ℕ) (t : List Row) (w : List Waiting) (s : State) (soun
         theirNeed = g .theirNeed;
         theirHave = g .theirHave;
         sentFew = few;
-        sentAre = sent-hashes t sound s g;
-        ascending = sent-ascends t s;
+        sentAre = sent-hashes s g b are;
+        ascending = sent-ascends s b;
       }
 
   -- a message leaves a good session
-  pub planned-good : (q : Plan) (s′ : State) → plan bits probes t w s ≡ Planned.says q s′ → GoodState s′
-  planned-good q s′ e =
-      let p = plan-saying bits probes t w s q s′ e in
+  pub body-good : (q : Plan) (s′ : State) → planBody bits probes t w s b c ≡ Planned.says q s′ → GoodState s′
+  body-good q s′ e =
+      let p = plan-saying bits probes t w s b c q s′ e in
       rw (p .session) (good-after (p .sentFew))
 
-  answer-good : (x : Planned) → plan bits probes t w s ≡ x → GoodState (after x s)
+  answer-good : (x : Planned) → planBody bits probes t w s b c ≡ x → GoodState (after x s)
   answer-good (Planned.refused r) e = g
   answer-good Planned.silent e = g
   answer-good (Planned.reset p) e = g
-  answer-good (Planned.says q s′) e = planned-good q s′ e
+  answer-good (Planned.says q s′) e = body-good q s′ e
 
   -- and so does planning, whatever it answers
+  pub body-leaves-good : GoodState (after (planBody bits probes t w s b c) s)
+  body-leaves-good = answer-good (planBody bits probes t w s b c) refl
+
+-- so where all goes that the session asks for
+module _ (bits probes : ℕ) (t : List Row) (w : List Waiting) (s : State) (sound : SoundTable t) (g : GoodState s) where
+  pub planned-good : (q : Plan) (s′ : State) → plan bits probes t w s ≡ Planned.says q s′ → GoodState s′
+  planned-good = body-good bits probes t w s sound g (bodyOf t s) Fine (body-hashes t (sound .good) s (sound .are))
+
   pub after-good : GoodState (after (plan bits probes t w s) s)
-  after-good = answer-good (plan bits probes t w s) refl
+  after-good = body-leaves-good bits probes t w s sound g (bodyOf t s) Fine (body-hashes t (sound .good) s (sound .are))
 
 -- ---- messages that are planned with bits and probes that keep the filter rules
 
@@ -261,11 +274,11 @@ module _ (bits probes : ℕ) (setting : SettingGood bits probes) (t : List Row) 
 
   -- the lists of a message that is said are sound, if what is missing are hashes
   pub said-sound : (w : List Waiting) (s : State) → GoodState s → AreHashes (missing t w (heard (s .theirHeads)))
-      → (q : Plan) (s′ : State) → plan bits probes t w s ≡ Planned.says q s′
+      → (b : Body) (c : Picked) (q : Plan) (s′ : State) → planBody bits probes t w s b c ≡ Planned.says q s′
       → SoundPlan q
   unfolding planOf
-  said-sound w s g a q s′ e =
-      let p = plan-saying bits probes t w s q s′ e in
+  said-sound w s g a b c q s′ e =
+      let p = plan-saying bits probes t w s b c q s′ e in
       rw (p .message)
       (record {
         heads = told-sound (s .needsReset) (s .supportsReset);
@@ -279,9 +292,9 @@ filter-said [] = FilterReadsBack.default refl
 filter-said (h ∷ hs) = FilterReadsBack.entries (omega arith)
 
 -- and its have is read back as it was written: a filter over no rows is the default
-pub said-back : (t : List Row) (w : List Waiting) (s : State) → Each HaveReadsBack (planOf defaultBits defaultProbes t w s .haves)
+pub said-back : (t : List Row) (w : List Waiting) (s : State) (b : Body) → Each HaveReadsBack (planOf defaultBits defaultProbes t w s b .haves)
 unfolding planOf haveOf Each
-said-back t w s =
+said-back t w s b =
     let need : List ℕ = needOf t w (s .readOnly) (heard (s .theirHeads)) in
     split (every (λ x. member x (heard (s .theirHeads))) need)
     (λ e.

@@ -10,7 +10,7 @@ use lib.ListN.{length}
 use Rattle.message_read.specs.MessageRead.{Reading, messageAt, messageIn}
 use Rattle.session.specs.GoodState.{SoundTable, GoodState}
 use Rattle.session.specs.Receive.{Said, saidIn, Received, flagTaken, sentFlagged, flagged, received, receive, receiveBytes}
-use Rattle.session.proofs.GoodLaws.{planned-good, LeavesGood, bytes-good}
+use Rattle.session.proofs.GoodLaws.{body-good, LeavesGood, bytes-good}
 use Rattle.session.proofs.ReceiveLaws.{left-few, receive-taking, failed-leaves, bytes-beyond, bytes-refused, bytes-read}
 use Rattle.session_check.specs.SessionGood.{sessionGood}
 use Rattle.session_check.proofs.GoodSessions.{session-parts, LentBytes}
@@ -22,8 +22,10 @@ use Rattle.rules.specs.declared.refusal.Refusal.{Refusal}
 use Rattle.rules.specs.declared.refusal.Refusal.the-variants.{BadRowsBefore}
 use Rattle.rules.proofs.Cases.{split}
 use Rattle.rules.proofs.Hash.{length-hashes-at}
-use Rattle.session.specs.Plan.{Plan, Planned, planned, plan}
-use Rattle.session.proofs.PlanLaws.{plan-saying}
+use Rattle.pick.specs.declared.check.Picked.{Picked}
+use Rattle.pick.specs.declared.check.Picked.the-variants.{Fine}
+use Rattle.session.specs.Plan.{Body, Plan, Planned, bodyOf, planned, planBody, plan}
+use Rattle.session.proofs.PlanLaws.{body-hashes, plan-saying}
 use Rattle.session_state.specs.Session.{State}
 use Rattle.session_state.specs.Value.{Lent, stateOf}
 use Rattle.session_state.specs.declared.session.Session.{Session}
@@ -40,12 +42,12 @@ stays s l g k = record { good = kept-good s l g k; value = kept-value s l k }
 
 module _ (bits probes : ℕ) (t : List Row) (w : List Waiting) (sound : SoundTable t) where
   -- a message that is planned changes two lists
-  pub planned-kept : (s : State) (l : Lent) → GoodState s → Kept s l
-      → (q : Plan) (s′ : State) → plan bits probes t w s ≡ Planned.says q s′ → PlannedRoom s′ l → Kept s′ (plannedIn s′ l)
+  pub body-kept : (s : State) (l : Lent) → GoodState s → Kept s l → (b : Body) (c : Picked) → AreHashes (b .hashes)
+      → (q : Plan) (s′ : State) → planBody bits probes t w s b c ≡ Planned.says q s′ → PlannedRoom s′ l → Kept s′ (plannedIn s′ l)
   unfolding planned
-  planned-kept s l g k q s′ e room =
-      let is : s′ ≡ planned t s = plan-saying bits probes t w s q s′ e .session in
-      let good : GoodState s′ = planned-good bits probes t w s sound g q s′ e in
+  body-kept s l g k b c are q s′ e room =
+      let is : s′ ≡ planned t s b = plan-saying bits probes t w s b c q s′ e .session in
+      let good : GoodState s′ = body-good bits probes t w s sound g b c are q s′ e in
       record {
         shared = rw is (k .shared);
         lastSent = stand-sets (s′ .lastSentHeads) (l .lastSent) (good .lastSent .are) (room .lastSent);
@@ -56,12 +58,18 @@ module _ (bits probes : ℕ) (t : List Row) (w : List Waiting) (sound : SoundTab
       }
 
   -- so the session after it is good, and the one that was planned; any other answer leaves counts and lists as they were
-  pub plan-stays-good : (c : Session) (l : Lent) → sessionGood c l ≡ true → LentBytes l
-      → (q : Plan) (s′ : State) → plan bits probes t w (stateOf c l) ≡ Planned.says q s′ → PlannedRoom s′ l → Stays s′ (plannedIn s′ l)
-  plan-stays-good c l good all q s′ e room =
-      let s : State = stateOf c l in
-      let g : GoodState s = good-state c l good all in
-      stays s′ (plannedIn s′ l) (planned-good bits probes t w s sound g q s′ e) (planned-kept s l g (good-kept c l good) q s′ e room)
+  pub body-stays-good : (n : Session) (l : Lent) → sessionGood n l ≡ true → LentBytes l → (b : Body) (c : Picked) → AreHashes (b .hashes)
+      → (q : Plan) (s′ : State) → planBody bits probes t w (stateOf n l) b c ≡ Planned.says q s′ → PlannedRoom s′ l → Stays s′ (plannedIn s′ l)
+  body-stays-good n l good all b c are q s′ e room =
+      let s : State = stateOf n l in
+      let g : GoodState s = good-state n l good all in
+      stays s′ (plannedIn s′ l) (body-good bits probes t w s sound g b c are q s′ e) (body-kept s l g (good-kept n l good) b c are q s′ e room)
+
+  -- so where all goes that the session asks for
+  pub plan-stays-good : (n : Session) (l : Lent) → sessionGood n l ≡ true → LentBytes l
+      → (q : Plan) (s′ : State) → plan bits probes t w (stateOf n l) ≡ Planned.says q s′ → PlannedRoom s′ l → Stays s′ (plannedIn s′ l)
+  plan-stays-good n l good all =
+      body-stays-good n l good all (bodyOf t (stateOf n l)) Fine (body-hashes t (sound .good) (stateOf n l) (sound .are))
 
 -- ---- receiving
 

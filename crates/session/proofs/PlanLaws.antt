@@ -4,7 +4,7 @@ use Prim.Native.Nat.{ℕ, _+_, _/_, _≤_, _<_}
 use mathlib.Core.Bool.{Bool, true, false, _&&_, _||_}
 use mathlib.Core.List.{List, [], _∷_, _++_}
 use mathlib.Core.Option.{Option, none, some}
-use mathlib.Core.Path.{_≡_, refl, sym, _∙_}
+use mathlib.Core.Path.{_≡_, refl, sym, ap, _∙_}
 use native.Mathlib.Omega.{arith}
 use borrow.Author.Tests.{ltb-true, ltb-false, lt-ltb, le-ltb}
 use lib.Dec.{ltb}
@@ -16,6 +16,8 @@ use Rattle.waiting_missing.specs.Missing.{missing}
 use Rattle.hash_order.proofs.KeepLaws.{every-one}
 use Rattle.hash_order.proofs.OrderLaws.{ascend-ascends, ascend-members, member-append}
 use Rattle.hash_order.specs.Order.{member, every, ascends}
+use Rattle.pick.specs.declared.check.Picked.{Picked}
+use Rattle.pick.specs.declared.check.Picked.the-variants.{Fine, Breaks}
 use Rattle.rules.proofs.Cases.{split, true-false, and-false}
 use Rattle.rules.specs.Hash.{AreHashes}
 use Rattle.rules.specs.Sizes.{sizes}
@@ -50,7 +52,9 @@ use Rattle.session.specs.Plan.{
   planOf,
   planned,
   resetOf,
-  plan,
+  isFine,
+  unlessBroken,
+  planBody,
   after,
 }
 
@@ -170,15 +174,15 @@ body-hashes t good s a =
 
 -- ---- the hashes sent
 
-module _ (t : List Row) (s : State) where
-  pub sent-ascends : ascends (sentAfter t s) ≡ true
+module _ (s : State) (b : Body) where
+  pub sent-ascends : ascends (sentAfter s b) ≡ true
   unfolding sentAfter
-  sent-ascends = ascend-ascends (bodyOf t s .hashes ++ s .sentHashes)
+  sent-ascends = ascend-ascends (b .hashes ++ s .sentHashes)
 
   -- those of the body and those of before, and no others
-  pub sent-members : (h : ℕ) → member h (sentAfter t s) ≡ (member h (bodyOf t s .hashes) || member h (s .sentHashes))
+  pub sent-members : (h : ℕ) → member h (sentAfter s b) ≡ (member h (b .hashes) || member h (s .sentHashes))
   unfolding sentAfter
-  sent-members h = ascend-members h (bodyOf t s .hashes ++ s .sentHashes) ∙ member-append h (bodyOf t s .hashes) (s .sentHashes)
+  sent-members h = ascend-members h (b .hashes ++ s .sentHashes) ∙ member-append h (b .hashes) (s .sentHashes)
 
 -- ---- what a message says
 
@@ -237,32 +241,29 @@ module _ (a b c d e f : Bool) where
   unfolding quiet
   apart q p r = rw (q, p, r) (and-false (a && b))
 
-module _ (t : List Row) (s : State) where
+module _ (t : List Row) (s : State) (nothing : Bool) where
   abbrev told : Bool
   told = same (s .lastSentHeads) (heads t)
 
-  abbrev nothing : Bool
-  nothing = empty (bodyOf t s .hashes)
-
-  silence-is : silence t s ≡ quiet told (s .haveResponded) (heardAs (heads t) (s .theirHeads)) (s .readOnly) nothing (s .inFlight)
+  silence-is : silence t s nothing ≡ quiet told (s .haveResponded) (heardAs (heads t) (s .theirHeads)) (s .readOnly) nothing (s .inFlight)
   unfolding silence quiet
   silence-is = refl
 
   -- nobody is silent about heads that changed
-  pub speaks-heads : same (s .lastSentHeads) (heads t) ≡ false → silence t s ≡ false
+  pub speaks-heads : same (s .lastSentHeads) (heads t) ≡ false → silence t s nothing ≡ false
   speaks-heads e = silence-is ∙ untold _ _ _ _ _ _ e
 
   -- or before the first answer
-  pub speaks-first : s .haveResponded ≡ false → silence t s ≡ false
+  pub speaks-first : s .haveResponded ≡ false → silence t s nothing ≡ false
   speaks-first e = silence-is ∙ unanswered _ _ _ _ _ _ e
 
   module _ (lands : s .inFlight ≡ false) where
     -- or with something to tell, once nothing is in flight
-    pub speaks-body : empty (bodyOf t s .hashes) ≡ false → silence t s ≡ false
+    pub speaks-body : nothing ≡ false → silence t s nothing ≡ false
     speaks-body e = silence-is ∙ something _ _ _ _ _ _ lands e
 
     -- or to a peer of other heads, if this unit takes changes
-    pub speaks-apart : heardAs (heads t) (s .theirHeads) ≡ false → s .readOnly ≡ false → silence t s ≡ false
+    pub speaks-apart : heardAs (heads t) (s .theirHeads) ≡ false → s .readOnly ≡ false → silence t s nothing ≡ false
     speaks-apart e f = silence-is ∙ apart _ _ _ _ _ _ lands e f
 
 -- ---- the stages
@@ -277,76 +278,103 @@ reset-unsaid e = absurd (let z : _≡_ {A = ℕ} 0 1 = cc in omega arith)
 silent-unsaid : {A : Type 0} {q : Plan} {s : State} → Planned.silent ≡ Planned.says q s → A
 silent-unsaid e = absurd (let z : _≡_ {A = ℕ} 0 1 = cc in omega arith)
 
-module _ (bits probes : ℕ) (t : List Row) (w : List Waiting) (s : State) where
+broken-unsaid : {A : Type 0} (place : ℕ) (p : Planned) {q : Plan} {s : State} → unlessBroken (Breaks place) p ≡ Planned.says q s → A
+broken-unsaid place p e = refused-unsaid e
+
+-- what goes where a message is said breaks no rule
+said-fine : (c : Picked) (p : Planned) {q : Plan} {s : State} → unlessBroken c p ≡ Planned.says q s → c ≡ Fine
+said-fine Fine p e = refl
+said-fine (Breaks place) p e = broken-unsaid place p e
+
+module _ (bits probes : ℕ) (t : List Row) (w : List Waiting) (s : State) (b : Body) (c : Picked) where
   abbrev need : List ℕ
   need = needOf t w (s .readOnly) (heard (s .theirHeads))
 
-  pub plan-need-past : sizes .hashes < length need → plan bits probes t w s ≡ Planned.refused (PastSize 0)
-  unfolding plan
+  abbrev nothingGoes : Bool
+  nothingGoes = isFine c && empty (b .hashes)
+
+  pub plan-need-past : sizes .hashes < length need → planBody bits probes t w s b c ≡ Planned.refused (PastSize 0)
+  unfolding planBody
   plan-need-past h = rw (lt-ltb _ _ h)
 
   module _ (few : length need ≤ sizes .hashes) where
-    pub plan-resets : unknownSync t (s .theirHave) ≡ true → plan bits probes t w s ≡ Planned.reset (resetOf t)
-    unfolding plan
+    pub plan-resets : unknownSync t (s .theirHave) ≡ true → planBody bits probes t w s b c ≡ Planned.reset (resetOf t)
+    unfolding planBody
     plan-resets e = rw (le-ltb _ _ few, e)
 
     module _ (known : unknownSync t (s .theirHave) ≡ false) where
-      pub plan-silent : silence t s ≡ true → plan bits probes t w s ≡ Planned.silent
-      unfolding plan
+      pub plan-silent : silence t s nothingGoes ≡ true → planBody bits probes t w s b c ≡ Planned.silent
+      unfolding planBody
       plan-silent e = rw (le-ltb _ _ few, known, e)
 
-      module _ (speaks : silence t s ≡ false) where
-        pub plan-sent-past : sizes .sentHashes < length (sentAfter t s) → plan bits probes t w s ≡ Planned.refused (PastSize 0)
-        unfolding plan
+      module _ (speaks : silence t s nothingGoes ≡ false) where
+        pub plan-sent-past : sizes .sentHashes < length (sentAfter s b) → planBody bits probes t w s b c ≡ Planned.refused (PastSize 0)
+        unfolding planBody
         plan-sent-past h = rw (le-ltb _ _ few, known, speaks, lt-ltb _ _ h)
 
-        pub plan-is : length (sentAfter t s) ≤ sizes .sentHashes → plan bits probes t w s ≡ Planned.says (planOf bits probes t w s) (planned t s)
-        unfolding plan
-        plan-is h = rw (le-ltb _ _ few, known, speaks, le-ltb _ _ h)
+        -- 17 for a pick that isn't accepted, else the message
+        pub plan-ends : length (sentAfter s b) ≤ sizes .sentHashes
+            → planBody bits probes t w s b c ≡ unlessBroken c (Planned.says (planOf bits probes t w s b) (planned t s b))
+        unfolding planBody
+        plan-ends h = rw (le-ltb _ _ few, known, speaks, le-ltb _ _ h)
+
+        pub plan-is : length (sentAfter s b) ≤ sizes .sentHashes → c ≡ Fine
+            → planBody bits probes t w s b c ≡ Planned.says (planOf bits probes t w s b) (planned t s b)
+        plan-is h e = plan-ends h ∙ ap (λ (k : Picked). unlessBroken k (Planned.says (planOf bits probes t w s b) (planned t s b))) e
 
   -- What stands where a message is said.
   pub record Saying (q : Plan) (s′ : State) : Type 0 where
     pub few : length need ≤ sizes .hashes
     pub known : unknownSync t (s .theirHave) ≡ false
-    pub speaks : silence t s ≡ false
-    pub sentFew : length (sentAfter t s) ≤ sizes .sentHashes
-    pub message : q ≡ planOf bits probes t w s
-    pub session : s′ ≡ planned t s
+    pub speaks : silence t s nothingGoes ≡ false
+    pub sentFew : length (sentAfter s b) ≤ sizes .sentHashes
+    pub fine : c ≡ Fine
+    pub message : q ≡ planOf bits probes t w s b
+    pub session : s′ ≡ planned t s b
 
-  pub plan-saying : (q : Plan) (s′ : State) → plan bits probes t w s ≡ Planned.says q s′ → Saying q s′
+  pub plan-saying : (q : Plan) (s′ : State) → planBody bits probes t w s b c ≡ Planned.says q s′ → Saying q s′
   plan-saying q s′ e =
       split (ltb (sizes .hashes) (length need))
-      (λ a. refused-unsaid (sym (plan-need-past (ltb-true _ _ a)) ∙ e))
-      (λ a.
-      let few : length need ≤ sizes .hashes = ltb-false _ _ a in
+      (λ x. refused-unsaid (sym (plan-need-past (ltb-true _ _ x)) ∙ e))
+      (λ x.
+      let few : length need ≤ sizes .hashes = ltb-false _ _ x in
       split (unknownSync t (s .theirHave))
-      (λ b. reset-unsaid (sym (plan-resets few b) ∙ e))
-      (λ b.
-      split (silence t s)
-      (λ c. silent-unsaid (sym (plan-silent few b c) ∙ e))
-      (λ c.
-      split (ltb (sizes .sentHashes) (length (sentAfter t s)))
-      (λ d. refused-unsaid (sym (plan-sent-past few b c (ltb-true _ _ d)) ∙ e))
-      (λ d.
-      let sent : length (sentAfter t s) ≤ sizes .sentHashes = ltb-false _ _ d in
-      let is : Planned.says q s′ ≡ Planned.says (planOf bits probes t w s) (planned t s) = sym e ∙ plan-is few b c sent in
-      record { few = few; known = b; speaks = c; sentFew = sent; message = cc; session = cc }))))
+      (λ y. reset-unsaid (sym (plan-resets few y) ∙ e))
+      (λ y.
+      split (silence t s nothingGoes)
+      (λ z. silent-unsaid (sym (plan-silent few y z) ∙ e))
+      (λ z.
+      split (ltb (sizes .sentHashes) (length (sentAfter s b)))
+      (λ v. refused-unsaid (sym (plan-sent-past few y z (ltb-true _ _ v)) ∙ e))
+      (λ v.
+      let sent : length (sentAfter s b) ≤ sizes .sentHashes = ltb-false _ _ v in
+      let fine : c ≡ Fine = said-fine c _ (sym (plan-ends few y z sent) ∙ e) in
+      let is : Planned.says q s′ ≡ Planned.says (planOf bits probes t w s b) (planned t s b) = sym e ∙ plan-is few y z sent fine in
+      record { few = few; known = y; speaks = z; sentFew = sent; fine = fine; message = cc; session = cc }))))
 
   -- a message that is said is this one, and the session after it this
-  pub plan-says : (q : Plan) (s′ : State) → plan bits probes t w s ≡ Planned.says q s′ → (q ≡ planOf bits probes t w s) × (s′ ≡ planned t s)
+  pub plan-says : (q : Plan) (s′ : State) → planBody bits probes t w s b c ≡ Planned.says q s′
+      → (q ≡ planOf bits probes t w s b) × (s′ ≡ planned t s b)
   plan-says q s′ e = let p = plan-saying q s′ e in (p .message, p .session)
 
 -- own filters never enter the session: it is the same whatever bits and probes they have
-pub own-filters : (bits probes bits′ probes′ : ℕ) (t : List Row) (w : List Waiting) (s : State)
-    → after (plan bits probes t w s) s ≡ after (plan bits′ probes′ t w s) s
-unfolding plan
-own-filters bits probes bits′ probes′ t w s =
+pub own-filters : (bits probes bits′ probes′ : ℕ) (t : List Row) (w : List Waiting) (s : State) (b : Body) (c : Picked)
+    → after (planBody bits probes t w s b c) s ≡ after (planBody bits′ probes′ t w s b c) s
+unfolding planBody
+own-filters bits probes bits′ probes′ t w s b c =
     split (ltb (sizes .hashes) (length (needOf t w (s .readOnly) (heard (s .theirHeads)))))
-    (λ a. rw a)
-    (λ a.
+    (λ x. rw x)
+    (λ x.
     split (unknownSync t (s .theirHave))
-    (λ b. rw (a, b))
-    (λ b.
-    split (silence t s)
-    (λ c. rw (a, b, c))
-    (λ c. split (ltb (sizes .sentHashes) (length (sentAfter t s))) (λ d. rw (a, b, c, d)) (λ d. rw (a, b, c, d)))))
+    (λ y. rw (x, y))
+    (λ y.
+    split (silence t s (isFine c && empty (b .hashes)))
+    (λ z. rw (x, y, z))
+    (λ z.
+    split (ltb (sizes .sentHashes) (length (sentAfter s b)))
+    (λ v. rw (x, y, z, v))
+    (λ v. rw (x, y, z, v) (same-after c _ _ (planned t s b) s)))))
+  where
+    same-after : (c : Picked) (p q : Plan) (n s : State) → after (unlessBroken c (Planned.says p n)) s ≡ after (unlessBroken c (Planned.says q n)) s
+    same-after Fine p q n s = refl
+    same-after (Breaks place) p q n s = refl

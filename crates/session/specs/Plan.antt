@@ -1,5 +1,5 @@
 -- What a unit says next, and its session afterwards. 01, Session, which goes by `generate_sync_message` of src/sync.rs: the definitions stand in the
--- order in which it computes them.
+-- order in which it computes them. 02, M-110: the steps are over what goes, the body that the session asks for or a pick of it.
 use Prim.Native.Nat.{ℕ, _+_, _/_}
 use mathlib.Core.Bool.{Bool, true, false, cond, not, _&&_, _||_}
 use mathlib.Core.List.{List, [], _∷_, _++_}
@@ -18,7 +18,10 @@ use Rattle.waiting_missing.specs.Missing.{missing}
 use Rattle.hash_order.specs.Order.{member, every, ascend}
 use Rattle.bloom_probe.specs.Build.{filterOf}
 use Rattle.rules.specs.Sizes.{sizes}
-use Rattle.rules.specs.declared.refusal.Refusal.the-variants.{PastSize}
+use Rattle.pick.specs.Picking.{pickChecked}
+use Rattle.pick.specs.declared.check.Picked.{Picked}
+use Rattle.pick.specs.declared.check.Picked.the-variants.{Fine, Breaks}
+use Rattle.rules.specs.declared.refusal.Refusal.the-variants.{PastSize, BadPick}
 use Rattle.rules.specs.declared.refusal.Refusal.{Refusal}
 use Rattle.send.specs.ToSend.{toSendLess}
 use Rattle.session_state.specs.Session.{State}
@@ -115,15 +118,15 @@ empty [] = true
 empty (h ∷ hs) = false
 
 -- Silence: the heads are those that were sent last and the peer was answered, and there is nothing to tell, or a message is still on its way. Nothing is
--- to be told where the peer has these heads, or this unit takes no changes, and the body is empty.
-unfoldable pub silence : List Row → State → Bool
-silence t s =
+-- to be told where the peer has these heads, or this unit takes no changes, and nothing goes.
+unfoldable pub silence : List Row → State → Bool → Bool
+silence t s nothingGoes =
     (same (s .lastSentHeads) (heads t) && s .haveResponded)
-    && (((heardAs (heads t) (s .theirHeads) || s .readOnly) && empty (bodyOf t s .hashes)) || s .inFlight)
+    && (((heardAs (heads t) (s .theirHeads) || s .readOnly) && nothingGoes) || s .inFlight)
 
 -- The hashes sent in the session: those of the body join, each once, ascending.
-unfoldable pub sentAfter : List Row → State → List ℕ
-sentAfter t s = ascend (bodyOf t s .hashes ++ s .sentHashes)
+unfoldable pub sentAfter : State → Body → List ℕ
+sentAfter s b = ascend (b .hashes ++ s .sentHashes)
 
 -- A peer that is to forget what it sent is told so where it understands that; where not, a message without heads looks as if all was lost here.
 unfoldable pub headsFor : Bool → Bool → List ℕ → List ℕ
@@ -137,28 +140,28 @@ flagsFor readOnlyUnit tellsReset = flagsOf (supportsSyncReset + (cond readOnlyUn
 unfoldable pub versionFor : Bool → MessageVersion
 versionFor v2 = cond v2 V2 V1
 
--- The message.
-unfoldable pub planOf : ℕ → ℕ → List Row → List Waiting → State → Plan
-planOf bits probes t w s =
+-- The message with a body.
+unfoldable pub planOf : ℕ → ℕ → List Row → List Waiting → State → Body → Plan
+planOf bits probes t w s b =
     record {
       version = versionFor (s .supportsV2);
       heads = headsFor (s .needsReset) (s .supportsReset) (heads t);
       need = needOf t w (s .readOnly) (heard (s .theirHeads));
       haves = havesFor bits probes t (needOf t w (s .readOnly) (heard (s .theirHeads))) (heard (s .theirHeads)) (s .sharedHeads);
-      body = bodyOf t s;
+      body = b;
       flags = flagsFor (s .readOnly) (s .needsReset && s .supportsReset);
     }
 
 -- The session after it.
-unfoldable pub planned : List Row → State → State
-planned t s =
+unfoldable pub planned : List Row → State → Body → State
+planned t s b =
     record {
       sharedHeads = s .sharedHeads;
       lastSentHeads = heads t;
       theirHeads = s .theirHeads;
       theirNeed = s .theirNeed;
       theirHave = s .theirHave;
-      sentHashes = sentAfter t s;
+      sentHashes = sentAfter s b;
       inFlight = true;
       haveResponded = true;
       supportsV2 = s .supportsV2;
@@ -180,18 +183,47 @@ resetOf t =
       flags = flagsOf supportsSyncReset;
     }
 
--- The stages, in 01's order of refusals: 4 for the need list, even before a reset or silence; a reset; silence; 4 for the sent hashes; the message.
-unfoldable pub plan : ℕ → ℕ → List Row → List Waiting → State → Planned
-plan bits probes t w s =
+-- 02, M-110: a pick breaks no rule, or none is looked at.
+abbrev pub isFine : Picked → Bool
+isFine Fine = true
+isFine (Breaks place) = false
+
+-- 02, M-110: 17 with its place for a pick that isn't accepted, else the message.
+abbrev pub unlessBroken : Picked → Planned → Planned
+unlessBroken Fine p = p
+unlessBroken (Breaks place) p = refused (BadPick place)
+
+-- The stages for what goes, in 01's order of refusals and, for 17, in 02's: 4 for the need list, even before a reset or silence; a reset; silence; 4 for the
+-- sent hashes; 17 for the pick; the message. A pick that isn't accepted is no silence, even an empty one, so that it is refused.
+unfoldable pub planBody : ℕ → ℕ → List Row → List Waiting → State → Body → Picked → Planned
+planBody bits probes t w s b c =
     cond (ltb (sizes .hashes) (length (needOf t w (s .readOnly) (heard (s .theirHeads)))))
     (refused (PastSize 0))
     (cond (unknownSync t (s .theirHave))
     (reset (resetOf t))
-    (cond (silence t s)
+    (cond (silence t s (isFine c && empty (b .hashes)))
     silent
-    (cond (ltb (sizes .sentHashes) (length (sentAfter t s)))
+    (cond (ltb (sizes .sentHashes) (length (sentAfter s b)))
     (refused (PastSize 0))
-    (says (planOf bits probes t w s) (planned t s)))))
+    (unlessBroken c (says (planOf bits probes t w s b) (planned t s b))))))
+
+-- The plan: all of what the session asks for goes, and no pick is looked at.
+abbrev pub plan : ℕ → ℕ → List Row → List Waiting → State → Planned
+plan bits probes t w s = planBody bits probes t w s (bodyOf t s) Fine
+
+-- 02, M-110. What goes with a pick: the document whole, or the pick. It is decided on all that the session asks for whether the body is the document.
+unfoldable pub bodyPicked : List Row → State → List ℕ → Body
+bodyPicked t s pick = cond (bodyOf t s .document) (bodyOf t s) (listOf pick)
+
+-- 02, M-110. The check of a pick, against what is to be sent by list; with a document none is looked at.
+unfoldable pub bodyChecked : List Row → State → List ℕ → ℕ → List ℕ → Picked
+bodyChecked t s rowSizes budget pick =
+    cond (bodyOf t s .document) Fine (pickChecked t (bodyOf t s .hashes) rowSizes budget pick)
+
+-- 02, M-110: the plan with a pick, one size a row and a budget.
+abbrev pub planPicked : ℕ → ℕ → List ℕ → ℕ → List Row → List Waiting → State → List ℕ → Planned
+planPicked bits probes rowSizes budget t w s pick =
+    planBody bits probes t w s (bodyPicked t s pick) (bodyChecked t s rowSizes budget pick)
 
 -- The session after planning: a message's, and after anything else as it was.
 abbrev pub after : Planned → State → State

@@ -10,12 +10,13 @@ use Rattle.bloom.specs.Filter.{pairGood}
 use Rattle.bloom.specs.Have.{Have, numbersOf}
 use Rattle.bloom.specs.declared.have.FilterNumbers.{FilterNumbers}
 use Rattle.session_check.specs.SessionGood.{sessionGood}
-use Rattle.rules.specs.Hash.{hashesBytes}
+use Rattle.rules.specs.Hash.{hashesAt, hashesBytes}
+use Rattle.rules.specs.Passed.{passedHashes, afterPassed}
 use Rattle.rules.specs.Sizes.{sizes}
 use Rattle.rules.specs.declared.refusal.Refusal.the-variants.{BadNumbers}
 use Rattle.session.specs.Kept.{plannedIn}
 use Rattle.session.specs.Laid.{laidBytes}
-use Rattle.session.specs.Plan.{Plan, Planned, plan}
+use Rattle.session.specs.Plan.{Plan, Planned, plan, planPicked}
 use Rattle.session.specs.Rooms.{orShort, ifRoom}
 use Rattle.session_state.specs.Value.{Lent, stateOf, countsOf}
 use Rattle.session_state.specs.declared.session.Session.{Session}
@@ -41,12 +42,15 @@ unfoldable pub afterTables : Checked → Planned → Planned
 afterTables (Good m) p = p
 afterTables (BadTable r) p = Planned.refused r
 
--- 10 comes first.
+-- 10 comes first of all, then the tables.
+abbrev pub planAfter : Session → Lent → List ℕ → List ℕ → List ℕ → Planned → Planned
+planAfter s l table index waiting p =
+    cond (not (sessionGood s l)) (Planned.refused BadNumbers) (afterTables (tablesChecked table index waiting) p)
+
+-- The plan with these bits and probes.
 unfoldable pub planWith : ℕ → ℕ → Session → Lent → List ℕ → List ℕ → List ℕ → Planned
 planWith bits probes s l table index waiting =
-    cond (not (sessionGood s l))
-    (Planned.refused BadNumbers)
-    (afterTables (tablesChecked table index waiting) (plan bits probes (tableOf table) (waitingOf waiting) (stateOf s l)))
+    planAfter s l table index waiting (plan bits probes (tableOf table) (waitingOf waiting) (stateOf s l))
 
 -- 02, M-107: bits and probes that are passed are tested first of all. 10 where a filter over some rows of a table would break the filter rules.
 unfoldable pub planPassed : ℕ → ℕ → Session → Lent → List ℕ → List ℕ → List ℕ → Planned
@@ -56,12 +60,24 @@ planPassed bits probes s l table index waiting =
 -- 02, M-107: the plan with what a settings list answers. 14 stands behind 9, and before what planning itself refuses.
 unfoldable pub planBy : SettingAnswer → Session → Lent → List ℕ → List ℕ → List ℕ → Planned
 planBy (Chosen c) s l table index waiting = planWith (c .bits) (c .probes) s l table index waiting
-planBy (BadList r) s l table index waiting =
-    cond (not (sessionGood s l)) (Planned.refused BadNumbers) (afterTables (tablesChecked table index waiting) (Planned.refused r))
+planBy (BadList r) s l table index waiting = planAfter s l table index waiting (Planned.refused r)
 
 -- 02, M-107: the plan with a station's setting at a version.
 abbrev pub planSettled : List ℕ → ℕ → ℕ → Session → Lent → List ℕ → List ℕ → List ℕ → Planned
 planSettled settings station version s l table index waiting = planBy (settingFor settings station version) s l table index waiting
+
+-- 02, M-110: the plan with a pick that is passed as bytes: 4 and 1 for it stand behind 14, whatever the body is.
+unfoldable pub planPickedBy : SettingAnswer → List ℕ → ℕ → List ℕ → Session → Lent → List ℕ → List ℕ → List ℕ → Planned
+planPickedBy (Chosen c) rowSizes budget pick s l table index waiting =
+    planAfter s l table index waiting
+    (afterPassed (passedHashes pick) Planned.refused
+    (λ k. planPicked (c .bits) (c .probes) rowSizes budget (tableOf table) (waitingOf waiting) (stateOf s l) (hashesAt pick 0 k)))
+planPickedBy (BadList r) rowSizes budget pick s l table index waiting = planAfter s l table index waiting (Planned.refused r)
+
+-- 02, M-110: the plan with a pick and a station's setting at a version.
+abbrev pub planPickedSettled : List ℕ → ℕ → ℕ → List ℕ → ℕ → List ℕ → Session → Lent → List ℕ → List ℕ → List ℕ → Planned
+planPickedSettled settings station version rowSizes budget pick s l table index waiting =
+    planPickedBy (settingFor settings station version) rowSizes budget pick s l table index waiting
 
 -- ---- the answer: counts of what is said
 

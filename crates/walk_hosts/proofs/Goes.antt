@@ -37,7 +37,8 @@ use Rattle.session.proofs.PlanLaws.{have-one, have-none, plan-saying}
 use Rattle.session.specs.Laid.{laidBytes}
 use Rattle.session.specs.Plan.{Plan, Planned, heard, needOf, haveOf, planOf, resetOf, plan, after}
 use Rattle.call_words.specs.SessionWords.{sessionOf}
-use Rattle.session_calls.specs.SessionCalls.{plannedWords, plannedSession, receivedWords, receivedSession, receiveFor}
+use Rattle.plan_calls.specs.PlanWords.{plannedWords, plannedSession}
+use Rattle.receive_calls.specs.ReceiveWords.{receivedWords, receivedSession, receiveFor}
 use Rattle.session_state.specs.Session.{State}
 use Rattle.session_state.specs.Value.{Lent}
 use Rattle.table.specs.TableBytes.{tableOf}

@@ -32,7 +32,7 @@ use Rattle.session.specs.Laid.{laidBytes}
 use Rattle.session.specs.Plan.{Plan, Planned, heard, needOf, unknownSync, silence, sentAfter, planOf, resetOf, plan, after}
 use Rattle.session.proofs.GoodLaws.{heads-sound, body-few, planned-good, said-sound}
 use Rattle.session.proofs.PlanLaws.{body-hashes, have-or-none, said-flags, plan-need-past, plan-resets, plan-silent, plan-sent-past, plan-is, plan-saying}
-use Rattle.session_calls.specs.SessionCalls.{plannedWords, plannedSession}
+use Rattle.plan_calls.specs.PlanWords.{plannedWords, plannedSession}
 use Rattle.call_words.specs.SessionWords.{sessionWords, sessionOf}
 use Rattle.call_words.proofs.WordLaws.{words-back}
 use Rattle.session_state.specs.Session.{State}

@@ -23,7 +23,7 @@ use Rattle.rules.specs.declared.refusal.Refusal.{Refusal}
 use Rattle.rules.proofs.Cases.{split}
 use Rattle.session.specs.Laid.{laidBytes, laidWords}
 use Rattle.session.specs.Plan.{heard}
-use Rattle.session_calls.specs.SessionCalls.{receivedWords, receivedSession, receiveFor}
+use Rattle.receive_calls.specs.ReceiveWords.{receivedWords, receivedSession, receiveFor}
 use Rattle.call_words.specs.SessionWords.{sessionWords, sessionOf}
 use Rattle.call_words.proofs.WordLaws.{words-back}
 use Rattle.session_state.specs.Session.{State}

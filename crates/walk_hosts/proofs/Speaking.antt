@@ -19,7 +19,7 @@ use Rattle.session.specs.PlanCall.{statedOf, plannedAnswer, messagePut, putInto
 use Rattle.rules.specs.Sizes.{sizes}
 use Rattle.rules.proofs.Cases.{split}
 use Rattle.session.specs.Plan.{Plan, Planned, plan, after}
-use Rattle.session_calls.specs.SessionCalls.{statedWords, plannedWords}
+use Rattle.plan_calls.specs.PlanWords.{statedWords, plannedWords}
 use Rattle.session_state.specs.Session.{State}
 use Rattle.table.specs.TableBytes.{tableOf}
 use Rattle.table.specs.Table.{Row}

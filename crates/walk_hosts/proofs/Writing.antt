@@ -48,6 +48,7 @@ use Rattle.rules.specs.declared.refusal.Refusal.the-variants.{
   BadSettings,
   BadSetting,
   PastTotal,
+  BadPick,
 }
 use Rattle.rules.proofs.Hash.{length-hashes-bytes, hashes-there-and-back}
 use Rattle.rules.proofs.Outputs.{take-sets, written-gathered}
@@ -55,7 +56,7 @@ use Rattle.rules.proofs.PassedLaws.{passed-whole}
 use Rattle.session.specs.Laid.{laidFrom, laidWords}
 use Rattle.session.specs.Plan.{Plan}
 use Rattle.session.proofs.LaidLaws.{laid-length-words}
-use Rattle.session_calls.specs.SessionCalls.{versionNumber, statedWords}
+use Rattle.plan_calls.specs.PlanWords.{versionNumber, statedWords}
 use Rattle.call_words.specs.SessionWords.{flagWord, flagOf}
 use Rattle.message_size.proofs.WriteLaws.{PartsAccepted, message-written, accepted-written}
 use Rattle.message_size.proofs.SizeLaws.{chunks-long}
@@ -94,6 +95,7 @@ number-some (TooWide row) = refl
 number-some (BadSettings i) = refl
 number-some BadSetting = refl
 number-some PastTotal = refl
+number-some (BadPick place) = refl
 
 -- the words of the have are its record
 records-read : (what : ℕ) (q : Plan) (vs : List Have) → q .haves ≡ vs → length vs ≤ 1 → haveWordsIn (statedWords what (statedOf q)) ≡ laidWords vs

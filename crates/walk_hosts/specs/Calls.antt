@@ -20,7 +20,8 @@ use Rattle.session.specs.PlanCall.{Buffers, planWith}
 use Rattle.rules.specs.Hash.{Bytes, hashesAt}
 use Rattle.rules.specs.Sizes.{sizes}
 use Rattle.session.specs.Plan.{Plan, Planned}
-use Rattle.session_calls.specs.SessionCalls.{PlanAnswered, ReceiveAnswered}
+use Rattle.plan_calls.specs.PlanWords.{PlanAnswered}
+use Rattle.receive_calls.specs.ReceiveWords.{ReceiveAnswered}
 use Rattle.call_words.specs.SessionWords.{flagOf, sessionOf}
 use Rattle.table.specs.TableBytes.{tableOf}
 use Rattle.table.specs.Table.{Row}
@@ -41,7 +42,7 @@ speaks answer = eqb (getD answer 0 0) 0 && not (eqb (getD answer 1 0) 0)
 abbrev pub haveWordsIn : List ℕ → List ℕ
 haveWordsIn answer = take (haveWords * getD answer 7 0) (drop 8 answer)
 
--- The plan that words and buffers are; `statedWords` (session_calls SessionCalls) has the order of the words.
+-- The plan that words and buffers are; `statedWords` (plan_calls PlanWords) has the order of the words.
 abbrev pub planIn : List ℕ → Buffers → Plan
 planIn answer o =
     record {

@@ -21,10 +21,10 @@ use Rattle.rules.specs.Sizes.{sizes}
 use Rattle.call_words.specs.SessionWords.{flagOf}
 use Rattle.session_state.specs.Value.{Lent}
 use Rattle.walk_hosts.specs.Calls.{haveWordsIn, planIn, PlanMade, WriteMade, Hears}
-use Rattle.session_calls.proofs.calls.bt_plan as of-bt-plan
-use Rattle.session_calls.proofs.plan_with.bt_plan_with as of-bt-plan-with
-use Rattle.session_calls.proofs.plan_settled.bt_plan_settled as of-bt-plan-settled
-use Rattle.session_calls.proofs.calls.bt_receive as of-bt-receive
+use Rattle.plan_calls.proofs.calls.bt_plan as of-bt-plan
+use Rattle.plan_calls.proofs.plan_with.bt_plan_with as of-bt-plan-with
+use Rattle.plan_calls.proofs.plan_settled.bt_plan_settled as of-bt-plan-settled
+use Rattle.receive_calls.proofs.calls.bt_receive as of-bt-receive
 use Rattle.message_calls.proofs.calls.bt_write_message as of-bt-write-message
 use Rattle.state_calls.proofs.calls.bt_fresh as of-bt-fresh
 use Rattle.session.specs.PlanCall.{Buffers}

@@ -1,0 +1,2 @@
+pub mod PickCalls
+pub mod Picking

@@ -1,0 +1,3 @@
+pub mod PlanTies
+pub mod PlanWordLaws
+pub mod Promises

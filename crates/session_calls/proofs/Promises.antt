@@ -1,2 +1,0 @@
--- What is promised of this crate and cited nowhere in it or above: a law that stands here can't be taken out or renamed unseen.
-pub use Rattle.session_calls.proofs.SessionCalls.{plan-answered-once, receive-answered-once}

@@ -1,5 +1,0 @@
-// Exported calls of the crates `plan` and `receive`. A session passes as sixteen words with its seven lists.
-pub mod answer;
-pub mod calls;
-pub mod plan_settled;
-pub mod plan_with;
