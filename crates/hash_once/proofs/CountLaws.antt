@@ -30,7 +30,7 @@ repeats f [] = 0
 repeats f (x ∷ []) = 0
 repeats f (x ∷ y ∷ l) = cond (eqb (f x) (f y)) (suc (repeats f (y ∷ l))) (repeats f (y ∷ l))
 
-or-twice : (x y : Bool) → (x || (x || y)) ≡ (x || y)
+pub or-twice : (x y : Bool) → (x || (x || y)) ≡ (x || y)
 or-twice true y = refl
 or-twice false y = refl
 
@@ -41,14 +41,11 @@ module _ (f : ℕ → ℕ) where
   again x y l e =
       ascend-alike (map f (x ∷ y ∷ l)) (map f (y ∷ l)) (λ z. rw e (or-twice (eqb z (f y)) (member z (map f l))))
 
-  -- another one comes before all that follow
-  another : (x y : ℕ) (l : List ℕ) → rises (map f (x ∷ y ∷ l)) ≡ true → (f x ≡ f y → ⊥) → length (ascend (map f (x ∷ y ∷ l))) ≡ suc (length (ascend (map f (y ∷ l))))
-  unfolding ascend
-  another x y l up other =
+  -- another one comes before all that follow, and isn't among them
+  pub none-behind : (x y : ℕ) (l : List ℕ) → rises (map f (x ∷ y ∷ l)) ≡ true → (f x ≡ f y → ⊥) → member (f x) (map f (y ∷ l)) ≡ false
+  none-behind x y l up other =
       let tail : rises (map f (y ∷ l)) ≡ true = rises-tail (f x) (map f (y ∷ l)) up in
-      let none : member (f x) (ascend (map f (y ∷ l))) ≡ false =
-      ascend-members (f x) (map f (y ∷ l))
-      ∙ split (member (f x) (map f (y ∷ l)))
+      split (member (f x) (map f (y ∷ l)))
       (λ m.
       absurd
       (other
@@ -56,8 +53,11 @@ module _ (f : ℕ → ℕ) where
       let high : f y ≤ f x = rises-first (f y) (map f l) tail (f x) (member-behind (f x) (f y) (map f l) m other) in
       omega arith)))
       (λ m. m)
-      in
-      insert-longer (f x) (ascend (map f (y ∷ l))) none
+
+  another : (x y : ℕ) (l : List ℕ) → rises (map f (x ∷ y ∷ l)) ≡ true → (f x ≡ f y → ⊥) → length (ascend (map f (x ∷ y ∷ l))) ≡ suc (length (ascend (map f (y ∷ l))))
+  unfolding ascend
+  another x y l up other =
+      insert-longer (f x) (ascend (map f (y ∷ l))) (ascend-members (f x) (map f (y ∷ l)) ∙ none-behind x y l up other)
 
   pub once-and-again : (l : List ℕ) → rises (map f l) ≡ true → length l ≡ length (ascend (map f l)) + repeats f l
   unfolding repeats ascend insertOnce
@@ -89,7 +89,7 @@ module _ (list order : List ℕ) (count : ℕ) (o : HashOrder list order count) 
       let e : 0 + sizes .hash * k ≡ k * sizes .hash = omega arith in
       rw e at (hashes-index list 0 count k b)
 
-  hashes-same : (h : ℕ) → member h (map f (indexed f count)) ≡ member h (hashesAt list 0 count)
+  pub hashes-same : (h : ℕ) → member h (map f (indexed f count)) ≡ member h (hashesAt list 0 count)
   hashes-same h =
       let long : length (hashesAt list 0 count) ≡ count = length-hashes-at list 0 count in
       same-truth (member h (map f (indexed f count))) (member h (hashesAt list 0 count))

@@ -1,5 +1,5 @@
 // Hashes that stand each once, ascending, at the start of a list: they are put in order there, and those of marked rows are merged with them. How many
-// they will be can be counted before.
+// they will be, alone or with others, can be counted before.
 //
 //   list     b d │ a c b       the first two stand in order, a is next
 //            a b d │ c b       a goes to its place, and those from there on one up
