@@ -1,5 +1,5 @@
 -- The parts of a plan as marks and numbers: what each asks for follows from the tests before planning, and together they are the plan. Assumes nothing.
-use Prim.Native.Nat.{ℕ, _*_, _≤_}
+use Prim.Native.Nat.{ℕ, _+_, _*_, _≤_}
 use mathlib.Core.Bool.{Bool, true, false, cond, not, _&&_, _||_}
 use mathlib.Core.List.{List, [], _∷_}
 use mathlib.Core.Path.{_≡_, refl, sym, ap, _∙_}
@@ -13,7 +13,7 @@ use Rattle.table_graph.proofs.PickLaws.{picked-count}
 use Rattle.table_graph.specs.Graph.{needed, heads}
 use Rattle.table_graph.specs.Internal.Marks.{Marks, marked, picked}
 use Rattle.table_index.specs.Index.{Indexed}
-use Rattle.session_check.proofs.GoodSessions.{session-tests, session-parts}
+use Rattle.session_check.proofs.GoodSessions.{session-tests, session-parts, good-within}
 use Rattle.session_check.specs.SessionGood.{heardGood, havesGood, sessionGood}
 use Rattle.hash_lists.specs.Lists.{same}
 use Rattle.hash_order.specs.Order.{member, every, ascend}
@@ -27,15 +27,18 @@ use Rattle.rules.specs.Hash.{hashesAt}
 use Rattle.rules.specs.Sizes.{sizes}
 use Rattle.send.proofs.SelectLaws.{less-new}
 use Rattle.send.specs.Internal.Chosen.{chosenBy, SentRows}
-use Rattle.session.proofs.PlanLaws.{body-cases, planned-held}
-use Rattle.session.specs.Plan.{heardAs, listOf, unknownSync, bodyHeard, bodyOf, empty, silence, sentAfter}
+use Rattle.session.proofs.PlanLaws.{body-cases, planned-held, list-few}
+use Rattle.pick.specs.declared.check.Picked.{Picked}
+use Rattle.pick.specs.declared.check.Picked.the-variants.{Fine}
+use Rattle.session.specs.Plan.{Body, heardAs, listOf, unknownSync, bodyHeard, bodyOf, empty, silence, sentAfter, isFine}
 use Rattle.session_state.specs.Session.{State}
 use Rattle.session_state.specs.Value.{Lent, heardCount, heardHashes, heardHaves, stateOf}
 use Rattle.session_state.specs.declared.session.Session.{Session}
+use Rattle.table.proofs.TableLaws.{length-rows-at}
 use Rattle.table.specs.TableBytes.{rowsAt}
 use Rattle.table.specs.Table.{Row, rows as hashes, held}
-use Rattle.plan_count.specs.Internal.PlanCount.{BodyReady, carriedBody, BodyCounted, quietWith, PlanMarked, DraftCounted}
-use Rattle.plan_count.specs.declared.count.Carried.{Carried}
+use Rattle.plan_count.specs.Internal.PlanCount.{BodyReady, carriedBody, BodyCounted, BodyGoes, PickReady, quietWith, PlanMarked, DraftCounted}
+use Rattle.plan_count.specs.declared.carried.Carried.{Carried}
 
 -- ---- what is carried
 
@@ -49,7 +52,7 @@ body-whole t s =
       list = λ haves need p q e. absurd (true-false false e refl);
     })
 
-body-unsent : (t : List Row) (s : State) → bodyOf t s .document ≡ false → (h : ℕ) → member h (bodyOf t s .hashes) ≡ true → member h (s .sentHashes) ≡ false
+pub body-unsent : (t : List Row) (s : State) → bodyOf t s .document ≡ false → (h : ℕ) → member h (bodyOf t s .hashes) ≡ true → member h (s .sentHashes) ≡ false
 unfolding member
 body-unsent t s =
     body-cases t s (λ b. b .document ≡ false → (h : ℕ) → member h (b .hashes) ≡ true → member h (s .sentHashes) ≡ false)
@@ -96,24 +99,25 @@ module _ {table index : List ℕ} {n : ℕ} {s : Session} {theirNeed haves bytes
         → FreshMarked t n (chosenBy t marks (hashesAt theirNeed 0 k) needs) (hashesAt sent 0 (s .«sent_hashes»)) fresh total
         → (theirHeads : List ℕ)
         → BodyCounted t n (carriedBody t s theirHeads theirNeed haves bytes sent) (hashesAt theirNeed 0 (heardCount (s .«their_need»)))
-        (hashesAt sent 0 (s .«sent_hashes»)) marks needs fresh (record { body = b; sent = total })
+        (hashesAt sent 0 (s .«sent_hashes»)) marks needs fresh (record { body = b; picked = Fine; sent = total })
     body-counted a c f theirHeads =
         record {
           rowLong = a;
           needLong = omega (arith, length-hashes-at theirNeed 0 (heardCount (s .«their_need»)));
           body = body-carried theirHeads;
           new = rw (e, body-carried theirHeads .hashes .list) at f;
+          unpicked = refl;
         }
 
 -- ---- silence
 
-pub quiet-is : (s : Session) (lastSent theirHeads ours : List ℕ) (hashes : ℕ) (told equal r : Bool)
+pub quiet-is : (s : Session) (lastSent theirHeads ours : List ℕ) (nothing told equal r : Bool)
     → told ≡ (same (hashesAt lastSent 0 (s .«last_sent_heads»)) ours && s .«have_responded»)
     → equal ≡ heardAs ours (heardHashes theirHeads (s .«their_heads»))
-    → r ≡ (told && (((equal || s .«read_only») && eqb hashes 0) || s .«in_flight»))
-    → r ≡ quietWith s lastSent theirHeads ours hashes
+    → r ≡ (told && (((equal || s .«read_only») && nothing) || s .«in_flight»))
+    → r ≡ quietWith s lastSent theirHeads ours nothing
 unfolding quietWith
-quiet-is s lastSent theirHeads ours hashes told equal r t e q = rw (t, e) at q
+quiet-is s lastSent theirHeads ours nothing told equal r t e q = rw (t, e) at q
 
 -- none is an empty list
 none-empty : (n : ℕ) (l : List ℕ) → n ≡ length l → eqb n 0 ≡ empty l
@@ -141,39 +145,82 @@ module _ {table index : List ℕ} {n : ℕ} (s : Session) (l : Lent) (rows : Ind
       let p = session-parts s l good in
       record { rows = rows; need = q .theirNeed; have = q .theirHave; there = p .sent .there; few = p .sent .few; ascending = p .sent .ascending }
 
-  module _ {headMarks haveMarks marks needs fresh : List Bool} (a : Asked) {count entries : ℕ} {k : Carried} {unknown silent : Bool}
-      (long : n ≤ length headMarks) (those : Marks n headMarks (λ i. not (needed (rowsAt table 0 n) i))) (many : count ≡ marked n headMarks)
+  -- what was counted of the lists that a body is chosen from is that body's
+  pub counted-whole : {marks needs fresh : List Bool} {k : Carried}
+      → ((theirHeads : List ℕ) → BodyCounted (rowsAt table 0 n) n (carriedBody (rowsAt table 0 n) s theirHeads (l .theirNeed) (l .haves) (l .bytes) (l .sent))
+      (hashesAt (l .theirNeed) 0 (heardCount (s .«their_need»))) (hashesAt (l .sent) 0 (s .«sent_hashes»)) marks needs fresh k)
+      → BodyCounted (rowsAt table 0 n) n (bodyOf (rowsAt table 0 n) (stateOf s l)) (hashesAt (l .theirNeed) 0 (heardCount (s .«their_need»)))
+      (hashesAt (l .sent) 0 (s .«sent_hashes»)) marks needs fresh k
+  unfolding bodyOf
+  counted-whole f = f (l .theirHeads)
+
+  pub body-few : length (bodyOf (rowsAt table 0 n) (stateOf s l) .hashes) ≤ sizes .hashesToSend
+  body-few = list-few (rowsAt table 0 n) (stateOf s l) (rw (length-rows-at table 0 n) (rows .rows .few)) (good-within s l good .theirNeed)
+
+  pub sent-few : length (hashesAt (l .sent) 0 (s .«sent_hashes»)) ≤ sizes .sentHashes
+  sent-few = rw (length-hashes-at (l .sent) 0 (s .«sent_hashes»)) (session-parts s l good .sent .few)
+
+  pub pick-ready : {pickLong rowLong needLong freshLong : ℕ} (asked : ℕ) → asked ≡ heardCount (s .«their_need») → pickLong ≤ sizes .hashes * sizes .hash
+      → n ≤ rowLong → heardCount (s .«their_need») ≤ needLong → n ≤ freshLong
+      → PickReady table index n pickLong (l .sent) (s .«sent_hashes») asked rowLong needLong freshLong
+  pick-ready asked e few a b c =
+      let r = body-ready in
+      record {
+        rows = rows;
+        few = few;
+        there = r .there;
+        sentFew = r .few;
+        ascending = r .ascending;
+        rowRoom = a;
+        needRoom = omega (arith, e, b);
+        freshRoom = c;
+      }
+
+  module _ {headMarks haveMarks marks needs fresh : List Bool} (a : Asked) {count entries : ℕ} {k : Carried} {unknown silent nothing : Bool} {b : Body}
+      {c : Picked} (long : n ≤ length headMarks) (those : Marks n headMarks (λ i. not (needed (rowsAt table 0 n) i))) (many : count ≡ marked n headMarks)
       (given : HaveCounted (rowsAt table 0 n) n (a .heard) (hashesAt (l .shared) 0 (s .«shared_heads»)) haveMarks entries)
       (u : unknown ≡ unknownSync (rowsAt table 0 n) (heardHaves (l .bytes) (l .haves) (s .«their_have»)))
-      (carried : (theirHeads : List ℕ) → BodyCounted (rowsAt table 0 n) n (carriedBody (rowsAt table 0 n) s theirHeads (l .theirNeed) (l .haves) (l .bytes) (l .sent))
-      (hashesAt (l .theirNeed) 0 (heardCount (s .«their_need»))) (hashesAt (l .sent) 0 (s .«sent_hashes»)) marks needs fresh k)
-      (q : silent ≡ quietWith s (l .lastSent) (l .theirHeads) (ascend (picked (hashes (rowsAt table 0 n)) headMarks)) (k .body .hashes)) where
+      (goes : BodyGoes (rowsAt table 0 n) n b c (hashesAt (l .theirNeed) 0 (heardCount (s .«their_need»))) (hashesAt (l .sent) 0 (s .«sent_hashes»)) marks
+      needs fresh k) (some : length (b .hashes) ≤ sizes .hashesToSend) (small : k .sent ≤ sizes .sentHashes + sizes .rows) (no : nothing ≡ (isFine (k .picked) && eqb (k .body .hashes) 0))
+      (q : silent ≡ quietWith s (l .lastSent) (l .theirHeads) (ascend (picked (hashes (rowsAt table 0 n)) headMarks)) nothing) where
     abbrev drawn : Draft
     drawn =
-        record { heads = count; need = a .count; unknown = unknown; gives = a .heard; entries = entries; body = k .body; silent = silent; sent = k .sent }
+        record {
+          heads = count;
+          need = a .count;
+          unknown = unknown;
+          gives = a .heard;
+          entries = entries;
+          body = k .body;
+          picked = k .picked;
+          silent = silent;
+          sent = k .sent;
+        }
 
-    pub plan-marked : PlanMarked (rowsAt table 0 n) n (stateOf s l) (hashesAt (l .theirNeed) 0 (heardCount (s .«their_need»))) headMarks haveMarks marks needs fresh drawn
-    unfolding bodyOf
+    pub plan-marked : PlanMarked (rowsAt table 0 n) n (stateOf s l) b c (hashesAt (l .theirNeed) 0 (heardCount (s .«their_need»))) headMarks haveMarks marks
+        needs fresh drawn
     plan-marked =
-        let c = carried (l .theirHeads) in
         record {
           headLong = long;
           heads = picked-heads table n headMarks those;
           headsMany = many;
           have = given;
-          rowLong = c .rowLong;
-          needLong = c .needLong;
-          list = c .body .hashes .list;
-          new = c .new;
+          rowLong = goes .rowLong;
+          needLong = goes .needLong;
+          freshLong = goes .freshLong;
+          few = some;
+          small = small;
+          list = goes .list;
+          new = goes .new;
         }
 
-    pub draft-counted : DraftCounted (rowsAt table 0 n) (stateOf s l) a drawn
-    unfolding bodyOf silence quietWith sentAfter
+    pub draft-counted : DraftCounted (rowsAt table 0 n) (stateOf s l) b c a drawn
+    unfolding silence quietWith sentAfter
     draft-counted =
         let t : List Row = rowsAt table 0 n in
-        let c = carried (l .theirHeads) in
         let ours : ascend (picked (hashes t) headMarks) ≡ heads t = picked-heads table n headMarks those in
-        let nothing : eqb (k .body .hashes) 0 ≡ empty (bodyOf t (stateOf s l) .hashes) = none-empty _ (bodyOf t (stateOf s l) .hashes) (c .body .hashes .many) in
+        let none : nothing ≡ (isFine c && empty (b .hashes)) =
+        no ∙ rw (goes .picked, none-empty (k .body .hashes) (b .hashes) (goes .hashes)) in
         record {
           heads = many ∙ sym (heads-many table n headMarks those (rows .rows .good));
           need = refl;
@@ -181,8 +228,9 @@ module _ {table index : List ℕ} {n : ℕ} (s : Session) (l : Lent) (rows : Ind
           gives = refl;
           entries = λ e. given .many e ∙ sym (picked-count (hashes t) haveMarks n (many-rows table n)) ∙ ap length (given .those e);
           none = given .none;
-          document = c .body .document;
-          hashes = c .body .hashes .many;
-          silent = rw (ours, nothing) at q;
-          sent = c .new .many;
+          document = goes .document;
+          hashes = goes .hashes;
+          picked = goes .picked;
+          silent = rw (ours, none) at q;
+          sent = goes .many;
         }

@@ -1,1 +1,2 @@
 pub mod CountLaws
+pub mod GoingLaws

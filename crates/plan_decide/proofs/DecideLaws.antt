@@ -13,6 +13,8 @@ use Rattle.message.specs.Flags.{flagsOf, supportsSyncReset, readOnlyFlag, syncR
 use Rattle.message.specs.declared.flags.MessageFlags.{MessageFlags}
 use Rattle.message.specs.declared.version.MessageVersion.{MessageVersion}
 use Rattle.message.specs.declared.version.MessageVersion.the-variants.{V1}
+use Rattle.pick.specs.declared.check.Picked.{Picked}
+use Rattle.pick.specs.declared.check.Picked.the-variants.{Fine, Breaks}
 use Rattle.session.specs.PlanCall.{messageRoom, sessionRoom}
 use Rattle.session.specs.declared.plan_answer.PlanAnswer.{PlanAnswer}
 use Rattle.session.specs.declared.plan_answer.PlanAnswer.the-variants.{Refused, Silent, Reset, Says}
@@ -23,11 +25,11 @@ use Rattle.session.specs.Rooms.{ifRoom}
 use Rattle.session.specs.declared.plan_answer.Stated.{Stated}
 use Rattle.rules.specs.Sizes.{sizes}
 use Rattle.rules.specs.declared.refusal.Refusal.{Refusal}
-use Rattle.rules.specs.declared.refusal.Refusal.the-variants.{PastSize, NoRoom}
+use Rattle.rules.specs.declared.refusal.Refusal.the-variants.{PastSize, NoRoom, BadPick}
 use Rattle.rules.proofs.Cases.{split}
 use Rattle.session.specs.Plan.{versionFor, flagsFor}
 use Rattle.session_state.specs.declared.session.Session.{Session}
-use Rattle.plan_decide.specs.Internal.Draft.{SmallStated, SmallDraft, headsCount, countIf, filterIf, drafted, resetStated, plannedCounts, saysWith, decided, noPuts}
+use Rattle.plan_decide.specs.Internal.Draft.{SmallStated, SmallDraft, headsCount, countIf, filterIf, drafted, resetStated, plannedCounts, saysWith, unlessBreaks, decided, noPuts}
 use Rattle.plan_decide.specs.Internal.Draft.{putsFor, putsOf}
 use Rattle.plan_decide.specs.declared.decide.Draft.{Draft}
 use Rattle.plan_decide.specs.declared.puts.Puts.{Puts}
@@ -228,6 +230,16 @@ module _ (many unknown silent full : Bool) (reset says : PlanAnswer) where
   at-message : {x : PlanAnswer} → many ≡ false → unknown ≡ false → silent ≡ false → full ≡ false → x ≡ says → x ≡ staged many unknown silent full reset says
   at-message a b c d e = rw (a, b, c, d) e
 
+-- a pick that isn't accepted, and one that is
+module _ (k : Picked) (a : PlanAnswer) where
+  pub pick-breaks : (place : ℕ) → k ≡ Breaks place → Refused (BadPick place) ≡ unlessBreaks k a
+  unfolding unlessBreaks
+  pick-breaks place e = rw e
+
+  pub pick-fine : {x : PlanAnswer} → k ≡ Fine → x ≡ a → x ≡ unlessBreaks k a
+  unfolding unlessBreaks
+  pick-fine e f = rw e f
+
 module _ (s : Session) (d : Draft) (bits probes : ℕ) (r : Rooms) where
   pub needs-many : sizes .hashes < d .need → Refused (PastSize 0) ≡ decided s d bits probes r
   unfolding decided
@@ -251,7 +263,7 @@ module _ (s : Session) (d : Draft) (bits probes : ℕ) (r : Rooms) where
             at-sent (ltb (sizes .hashes) (d .need)) (d .unknown) (d .silent) (ltb (sizes .sentHashes) (d .sent)) _ _ (le-ltb _ _ few) known loud
             (lt-ltb _ _ h)
 
-        pub is-said : {x : PlanAnswer} → d .sent ≤ sizes .sentHashes → x ≡ saysWith s d bits probes r → x ≡ decided s d bits probes r
+        pub is-said : {x : PlanAnswer} → d .sent ≤ sizes .sentHashes → x ≡ unlessBreaks (d .picked) (saysWith s d bits probes r) → x ≡ decided s d bits probes r
         unfolding decided
         is-said h e =
             at-message (ltb (sizes .hashes) (d .need)) (d .unknown) (d .silent) (ltb (sizes .sentHashes) (d .sent)) _ _ (le-ltb _ _ few) known loud

@@ -6,7 +6,9 @@ use native.Mathlib.Omega.{arith}
 use borrow.Author.Tests.{ltb-false}
 use lib.Dec.{ltb}
 use Rattle.bloom.specs.Filter.{fieldSize}
-use Rattle.plan_decide.specs.Internal.Draft.{headsCount, countIf, filterIf, drafted, resetStated, plannedCounts, saysWith, decided, noPuts, putsOf, Fits}
+use Rattle.plan_decide.specs.Internal.Draft.{headsCount, countIf, filterIf, drafted, resetStated, plannedCounts, saysWith, unlessBreaks, decided, noPuts, putsOf, Fits}
+use Rattle.pick.specs.declared.check.Picked.{Picked}
+use Rattle.pick.specs.declared.check.Picked.the-variants.{Fine, Breaks}
 use Rattle.plan_decide.specs.declared.decide.Draft.{Draft}
 use Rattle.plan_decide.specs.declared.puts.Puts.{Puts}
 use Rattle.session.specs.PlanCall.{messageRoom, sessionRoom}
@@ -115,9 +117,9 @@ module _ (s : Session) (d : Draft) (bits probes : ℕ) (r : Rooms) where
         sentRoom = omega arith;
       })
 
-  says-fits : d .need ≤ sizes .hashes → Fits s d bits (putsOf (saysWith s d bits probes r)) r
+  says-fits : d .need ≤ sizes .hashes → d .picked ≡ Fine → Fits s d bits (putsOf (saysWith s d bits probes r)) r
   unfolding saysWith putsOf
-  says-fits few =
+  says-fits few fine =
       let p : Stated = drafted s d bits probes in
       let said : PlanAnswer = Says p (plannedCounts s (d .heads) (d .sent)) in
       in-room (messageRoom p r) (ifRoom Refused (sessionRoom (d .heads) (d .sent) r) said)
@@ -134,13 +136,18 @@ module _ (s : Session) (d : Draft) (bits probes : ℕ) (r : Rooms) where
         syncs = some-shared (d .gives) (s .«shared_heads»);
         field = some-field (d .gives) (s .«shared_heads») (d .entries) bits probes;
         haveRoom = f .have;
-        list = λ _. refl;
+        list = λ _. (refl, fine);
         listRoom = f .list;
         lastSent = λ _. refl;
         lastSentRoom = h .0;
-        sent = λ _. refl;
+        sent = λ _. (refl, fine);
         sentRoom = h .1;
       }))
+
+  picked-fits : d .need ≤ sizes .hashes → (k : Picked) → d .picked ≡ k → Fits s d bits (putsOf (unlessBreaks k (saysWith s d bits probes r))) r
+  unfolding unlessBreaks putsOf
+  picked-fits few Fine e = says-fits few e
+  picked-fits few (Breaks place) e = none-fit
 
   decided-fits : Fits s d bits (putsOf (decided s d bits probes r)) r
   unfolding decided putsOf
@@ -148,7 +155,7 @@ module _ (s : Session) (d : Draft) (bits probes : ℕ) (r : Rooms) where
       by-test (ltb (sizes .hashes) (d .need)) _ _ none-fit
       (λ few.
       by-test (d .unknown) _ _ reset-fits
-      (λ _. by-test (d .silent) _ _ none-fit (λ _. by-test (ltb (sizes .sentHashes) (d .sent)) _ _ none-fit (λ _. says-fits (ltb-false _ _ few)))))
+      (λ _. by-test (d .silent) _ _ none-fit (λ _. by-test (ltb (sizes .sentHashes) (d .sent)) _ _ none-fit (λ _. picked-fits (ltb-false _ _ few) (d .picked) refl))))
 
 -- What an answer puts, which was decided, is what was drafted and fits.
 pub puts-fit : (s : Session) (d : Draft) (bits probes : ℕ) (r : Rooms) (a : PlanAnswer) (p : Puts) → a ≡ decided s d bits probes r → p ≡ putsOf a

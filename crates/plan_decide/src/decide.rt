@@ -5,6 +5,7 @@ use bloom::parse::NUM_PROBES;
 use bloom::rule::bits_capacity;
 use message::flags::MessageFlags;
 use message::version::MessageVersion;
+use pick::check::Picked;
 use plan_parts::body::BodyCount;
 use rules::refusal::Refusal;
 use rules::sizes::HASH_SIZE;
@@ -26,10 +27,10 @@ ghost use Rattle.session.specs.Rooms.{ifRoom};
 ghost use Rattle.session.specs.declared.plan_answer.PlanAnswer.the-variants.{Reset, Refused};
 ghost use Rattle.rules.specs.Sizes.{sizes};
 ghost use Rattle.session.specs.Plan.{flagsFor, versionFor};
-ghost use Rattle.plan_decide.specs.Internal.Draft.{SmallStated, SmallDraft, headsCount, countIf, filterIf, drafted, resetStated, plannedCounts, saysWith, decided};
+ghost use Rattle.plan_decide.specs.Internal.Draft.{SmallStated, SmallDraft, headsCount, countIf, filterIf, drafted, resetStated, plannedCounts, saysWith, unlessBreaks, decided};
 
 // The numbers of a plan: how many heads there are and hashes are asked for, whether the peer's first have is unknown, whether a have is given and the
-// entries of its filter, the body, whether there is nothing to say, and how many hashes are sent then.
+// entries of its filter, the body, how a pick of it was found, whether there is nothing to say, and how many hashes are sent then.
 pub struct Draft {
     pub heads: usize,
     pub need: usize,
@@ -37,6 +38,7 @@ pub struct Draft {
     pub gives: bool,
     pub entries: usize,
     pub body: BodyCount,
+    pub picked: Picked,
     pub silent: bool,
     pub sent: usize,
 }
@@ -256,7 +258,19 @@ fn says(session: Session, d: Draft, bits: u64, probes: u64, r: Rooms) -> PlanAns
     }
 }
 
-// Decides: 4 for too many needs even before a reset or silence, 4 for too many sent hashes only where something is said.
+// The message, if a pick that goes is accepted.
+fn says_picked(session: Session, d: Draft, bits: u64, probes: u64, r: Rooms) -> PlanAnswer
+    requires { ⌜ SmallDraft session d bits ⌝ }
+    ensures { λ x. ⌜ x ≡ unlessBreaks (d .picked) (saysWith session d bits probes r) ⌝ }
+{
+    let picked = d.picked;
+    match picked {
+        Picked::Breaks(place) => PlanAnswer::Refused(Refusal::BadPick(place)),
+        Picked::Fine => says(session, d, bits, probes, r),
+    }
+}
+
+// Decides: 4 for too many needs even before a reset or silence, 4 for too many sent hashes and then 17 only where something is said.
 pub fn decide(session: Session, d: Draft, bits: u64, probes: u64, r: Rooms) -> PlanAnswer
     requires { ⌜ SmallDraft session d bits ⌝ }
     ensures { λ x. ⌜ x ≡ decided session d bits probes r ⌝ }
@@ -273,5 +287,5 @@ pub fn decide(session: Session, d: Draft, bits: u64, probes: u64, r: Rooms) -> P
     if SENT_HASHES < d.sent {
         return PlanAnswer::Refused(Refusal::PastSize(0));
     }
-    says(session, d, bits, probes, r)
+    says_picked(session, d, bits, probes, r)
 }

@@ -10,7 +10,7 @@ use lib.ListN.{length, length-replicate}
 use Rattle.bloom.specs.Filter.{fieldSize}
 use Rattle.bloom.specs.Have.{numbersOf}
 use Rattle.bloom.specs.declared.have.FilterNumbers.{FilterNumbers}
-use Rattle.plan_decide.specs.Internal.Draft.{headsCount, countIf, filterIf, drafted, resetStated, plannedCounts, saysWith, decided}
+use Rattle.plan_decide.specs.Internal.Draft.{headsCount, countIf, filterIf, drafted, resetStated, plannedCounts, saysWith, unlessBreaks, decided}
 use Rattle.plan_decide.specs.declared.decide.Draft.{Draft}
 use Rattle.table_graph.specs.Graph.{heads, beyond}
 use Rattle.message.specs.declared.flags.MessageFlags.{MessageFlags}
@@ -32,7 +32,9 @@ use Rattle.rules.proofs.Cases.{split}
 use Rattle.rules.proofs.Hash.{length-hashes-at}
 use Rattle.rules.specs.Sizes.{sizes}
 use Rattle.rules.specs.declared.refusal.Refusal.the-variants.{PastSize}
-use Rattle.session.specs.Plan.{Planned, heard, needOf, haveOf, havesFor, sentAfter, headsFor, planOf, planned, resetOf, plan}
+use Rattle.pick.specs.declared.check.Picked.{Picked}
+use Rattle.pick.specs.declared.check.Picked.the-variants.{Fine, Breaks}
+use Rattle.session.specs.Plan.{Body, Planned, heard, needOf, haveOf, havesFor, sentAfter, headsFor, planOf, planned, resetOf, unlessBroken, planBody}
 use Rattle.session.proofs.PlanStages.{fromSent}
 use Rattle.session_check.proofs.GoodSessions.{session-parts}
 use Rattle.session_check.specs.SessionGood.{sessionGood}
@@ -55,6 +57,13 @@ room-answers (Short wanted) q = refl
 both-ways : (f : Planned → PlanAnswer) (b : Bool) {x y : PlanAnswer} {p q : Planned} → x ≡ f p → y ≡ f q → cond b x y ≡ f (cond b p q)
 both-ways f true e g = e
 both-ways f false e g = g
+
+-- and so does a pick that isn't accepted
+broken-answers : (r : Rooms) (k : Picked) {x : PlanAnswer} {q : Planned} → x ≡ plannedAnswer (plannedRoomed r q)
+    → unlessBreaks k x ≡ plannedAnswer (plannedRoomed r (unlessBroken k q))
+unfolding unlessBreaks plannedRoomed plannedAnswer
+broken-answers r Fine e = e
+broken-answers r (Breaks place) e = refl
 
 heads-count : (needs supports : Bool) (hs : List ℕ) → length (headsFor needs supports hs) ≡ headsCount needs supports (length hs)
 unfolding headsFor headsCount
@@ -88,7 +97,8 @@ counted-same b h n v s f k = rw (b, h, n, v, s, f, k)
 numbers-same : {bits probes e e′ p p′ z z′ : ℕ} → e ≡ e′ → p ≡ p′ → z ≡ z′ → numbersOf e bits probes p z ≡ numbersOf e′ bits probes p′ z′
 numbers-same e p z = rw (e, p, z)
 
-module _ (bits probes : ℕ) (t : List Row) (w : List Waiting) (s : Session) (l : Lent) (a : Asked) (d : Draft) (m : DraftCounted t (stateOf s l) a d)
+module _ (bits probes : ℕ) (t : List Row) (w : List Waiting) (s : Session) (l : Lent) (b : Body) (k : Picked) (a : Asked) (d : Draft)
+    (m : DraftCounted t (stateOf s l) b k a d)
     (f : NeedCounted (needOf t w (s .«read_only») (heard (stateOf s l .theirHeads))) (stateOf s l .theirHeads) a) where
   abbrev theirs : List ℕ
   theirs = heard (stateOf s l .theirHeads)
@@ -129,7 +139,7 @@ module _ (bits probes : ℕ) (t : List Row) (w : List Waiting) (s : Session) (l 
     unfolding haveOf
     given-syncs = length-hashes-at (l .shared) 0 (s .«shared_heads»)
 
-    pub stated-drafted : statedOf (planOf bits probes t w (stateOf s l)) ≡ drafted s d bits probes
+    pub stated-drafted : statedOf (planOf bits probes t w (stateOf s l) b) ≡ drafted s d bits probes
     unfolding planOf countIf filterIf
     stated-drafted =
         split (d .gives)
@@ -141,7 +151,7 @@ module _ (bits probes : ℕ) (t : List Row) (w : List Waiting) (s : Session) (l 
         (sym (asked-all few)) refl refl refl (sym (m .hashes))))
 
   -- the counts of the session after the message
-  counts-planned : sessionGood s l ≡ true → d .sent ≤ sizes .sentHashes → countsOf (planned t (stateOf s l)) ≡ plannedCounts s (d .heads) (d .sent)
+  counts-planned : sessionGood s l ≡ true → d .sent ≤ sizes .sentHashes → countsOf (planned t (stateOf s l) b) ≡ plannedCounts s (d .heads) (d .sent)
   unfolding planned sentAfter
   counts-planned good some =
       let shared-count = length-hashes-at (l .shared) 0 (s .«shared_heads») in
@@ -157,34 +167,35 @@ module _ (bits probes : ℕ) (t : List Row) (w : List Waiting) (s : Session) (l 
     answer q = plannedAnswer (plannedRoomed r q)
 
     says-decided : d .need ≤ sizes .hashes → d .sent ≤ sizes .sentHashes
-        → saysWith s d bits probes r ≡ answer (Planned.says (planOf bits probes t w (stateOf s l)) (planned t (stateOf s l)))
+        → saysWith s d bits probes r ≡ answer (Planned.says (planOf bits probes t w (stateOf s l) b) (planned t (stateOf s l) b))
     unfolding saysWith plannedRoomed planned sentAfter plannedAnswer
     says-decided few some =
-        let p = planOf bits probes t w (stateOf s l) in
-        let q : Planned = Planned.says p (planned t (stateOf s l)) in
-        let x : Room = sessionRoom (length (heads t)) (length (sentAfter t (stateOf s l))) r in
+        let p = planOf bits probes t w (stateOf s l) b in
+        let q : Planned = Planned.says p (planned t (stateOf s l) b) in
+        let x : Room = sessionRoom (length (heads t)) (length (sentAfter (stateOf s l) b)) r in
         rw (sym (stated-drafted few), sym (counts-planned good some), m .heads, m .sent)
         (ap (λ (a : PlanAnswer). ifRoom Refused (messageRoom (statedOf p) r) a) (room-answers x q) ∙ room-answers (messageRoom (statedOf p) r) (ifRoom Planned.refused x q))
 
     sent-decided : d .need ≤ sizes .hashes
-        → cond (ltb (sizes .sentHashes) (d .sent)) (Refused (PastSize 0)) (saysWith s d bits probes r) ≡ answer (fromSent bits probes t w (stateOf s l))
+        → cond (ltb (sizes .sentHashes) (d .sent)) (Refused (PastSize 0)) (unlessBreaks (d .picked) (saysWith s d bits probes r))
+        ≡ answer (fromSent bits probes t w (stateOf s l) b k)
     unfolding sentAfter plannedRoomed plannedAnswer
     sent-decided few =
         split (ltb (sizes .sentHashes) (d .sent))
         (λ e.
-        let many : sizes .sentHashes < length (sentAfter t (stateOf s l)) = omega (arith, m .sent, ltb-true (sizes .sentHashes) (d .sent) e) in
+        let many : sizes .sentHashes < length (sentAfter (stateOf s l) b) = omega (arith, m .sent, ltb-true (sizes .sentHashes) (d .sent) e) in
         rw (e, lt-ltb _ _ many))
         (λ e.
         let some : d .sent ≤ sizes .sentHashes = ltb-false _ _ e in
-        let room : length (sentAfter t (stateOf s l)) ≤ sizes .sentHashes = omega (arith, m .sent) in
-        rw (e, le-ltb _ _ room) (says-decided few some))
+        let room : length (sentAfter (stateOf s l) b) ≤ sizes .sentHashes = omega (arith, m .sent) in
+        rw (e, le-ltb _ _ room, m .picked) (broken-answers r k (says-decided few some)))
 
     reset-decided : ifRoom Refused (messageRoom (resetStated (d .heads)) r) (Reset (resetStated (d .heads))) ≡ answer (Planned.reset (resetOf t))
     unfolding plannedRoomed resetOf plannedAnswer
     reset-decided = rw (m .heads) (room-answers (messageRoom (resetStated (length (heads t))) r) (Planned.reset (resetOf t)))
 
-    pub plan-decided : decided s d bits probes r ≡ answer (plan bits probes t w (stateOf s l))
-    unfolding decided plan plannedRoomed plannedAnswer
+    pub plan-decided : decided s d bits probes r ≡ answer (planBody bits probes t w (stateOf s l) b k)
+    unfolding decided planBody plannedRoomed plannedAnswer
     plan-decided =
         split (ltb (sizes .hashes) (d .need))
         (λ e. rw (e, lt-ltb _ _ (asked-many (ltb-true _ _ e))))

@@ -36,7 +36,9 @@ use Rattle.rules.proofs.Hash.{length-hashes-at}
 use Rattle.rules.specs.Hash.{hashesAt, hashesBytes}
 use Rattle.rules.specs.Sizes.{sizes}
 use Rattle.send.specs.Internal.Chosen.{chosenBy}
-use Rattle.session.specs.Plan.{bodyOf, sentAfter}
+use Rattle.pick.specs.declared.check.Picked.{Picked}
+use Rattle.pick.specs.declared.check.Picked.the-variants.{Fine}
+use Rattle.session.specs.Plan.{Body, sentAfter}
 use Rattle.session_state.specs.Value.{Lent, heardCount, stateOf}
 use Rattle.session_state.specs.declared.session.Heard.{Heard}
 use Rattle.session_state.specs.declared.session.Heard.the-variants.{Nothing, Count}
@@ -81,9 +83,10 @@ module _ {table index : List ℕ} {n : ℕ} (s : Session) (l : Lent) (rows : Ind
 
   -- ---- what was counted
 
-  module _ {bits probes : ℕ} (setting : SettingGood bits probes) {headMarks haveMarks marks needs fresh : List Bool} {a : Asked} {d : Draft}
-      (m : PlanMarked (rowsAt table 0 n) n (stateOf s l) (hashesAt (l .theirNeed) 0 (heardCount (s .«their_need»))) headMarks haveMarks marks needs fresh d)
-      (c : DraftCounted (rowsAt table 0 n) (stateOf s l) a d)
+  module _ {bits probes : ℕ} (setting : SettingGood bits probes) {headMarks haveMarks marks needs fresh : List Bool} {b : Body}
+      {k : Picked} {a : Asked} {d : Draft}
+      (m : PlanMarked (rowsAt table 0 n) n (stateOf s l) b k (hashesAt (l .theirNeed) 0 (heardCount (s .«their_need»))) headMarks haveMarks marks needs fresh d)
+      (c : DraftCounted (rowsAt table 0 n) (stateOf s l) b k a d)
       (within : a .count ≤ sizes .hashes + 1) where
     abbrev t : List Row
     t = rowsAt table 0 n
@@ -91,27 +94,16 @@ module _ {table index : List ℕ} {n : ℕ} (s : Session) (l : Lent) (rows : Ind
     rows-few : length t ≤ sizes .rows
     rows-few = rw (length-rows-at table 0 n) (rows .rows .few)
 
-    sent-small : d .sent ≤ sizes .sentHashes + sizes .rows
-    sent-small =
-        omega (
-          arith,
-          m .new .all,
-          marked-most n fresh,
-          rows .rows .few,
-          length-hashes-at (l .sent) 0 (s .«sent_hashes»),
-          session-parts s l good .sent .few,
-        )
-
     pub small-counted : SmallDraft s d bits
-    small-counted = small-made bits probes t s l a d c within rows-few good setting sent-small
+    small-counted = small-made bits probes t s l b k a d c within rows-few good setting (m .few) (m .small)
 
     module _ {r : Rooms} {p : Puts} (f : Fits s d bits p r) where
       head-room : (count room : ℕ) → count ≡ d .heads → sizes .hash * count ≤ room → sizes .hash * marked n headMarks ≤ room
       head-room count room e h = omega (arith, m .headsMany)
 
-      body-room : (count room : ℕ) → count ≡ d .body .hashes → sizes .hash * count ≤ room
+      body-room : (count room : ℕ) → count ≡ d .body .hashes → d .picked ≡ Fine → sizes .hash * count ≤ room
           → sizes .hash * length (chosenBy t marks (hashesAt (l .theirNeed) 0 (heardCount (s .«their_need»))) needs) ≤ room
-      body-room count room e h = omega (arith, c .hashes, ap length (m .list))
+      body-room count room e fine h = omega (arith, c .hashes, ap length (m .list (sym (c .picked) ∙ fine)))
 
       pub message-ready : (k : ℕ) → k ≡ heardCount (s .«their_need»)
           → MessageReady p table index n headMarks haveMarks marks needs (l .theirNeed) k (length (l .shared))
@@ -129,10 +121,10 @@ module _ {table index : List ℕ} {n : ℕ} (s : Session) (l : Lent) (rows : Ind
             field =
                 λ q.
                 let g = f .field q in
-                let few : d .entries ≤ sizes .rows = entries-few bits probes t s l a d c within rows-few good setting in
+                let few : d .entries ≤ sizes .rows = entries-few bits probes t s l b k a d c within rows-few good setting in
                 let rule = rules-field (d .entries) bits probes (setting .each (d .entries) few) in
                 (omega (arith, g .0, m .have .many (g .1), rule .0), omega (arith, g .0, rule .1));
-            list = λ q. rw e (body-room (p .hashes) _ (f .list q) (f .listRoom));
+            list = λ q. rw e (body-room (p .hashes) _ (f .list q .0) (f .list q .1) (f .listRoom));
           }
 
       pub session-ready : r .sent ≤ length (l .sent) → SessionReady p table index n headMarks fresh (s .«sent_hashes») (r .«last_sent») (l .sent)
@@ -140,21 +132,24 @@ module _ {table index : List ℕ} {n : ℕ} (s : Session) (l : Lent) (rows : Ind
           record {
             rows = rows;
             headLong = m .headLong;
-            freshLong = m .new .long;
+            freshLong = m .freshLong;
             heads = λ q. head-room (p .«last_sent») _ (f .lastSent q) (f .lastSentRoom);
             sent =
                 λ q.
+                let new = m .new (sym (c .picked) ∙ f .sent q .1) in
                 record {
                   ascending = session-parts s l good .sent .ascending;
-                  apart =
-                      λ i h e.
-                      not-true _ (both (member (hashOf t i) (bodyOf t (stateOf s l) .hashes)) _ (sym (m .new .those .each i h) ∙ e) .1);
-                  many = omega (arith, f .sent q, m .new .all, length-hashes-at (l .sent) 0 (s .«sent_hashes»));
+                  apart = λ i h e. not-true _ (both (member (hashOf t i) (b .hashes)) _ (sym (new .those .each i h) ∙ e) .1);
+                  many = omega (arith, f .sent q .0, new .all, length-hashes-at (l .sent) 0 (s .«sent_hashes»));
                   room = omega (arith, f .sentRoom);
                 };
           }
 
       -- ---- what is put
+
+      put-same : (count : ℕ) {x y : List ℕ} (buffer : List ℕ) → ((count ≡ 0 → ⊥) → x ≡ y) → listPut count x buffer ≡ listPut count y buffer
+      unfolding unlessNone
+      put-same count buffer same = split (eqb count 0) (λ z. rw z) (λ z. rw (same (eqb-false count 0 z)))
 
       field-is : unlessNone (p .field) (addHashes probes (replicate (p .field) 0) (picked (hashes t) haveMarks))
           ≡ unlessNone (p .field) (filterOf bits probes (beyond t (stateOf s l .sharedHeads)) .field)
@@ -169,11 +164,11 @@ module _ {table index : List ℕ} {n : ℕ} (s : Session) (l : Lent) (rows : Ind
           in
           rw (e, m .have .those (g .1)) (ap (λ (z : ℕ). addHashes probes (replicate z 0) (beyond t (stateOf s l .sharedHeads))) size))
 
-      module _ (lastSent sent heads₀ have₀ list₀ heads₁ have₁ list₁ : List ℕ) (k : ℕ) (e : k ≡ heardCount (s .«their_need»))
-          (put : MessagePut p probes t headMarks haveMarks marks needs (hashesAt (l .theirNeed) 0 k) (l .shared) heads₀ have₀ list₀ heads₁ have₁ list₁)
+      module _ (lastSent sent heads₀ have₀ list₀ heads₁ have₁ list₁ : List ℕ) (j : ℕ) (e : j ≡ heardCount (s .«their_need»))
+          (put : MessagePut p probes t headMarks haveMarks marks needs (hashesAt (l .theirNeed) 0 j) (l .shared) heads₀ have₀ list₀ heads₁ have₁ list₁)
           (kept : SessionPut p t headMarks fresh (s .«sent_hashes») (l .lastSent) (l .sent) lastSent sent) where
-        chosen-is : chosenBy t marks (hashesAt (l .theirNeed) 0 k) needs ≡ bodyOf t (stateOf s l) .hashes
-        chosen-is = ap (λ (z : ℕ). chosenBy t marks (hashesAt (l .theirNeed) 0 z) needs) e ∙ m .list
+        chosen-is : (p .hashes ≡ 0 → ⊥) → chosenBy t marks (hashesAt (l .theirNeed) 0 j) needs ≡ b .hashes
+        chosen-is some = ap (λ (z : ℕ). chosenBy t marks (hashesAt (l .theirNeed) 0 z) needs) e ∙ m .list (sym (c .picked) ∙ f .list some .1)
 
         module _ (answer : PlanAnswer) (q : p ≡ putsOf answer) where
           module _ (asks need₀ need₁ : List ℕ) (last : need₁ ≡ listPut (putsOf answer .need) asks need₀) where
@@ -184,7 +179,7 @@ module _ {table index : List ℕ} {n : ℕ} (s : Session) (l : Lent) (rows : Ind
             after = buffersOf heads₁ need₁ have₁ list₁
 
             put-finished : answer ≡ decided s d bits probes (putRooms (listsOf before l))
-                → Finished s d bits probes (planPartsOf bits probes t (stateOf s l) asks (l .shared)) (listsOf before l)
+                → Finished s d bits probes (planPartsOf bits probes t (stateOf s l) b asks (l .shared)) (listsOf before l)
                 (listsOf after (changed l lastSent sent)) answer
             unfolding sentAfter
             put-finished is =
@@ -195,15 +190,15 @@ module _ {table index : List ℕ} {n : ℕ} (s : Session) (l : Lent) (rows : Ind
                       (rw q at (put .heads ∙ ap (λ (z : List ℕ). listPut (p .heads) z heads₀) (m .heads)))
                       last
                       (rw q at (put .have ∙ ap (λ (z : List ℕ). sets (startPut (p .syncs) (l .shared) have₀) (sizes .hash * p .syncs) z) field-is))
-                      (rw q at (put .list ∙ ap (λ (z : List ℕ). listPut (p .hashes) z list₀) chosen-is))
+                      (rw q at (put .list ∙ put-same (p .hashes) list₀ chosen-is))
                       (rw q at (kept .heads ∙ ap (λ (z : List ℕ). listPut (p .«last_sent») z (l .lastSent)) (m .heads)))
-                      (rw q at (kept .sent ∙ ap (λ (z : List ℕ). listPut (p .sent) z (l .sent)) (m .new .are)));
+                      (rw q at (kept .sent ∙ put-same (p .sent) (l .sent) (λ some. m .new (sym (c .picked) ∙ f .sent some .1) .are)));
                 }
 
           -- What is decided and put is what the call promises, once what is asked for is put.
           pub asked-called : (room : ℕ) → r .need ≡ room
               → ((need₀ : List ℕ) → length need₀ ≡ room → answer ≡ decided s d bits probes (putRooms (listsOf (buffersOf heads₀ need₀ have₀ list₀) l)))
-              → AskedCalled bits probes s t l (changed l lastSent sent) a room heads₀ have₀ list₀ heads₁ have₁ list₁ answer
+              → AskedCalled bits probes s t b k l (changed l lastSent sent) a room heads₀ have₀ list₀ heads₁ have₁ list₁ answer
           asked-called room there is =
               record {
                 fits =
@@ -212,7 +207,7 @@ module _ {table index : List ℕ} {n : ℕ} (s : Session) (l : Lent) (rows : Ind
                     (ap (λ (x : Puts). x .need) (sym q) ∙ z .0 ∙ c .need, (omega (arith, z .1, c .need), omega (arith, z .0, c .need, f .needRoom)));
                 called =
                     λ w counted need₀ need₁ long last.
-                    plan-called bits probes t w s l a d c counted good _ _ lastSent sent _ (put-finished _ need₀ need₁ last (is need₀ long));
+                    plan-called bits probes t w s l b k a d c counted good _ _ lastSent sent _ (put-finished _ need₀ need₁ last (is need₀ long));
               }
 
 -- ---- what is asked for

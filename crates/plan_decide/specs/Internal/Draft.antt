@@ -20,7 +20,9 @@ use Rattle.session.specs.declared.plan_answer.Rooms.{Rooms}
 use Rattle.session.specs.declared.plan_answer.Stated.{Stated}
 use Rattle.rules.specs.Hash.{hashesAt, hashesBytes}
 use Rattle.rules.specs.Sizes.{sizes}
-use Rattle.rules.specs.declared.refusal.Refusal.the-variants.{PastSize}
+use Rattle.pick.specs.declared.check.Picked.{Picked}
+use Rattle.pick.specs.declared.check.Picked.the-variants.{Fine, Breaks}
+use Rattle.rules.specs.declared.refusal.Refusal.the-variants.{PastSize, BadPick}
 use Rattle.session.specs.Plan.{versionFor, flagsFor}
 use Rattle.session_state.specs.declared.session.Session.{Session}
 use Rattle.plan_decide.specs.declared.decide.Draft.{Draft}
@@ -115,6 +117,11 @@ saysWith s d bits probes r =
     ifRoom Refused (messageRoom (drafted s d bits probes) r)
     (ifRoom Refused (sessionRoom (d .heads) (d .sent) r) (Says (drafted s d bits probes) (plannedCounts s (d .heads) (d .sent))))
 
+-- 17 for a pick that isn't accepted, else what is said.
+unfoldable pub unlessBreaks : Picked → PlanAnswer → PlanAnswer
+unlessBreaks Fine a = a
+unlessBreaks (Breaks place) a = Refused (BadPick place)
+
 -- What is decided from the numbers, in the order of the refusals.
 unfoldable pub decided : Session → Draft → ℕ → ℕ → Rooms → PlanAnswer
 decided s d bits probes r =
@@ -124,7 +131,7 @@ decided s d bits probes r =
     (ifRoom Refused (messageRoom (resetStated (d .heads)) r) (Reset (resetStated (d .heads))))
     (cond (d .silent)
     Silent
-    (cond (ltb (sizes .sentHashes) (d .sent)) (Refused (PastSize 0)) (saysWith s d bits probes r))))
+    (cond (ltb (sizes .sentHashes) (d .sent)) (Refused (PastSize 0)) (unlessBreaks (d .picked) (saysWith s d bits probes r)))))
 
 -- ---- what is put
 
@@ -192,7 +199,7 @@ putsOf Silent = noPuts
 putsOf (Reset p) = putsFor p 0 0
 putsOf (Says p s) = putsFor p (s .«last_sent_heads») (s .«sent_hashes»)
 
--- What an answer puts is what was drafted, and the buffers have room for it.
+-- What an answer puts is what was drafted, and of the body only what breaks no rule, and the buffers have room for it.
 pub record Fits (s : Session) (d : Draft) (bits : ℕ) (p : Puts) (r : Rooms) : Type 0 where
   pub heads : (p .heads ≡ 0 → ⊥) → p .heads ≡ d .heads
   pub headsRoom : sizes .hash * p .heads ≤ r .heads
@@ -201,11 +208,11 @@ pub record Fits (s : Session) (d : Draft) (bits : ℕ) (p : Puts) (r : Rooms) : 
   pub syncs : p .syncs ≤ s .«shared_heads»
   pub field : (p .field ≡ 0 → ⊥) → (p .field ≡ fieldSize (d .entries) bits) × (d .gives ≡ true)
   pub haveRoom : sizes .hash * p .syncs + p .field ≤ r .have
-  pub list : (p .hashes ≡ 0 → ⊥) → p .hashes ≡ d .body .hashes
+  pub list : (p .hashes ≡ 0 → ⊥) → (p .hashes ≡ d .body .hashes) × (d .picked ≡ Fine)
   pub listRoom : sizes .hash * p .hashes ≤ r .list
   pub lastSent : (p .«last_sent» ≡ 0 → ⊥) → p .«last_sent» ≡ d .heads
   pub lastSentRoom : sizes .hash * p .«last_sent» ≤ r .«last_sent»
-  pub sent : (p .sent ≡ 0 → ⊥) → p .sent ≡ d .sent
+  pub sent : (p .sent ≡ 0 → ⊥) → (p .sent ≡ d .sent) × (d .picked ≡ Fine)
   pub sentRoom : sizes .hash * p .sent ≤ r .sent
 
 -- A list put at the start of a buffer, or nothing of it.

@@ -15,7 +15,8 @@ use Rattle.session.specs.declared.plan_answer.PlanAnswer.{PlanAnswer}
 use Rattle.plan_parts.specs.Internal.PlanParts.{NeedCounted}
 use Rattle.plan_parts.specs.declared.need.Asked.{Asked}
 use Rattle.rules.specs.Sizes.{sizes}
-use Rattle.session.specs.Plan.{heard, needOf, bodyOf, sentAfter, plan}
+use Rattle.pick.specs.declared.check.Picked.{Picked}
+use Rattle.session.specs.Plan.{Body, heard, needOf, sentAfter, planBody}
 use Rattle.session_state.specs.Session.{State}
 use Rattle.session_state.specs.Value.{Lent, stateOf}
 use Rattle.session_state.specs.declared.session.Session.{Session}
@@ -25,16 +26,16 @@ use Rattle.table.specs.declared.check.Checked.the-variants.{Good}
 use Rattle.waiting.specs.WaitingBytes.{waitingChecked, Sorted}
 use Rattle.waiting.specs.Waiting.{Waiting}
 
--- The parts that a plan is put from.
-abbrev pub planPartsOf : ℕ → ℕ → List Row → State → List ℕ → List ℕ → PlanParts
-planPartsOf bits probes t s need shared =
+-- The parts that a plan with a body is put from.
+abbrev pub planPartsOf : ℕ → ℕ → List Row → State → Body → List ℕ → List ℕ → PlanParts
+planPartsOf bits probes t s b need shared =
     record {
       heads = heads t;
       need = need;
       shared = shared;
       field = filterOf bits probes (beyond t (s .sharedHeads)) .field;
-      list = bodyOf t s .hashes;
-      sent = sentAfter t s;
+      list = b .hashes;
+      sent = sentAfter s b;
     }
 
 -- What was decided, and all buffers with it put.
@@ -51,12 +52,12 @@ pub record PlanChecked (table index : List ℕ) (n : ℕ) (waiting order : List 
   pub sorted : Sorted waiting order m
   pub session : sessionGood s l ≡ true
 
--- What the call ensures, whatever waits, if this is what is asked for then and it is put as it is counted; there is room for what is put of it.
-pub record AskedCalled (bits probes : ℕ) (s : Session) (t : List Row) (l l′ : Lent) (a : Asked) (room : ℕ)
+-- What the call ensures with what goes, whatever waits, if this is what is asked for then and it is put as it is counted; there is room for what is put of it.
+pub record AskedCalled (bits probes : ℕ) (s : Session) (t : List Row) (b : Body) (k : Picked) (l l′ : Lent) (a : Asked) (room : ℕ)
     (heads₀ have₀ list₀ heads₁ have₁ list₁ : List ℕ) (r : PlanAnswer) : Type 0
   where
     pub fits : (putsOf r .need ≡ 0 → ⊥) → (putsOf r .need ≡ a .count) × ((a .count ≤ sizes .hashes) × (sizes .hash * a .count ≤ room))
     pub called : (w : List Waiting) → NeedCounted (needOf t w (s .«read_only») (heard (stateOf s l .theirHeads))) (stateOf s l .theirHeads) a
         → (need₀ need₁ : List ℕ) → length need₀ ≡ room
         → need₁ ≡ listPut (putsOf r .need) (needOf t w (s .«read_only») (heard (stateOf s l .theirHeads))) need₀
-        → PlanCalled (plan bits probes t w (stateOf s l)) l l′ (buffersOf heads₀ need₀ have₀ list₀) (buffersOf heads₁ need₁ have₁ list₁) r
+        → PlanCalled (planBody bits probes t w (stateOf s l) b k) l l′ (buffersOf heads₀ need₀ have₀ list₀) (buffersOf heads₁ need₁ have₁ list₁) r

@@ -24,17 +24,17 @@ returns-4 c =
     let e2 = e3 .before in
     sent-many _ _ _ _ _ (e2 .before .if1 .left) (e2 .if2 .left) (e3 .if3 .left) (c .if4 .taken)
 
-says-requires : tie.Need-says-requires
-says-requires c κs = search needs
+says-picked-requires : tie.Need-says-picked-requires
+says-picked-requires c κs = search needs
 
 returns-5 : tie.Need-returns-5
 returns-5 c =
     let e4 = c .before in
     let e3 = e4 .before .before in
     let e2 = e3 .before in
-    is-said _ _ _ _ _ (e2 .before .if1 .left) (e2 .if2 .left) (e3 .if3 .left) (e4 .if4 .left) (c .says .ensures)
+    is-said _ _ _ _ _ (e2 .before .if1 .left) (e2 .if2 .left) (e3 .if3 .left) (e4 .if4 .left) (c .says-picked .ensures)
 
 pub decide-spec : {M : Type 1} → statement M
 decide-spec =
     tie.close
-    (tie.spec returns reset-requires returns-2 returns-3 returns-4 says-requires returns-5)
+    (tie.spec returns reset-requires returns-2 returns-3 returns-4 says-picked-requires returns-5)

@@ -1,12 +1,12 @@
--- `plan_count::count::count_body` meets its contract: what was chosen is what goes in a message, its hashes are rows, and it stands beside what was sent
+-- `plan_count::carried::count_body` meets its contract: what was chosen is what goes in a message, its hashes are rows, and it stands beside what was sent
 -- (CountLaws). Assumes nothing.
 use native.Mathlib.Omega.{arith}
 use borrow.Author.Needs.{needs}
 use Rattle.table_graph.proofs.MarkLaws.{blank-or}
 use Rattle.rules.proofs.Hash.{length-hashes-at}
 use Rattle.plan_count.proofs.CountLaws.{chosen-held, chosen-beside, need-there, body-counted}
-use Rattle.plan_count.proofs.count.count_body.Statement.{statement}
-use Rattle.plan_count.proofs.count.count_body.Tie as tie
+use Rattle.plan_count.proofs.carried.count_body.Statement.{statement}
+use Rattle.plan_count.proofs.carried.count_body.Tie as tie
 
 mark-list-requires : tie.Need-mark-list-requires
 mark-list-requires c κs = search needs
