@@ -72,7 +72,7 @@ module _ (t : List Row) (good : GoodTable t) (list rowSizes : List ℕ) (budget 
 
 -- ---- row by row, over marks
 
-module _ (s : List ℕ) (n : ℕ) (g : GoodRows s n) (rowSizes : List ℕ) (budget : ℕ) (listed none : List Bool) (blank : Blank n none) where
+module _ (s : List ℕ) (n : ℕ) (rowSizes : List ℕ) (budget : ℕ) (listed : List Bool) where
   -- no row before row i goes, whatever list the marks are of
   pub NoneGoes : ℕ → Type 0
   NoneGoes i = (list : List ℕ) → RowMarks s n list listed → (j : ℕ) → j < i → goesNow (rowsAt s 0 n) list rowSizes budget [] j ≡ false
@@ -81,6 +81,7 @@ module _ (s : List ℕ) (n : ℕ) (g : GoodRows s n) (rowSizes : List ℕ) (budg
   unfolding NoneGoes
   none-starts list marks j h = absurd (omega arith)
 
+module _ (s : List ℕ) (n : ℕ) (g : GoodRows s n) (rowSizes : List ℕ) (budget : ℕ) (listed none : List Bool) (blank : Blank n none) where
   tells : (i : ℕ) → i < n → (list : List ℕ) → RowMarks s n list listed
       → rowGoes s listed none (getD rowSizes i 0) budget i ≡ goesNow (rowsAt s 0 n) list rowSizes budget [] i
   unfolding member
@@ -90,7 +91,7 @@ module _ (s : List ℕ) (n : ℕ) (g : GoodRows s n) (rowSizes : List ℕ) (budg
       before k l = blank .each k (omega arith)
 
   module _ (i : ℕ) (inside : i < n) where
-    pub none-next : rowGoes s listed none (getD rowSizes i 0) budget i ≡ false → NoneGoes i → NoneGoes (i + 1)
+    pub none-next : rowGoes s listed none (getD rowSizes i 0) budget i ≡ false → NoneGoes s n rowSizes budget listed i → NoneGoes s n rowSizes budget listed (i + 1)
     unfolding NoneGoes
     none-next e before list marks j h =
         below-suc (λ j. goesNow (rowsAt s 0 n) list rowSizes budget [] j ≡ false) i (before list marks) (sym (tells i inside list marks) ∙ e) j
@@ -101,7 +102,8 @@ module _ (s : List ℕ) (n : ℕ) (g : GoodRows s n) (rowSizes : List ℕ) (budg
     row-alone e list marks =
         one-goes (rowsAt s 0 n) (g .good) list rowSizes budget i (rw (length-rows-at s 0 n) inside) (sym (tells i inside list marks) ∙ e)
 
-  pub none-alone : (i : ℕ) → n ≤ i → NoneGoes i → (list : List ℕ) → RowMarks s n list listed → false ≡ not (emptyAllowed (rowsAt s 0 n) list rowSizes budget)
+  pub none-alone : (i : ℕ) → n ≤ i → NoneGoes s n rowSizes budget listed i
+      → (list : List ℕ) → RowMarks s n list listed → false ≡ not (emptyAllowed (rowsAt s 0 n) list rowSizes budget)
   unfolding NoneGoes
   none-alone i h before list marks =
       none-goes (rowsAt s 0 n) (g .good) list rowSizes budget (λ j l. before list marks j (let z = length-rows-at s 0 n in omega arith))

@@ -1,6 +1,6 @@
 -- What marks say of a row is what the hashes say: a row's numbers are gone through one after the other, each is a row before it, and its mark tells whether
 -- its hash stands in the list. Assumes nothing.
-use Prim.Native.Nat.{ℕ, _+_, _≤_, _<_}
+use Prim.Native.Nat.{ℕ, zero, suc, _+_, _≤_, _<_}
 use mathlib.Core.Bool.{Bool, true, false, not, _&&_, _||_}
 use mathlib.Core.List.{List, map}
 use mathlib.Core.Path.{_≡_, refl, sym, ap, _∙_}
@@ -11,6 +11,7 @@ use lib.ListN.{length, getD, drop}
 use Rattle.hash_order.proofs.KeepLaws.{every-member, every-one}
 use Rattle.hash_order.specs.Order.{member, every}
 use Rattle.rules.proofs.Cases.{split, same-truth}
+use Rattle.rules.specs.Hash.{hashesAt}
 use Rattle.rules.specs.LittleEndian.{u16At}
 use Rattle.table.proofs.GoodLaws.{good-down}
 use Rattle.table.proofs.TableLaws.{
@@ -29,7 +30,7 @@ use Rattle.table.specs.TableBytes.{depCount, usedAt, rowsAt, GoodRows}
 use Rattle.table_graph.proofs.BelowLaws.{member-map, map-member}
 use Rattle.table_graph.proofs.MarkLaws.{numbers-more, numbers-none}
 use Rattle.table_graph.proofs.PickLaws.{rows-marked, rows-where}
-use Rattle.table_graph.specs.Internal.Marks.{Marks, picked}
+use Rattle.table_graph.specs.Internal.Marks.{Marks, Blank, picked}
 use Rattle.pick.specs.Internal.PickMarks.{RowMarks, markedGo, rowFits, rowGoes}
 use Rattle.pick.specs.Picking.{goesWith, hashFits, goesNow}
 
@@ -167,3 +168,10 @@ module _ (s : List ℕ) (n : ℕ) (g : GoodRows s n) where
         (λ x.
         let past : n ≤ row = let z = unknown-row t h x in let y = length-rows-at s 0 n in omega arith in
         rw (x, le-ltb row n past))
+
+-- ---- an empty pick marks nothing
+
+pub none-picked : (s p : List ℕ) (n count : ℕ) (m : List Bool) → count ≤ 0 → RowMarks s n (hashesAt p 0 count) m → Blank n m
+unfolding hashesAt member
+none-picked s p n zero m h w = record { each = λ i l. w .each i l }
+none-picked s p n (suc count) m h w = absurd (omega arith)

@@ -1,3 +1,4 @@
+use native.Mathlib.Omega.{arith}
 use borrow.Author.Needs.{needs}
 use Rattle.pick.proofs.check.check_listed.Statement.{statement}
 use Rattle.pick.proofs.check.check_listed.Tie as tie
@@ -6,27 +7,21 @@ use Rattle.pick.proofs.check.check_listed.Lts as lts
 use Rattle.pick.proofs.check.check_marked.Reads as check-marked-reads
 use Rattle.table_graph.proofs.marks.mark_list.Reads as mark-list-reads
 
--- src/check.rt:201:47
 slice-aggregate-mark-list : tie.Need-slice-aggregate-mark-list
 slice-aggregate-mark-list c = search needs
 
--- src/check.rt:201:5
 mark-list-requires : tie.Need-mark-list-requires
 mark-list-requires c κs = search needs
 
--- src/check.rt:211:9
 slice-aggregate-check-marked : tie.Need-slice-aggregate-check-marked
 slice-aggregate-check-marked c = search needs
 
--- src/check.rt:212:9
 slice-aggregate-check-marked-2 : tie.Need-slice-aggregate-check-marked-2
 slice-aggregate-check-marked-2 c = search needs
 
--- src/check.rt:203:5
 check-marked-requires : tie.Need-check-marked-requires
-check-marked-requires c κs = ?
+check-marked-requires c κs = search needs
 
--- src/check.rt:184:1
 returns : tie.Need-returns
 returns c = ?
 

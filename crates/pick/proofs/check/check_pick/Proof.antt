@@ -1,3 +1,4 @@
+use native.Mathlib.Omega.{arith}
 use borrow.Author.Needs.{needs}
 use Rattle.pick.proofs.check.check_pick.Statement.{statement}
 use Rattle.pick.proofs.check.check_pick.Tie as tie
@@ -9,63 +10,48 @@ use Rattle.rules.proofs.passed.passed_hashes.Reads as passed-hashes-reads
 use Rattle.rules.proofs.passed.passed_up_to.Reads as passed-up-to-reads
 use Rattle.table_check.proofs.check.check_indexed.Reads as check-indexed-reads
 
--- src/check.rt:237:11
 check-indexed-requires : tie.Need-check-indexed-requires
 check-indexed-requires c κs = search needs
 
--- src/check.rt:238:26
 enum-known-r : tie.Need-enum-known-r
 enum-known-r c = search needs
 
--- src/check.rt:239:23
 enum-known-n : tie.Need-enum-known-n
 enum-known-n c = search needs
 
--- src/check.rt:239:35
 passed-up-to-requires : tie.Need-passed-up-to-requires
 passed-up-to-requires c κs = search needs
 
--- src/check.rt:240:29
 enum-known-long : tie.Need-enum-known-long
 enum-known-long c = search needs
 
--- src/check.rt:241:28
 enum-known-many : tie.Need-enum-known-many
 enum-known-many c = search needs
 
--- src/check.rt:241:43
 passed-hashes-requires : tie.Need-passed-hashes-requires
 passed-hashes-requires c κs = search needs
 
--- src/check.rt:242:33
 enum-known-refusal : tie.Need-enum-known-refusal
 enum-known-refusal c = search needs
 
--- src/check.rt:243:32
 enum-known-count : tie.Need-enum-known-count
 enum-known-count c = search needs
 
--- src/check.rt:243:49
 check-listed-requires : tie.Need-check-listed-requires
-check-listed-requires c κs = ?
+check-listed-requires c κs = search needs
 
--- src/check.rt:243:42
 answer-requires : tie.Need-answer-requires
 answer-requires c κs = search needs
 
--- src/check.rt:227:1
 returns : tie.Need-returns
 returns c = ?
 
--- src/check.rt:227:1
 returns-2 : tie.Need-returns-2
 returns-2 c = ?
 
--- src/check.rt:227:1
 returns-3 : tie.Need-returns-3
 returns-3 c = ?
 
--- src/check.rt:227:1
 returns-4 : tie.Need-returns-4
 returns-4 c = ?
 

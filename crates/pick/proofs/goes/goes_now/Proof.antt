@@ -1,30 +1,26 @@
+-- `pick::goes::goes_now` meets its contract: its tests are the definition's, the cheaper first. Assumes nothing.
 use borrow.Author.Needs.{needs}
+use borrow.Author.Tests.{not-true, not-false, lt-leb, le-leb}
+use Rattle.pick.proofs.GoesLaws.{goes-unlisted, goes-large, goes-small}
 use Rattle.pick.proofs.goes.goes_now.Statement.{statement}
 use Rattle.pick.proofs.goes.goes_now.Tie as tie
-use Rattle.pick.proofs.goes.goes_now.Reads as reads
-use Rattle.pick.proofs.goes.goes_now.Lts as lts
-use Rattle.pick.proofs.goes.goes_with.Reads as goes-with-reads
 
--- src/goes.rt:42:9
 shared-slice-read-if1 : tie.Need-shared-slice-read-if1
 shared-slice-read-if1 c = search needs
 
--- src/goes.rt:43:9
 returns : tie.Need-returns
-returns c = ?
+returns c = goes-unlisted _ _ _ _ _ _ (not-true _ (c .if1 .taken))
 
--- src/goes.rt:46:9
 returns-2 : tie.Need-returns-2
-returns-2 c = ?
+returns-2 c = goes-large _ _ _ _ _ _ (not-false _ (c .before .if1 .left)) (lt-leb _ _ (c .if2 .taken))
 
--- src/goes.rt:48:5
 goes-with-requires : tie.Need-goes-with-requires
 goes-with-requires c κs = search needs
 
--- src/goes.rt:31:1
 returns-3 : tie.Need-returns-3
-returns-3 c = ?
+returns-3 c =
+    let e = c .before in
+    goes-small _ _ _ _ _ _ (not-false _ (e .before .if1 .left)) (le-leb _ _ (e .if2 .left)) _ (c .goes-with .ensures)
 
 pub goes-now-spec : {M : Type 1} → statement M
-goes-now-spec =
-    tie.close (tie.spec shared-slice-read-if1 returns returns-2 goes-with-requires returns-3)
+goes-now-spec = tie.close (tie.spec shared-slice-read-if1 returns returns-2 goes-with-requires returns-3)

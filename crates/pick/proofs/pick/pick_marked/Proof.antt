@@ -1,3 +1,5 @@
+use borrow.Author.Needs.{needs}
+use native.Mathlib.Omega.{arith}
 use Rattle.pick.proofs.pick.pick_marked.Statement.{statement}
 use Rattle.pick.proofs.pick.pick_marked.Tie as tie
 use Rattle.pick.proofs.pick.pick_marked.Reads as reads
@@ -10,67 +12,51 @@ Inv-loop table n row-sizes budget listed picks₀ left₀ count₀ i₀ picks le
 abbrev μ-loop : tie.MeasureT-loop
 μ-loop table n row-sizes budget listed picks₀ left₀ count₀ i₀ picks left count i = ?
 
--- src/pick.rt:44:5
 loop-holds : tie.Need-loop-holds Inv-loop μ-loop
-loop-holds c = ?
+loop-holds c = search needs
 
--- src/pick.rt:46:9
 add-i : tie.Need-add-i Inv-loop μ-loop
-add-i c = ?
+add-i c = search needs
 
--- src/pick.rt:47:34
 mul-goes-now : tie.Need-mul-goes-now Inv-loop μ-loop
-mul-goes-now c = ?
+mul-goes-now c = search needs
 
--- src/pick.rt:47:34
 shared-slice-read-goes-now : tie.Need-shared-slice-read-goes-now Inv-loop μ-loop
-shared-slice-read-goes-now c = ?
+shared-slice-read-goes-now c = search needs
 
--- src/pick.rt:47:13
 goes-now-requires : tie.Need-goes-now-requires Inv-loop μ-loop
-goes-now-requires c κs = ?
+goes-now-requires c κs = search needs
 
--- src/pick.rt:44:5
 loop-less : tie.Need-loop-less Inv-loop μ-loop
-loop-less c = ?
+loop-less c = search needs
 
--- src/pick.rt:44:5
 loop-again : tie.Need-loop-again Inv-loop μ-loop
 loop-again c = ?
 
--- src/pick.rt:50:17
 mul-left : tie.Need-mul-left Inv-loop μ-loop
-mul-left c = ?
+mul-left c = search needs
 
--- src/pick.rt:50:17
 shared-slice-read-left : tie.Need-shared-slice-read-left Inv-loop μ-loop
-shared-slice-read-left c = ?
+shared-slice-read-left c = search needs
 
--- src/pick.rt:50:9
 sub-left : tie.Need-sub-left Inv-loop μ-loop
-sub-left c = ?
+sub-left c = search needs
 
--- src/pick.rt:51:9
 slice-write-picks : tie.Need-slice-write-picks Inv-loop μ-loop
-slice-write-picks c = ?
+slice-write-picks c = search needs
 
--- src/pick.rt:52:9
 add-count : tie.Need-add-count Inv-loop μ-loop
-add-count c = ?
+add-count c = search needs
 
--- src/pick.rt:44:5
 loop-less-2 : tie.Need-loop-less-2 Inv-loop μ-loop
-loop-less-2 c = ?
+loop-less-2 c = search needs
 
--- src/pick.rt:44:5
 loop-again-2 : tie.Need-loop-again-2 Inv-loop μ-loop
 loop-again-2 c = ?
 
--- src/pick.rt:29:1
 same-length : tie.Need-same-length Inv-loop μ-loop
-same-length c = ?
+same-length c = search needs
 
--- src/pick.rt:29:1
 returns : tie.Need-returns Inv-loop μ-loop
 returns c = ?
 

@@ -1,3 +1,4 @@
+use native.Mathlib.Omega.{arith}
 use borrow.Author.Needs.{needs}
 use Rattle.pick.proofs.pick.put_picked.Statement.{statement}
 use Rattle.pick.proofs.pick.put_picked.Tie as tie
@@ -7,47 +8,36 @@ use Rattle.pick.proofs.pick.pick_marked.Reads as pick-marked-reads
 use Rattle.table_graph.proofs.marked.put_marked.Reads as put-marked-reads
 use Rattle.table_graph.proofs.marks.mark_list.Reads as mark-list-reads
 
--- src/pick.rt:73:47
 slice-aggregate-mark-list : tie.Need-slice-aggregate-mark-list
 slice-aggregate-mark-list c = search needs
 
--- src/pick.rt:73:5
 mark-list-requires : tie.Need-mark-list-requires
 mark-list-requires c κs = search needs
 
--- src/pick.rt:75:69
 slice-aggregate-pick-marked : tie.Need-slice-aggregate-pick-marked
 slice-aggregate-pick-marked c = search needs
 
--- src/pick.rt:75:78
 slice-aggregate-pick-marked-2 : tie.Need-slice-aggregate-pick-marked-2
 slice-aggregate-pick-marked-2 c = search needs
 
--- src/pick.rt:75:28
 pick-marked-requires : tie.Need-pick-marked-requires
-pick-marked-requires c κs = ?
+pick-marked-requires c κs = search needs
 
--- src/pick.rt:75:16
 mul-size : tie.Need-mul-size
-mul-size c = ?
+mul-size c = search needs
 
--- src/pick.rt:77:9
 returns : tie.Need-returns
 returns c = ?
 
--- src/pick.rt:79:26
 slice-aggregate-put-marked : tie.Need-slice-aggregate-put-marked
 slice-aggregate-put-marked c = search needs
 
--- src/pick.rt:79:5
 put-marked-requires : tie.Need-put-marked-requires
-put-marked-requires c κs = ?
+put-marked-requires c κs = search needs
 
--- src/pick.rt:58:1
 same-length : tie.Need-same-length
 same-length c = search needs
 
--- src/pick.rt:58:1
 returns-2 : tie.Need-returns-2
 returns-2 c = ?
 
