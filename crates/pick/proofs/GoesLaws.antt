@@ -5,12 +5,12 @@ use mathlib.Core.Bool.{Bool, true, false, not, _&&_, _||_}
 use mathlib.Core.List.{List, map}
 use mathlib.Core.Path.{_≡_, refl, sym, ap, _∙_}
 use native.Mathlib.Omega.{arith}
-use borrow.Author.Tests.{lt-ltb, le-ltb}
+use borrow.Author.Tests.{lt-ltb, le-ltb, leb-true}
 use lib.Dec.{ltb, leb}
 use lib.ListN.{length, getD, drop}
 use Rattle.hash_order.proofs.KeepLaws.{every-member, every-one}
 use Rattle.hash_order.specs.Order.{member, every}
-use Rattle.rules.proofs.Cases.{split, same-truth}
+use Rattle.rules.proofs.Cases.{split, both, same-truth}
 use Rattle.rules.specs.Hash.{hashesAt}
 use Rattle.rules.specs.LittleEndian.{u16At}
 use Rattle.table.proofs.GoodLaws.{good-down}
@@ -102,6 +102,11 @@ module _ (s : List ℕ) (listed picks : List Bool) (size left i : ℕ) where
     pub goes-small : leb size left ≡ true → (r : Bool) → r ≡ markedGo listed picks (usedAt s i) → r ≡ rowGoes s listed picks size left i
     unfolding rowGoes
     goes-small f r g = rw (e, g) (and-same (markedGo listed picks (usedAt s i)) (leb size left) f)
+
+  -- one that goes fits what is left
+  pub goes-within : rowGoes s listed picks size left i ≡ true → size ≤ left
+  unfolding rowGoes
+  goes-within e = leb-true size left (both (markedGo listed picks (usedAt s i)) (leb size left) (both (getD listed i false) _ e .1) .1)
 
 -- ---- rows and their hashes
 

@@ -5,3 +5,4 @@ pub mod GoesLaws
 pub mod PickAnswers
 pub mod PickedRows
 pub mod PlannerLaws
+pub mod Promises

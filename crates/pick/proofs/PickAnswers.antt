@@ -35,52 +35,52 @@ use Rattle.pick.proofs.AcceptLaws.{unbroken-fits, fits-parts}
 -- ---- the check
 
 module _ (t : List Row) (list rowSizes : List ℕ) (budget : ℕ) (pick : List ℕ) (n count place : ℕ)
-  (rows-are : length t ≡ n)
-  (many : length pick ≡ count)
-  (found : place ≡ firstBroken t list pick 0 0 pick)
+    (rows-are : length t ≡ n)
+    (many : length pick ≡ count)
+    (found : place ≡ firstBroken t list pick 0 0 pick)
   where
-  pub checked-broken : place < count → Breaks place ≡ pickChecked t list rowSizes budget pick
-  unfolding pickChecked
-  checked-broken h = rw (many, ← found, lt-ltb place count h)
-
-  module _ (past : count ≤ place) where
-    -- each hash of an unbroken pick is a row's
-    pub unbroken-held : every (held t) pick ≡ true
-    unbroken-held =
-        every-one (held t) pick
-        (λ h m. fits-parts t list pick 0 pick (unbroken-fits t list pick 0 0 pick (omega arith)) h m .0)
-
-    pub checked-sizes : (length rowSizes ≡ n → ⊥) → Breaks count ≡ pickChecked t list rowSizes budget pick
+    pub checked-broken : place < count → Breaks place ≡ pickChecked t list rowSizes budget pick
     unfolding pickChecked
-    checked-sizes h = rw (many, ← found, le-ltb place count past, rows-are, ne-eqb (length rowSizes) n h)
+    checked-broken h = rw (many, ← found, lt-ltb place count h)
 
-    module _ (each : length rowSizes ≡ n) where
-      pub checked-sum : leb (sizeSum t rowSizes pick) budget ≡ false → Breaks count ≡ pickChecked t list rowSizes budget pick
+    module _ (past : count ≤ place) where
+      -- each hash of an unbroken pick is a row's
+      pub unbroken-held : every (held t) pick ≡ true
+      unbroken-held =
+          every-one (held t) pick
+          (λ h m. fits-parts t list pick 0 pick (unbroken-fits t list pick 0 0 pick (omega arith)) h m .0)
+
+      pub checked-sizes : (length rowSizes ≡ n → ⊥) → Breaks count ≡ pickChecked t list rowSizes budget pick
       unfolding pickChecked
-      checked-sum e = rw (many, ← found, le-ltb place count past, rows-are, eq-eqb (length rowSizes) n each, over (sizeSum t rowSizes pick) budget e)
-        where
-          over : (a b : ℕ) → leb a b ≡ false → ltb b a ≡ true
-          over a b e = split (ltb b a) (λ x. x) (λ x. absurd (true-false (leb a b) (le-leb a b (ltb-false b a x)) e))
+      checked-sizes h = rw (many, ← found, le-ltb place count past, rows-are, ne-eqb (length rowSizes) n h)
 
-      module _ (small : leb (sizeSum t rowSizes pick) budget ≡ true) where
-        within : ltb budget (sizeSum t rowSizes pick) ≡ false
-        within = le-ltb budget (sizeSum t rowSizes pick) (leb-true (sizeSum t rowSizes pick) budget small)
-
-        pub checked-some : 0 < count → Fine ≡ pickChecked t list rowSizes budget pick
+      module _ (each : length rowSizes ≡ n) where
+        pub checked-sum : leb (sizeSum t rowSizes pick) budget ≡ false → Breaks count ≡ pickChecked t list rowSizes budget pick
         unfolding pickChecked
-        checked-some h =
-            rw (many, ← found, le-ltb place count past, rows-are, eq-eqb (length rowSizes) n each, within, ne-eqb count 0 (λ e. omega arith))
+        checked-sum e = rw (many, ← found, le-ltb place count past, rows-are, eq-eqb (length rowSizes) n each, over (sizeSum t rowSizes pick) budget e)
+          where
+            over : (a b : ℕ) → leb a b ≡ false → ltb b a ≡ true
+            over a b e = split (ltb b a) (λ x. x) (λ x. absurd (true-false (leb a b) (le-leb a b (ltb-false b a x)) e))
 
-        module _ (none : count ≤ 0) where
-          pub checked-empty : true ≡ not (emptyAllowed t list rowSizes budget) → Breaks 0 ≡ pickChecked t list rowSizes budget pick
-          unfolding pickChecked
-          checked-empty e =
-              rw (many, ← found, le-ltb place count past, rows-are, eq-eqb (length rowSizes) n each, within, eq-eqb count 0 (omega arith), ← e)
+        module _ (small : leb (sizeSum t rowSizes pick) budget ≡ true) where
+          within : ltb budget (sizeSum t rowSizes pick) ≡ false
+          within = le-ltb budget (sizeSum t rowSizes pick) (leb-true (sizeSum t rowSizes pick) budget small)
 
-          pub checked-nothing : false ≡ not (emptyAllowed t list rowSizes budget) → Fine ≡ pickChecked t list rowSizes budget pick
+          pub checked-some : 0 < count → Fine ≡ pickChecked t list rowSizes budget pick
           unfolding pickChecked
-          checked-nothing e =
-              rw (many, ← found, le-ltb place count past, rows-are, eq-eqb (length rowSizes) n each, within, eq-eqb count 0 (omega arith), ← e)
+          checked-some h =
+              rw (many, ← found, le-ltb place count past, rows-are, eq-eqb (length rowSizes) n each, within, ne-eqb count 0 (λ e. omega arith))
+
+          module _ (none : count ≤ 0) where
+            pub checked-empty : true ≡ not (emptyAllowed t list rowSizes budget) → Breaks 0 ≡ pickChecked t list rowSizes budget pick
+            unfolding pickChecked
+            checked-empty e =
+                rw (many, ← found, le-ltb place count past, rows-are, eq-eqb (length rowSizes) n each, within, eq-eqb count 0 (omega arith), ← e)
+
+            pub checked-nothing : false ≡ not (emptyAllowed t list rowSizes budget) → Fine ≡ pickChecked t list rowSizes budget pick
+            unfolding pickChecked
+            checked-nothing e =
+                rw (many, ← found, le-ltb place count past, rows-are, eq-eqb (length rowSizes) n each, within, eq-eqb count 0 (omega arith), ← e)
 
 -- ---- the call that checks
 
