@@ -5,4 +5,6 @@
 //
 // The list is marks of rows, and so is the pick: both are one pass over the table.
 pub mod check;
+pub mod goes;
+pub mod pick;
 pub mod radio;
