@@ -1,6 +1,7 @@
 pub mod AcceptLaws
 pub mod AloneLaws
 pub mod BrokenLaws
+pub mod ClimbLaws
 pub mod GoesLaws
 pub mod PickAnswers
 pub mod PickedRows

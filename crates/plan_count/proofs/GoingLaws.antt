@@ -130,15 +130,16 @@ module _ (r : Radio) (t : List Row) (n : ℕ) (b : Body) (rowSizes pick need sen
   unfolding goingOf foundOf
   goes-picked e f g = rw (e, f) g
 
-module _ (r : Radio) (t : List Row) (b : Body) (rowSizes pick : List ℕ) (short : length pick ≤ sizes .hashes) where
-  -- no more goes than may be sent at once
-  pub going-few : length (b .hashes) ≤ sizes .hashesToSend → length (goingOf r b pick .hashes) ≤ sizes .hashesToSend
-  unfolding goingOf
-  going-few few =
-      split (r .limited)
-      (λ e. split (b .document) (λ d. rw (e, first-of (b .document) b (listOf pick) d) few) (λ d. rw (e, d) (omega arith)))
-      (λ e. rw e few)
+-- no more goes than may be sent at once
+pub going-few : (r : Radio) (b : Body) (pick : List ℕ) → length pick ≤ sizes .hashes → length (b .hashes) ≤ sizes .hashesToSend
+    → length (goingOf r b pick .hashes) ≤ sizes .hashesToSend
+unfolding goingOf
+going-few r b pick short few =
+    split (r .limited)
+    (λ e. split (b .document) (λ d. rw (e, first-of (b .document) b (listOf pick) d) few) (λ d. rw (e, d) (omega arith)))
+    (λ e. rw e few)
 
+module _ (r : Radio) (t : List Row) (b : Body) (rowSizes pick : List ℕ) (short : length pick ≤ sizes .hashes) where
   -- and the hashes sent with it are small enough to be counted
   pub going-small : {n : ℕ} {need sent : List ℕ} {marks needs fresh : List Bool} {k : Carried}
       → BodyGoes t n (goingOf r b pick) (foundOf r t b rowSizes pick) need sent marks needs fresh k → n ≤ sizes .rows → length sent ≤ sizes .sentHashes

@@ -59,11 +59,11 @@ both-ways f true e g = e
 both-ways f false e g = g
 
 -- and so does a pick that isn't accepted
-broken-answers : (r : Rooms) (k : Picked) {x : PlanAnswer} {q : Planned} → x ≡ plannedAnswer (plannedRoomed r q)
+broken-answers : (r : Rooms) (k : Picked) (q : Planned) {x : PlanAnswer} → x ≡ plannedAnswer (plannedRoomed r q)
     → unlessBreaks k x ≡ plannedAnswer (plannedRoomed r (unlessBroken k q))
 unfolding unlessBreaks plannedRoomed plannedAnswer
-broken-answers r Fine e = e
-broken-answers r (Breaks place) e = refl
+broken-answers r Fine q e = e
+broken-answers r (Breaks place) q e = refl
 
 heads-count : (needs supports : Bool) (hs : List ℕ) → length (headsFor needs supports hs) ≡ headsCount needs supports (length hs)
 unfolding headsFor headsCount
@@ -188,7 +188,7 @@ module _ (bits probes : ℕ) (t : List Row) (w : List Waiting) (s : Session) (l 
         (λ e.
         let some : d .sent ≤ sizes .sentHashes = ltb-false _ _ e in
         let room : length (sentAfter (stateOf s l) b) ≤ sizes .sentHashes = omega (arith, m .sent) in
-        rw (e, le-ltb _ _ room, m .picked) (broken-answers r k (says-decided few some)))
+        rw (e, le-ltb _ _ room) (ap (λ (z : Picked). unlessBreaks z (saysWith s d bits probes r)) (m .picked) ∙ broken-answers r k _ (says-decided few some)))
 
     reset-decided : ifRoom Refused (messageRoom (resetStated (d .heads)) r) (Reset (resetStated (d .heads))) ≡ answer (Planned.reset (resetOf t))
     unfolding plannedRoomed resetOf plannedAnswer

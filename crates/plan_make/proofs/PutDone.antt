@@ -105,17 +105,17 @@ module _ {table index : List ℕ} {n : ℕ} (s : Session) (l : Lent) (rows : Ind
           → sizes .hash * length (chosenBy t marks (hashesAt (l .theirNeed) 0 (heardCount (s .«their_need»))) needs) ≤ room
       body-room count room e fine h = omega (arith, c .hashes, ap length (m .list (sym (c .picked) ∙ fine)))
 
-      pub message-ready : (k : ℕ) → k ≡ heardCount (s .«their_need»)
-          → MessageReady p table index n headMarks haveMarks marks needs (l .theirNeed) k (length (l .shared))
+      pub message-ready : (j : ℕ) → j ≡ heardCount (s .«their_need»)
+          → MessageReady p table index n headMarks haveMarks marks needs (l .theirNeed) j (length (l .shared))
           (r .heads) (r .have) (r .list)
-      message-ready k e =
+      message-ready j e =
           record {
             rows = rows;
             headLong = m .headLong;
             haveLong = m .have .long;
             rowLong = m .rowLong;
             needLong = omega (arith, m .needLong, length-hashes-at (l .theirNeed) 0 (heardCount (s .«their_need»)));
-            asks = omega (arith, heard-there (l .theirNeed) (s .«their_need») k e (session-tests s l good .theirNeed));
+            asks = omega (arith, heard-there (l .theirNeed) (s .«their_need») j e (session-tests s l good .theirNeed));
             heads = λ q. head-room (p .heads) _ (f .heads q) (f .headsRoom);
             have = record { hashes = omega (arith, f .syncs, session-parts s l good .shared .there); fits = f .haveRoom };
             field =
