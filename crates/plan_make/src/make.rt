@@ -1,5 +1,6 @@
 // The plan: what is asked for, then counted, decided, put. Every refusal is decided on the numbers of a draft, and what is put is what they count.
 use bloom::setting::Setting;
+use pick::radio::Radio;
 use plan_count::count::count_plan;
 use plan_decide::decide::decide;
 use plan_decide::puts::puts_of;
@@ -19,13 +20,16 @@ use waiting::find::ORDER_SIZE;
 use waiting_missing::missing::FOUND;
 ghost use mathlib.Core.Bool.{true};
 ghost use mathlib.Core.Path.{_≡_};
-ghost use Prim.Native.Nat.{_+_, _≤_};
+ghost use Prim.Native.Nat.{_+_, _*_, _/_, _≤_};
+ghost use lib.ListN.{length};
 ghost use Rattle.bloom.specs.Filter.{SettingGood};
 ghost use Rattle.table_index.specs.Index.{Indexed};
 ghost use Rattle.session_check.specs.SessionGood.{lentOf, sessionGood};
 ghost use Rattle.session.specs.PlanCall.{buffersOf, PlanCalled};
 ghost use Rattle.rules.specs.Sizes.{sizes};
-ghost use Rattle.session.specs.Plan.{plan as planFor};
+ghost use Rattle.plan_count.specs.Internal.PlanCount.{goingOf, foundOf};
+ghost use Rattle.rules.specs.Hash.{hashesAt};
+ghost use Rattle.session.specs.Plan.{bodyOf, planBody};
 ghost use Rattle.session_state.specs.Value.{stateOf};
 ghost use Rattle.table.specs.TableBytes.{rowsAt};
 ghost use Rattle.waiting.specs.WaitingBytes.{waitingOf};
@@ -35,6 +39,9 @@ ghost use Rattle.plan_make.specs.Internal.PlanMake.{PlanChecked, AskedCa
 // Nothing that is lent is written before all of that is decided.
 fn plan_asked(
     setting: Setting,
+    radio: Radio,
+    row_sizes: &[u64],
+    pick: &[u8],
     session: Session,
     table: &[u8],
     index: &[u8],
@@ -55,8 +62,18 @@ fn plan_asked(
     requires { ⌜ Indexed (now table) (now index) n
         × (sessionGood session (lentOf (now shared) (now «last_sent») (now «their_heads») (now «their_need») (now haves) (now «have_bytes») (now sent)) ≡ true)
         × SettingGood (setting .bits) (setting .probes)
-        × (asked .count ≤ sizes .hashes + 1) ⌝ }
+        × (asked .count ≤ sizes .hashes + 1) × (length (now pick) ≤ sizes .hashes * sizes .hash) ⌝ }
     ensures { λ r. ⌜ AskedCalled (setting .bits) (setting .probes) session (rowsAt (now (table .entry)) 0 n)
+        (goingOf radio (bodyOf (rowsAt (now (table .entry)) 0 n)
+        (stateOf session
+        (lentOf (now (shared .entry)) (now («last_sent» .entry)) (now («their_heads» .entry)) (now («their_need» .entry)) (now (haves .entry))
+        (now («have_bytes» .entry)) (now (sent .entry)))))
+        (hashesAt (now (pick .entry)) 0 (length (now (pick .entry)) / sizes .hash)))
+        (foundOf radio (rowsAt (now (table .entry)) 0 n) (bodyOf (rowsAt (now (table .entry)) 0 n)
+        (stateOf session
+        (lentOf (now (shared .entry)) (now («last_sent» .entry)) (now («their_heads» .entry)) (now («their_need» .entry)) (now (haves .entry))
+        (now («have_bytes» .entry)) (now (sent .entry)))))
+        (now («row_sizes» .entry)) (hashesAt (now (pick .entry)) 0 (length (now (pick .entry)) / sizes .hash)))
         (lentOf (now (shared .entry)) (now («last_sent» .entry)) (now («their_heads» .entry)) (now («their_need» .entry)) (now (haves .entry))
         (now («have_bytes» .entry)) (now (sent .entry)))
         (lentOf (now (shared .entry)) (now («last_sent» .exit)) (now («their_heads» .entry)) (now («their_need» .entry)) (now (haves .entry))
@@ -69,6 +86,9 @@ fn plan_asked(
     let mut needs = [false; HASHES];
     let mut fresh = [false; ROWS];
     let draft = count_plan(
+        radio,
+        row_sizes,
+        pick,
         session,
         table,
         index,
@@ -133,6 +153,9 @@ fn plan_asked(
 // only where something may be, and put last.
 pub fn plan_checked(
     setting: Setting,
+    radio: Radio,
+    row_sizes: &[u64],
+    pick: &[u8],
     session: Session,
     table: &[u8],
     index: &[u8],
@@ -154,11 +177,21 @@ pub fn plan_checked(
 ) -> PlanAnswer
     requires { ⌜ PlanChecked (now table) (now index) n (now waiting) (now order) m session
         (lentOf (now shared) (now «last_sent») (now «their_heads») (now «their_need») (now haves) (now «have_bytes») (now sent))
-        × SettingGood (setting .bits) (setting .probes) ⌝ }
-    ensures { λ r. ⌜ PlanCalled (planFor (setting .bits) (setting .probes) (rowsAt (now (table .entry)) 0 n) (waitingOf (now (waiting .entry)))
+        × SettingGood (setting .bits) (setting .probes) × (length (now pick) ≤ sizes .hashes * sizes .hash) ⌝ }
+    ensures { λ r. ⌜ PlanCalled (planBody (setting .bits) (setting .probes) (rowsAt (now (table .entry)) 0 n) (waitingOf (now (waiting .entry)))
+        (stateOf session
+        (lentOf (now (shared .entry)) (now («last_sent» .entry)) (now («their_heads» .entry)) (now («their_need» .entry)) (now (haves .entry))
+        (now («have_bytes» .entry)) (now (sent .entry))))
+        (goingOf radio (bodyOf (rowsAt (now (table .entry)) 0 n)
         (stateOf session
         (lentOf (now (shared .entry)) (now («last_sent» .entry)) (now («their_heads» .entry)) (now («their_need» .entry)) (now (haves .entry))
         (now («have_bytes» .entry)) (now (sent .entry)))))
+        (hashesAt (now (pick .entry)) 0 (length (now (pick .entry)) / sizes .hash)))
+        (foundOf radio (rowsAt (now (table .entry)) 0 n) (bodyOf (rowsAt (now (table .entry)) 0 n)
+        (stateOf session
+        (lentOf (now (shared .entry)) (now («last_sent» .entry)) (now («their_heads» .entry)) (now («their_need» .entry)) (now (haves .entry))
+        (now («have_bytes» .entry)) (now (sent .entry)))))
+        (now («row_sizes» .entry)) (hashesAt (now (pick .entry)) 0 (length (now (pick .entry)) / sizes .hash))))
         (lentOf (now (shared .entry)) (now («last_sent» .entry)) (now («their_heads» .entry)) (now («their_need» .entry)) (now (haves .entry))
         (now («have_bytes» .entry)) (now (sent .entry)))
         (lentOf (now (shared .entry)) (now («last_sent» .exit)) (now («their_heads» .entry)) (now («their_need» .entry)) (now (haves .entry))
@@ -175,6 +208,9 @@ pub fn plan_checked(
         };
         return plan_asked(
             setting,
+            radio,
+            row_sizes,
+            pick,
             session,
             table,
             index,
@@ -208,6 +244,9 @@ pub fn plan_checked(
     );
     let planned = plan_asked(
         setting,
+        radio,
+        row_sizes,
+        pick,
         session,
         table,
         index,

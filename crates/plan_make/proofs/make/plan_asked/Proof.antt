@@ -25,13 +25,13 @@ slice-aggregate-count-plan-5 c = search needs
 
 count-plan-requires : tie.Need-count-plan-requires
 count-plan-requires c κs =
-    let pre = c .before .before .before .before .before .before .before .before .before .before .before .before .before .before .before .before .before .before .before .pre in
-    (pre .0, pre .1, blank-marks _ _ (pre .0) (pre .1))
+    let pre = c .before .before .before .before .before .before .before .before .before .before .before .before .before .before .before .before .before .before .before .before .before .pre in
+    (pre .0, pre .1, blank-marks _ _ (pre .0) (pre .1), pre .4)
 
 decide-requires : tie.Need-decide-requires
 decide-requires c κs =
     let count = c .before .before .before .before .before in
-    let pre = count .before .before .before .before .before .before .before .before .before .before .before .before .before .before .before .before .before .before .before .before .pre in
+    let pre = count .before .before .before .before .before .before .before .before .before .before .before .before .before .before .before .before .before .before .before .before .before .before .pre in
     let e = count .count-plan .ensures in
     small-counted _ _ (pre .0) (pre .1) (pre .2) (e .0) (e .1) (pre .3)
 
@@ -59,7 +59,7 @@ put-message-requires c κs =
     let puts = heard .before .before .before .before .before in
     let dec = puts .before in
     let count = dec .before .before .before .before .before .before in
-    let pre = count .before .before .before .before .before .before .before .before .before .before .before .before .before .before .before .before .before .before .before .before .pre in
+    let pre = count .before .before .before .before .before .before .before .before .before .before .before .before .before .before .before .before .before .before .before .before .before .before .pre in
     let e = count .count-plan .ensures in
     message-ready _ _ (pre .0) (pre .1) (pre .2) (e .0) (e .1) (pre .3) (puts-fit _ _ _ _ _ _ _ (dec .decide .ensures) (puts .puts-of .ensures)) _ (heard .heard-count .ensures)
 
@@ -74,7 +74,7 @@ put-session-requires c κs =
     let puts = c .before .before .before .before .before .before .before .before .before .before .before .before .before .before .before .before .before .before .before in
     let dec = puts .before in
     let count = dec .before .before .before .before .before .before in
-    let pre = count .before .before .before .before .before .before .before .before .before .before .before .before .before .before .before .before .before .before .before .before .pre in
+    let pre = count .before .before .before .before .before .before .before .before .before .before .before .before .before .before .before .before .before .before .before .before .before .before .pre in
     let e = count .count-plan .ensures in
     session-ready _ _ (pre .0) (pre .1) (pre .2) (e .0) (e .1) (pre .3) (puts-fit _ _ _ _ _ _ _ (dec .decide .ensures) (puts .puts-of .ensures)) (omega arith)
 
@@ -101,7 +101,7 @@ returns c =
     let puts = heard .before .before .before .before .before in
     let dec = puts .before in
     let count = dec .before .before .before .before .before .before in
-    let pre = count .before .before .before .before .before .before .before .before .before .before .before .before .before .before .before .before .before .before .before .before .pre in
+    let pre = count .before .before .before .before .before .before .before .before .before .before .before .before .before .before .before .before .before .before .before .before .before .before .pre in
     let e = count .count-plan .ensures in
     asked-called _ _ (pre .0) (pre .1) (pre .2) (e .0) (e .1) (pre .3) (puts-fit _ _ _ _ _ _ _ (dec .decide .ensures) (puts .puts-of .ensures)) _ _ _ _ _ _ _ _ _
     (heard .heard-count .ensures) (put .put-message .ensures) (kept .put-session .ensures) _ (puts .puts-of .ensures) _ refl (λ need₀ long. rw long (dec .decide .ensures))

@@ -12,7 +12,7 @@ use Rattle.plan_make.proofs.make.plan_checked.Tie as tie
 
 asks-nothing-requires : tie.Need-asks-nothing-requires
 asks-nothing-requires c κs =
-    let pre = c .before .before .before .before .before .before .before .before .before .before .before .before .before .before .pre in
+    let pre = c .before .before .before .before .before .before .before .before .before .before .before .before .before .before .before .before .pre in
     (pre .0 .rows, heads-good _ _ (pre .0 .rows) (pre .0 .session))
 
 plan-asked-requires : tie.Need-plan-asked-requires
@@ -45,14 +45,14 @@ slice-aggregate-find-need c = search needs
 
 find-need-requires : tie.Need-find-need-requires
 find-need-requires c κs =
-    let pre = c .before .before .before .before .before .before .before .before .before .before .before .before .before .before .before .before .before .pre in
+    let pre = c .before .before .before .before .before .before .before .before .before .before .before .before .before .before .before .before .before .before .before .pre in
     (pre .0 .rows, pre .0 .waitingRows, pre .0 .sorted, heads-good _ _ (pre .0 .rows) (pre .0 .session), length-replicate {A = ℕ} (sizes .hashes + 1) 0)
 
 plan-asked-requires-2 : tie.Need-plan-asked-requires-2
 plan-asked-requires-2 c κs =
     let need = c .before .before .before .before .before .before in
-    let pre = need .before .before .before .before .before .before .before .before .before .before .before .before .before .before .before .before .before .before .pre in
-    (pre .0 .rows, pre .0 .session, pre .1, need .find-need .ensures .counted .within)
+    let pre = need .before .before .before .before .before .before .before .before .before .before .before .before .before .before .before .before .before .before .before .before .pre in
+    (pre .0 .rows, pre .0 .session, pre .1, need .find-need .ensures .counted .within, pre .2)
 
 puts-of-requires : tie.Need-puts-of-requires
 puts-of-requires c κs = search needs
