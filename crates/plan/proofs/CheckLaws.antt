@@ -1,23 +1,29 @@
 -- The tests before planning: what the code finds is what they say, and what they say is what is planned. Assumes nothing.
-use Prim.Native.Nat.{ℕ}
+use Prim.Native.Nat.{ℕ, _*_, _/_, _≤_}
 use mathlib.Core.Bool.{Bool, true, false, cond, not}
 use mathlib.Core.List.{List}
 use mathlib.Core.Path.{_≡_, refl, sym, _∙_}
 use native.Mathlib.Omega.{arith}
+use lib.ListN.{length}
 use Rattle.plan_make.specs.Internal.PlanMake.{PlanChecked}
 use Rattle.table_index.specs.Index.{Indexed, indexChecked}
 use Rattle.table_index.proofs.CheckLaws.{checked-table, checked-indexed}
-use Rattle.bloom.specs.Filter.{defaultBits, defaultProbes, SettingGood, pairGood}
 use Rattle.session_check.specs.SessionGood.{sessionGood}
-use Rattle.session.specs.PlanCall.{Buffers, afterTables, planWith, planPassed, planBy, plannedAnswer, plannedRoomed, putInto, plannedLists, PlanCalled}
+use Rattle.session.specs.PlanCall.{Buffers, afterTables, planAfter, plannedAnswer, plannedRoomed, putInto, plannedLists, PlanCalled}
 use Rattle.session.specs.declared.plan_answer.PlanAnswer.the-variants as answer
 use Rattle.rules.specs.declared.refusal.Refusal.{Refusal}
 use Rattle.rules.specs.declared.refusal.Refusal.the-variants.{BadNumbers}
-use Rattle.session.specs.Plan.{Planned, plan}
-use Rattle.session_state.specs.Value.{Lent, stateOf}
+use Rattle.pick.specs.declared.radio.Radio.{Radio}
+use Rattle.plan_count.specs.Internal.PlanCount.{goingOf, foundOf}
+use Rattle.rules.proofs.PassedLaws.{passed-is, after-refused as passed-refused, after-hashes as passed-hashes}
+use Rattle.rules.specs.Hash.{hashesAt}
+use Rattle.rules.specs.Passed.{passedHashes}
+use Rattle.rules.specs.Sizes.{sizes}
+use Rattle.rules.specs.declared.passed.Passed.the-variants as passed
+use Rattle.session.specs.Plan.{Planned, bodyOf, planBody}
+use Rattle.session_state.specs.Session.{State}
+use Rattle.session_state.specs.Value.{Lent}
 use Rattle.session_state.specs.declared.session.Session.{Session}
-use Rattle.settings.proofs.HistoryLaws.{allowed-pair, history}
-use Rattle.settings.specs.Settings.{crateChoice, settingFor}
 use Rattle.settings.specs.declared.choice.Choice.{Choice}
 use Rattle.settings.specs.declared.find.SettingAnswer.{SettingAnswer}
 use Rattle.settings.specs.declared.find.SettingAnswer.the-variants.{Chosen, Refused as Unknown}
@@ -27,9 +33,10 @@ use Rattle.table.specs.Table.{Row}
 use Rattle.table.specs.declared.check.Checked.{Checked as TableChecked}
 use Rattle.table.specs.declared.check.Checked.the-variants as tables
 use Rattle.table.proofs.TableLaws.{table-good}
-use Rattle.waiting.specs.WaitingBytes.{waitingOf, waitingChecked, InOrder}
+use Rattle.waiting.specs.Waiting.{Waiting}
+use Rattle.waiting.specs.WaitingBytes.{waitingChecked, InOrder}
 use Rattle.waiting.specs.WaitingCalls.{tablesChecked}
-use Rattle.plan.specs.Internal.PlanChecks.{besideChecked, besideTable, checkedPlan, ChecksMade, AnswerGood}
+use Rattle.plan.specs.Internal.PlanChecks.{besideChecked, besideTable, checkedPlan, ChecksMade, planOver}
 use Rattle.plan.specs.declared.check.PlanChecks.{PlanChecks}
 use Rattle.plan.specs.declared.check.PlanChecks.the-variants.{Good, Refused}
 
@@ -125,7 +132,7 @@ module _ (s : Session) (l : Lent) (table index waiting order : List ℕ) (n m : 
   unfolding checkedPlan
   parts = good-checks (sessionGood s l) table index waiting n m (sym (made .answer) ∙ good)
 
-  same-rows : tableOf table ≡ rowsAt table 0 n
+  pub same-rows : tableOf table ≡ rowsAt table 0 n
   same-rows = table-good table n (checked-table table index n (parts .1 .0)) .is
 
   pub checked : PlanChecked table index n waiting order m s l
@@ -137,17 +144,15 @@ module _ (s : Session) (l : Lent) (table index waiting order : List ℕ) (n m : 
         session = parts .0;
       }
 
-  -- Tables and a session that are good are planned with, by the setting that was answered.
-  pub good-plans : {a : SettingAnswer} (c : Choice) → a ≡ Chosen c
-      → planBy a s l table index waiting ≡ plan (c .bits) (c .probes) (rowsAt table 0 n) (waitingOf waiting) (stateOf s l)
-  unfolding planBy planWith tablesChecked passedOn afterTables
-  good-plans c e = rw (e, parts .0, parts .1 .0, parts .1 .1, same-rows)
+  -- Tables and a session that are good are planned with.
+  pub good-plans : (p : Planned) → planAfter s l table index waiting p ≡ p
+  unfolding tablesChecked passedOn afterTables
+  good-plans p = rw (parts .0, parts .1 .0, parts .1 .1)
 
-  -- Its refusal comes behind theirs, and leaves the buffers.
-  pub list-refused : {a : SettingAnswer} (r : Refusal) → a ≡ Unknown r → (b : Buffers)
-      → PlanCalled (planBy a s l table index waiting) l l b b (answer.Refused r)
-  unfolding planBy tablesChecked passedOn afterTables
-  list-refused r e b = rw (e, parts .0, parts .1 .0, parts .1 .1) (left l b r)
+  -- A refusal of the setting or of the pick comes behind theirs, and leaves the buffers.
+  pub later-refused : (p : Planned) (r : Refusal) → p ≡ Planned.refused r → (b : Buffers)
+      → PlanCalled (planAfter s l table index waiting p) l l b b (answer.Refused r)
+  later-refused p r e b = rw (good-plans p, e) (left l b r)
 
 module _ (s : Session) (l : Lent) (table index waiting : List ℕ) where
   abbrev plans : Planned → Bool → Planned
@@ -159,39 +164,34 @@ module _ (s : Session) (l : Lent) (table index waiting : List ℕ) where
   refused-plans p false r e = let same : BadNumbers ≡ r = cc in rw same
 
   -- A refusal passes on, and leaves the buffers.
-  pub refused-called : (a : SettingAnswer) (b : Buffers) (r : Refusal) {found : PlanChecks} → found ≡ checkedPlan s l table index waiting → found ≡ Refused r
-      → PlanCalled (planBy a s l table index waiting) l l b b (answer.Refused r)
-  unfolding checkedPlan planBy planWith
-  refused-called (Chosen c) b r is e =
-      rw (refused-plans (plan (c .bits) (c .probes) (tableOf table) (waitingOf waiting) (stateOf s l)) (sessionGood s l) r (sym is ∙ e)) (left l b r)
-  refused-called (Unknown q) b r is e = rw (refused-plans (Planned.refused q) (sessionGood s l) r (sym is ∙ e)) (left l b r)
+  pub refused-called : (p : Planned) (b : Buffers) (r : Refusal) {found : PlanChecks} → found ≡ checkedPlan s l table index waiting → found ≡ Refused r
+      → PlanCalled (planAfter s l table index waiting p) l l b b (answer.Refused r)
+  unfolding checkedPlan
+  refused-called p b r is e = rw (refused-plans p (sessionGood s l) r (sym is ∙ e)) (left l b r)
 
--- ---- bits and probes that are passed, and those of a list
+-- ---- what is planned by the setting and the pick
 
-module _ (bits probes : ℕ) (s : Session) (l : Lent) (table index waiting : List ℕ) where
-  pub passed-bad : pairGood bits probes ≡ false → (b : Buffers) → PlanCalled (planPassed bits probes s l table index waiting) l l b b (answer.Refused BadNumbers)
-  unfolding planPassed
-  passed-bad e b = rw e (left l b BadNumbers)
+module _ (r : Radio) (rowSizes pick : List ℕ) (t : List Row) (w : List Waiting) (s : State) where
+  abbrev said : Choice → ℕ → Planned
+  said c k = planBody (c .bits) (c .probes) t w s (goingOf r (bodyOf t s) (hashesAt pick 0 k)) (foundOf r t (bodyOf t s) rowSizes (hashesAt pick 0 k))
 
-  pub passed-good : pairGood bits probes ≡ true → (t : ℕ)
-      → planPassed bits probes s l table index waiting ≡ planBy (Chosen (record { bits = bits; probes = probes; «read_only» = t })) s l table index waiting
-  unfolding planPassed planBy
-  passed-good e t = rw e
+  pub list-refused : {a : SettingAnswer} (x : Refusal) → a ≡ Unknown x → planOver a r rowSizes pick t w s ≡ Planned.refused x
+  unfolding planOver
+  list-refused x e = rw e
 
--- the crate's choice is 10 and 7
-pub crate-plans : (c : Choice) (s : Session) (l : Lent) (table index waiting : List ℕ) → c ≡ crateChoice
-    → planBy (Chosen c) s l table index waiting ≡ planWith defaultBits defaultProbes s l table index waiting
-unfolding planBy
-crate-plans c s l table index waiting e = rw e
+  pub pick-refused : {a : SettingAnswer} (c : Choice) → a ≡ Chosen c → (x : Refusal) → passedHashes pick ≡ passed.Refused x
+      → planOver a r rowSizes pick t w s ≡ Planned.refused x
+  unfolding planOver
+  pick-refused c e x f = rw e (passed-refused Planned.refused _ (passedHashes pick) x f)
 
-pub chosen-good : (c : Choice) → SettingGood (c .bits) (c .probes) → {a : SettingAnswer} → a ≡ Chosen c → AnswerGood a
-chosen-good c good e =
-    record {
-      each = λ k f.
-          let same : c ≡ k = (let z = sym e ∙ f in cc) in
-          rw same at good;
-    }
+  pub pick-passed : {a : SettingAnswer} (c : Choice) → a ≡ Chosen c → (k : ℕ) → passedHashes pick ≡ passed.Hashes k
+      → planOver a r rowSizes pick t w s
+      ≡ planBody (c .bits) (c .probes) t w s (goingOf r (bodyOf t s) (hashesAt pick 0 (length pick / sizes .hash)))
+      (foundOf r t (bodyOf t s) rowSizes (hashesAt pick 0 (length pick / sizes .hash)))
+  unfolding planOver
+  pick-passed c e k f =
+      let many : k ≡ length pick / sizes .hash = omega (arith, passed-is pick k f .whole) in
+      rw (e, passed-hashes Planned.refused (said c) (passedHashes pick) k f, many)
 
--- what a list answers is allowed
-pub listed-good : (settings : List ℕ) (station version : ℕ) {a : SettingAnswer} → a ≡ settingFor settings station version → AnswerGood a
-listed-good settings station version e = record { each = λ c f. allowed-pair c (history .within settings station version c (sym e ∙ f)) }
+pub pick-short : (pick : List ℕ) (k : ℕ) → passedHashes pick ≡ passed.Hashes k → length pick ≤ sizes .hashes * sizes .hash
+pick-short pick k f = let p = passed-is pick k f in omega (arith, p .whole, p .few)

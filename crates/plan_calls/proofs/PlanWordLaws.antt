@@ -32,6 +32,10 @@ module _ {p : Planned} {session₀ session₁ : List ℕ} {l l′ : Lent} {befor
         buffers = called .buffers;
       }
 
+-- what is planned may be said in other words
+pub called-as : {p q : Planned} {l l′ : Lent} {before after : Buffers} {r : PlanAnswer} → p ≡ q → PlanCalled p l l′ before after r → PlanCalled q l l′ before after r
+called-as e c = rw (← e) c
+
 pub plan-answered-once : {p : Planned} {session t₁ t₂ w₁ w₂ : List ℕ} {l l₁ l₂ : Lent} {before b₁ b₂ : Buffers}
     → PlanAnswered p session t₁ l l₁ before b₁ w₁
     → PlanAnswered p session t₂ l l₂ before b₂ w₂

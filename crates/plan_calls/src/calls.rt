@@ -2,6 +2,9 @@
 use crate::answer::planned_session;
 use crate::answer::planned_words;
 use call_words::words::session_of;
+use pick::radio::Radio;
+use settings::choice::crate_choice;
+use settings::find::SettingAnswer;
 ghost use Rattle.bloom.specs.Filter.{defaultBits, defaultProbes};
 ghost use Rattle.session_check.specs.SessionGood.{lentOf};
 ghost use Rattle.session.specs.PlanCall.{planWith, buffersOf};
@@ -47,6 +50,13 @@ pub extern "C" fn bt_plan(
         (now (answer .exit)) ⌝ }
 {
     let planned = plan::plan::generate_sync_message(
+        SettingAnswer::Chosen(crate_choice()),
+        Radio {
+            limited: false,
+            budget: 0,
+        },
+        &haves[..0],
+        &shared[..0],
         session_of(*session),
         table,
         index,

@@ -2,6 +2,8 @@
 use crate::answer::planned_session;
 use crate::answer::planned_words;
 use call_words::words::session_of;
+use pick::radio::Radio;
+use settings::find::setting_at;
 ghost use Rattle.session_check.specs.SessionGood.{lentOf};
 ghost use Rattle.session.specs.PlanCall.{planSettled, buffersOf};
 ghost use Rattle.call_words.specs.SessionWords.{sessionOf};
@@ -44,10 +46,14 @@ pub extern "C" fn bt_plan_settled(
         (buffersOf (now (heads .exit)) (now (need .exit)) (now (have .exit)) (now (list .exit)))
         (now (answer .exit)) ⌝ }
 {
-    let planned = plan::plan::plan_settled(
-        settings,
-        station,
-        version,
+    let planned = plan::plan::generate_sync_message(
+        setting_at(settings, station, version),
+        Radio {
+            limited: false,
+            budget: 0,
+        },
+        &haves[..0],
+        &shared[..0],
         session_of(*session),
         table,
         index,

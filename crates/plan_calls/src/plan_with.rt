@@ -1,7 +1,13 @@
 // A plan with bits and probes that are passed.
 use crate::answer::planned_session;
 use crate::answer::planned_words;
+use bloom::setting::pair_good;
 use call_words::words::session_of;
+use pick::radio::Radio;
+use rules::refusal::Refusal;
+use session::plan_answer::PlanAnswer;
+use settings::choice::Choice;
+use settings::find::SettingAnswer;
 ghost use Rattle.session_check.specs.SessionGood.{lentOf};
 ghost use Rattle.session.specs.PlanCall.{planPassed, buffersOf};
 ghost use Rattle.call_words.specs.SessionWords.{sessionOf};
@@ -43,9 +49,23 @@ pub extern "C" fn bt_plan_with(
         (buffersOf (now (heads .exit)) (now (need .exit)) (now (have .exit)) (now (list .exit)))
         (now (answer .exit)) ⌝ }
 {
-    let planned = plan::plan::plan_with(
+    if !pair_good(bits, probes) {
+        *answer = planned_words(PlanAnswer::Refused(Refusal::BadNumbers));
+        return;
+    }
+    let choice = Choice {
         bits,
         probes,
+        read_only: 0,
+    };
+    let planned = plan::plan::generate_sync_message(
+        SettingAnswer::Chosen(choice),
+        Radio {
+            limited: false,
+            budget: 0,
+        },
+        &haves[..0],
+        &shared[..0],
         session_of(*session),
         table,
         index,
