@@ -68,13 +68,13 @@ single-sound t list rowSizes budget h e =
 
 -- ---- the parts of a hash that fits
 
-pub record Fits (t : List Row) (list pick : List ℕ) (from h : ℕ) : Type 0 where
+pub record FittingHash (t : List Row) (list pick : List ℕ) (from h : ℕ) : Type 0 where
   pub held-there : held t h ≡ true
   pub listed : member h list ≡ true
   pub behind : from ≤ rowNumber t h
   pub with-it : goesWith t list pick h ≡ true
 
-pub fits-has : (t : List Row) (list pick : List ℕ) (from h : ℕ) → hashFits t list pick from h ≡ true → Fits t list pick from h
+pub fits-has : (t : List Row) (list pick : List ℕ) (from h : ℕ) → hashFits t list pick from h ≡ true → FittingHash t list pick from h
 unfolding hashFits
 fits-has t list pick from h e =
     let a = both _ _ e in
@@ -82,7 +82,7 @@ fits-has t list pick from h e =
     let c = both _ _ (a .1) in
     record { held-there = b .0; listed = b .1; behind = leb-true from (rowNumber t h) (c .0); with-it = c .1 }
 
-pub has-fits : (t : List Row) (list pick : List ℕ) (from h : ℕ) → Fits t list pick from h → hashFits t list pick from h ≡ true
+pub has-fits : (t : List Row) (list pick : List ℕ) (from h : ℕ) → FittingHash t list pick from h → hashFits t list pick from h ≡ true
 unfolding hashFits
 has-fits t list pick from h f = rw (f .held-there, f .listed, le-leb from (rowNumber t h) (f .behind), f .with-it)
 
@@ -95,7 +95,7 @@ module _ (t : List Row) (list pick : List ℕ) where
   -- each hash fits, one behind the other
   unfoldable pub AllFits : ℕ → List ℕ → Type 0
   AllFits from [] = Unit {0}
-  AllFits from (h ∷ hs) = Fits t list pick from h × AllFits (suc (rn h)) hs
+  AllFits from (h ∷ hs) = FittingHash t list pick from h × AllFits (suc (rn h)) hs
 
   broken-first : (from p h : ℕ) (hs : List ℕ) → hashFits t list pick from h ≡ false → firstBroken t list pick from p (h ∷ hs) ≡ p
   unfolding firstBroken
@@ -245,7 +245,7 @@ order-ascends f (x ∷ l) o =
 
 fits-made : (t : List Row) (list pick : List ℕ) (from : ℕ) (hs : List ℕ) → ascends (map (rowNumber t) hs) ≡ true
     → ((h : ℕ) → member h hs ≡ true → from ≤ rowNumber t h)
-    → ((h : ℕ) → member h hs ≡ true → Fits t list pick 0 h)
+    → ((h : ℕ) → member h hs ≡ true → FittingHash t list pick 0 h)
     → AllFits t list pick from hs
 unfolding AllFits
 fits-made t list pick from [] a f s = tt

@@ -118,7 +118,7 @@ unfolding pickedFrom
 no-more t list rowSizes i c left before e = rw e
 
 -- The loop's state before row i: what was picked, as marks and counted, and what follows from here is the whole pick.
-pub record Planned (s : List ℕ) (n : ℕ) (rowSizes : List ℕ) (budget : ℕ) (listed first picks : List Bool) (left count i : ℕ) : Type 0 where
+pub record PickedSoFar (s : List ℕ) (n : ℕ) (rowSizes : List ℕ) (budget : ℕ) (listed first picks : List Bool) (left count i : ℕ) : Type 0 where
   pub upto : i ≤ n
   pub long : length picks ≡ length first
   pub blank : (k : ℕ) → i ≤ k → k < n → getD picks k false ≡ false
@@ -135,7 +135,7 @@ module _ (s : List ℕ) (n : ℕ) (rowSizes : List ℕ) (budget : ℕ) (listed :
   long-rows : length (rows t) ≡ n
   long-rows = length-rows t ∙ length-rows-at s 0 n
 
-  pub planned-starts : (first : List Bool) → Blank n first → Planned s n rowSizes budget listed first first budget 0 0
+  pub planned-starts : (first : List Bool) → Blank n first → PickedSoFar s n rowSizes budget listed first first budget 0 0
   unfolding pickUpTo pickOf
   planned-starts first b =
       record {
@@ -150,7 +150,7 @@ module _ (s : List ℕ) (n : ℕ) (rowSizes : List ℕ) (budget : ℕ) (listed :
             rw (e, length-rows-at s 0 n);
       }
 
-  module _ (g : GoodRows s n) (first picks : List Bool) (left count i : ℕ) (w : Planned s n rowSizes budget listed first picks left count i) (inside : i < n) where
+  module _ (g : GoodRows s n) (first picks : List Bool) (left count i : ℕ) (w : PickedSoFar s n rowSizes budget listed first picks left count i) (inside : i < n) where
     tells : (list : List ℕ) → RowMarks s n list listed
         → rowGoes s listed picks (getD rowSizes i 0) left i ≡ goesNow t list rowSizes left (pickUpTo (rows t) picks i) i
     unfolding hashOf
@@ -175,7 +175,7 @@ module _ (s : List ℕ) (n : ℕ) (rowSizes : List ℕ) (budget : ℕ) (listed :
         let d : n - i ≡ suc (n - (i + 1)) = omega arith in
         rw (d, e, add-one i)
 
-    pub planned-stays : rowGoes s listed picks (getD rowSizes i 0) left i ≡ false → Planned s n rowSizes budget listed first picks left count (i + 1)
+    pub planned-stays : rowGoes s listed picks (getD rowSizes i 0) left i ≡ false → PickedSoFar s n rowSizes budget listed first picks left count (i + 1)
     planned-stays e =
         let same : pickUpTo (rows t) picks (i + 1) ≡ pickUpTo (rows t) picks i =
         rw (add-one i) (up-to-passed (rows t) picks i (w .blank i (omega arith) inside)) in
@@ -189,7 +189,7 @@ module _ (s : List ℕ) (n : ℕ) (rowSizes : List ℕ) (budget : ℕ) (listed :
         }
 
     pub planned-takes : i < length picks → rowGoes s listed picks (getD rowSizes i 0) left i ≡ true
-        → Planned s n rowSizes budget listed first (set picks i true) (left - getD rowSizes i 0) (count + 1) (i + 1)
+        → PickedSoFar s n rowSizes budget listed first (set picks i true) (left - getD rowSizes i 0) (count + 1) (i + 1)
     unfolding hashOf
     planned-takes room e =
         let now-set : getD (set picks i true) i false ≡ true = getD-set-same picks i true false room in
@@ -211,7 +211,7 @@ module _ (s : List ℕ) (n : ℕ) (rowSizes : List ℕ) (budget : ℕ) (listed :
           rest = λ list marks. rw more (sym (goes-on list (pickUpTo (rows t) picks i) (sym (tells list marks) ∙ e)) ∙ w .rest list marks);
         }
 
-  pub planned-ends : (first picks : List Bool) (left count i : ℕ) → Planned s n rowSizes budget listed first picks left count i → n ≤ i
+  pub planned-ends : (first picks : List Bool) (left count i : ℕ) → PickedSoFar s n rowSizes budget listed first picks left count i → n ≤ i
       → (list : List ℕ) → RowMarks s n list listed
       → MarksPicked s n rowSizes budget list picks count
   planned-ends first picks left count i w h list marks =
