@@ -3,7 +3,7 @@
 use Prim.Native.Nat.{ℕ, zero, suc, _+_, _≤_, _<_}
 use mathlib.Core.Bool.{Bool, true, false, cond, not, _&&_, _||_}
 use mathlib.Core.List.{List, [], _∷_, map}
-use mathlib.Core.Path.{_≡_, refl, sym, ap, _∙_}
+use mathlib.Core.Path.{_≡_, refl, ap, _∙_}
 use native.Mathlib.Omega.{arith}
 use borrow.Author.Tests.{eqb-true, eq-eqb, not-true, not-false, ltb-false, le-ltb, leb-true, le-leb}
 use lib.Dec.{ltb, leb, eqb}
@@ -52,18 +52,22 @@ single-fits t list rowSizes budget h held-h listed free small =
     rw (held-h, listed, le-leb 0 (rowNumber t h) (omega arith), rest) (le-leb (getD rowSizes (rowNumber t h) 0 + 0) budget (omega arith))
 
 -- and what fits is so
-pub single-small : (t : List Row) (list rowSizes : List ℕ) (budget h : ℕ) → pickFits t list rowSizes budget (h ∷ []) ≡ true → getD rowSizes (rowNumber t h) 0 ≤ budget
+pub single-small : (t : List Row) (list rowSizes : List ℕ) (budget h : ℕ) → pickFits t list rowSizes budget (h ∷ []) ≡ true
+    → getD rowSizes (rowNumber t h) 0 ≤ budget
 unfolding pickFits sizeSum
 single-small t list rowSizes budget h e =
-    let z : getD rowSizes (rowNumber t h) 0 + 0 ≤ budget = leb-true _ budget (both (eqb (firstBroken t list (h ∷ []) 0 0 (h ∷ [])) 1) (leb (getD rowSizes (rowNumber t h) 0 + 0) budget) e .1) in
+    let z : getD rowSizes (rowNumber t h) 0 + 0 ≤ budget =
+    leb-true _ budget (both (eqb (firstBroken t list (h ∷ []) 0 0 (h ∷ [])) 1) (leb (getD rowSizes (rowNumber t h) 0 + 0) budget) e .1) in
     omega arith
 
-pub single-sound : (t : List Row) (list rowSizes : List ℕ) (budget h : ℕ) → pickFits t list rowSizes budget (h ∷ []) ≡ true → hashFits t list (h ∷ []) 0 h ≡ true
+pub single-sound : (t : List Row) (list rowSizes : List ℕ) (budget h : ℕ) → pickFits t list rowSizes budget (h ∷ []) ≡ true
+    → hashFits t list (h ∷ []) 0 h ≡ true
 unfolding pickFits firstBroken
 single-sound t list rowSizes budget h e =
     split (hashFits t list (h ∷ []) 0 h) (λ x. x)
     (λ x.
-    let z : eqb (cond (not (hashFits t list (h ∷ []) 0 h)) 0 1) 1 ≡ true = both (eqb (cond (not (hashFits t list (h ∷ []) 0 h)) 0 1) 1) (leb (sizeSum t rowSizes (h ∷ [])) budget) e .0 in
+    let z : eqb (cond (not (hashFits t list (h ∷ []) 0 h)) 0 1) 1 ≡ true =
+    both (eqb (cond (not (hashFits t list (h ∷ []) 0 h)) 0 1) 1) (leb (sizeSum t rowSizes (h ∷ [])) budget) e .0 in
     absurd (let y : _≡_ {A = ℕ} 0 1 = eqb-true 0 1 (rw x at z) in omega arith))
 
 -- ---- the parts of a hash that fits
@@ -111,7 +115,10 @@ module _ (t : List Row) (list pick : List ℕ) where
   unbroken-fits from p [] e = tt
   unbroken-fits from p (h ∷ hs) e =
       split (hashFits t list pick from h)
-      (λ x. (fits-has t list pick from h x, unbroken-fits (suc (rn h)) (suc p) hs (let z = broken-on from p h hs x in let l : length (h ∷ hs) ≡ suc (length hs) = refl in omega arith)))
+      (λ x.
+      let on = broken-on from p h hs x in
+      let l : length (h ∷ hs) ≡ suc (length hs) = refl in
+      (fits-has t list pick from h x, unbroken-fits (suc (rn h)) (suc p) hs (omega arith)))
       (λ x. absurd (let z = broken-first from p h hs x in let l : length (h ∷ hs) ≡ suc (length hs) = refl in omega arith))
 
   pub fits-unbroken : (from p : ℕ) (hs : List ℕ) → AllFits from hs → firstBroken t list pick from p hs ≡ p + length hs
@@ -269,7 +276,8 @@ check-tells t list rowSizes budget pick = (tells, told)
           listed = λ h m. (fits-parts t list pick 0 pick (a .fits) h m .0, fits-listed t list pick 0 pick (a .fits) h m);
           ordered =
               λ i j l k.
-              let s = ascends-index (map (rowNumber t) pick) i j (fits-ascend t list pick 0 pick (a .fits)) l (let z = length-map pick (rowNumber t) in omega arith) in
+              let long = length-map pick (rowNumber t) in
+              let s = ascends-index (map (rowNumber t) pick) i j (fits-ascend t list pick 0 pick (a .fits)) l (omega arith) in
               let x = map-at (rowNumber t) pick i (omega arith) in
               let y = map-at (rowNumber t) pick j k in
               omega arith;

@@ -6,7 +6,7 @@ use mathlib.Core.List.{List, map}
 use mathlib.Core.Path.{_≡_, refl, sym, ap, _∙_}
 use native.Mathlib.Omega.{arith}
 use borrow.Author.Tests.{lt-ltb, le-ltb, leb-true}
-use lib.Dec.{ltb, leb}
+use lib.Dec.{leb}
 use lib.ListN.{length, getD, drop}
 use Rattle.hash_order.proofs.KeepLaws.{every-member, every-one}
 use Rattle.hash_order.specs.Order.{member, every}
@@ -25,12 +25,12 @@ use Rattle.table.proofs.TableLaws.{
   index-of-unknown,
   numberPlace,
 }
-use Rattle.table.specs.Table.{Row, rows, hashOf, depsOf, rowNumber, indexIn, held, deps}
+use Rattle.table.specs.Table.{Row, rows, hashOf, rowNumber, indexIn, held, deps}
 use Rattle.table.specs.TableBytes.{depCount, usedAt, rowsAt, GoodRows}
 use Rattle.table_graph.proofs.BelowLaws.{member-map, map-member}
 use Rattle.table_graph.proofs.MarkLaws.{numbers-more, numbers-none}
 use Rattle.table_graph.proofs.PickLaws.{rows-marked, rows-where}
-use Rattle.table_graph.specs.Internal.Marks.{Marks, Blank, picked}
+use Rattle.table_graph.specs.Internal.Marks.{Blank, picked}
 use Rattle.pick.specs.Internal.PickMarks.{RowMarks, markedGo, rowMayGo, rowGoes}
 use Rattle.pick.specs.Picking.{goesWith, hashFits, goesNow}
 

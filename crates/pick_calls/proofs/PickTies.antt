@@ -21,7 +21,8 @@ pub pick-tied : Ties of-bt-pick.ended of-bt-pick.Reads.Post PickTied
 pick-tied κs a x u p = p
 
 -- bt_check_pick: seven arguments, of which it changes the last.
-abbrev pub CheckPickTied : (κs : Lfts (of-bt-check-pick.ended .signature .lifetimes)) → Args (of-bt-check-pick.ended .signature) κs → AtExit of-bt-check-pick.ended κs → Type 0
+abbrev pub CheckPickTied : (κs : Lfts (of-bt-check-pick.ended .signature .lifetimes)) → Args (of-bt-check-pick.ended .signature) κs
+    → AtExit of-bt-check-pick.ended κs → Type 0
 CheckPickTied κs (table, (index, (list, (row-sizes, (budget, (pick, (answer, _))))))) (_, (_, (_, (_, (_, (_, (answer′, _))))))) =
     now answer′ ≡ pickWords (checkAnswer (now table) (now index) (now list) (now row-sizes) budget (now pick))
 
