@@ -1,4 +1,4 @@
--- Calls over tables, the hashes to send, settings, counts, and tables that are salvaged. Each contract is an equation, or one for each thing that it speaks of. Assumes nothing.
+-- Calls over tables, the hashes to send, settings, counts, tables that are salvaged, and picks. Each contract is an equation, or one for each thing that it speaks of. Assumes nothing.
 use mathlib.Core.Path.{refl}
 use Rattle.one_answer.specs.Tables.{TablesBind}
 use Rattle.one_answer.proofs.Once.{once, joined, skip}
@@ -26,4 +26,6 @@ tables-bind =
       count-capture = λ κs a x y u v p q. (once p q, refl);
       add-counts = λ κs a x y u v p q. (once p q, refl);
       salvage-table = λ κs a x y u v p q. (once (p .answer) (q .answer), skip (joined (once (p .table) (q .table)) (joined (once (p .told) (q .told)) refl)));
+      check-pick = λ κs a x y u v p q. (once p q, refl);
+      pick = λ κs a x y u v p q. (once (p .answer) (q .answer), skip (skip (skip (skip (skip (joined (once (p .content) (q .content)) refl))))));
     }

@@ -7,6 +7,7 @@ pub wire-bind : WireBind
 wire-bind =
     record {
       passed-hashes = λ κs a x y u v p q. (once p q, refl);
+      passed-up-to = λ κs a x y u v p q. (once p q, refl);
       number = λ κs a x y u v p q. (once p q, refl);
       value = λ κs a x y u v p q. (once p q, refl);
       limits = λ κs a x y u v p q. (once p q, refl);

@@ -43,6 +43,9 @@ use Rattle.counts_calls.proofs.answer.totals_of as of-totals-of
 use Rattle.counts_calls.proofs.answer.totals_after as of-totals-after
 use Rattle.salvage_calls.proofs.calls.bt_salvage as of-bt-salvage
 use Rattle.salvage_calls.proofs.answer.salvage_words as of-salvage-words
+use Rattle.pick_calls.proofs.calls.bt_check_pick as of-bt-check-pick
+use Rattle.pick_calls.proofs.calls.bt_pick as of-bt-pick
+use Rattle.pick_calls.proofs.answer.pick_words as of-pick-words
 use Rattle.state_calls.proofs.calls.bt_fresh as of-bt-fresh
 use Rattle.state_calls.proofs.calls.bt_fresh_read_only as of-bt-fresh-read-only
 use Rattle.state_calls.proofs.calls.bt_set_read_only as of-bt-set-read-only
@@ -123,6 +126,10 @@ pub record ExportedBind : Type 0 where
   -- the crate salvage_calls
   pub bt-salvage : Binds of-bt-salvage.ended of-bt-salvage.Reads.Post
   pub salvage-words : Binds of-salvage-words.ended of-salvage-words.Reads.Post
+  -- the crate pick_calls
+  pub bt-pick : Binds of-bt-pick.ended of-bt-pick.Reads.Post
+  pub bt-check-pick : Binds of-bt-check-pick.ended of-bt-check-pick.Reads.Post
+  pub pick-words : Binds of-pick-words.ended of-pick-words.Reads.Post
   -- the crate state_calls
   pub bt-fresh : Binds of-bt-fresh.ended of-bt-fresh.Reads.Post
   pub bt-fresh-read-only : Binds of-bt-fresh-read-only.ended of-bt-fresh-read-only.Reads.Post

@@ -1,4 +1,4 @@
--- Calls over tables, the hashes to send, settings, counts, and tables that are salvaged. 01, How tightly the statements bind.
+-- Calls over tables, the hashes to send, settings, counts, tables that are salvaged, and picks. 01, How tightly the statements bind.
 use Rattle.one_answer.specs.Binds.{Binds}
 use Rattle.table_check.proofs.check.check_alone as of-check-alone
 use Rattle.table_check.proofs.check.check_indexed as of-check-indexed
@@ -9,6 +9,8 @@ use Rattle.table_convert.proofs.convert.narrow_rows as of-narrow-rows
 use Rattle.counts.proofs.count.count_capture as of-count-capture
 use Rattle.counts.proofs.totals.add_counts as of-add-counts
 use Rattle.salvage.proofs.salvage.salvage_table as of-salvage-table
+use Rattle.pick.proofs.check.check_pick as of-check-pick
+use Rattle.pick.proofs.pick.pick as of-pick
 use Rattle.settings.proofs.append.append_setting as of-append-setting
 use Rattle.settings.proofs.check.check_settings as of-check-settings
 use Rattle.settings.proofs.choice.allowed as of-allowed
@@ -21,7 +23,7 @@ use Rattle.waiting_missing.proofs.missing.missing as of-missing
 use Rattle.send.proofs.to_send.get_hashes_to_send as of-get-hashes-to-send
 use Rattle.send_records.proofs.summary.summary_in as of-summary-in
 
--- Tables, their index, what waits, what is computed over them, settings, counts, and tables that are salvaged.
+-- Tables, their index, what waits, what is computed over them, settings, counts, tables that are salvaged, and picks.
 pub record TablesBind : Type 0 where
   -- the crate table_check
   pub check-alone : Binds of-check-alone.ended of-check-alone.Reads.Post
@@ -54,3 +56,6 @@ pub record TablesBind : Type 0 where
   pub add-counts : Binds of-add-counts.ended of-add-counts.Reads.Post
   -- the crate salvage
   pub salvage-table : Binds of-salvage-table.ended of-salvage-table.Reads.Post
+  -- the crate pick
+  pub check-pick : Binds of-check-pick.ended of-check-pick.Reads.Post
+  pub pick : Binds of-pick.ended of-pick.Reads.Post

@@ -1,6 +1,7 @@
 -- Calls that read and write items, and those of filters. 01, How tightly the statements bind.
 use Rattle.one_answer.specs.Binds.{Binds}
 use Rattle.rules.proofs.passed.passed_hashes as of-passed-hashes
+use Rattle.rules.proofs.passed.passed_up_to as of-passed-up-to
 use Rattle.rules.proofs.refusal.Refusal.number as of-number
 use Rattle.rules.proofs.refusal.Refusal.value as of-value
 use Rattle.rules.proofs.sizes.limits as of-limits
@@ -34,6 +35,7 @@ use Rattle.bloom_probe.proofs.probes.count as of-count
 pub record WireBind : Type 0 where
   -- the crate rules
   pub passed-hashes : Binds of-passed-hashes.ended of-passed-hashes.Reads.Post
+  pub passed-up-to : Binds of-passed-up-to.ended of-passed-up-to.Reads.Post
   pub number : Binds of-number.ended of-number.Reads.Post
   pub value : Binds of-value.ended of-value.Reads.Post
   pub limits : Binds of-limits.ended of-limits.Reads.Post

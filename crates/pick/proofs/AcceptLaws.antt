@@ -3,7 +3,7 @@
 use Prim.Native.Nat.{ℕ, zero, suc, _+_, _≤_, _<_}
 use mathlib.Core.Bool.{Bool, true, false, cond, not, _&&_, _||_}
 use mathlib.Core.List.{List, [], _∷_, map}
-use mathlib.Core.Path.{_≡_, refl, sym, ap, _∙_}
+use mathlib.Core.Path.{_≡_, refl, ap, _∙_}
 use native.Mathlib.Omega.{arith}
 use borrow.Author.Tests.{eqb-true, eq-eqb, not-true, not-false, ltb-false, le-ltb, leb-true, le-leb}
 use lib.Dec.{ltb, leb, eqb}
@@ -52,29 +52,33 @@ single-fits t list rowSizes budget h held-h listed free small =
     rw (held-h, listed, le-leb 0 (rowNumber t h) (omega arith), rest) (le-leb (getD rowSizes (rowNumber t h) 0 + 0) budget (omega arith))
 
 -- and what fits is so
-pub single-small : (t : List Row) (list rowSizes : List ℕ) (budget h : ℕ) → pickFits t list rowSizes budget (h ∷ []) ≡ true → getD rowSizes (rowNumber t h) 0 ≤ budget
+pub single-small : (t : List Row) (list rowSizes : List ℕ) (budget h : ℕ) → pickFits t list rowSizes budget (h ∷ []) ≡ true
+    → getD rowSizes (rowNumber t h) 0 ≤ budget
 unfolding pickFits sizeSum
 single-small t list rowSizes budget h e =
-    let z : getD rowSizes (rowNumber t h) 0 + 0 ≤ budget = leb-true _ budget (both (eqb (firstBroken t list (h ∷ []) 0 0 (h ∷ [])) 1) (leb (getD rowSizes (rowNumber t h) 0 + 0) budget) e .1) in
+    let z : getD rowSizes (rowNumber t h) 0 + 0 ≤ budget =
+    leb-true _ budget (both (eqb (firstBroken t list (h ∷ []) 0 0 (h ∷ [])) 1) (leb (getD rowSizes (rowNumber t h) 0 + 0) budget) e .1) in
     omega arith
 
-pub single-sound : (t : List Row) (list rowSizes : List ℕ) (budget h : ℕ) → pickFits t list rowSizes budget (h ∷ []) ≡ true → hashFits t list (h ∷ []) 0 h ≡ true
+pub single-sound : (t : List Row) (list rowSizes : List ℕ) (budget h : ℕ) → pickFits t list rowSizes budget (h ∷ []) ≡ true
+    → hashFits t list (h ∷ []) 0 h ≡ true
 unfolding pickFits firstBroken
 single-sound t list rowSizes budget h e =
     split (hashFits t list (h ∷ []) 0 h) (λ x. x)
     (λ x.
-    let z : eqb (cond (not (hashFits t list (h ∷ []) 0 h)) 0 1) 1 ≡ true = both (eqb (cond (not (hashFits t list (h ∷ []) 0 h)) 0 1) 1) (leb (sizeSum t rowSizes (h ∷ [])) budget) e .0 in
+    let z : eqb (cond (not (hashFits t list (h ∷ []) 0 h)) 0 1) 1 ≡ true =
+    both (eqb (cond (not (hashFits t list (h ∷ []) 0 h)) 0 1) 1) (leb (sizeSum t rowSizes (h ∷ [])) budget) e .0 in
     absurd (let y : _≡_ {A = ℕ} 0 1 = eqb-true 0 1 (rw x at z) in omega arith))
 
 -- ---- the parts of a hash that fits
 
-pub record Fits (t : List Row) (list pick : List ℕ) (from h : ℕ) : Type 0 where
+pub record FittingHash (t : List Row) (list pick : List ℕ) (from h : ℕ) : Type 0 where
   pub held-there : held t h ≡ true
   pub listed : member h list ≡ true
   pub behind : from ≤ rowNumber t h
   pub with-it : goesWith t list pick h ≡ true
 
-pub fits-has : (t : List Row) (list pick : List ℕ) (from h : ℕ) → hashFits t list pick from h ≡ true → Fits t list pick from h
+pub fits-has : (t : List Row) (list pick : List ℕ) (from h : ℕ) → hashFits t list pick from h ≡ true → FittingHash t list pick from h
 unfolding hashFits
 fits-has t list pick from h e =
     let a = both _ _ e in
@@ -82,7 +86,7 @@ fits-has t list pick from h e =
     let c = both _ _ (a .1) in
     record { held-there = b .0; listed = b .1; behind = leb-true from (rowNumber t h) (c .0); with-it = c .1 }
 
-pub has-fits : (t : List Row) (list pick : List ℕ) (from h : ℕ) → Fits t list pick from h → hashFits t list pick from h ≡ true
+pub has-fits : (t : List Row) (list pick : List ℕ) (from h : ℕ) → FittingHash t list pick from h → hashFits t list pick from h ≡ true
 unfolding hashFits
 has-fits t list pick from h f = rw (f .held-there, f .listed, le-leb from (rowNumber t h) (f .behind), f .with-it)
 
@@ -95,7 +99,7 @@ module _ (t : List Row) (list pick : List ℕ) where
   -- each hash fits, one behind the other
   unfoldable pub AllFits : ℕ → List ℕ → Type 0
   AllFits from [] = Unit {0}
-  AllFits from (h ∷ hs) = Fits t list pick from h × AllFits (suc (rn h)) hs
+  AllFits from (h ∷ hs) = FittingHash t list pick from h × AllFits (suc (rn h)) hs
 
   broken-first : (from p h : ℕ) (hs : List ℕ) → hashFits t list pick from h ≡ false → firstBroken t list pick from p (h ∷ hs) ≡ p
   unfolding firstBroken
@@ -111,7 +115,10 @@ module _ (t : List Row) (list pick : List ℕ) where
   unbroken-fits from p [] e = tt
   unbroken-fits from p (h ∷ hs) e =
       split (hashFits t list pick from h)
-      (λ x. (fits-has t list pick from h x, unbroken-fits (suc (rn h)) (suc p) hs (let z = broken-on from p h hs x in let l : length (h ∷ hs) ≡ suc (length hs) = refl in omega arith)))
+      (λ x.
+      let on = broken-on from p h hs x in
+      let l : length (h ∷ hs) ≡ suc (length hs) = refl in
+      (fits-has t list pick from h x, unbroken-fits (suc (rn h)) (suc p) hs (omega arith)))
       (λ x. absurd (let z = broken-first from p h hs x in let l : length (h ∷ hs) ≡ suc (length hs) = refl in omega arith))
 
   pub fits-unbroken : (from p : ℕ) (hs : List ℕ) → AllFits from hs → firstBroken t list pick from p hs ≡ p + length hs
@@ -245,7 +252,7 @@ order-ascends f (x ∷ l) o =
 
 fits-made : (t : List Row) (list pick : List ℕ) (from : ℕ) (hs : List ℕ) → ascends (map (rowNumber t) hs) ≡ true
     → ((h : ℕ) → member h hs ≡ true → from ≤ rowNumber t h)
-    → ((h : ℕ) → member h hs ≡ true → Fits t list pick 0 h)
+    → ((h : ℕ) → member h hs ≡ true → FittingHash t list pick 0 h)
     → AllFits t list pick from hs
 unfolding AllFits
 fits-made t list pick from [] a f s = tt
@@ -269,7 +276,8 @@ check-tells t list rowSizes budget pick = (tells, told)
           listed = λ h m. (fits-parts t list pick 0 pick (a .fits) h m .0, fits-listed t list pick 0 pick (a .fits) h m);
           ordered =
               λ i j l k.
-              let s = ascends-index (map (rowNumber t) pick) i j (fits-ascend t list pick 0 pick (a .fits)) l (let z = length-map pick (rowNumber t) in omega arith) in
+              let long = length-map pick (rowNumber t) in
+              let s = ascends-index (map (rowNumber t) pick) i j (fits-ascend t list pick 0 pick (a .fits)) l (omega arith) in
               let x = map-at (rowNumber t) pick i (omega arith) in
               let y = map-at (rowNumber t) pick j k in
               omega arith;

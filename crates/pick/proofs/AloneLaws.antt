@@ -3,7 +3,6 @@ use Prim.Native.Nat.{ℕ, _+_, _≤_, _<_}
 use mathlib.Core.Bool.{Bool, true, false, not, _&&_, _||_}
 use mathlib.Core.List.{List, [], _∷_}
 use mathlib.Core.Path.{_≡_, refl, sym, ap, subst, _∙_}
-use native.Mathlib.Numerals.{add-one}
 use native.Mathlib.Omega.{arith}
 use borrow.Author.Tests.{leb-true, not-true}
 use lib.Dec.{leb}
@@ -14,7 +13,7 @@ use Rattle.hash_order.proofs.ReachLaws.{below-suc}
 use Rattle.hash_order.specs.Order.{member, every}
 use Rattle.rules.proofs.Cases.{split, both, true-false, either}
 use Rattle.table.proofs.TableLaws.{held-row, number-of-row, row-of-held, hash-of-held, length-rows-at}
-use Rattle.table.specs.Table.{Row, GoodTable, hashOf, rowNumber, held, deps}
+use Rattle.table.specs.Table.{Row, GoodTable, hashOf, rowNumber, deps}
 use Rattle.table.specs.TableBytes.{rowsAt, GoodRows}
 use Rattle.table_graph.specs.Internal.Marks.{Blank}
 use Rattle.pick.specs.Internal.PickMarks.{RowMarks, rowGoes}
@@ -91,7 +90,8 @@ module _ (s : List ℕ) (n : ℕ) (g : GoodRows s n) (rowSizes : List ℕ) (budg
       before k l = blank .each k (omega arith)
 
   module _ (i : ℕ) (inside : i < n) where
-    pub none-next : rowGoes s listed none (getD rowSizes i 0) budget i ≡ false → NoneGoes s n rowSizes budget listed i → NoneGoes s n rowSizes budget listed (i + 1)
+    pub none-next : rowGoes s listed none (getD rowSizes i 0) budget i ≡ false → NoneGoes s n rowSizes budget listed i
+        → NoneGoes s n rowSizes budget listed (i + 1)
     unfolding NoneGoes
     none-next e before list marks j h =
         below-suc (λ j. goesNow (rowsAt s 0 n) list rowSizes budget [] j ≡ false) i (before list marks) (sym (tells i inside list marks) ∙ e) j

@@ -6,7 +6,7 @@ use mathlib.Core.List.{List, map}
 use mathlib.Core.Path.{_≡_, refl, sym, ap, _∙_}
 use native.Mathlib.Omega.{arith}
 use borrow.Author.Tests.{lt-ltb, le-ltb, leb-true}
-use lib.Dec.{ltb, leb}
+use lib.Dec.{leb}
 use lib.ListN.{length, getD, drop}
 use Rattle.hash_order.proofs.KeepLaws.{every-member, every-one}
 use Rattle.hash_order.specs.Order.{member, every}
@@ -25,13 +25,13 @@ use Rattle.table.proofs.TableLaws.{
   index-of-unknown,
   numberPlace,
 }
-use Rattle.table.specs.Table.{Row, rows, hashOf, depsOf, rowNumber, indexIn, held, deps}
+use Rattle.table.specs.Table.{Row, rows, hashOf, rowNumber, indexIn, held, deps}
 use Rattle.table.specs.TableBytes.{depCount, usedAt, rowsAt, GoodRows}
 use Rattle.table_graph.proofs.BelowLaws.{member-map, map-member}
 use Rattle.table_graph.proofs.MarkLaws.{numbers-more, numbers-none}
 use Rattle.table_graph.proofs.PickLaws.{rows-marked, rows-where}
-use Rattle.table_graph.specs.Internal.Marks.{Marks, Blank, picked}
-use Rattle.pick.specs.Internal.PickMarks.{RowMarks, markedGo, rowFits, rowGoes}
+use Rattle.table_graph.specs.Internal.Marks.{Blank, picked}
+use Rattle.pick.specs.Internal.PickMarks.{RowMarks, markedGo, rowMayGo, rowGoes}
 use Rattle.pick.specs.Picking.{goesWith, hashFits, goesNow}
 
 -- ---- the numbers of a row, from the j-th on
@@ -64,21 +64,21 @@ module _ (s : List ℕ) (i count : ℕ) (listed picks : List Bool) (c : count �
 -- ---- the tests of a row, each as it comes
 
 module _ (s : List ℕ) (n : ℕ) (listed picks : List Bool) (from row : ℕ) where
-  pub fits-past : n ≤ row → false ≡ rowFits s n listed picks from row
-  unfolding rowFits
+  pub fits-past : n ≤ row → false ≡ rowMayGo s n listed picks from row
+  unfolding rowMayGo
   fits-past h = rw (le-ltb row n h)
 
-  pub fits-unlisted : row < n → getD listed row false ≡ false → false ≡ rowFits s n listed picks from row
-  unfolding rowFits
+  pub fits-unlisted : row < n → getD listed row false ≡ false → false ≡ rowMayGo s n listed picks from row
+  unfolding rowMayGo
   fits-unlisted h e = rw (lt-ltb row n h, e)
 
   module _ (inside : row < n) (e : getD listed row false ≡ true) where
-    pub fits-early : leb from row ≡ false → false ≡ rowFits s n listed picks from row
-    unfolding rowFits
+    pub fits-early : leb from row ≡ false → false ≡ rowMayGo s n listed picks from row
+    unfolding rowMayGo
     fits-early f = rw (lt-ltb row n inside, e, f)
 
-    pub fits-with : leb from row ≡ true → (r : Bool) → r ≡ markedGo listed picks (usedAt s row) → r ≡ rowFits s n listed picks from row
-    unfolding rowFits
+    pub fits-with : leb from row ≡ true → (r : Bool) → r ≡ markedGo listed picks (usedAt s row) → r ≡ rowMayGo s n listed picks from row
+    unfolding rowMayGo
     fits-with f r g = rw (lt-ltb row n inside, e, f, g)
 
 module _ (s : List ℕ) (listed picks : List Bool) (size left i : ℕ) where
@@ -158,8 +158,8 @@ module _ (s : List ℕ) (n : ℕ) (g : GoodRows s n) where
       row-goes rowSizes size left e = rw (marks .each i inside, go-hashes, e)
 
     -- a row that was looked up
-    pub row-fits : RowMarks s n pick picks → (from h row : ℕ) → row ≡ indexIn (rows t) h → rowFits s n listed picks from row ≡ hashFits t list pick from h
-    unfolding rowFits hashFits
+    pub row-fits : RowMarks s n pick picks → (from h row : ℕ) → row ≡ indexIn (rows t) h → rowMayGo s n listed picks from row ≡ hashFits t list pick from h
+    unfolding rowMayGo hashFits
     row-fits those from h row e =
         let at : row ≡ rowNumber t h = e ∙ number-is t h in
         split (held t h)

@@ -1,18 +1,18 @@
 -- The planner over marks: at each row the marks before it are those of what was picked, and going on from there gives the whole pick. Assumes nothing.
 use Prim.Native.Nat.{ℕ, zero, suc, _+_, _-_, _*_, _≤_, _<_}
-use mathlib.Core.Bool.{Bool, true, false, cond, _||_}
+use mathlib.Core.Bool.{Bool, true, false, cond}
 use mathlib.Core.List.{List, [], _∷_, _++_, append-nil}
 use mathlib.Core.Path.{_≡_, refl, sym, ap, _∙_}
 use native.Mathlib.Numerals.{add-one}
 use native.Mathlib.Omega.{arith}
-use borrow.Author.Tests.{eqb-true, eqb-false, ltb-true, ltb-false, lt-ltb, le-ltb}
+use borrow.Author.Tests.{eqb-true, eqb-false, ltb-true, ltb-false}
 use lib.Dec.{ltb, eqb}
 use lib.ListN.{length, getD, set, length-set}
 use lib.Seq.{getD-set-same, getD-set-other, sets}
 use Rattle.hash_order.proofs.KeepLaws.{once-index}
 use Rattle.hash_order.proofs.OrderLaws.{member-none, member-here, member-append}
 use Rattle.hash_order.specs.Order.{member, Once}
-use Rattle.rules.proofs.Cases.{split, same-truth, either, or-left, or-right, true-false}
+use Rattle.rules.proofs.Cases.{split, same-truth, either, or-left, or-right}
 use Rattle.rules.proofs.Hash.{length-hashes-bytes}
 use Rattle.rules.specs.Hash.{hashesBytes}
 use Rattle.rules.specs.Sizes.{sizes}
@@ -118,7 +118,7 @@ unfolding pickedFrom
 no-more t list rowSizes i c left before e = rw e
 
 -- The loop's state before row i: what was picked, as marks and counted, and what follows from here is the whole pick.
-pub record Planned (s : List ℕ) (n : ℕ) (rowSizes : List ℕ) (budget : ℕ) (listed first picks : List Bool) (left count i : ℕ) : Type 0 where
+pub record PickedSoFar (s : List ℕ) (n : ℕ) (rowSizes : List ℕ) (budget : ℕ) (listed first picks : List Bool) (left count i : ℕ) : Type 0 where
   pub upto : i ≤ n
   pub long : length picks ≡ length first
   pub blank : (k : ℕ) → i ≤ k → k < n → getD picks k false ≡ false
@@ -135,7 +135,7 @@ module _ (s : List ℕ) (n : ℕ) (rowSizes : List ℕ) (budget : ℕ) (listed :
   long-rows : length (rows t) ≡ n
   long-rows = length-rows t ∙ length-rows-at s 0 n
 
-  pub planned-starts : (first : List Bool) → Blank n first → Planned s n rowSizes budget listed first first budget 0 0
+  pub planned-starts : (first : List Bool) → Blank n first → PickedSoFar s n rowSizes budget listed first first budget 0 0
   unfolding pickUpTo pickOf
   planned-starts first b =
       record {
@@ -150,73 +150,77 @@ module _ (s : List ℕ) (n : ℕ) (rowSizes : List ℕ) (budget : ℕ) (listed :
             rw (e, length-rows-at s 0 n);
       }
 
-  module _ (g : GoodRows s n) (first picks : List Bool) (left count i : ℕ) (w : Planned s n rowSizes budget listed first picks left count i) (inside : i < n) where
-    tells : (list : List ℕ) → RowMarks s n list listed
-        → rowGoes s listed picks (getD rowSizes i 0) left i ≡ goesNow t list rowSizes left (pickUpTo (rows t) picks i) i
-    unfolding hashOf
-    tells list marks =
-        row-goes s n g list listed marks (pickUpTo (rows t) picks i) picks i inside
-        (λ k h. up-to-member (rows t) picks (g .good .once) i k (let z = long-rows in omega arith) h)
-        rowSizes (getD rowSizes i 0) left refl
+  module _ (g : GoodRows s n) (first picks : List Bool) (left count i : ℕ)
+      (w : PickedSoFar s n rowSizes budget listed first picks left count i)
+      (inside : i < n)
+    where
+      tells : (list : List ℕ) → RowMarks s n list listed
+          → rowGoes s listed picks (getD rowSizes i 0) left i ≡ goesNow t list rowSizes left (pickUpTo (rows t) picks i) i
+      unfolding hashOf
+      tells list marks =
+          row-goes s n g list listed marks (pickUpTo (rows t) picks i) picks i inside
+          (λ k h. up-to-member (rows t) picks (g .good .once) i k (let z = long-rows in omega arith) h)
+          rowSizes (getD rowSizes i 0) left refl
 
-    -- from here on, by whether the row goes
-    goes-on : (list : List ℕ) (before : List ℕ) → goesNow t list rowSizes left before i ≡ true
-        → pickedFrom t list rowSizes i (n - i) left before
-        ≡ pickedFrom t list rowSizes (i + 1) (n - (i + 1)) (left - getD rowSizes i 0) (before ++ hashOf t i ∷ [])
-    unfolding pickedFrom
-    goes-on list before e =
-        let d : n - i ≡ suc (n - (i + 1)) = omega arith in
-        rw (d, e, add-one i)
+      -- from here on, by whether the row goes
+      goes-on : (list : List ℕ) (before : List ℕ) → goesNow t list rowSizes left before i ≡ true
+          → pickedFrom t list rowSizes i (n - i) left before
+          ≡ pickedFrom t list rowSizes (i + 1) (n - (i + 1)) (left - getD rowSizes i 0) (before ++ hashOf t i ∷ [])
+      unfolding pickedFrom
+      goes-on list before e =
+          let d : n - i ≡ suc (n - (i + 1)) = omega arith in
+          rw (d, e, add-one i)
 
-    stays-on : (list : List ℕ) (before : List ℕ) → goesNow t list rowSizes left before i ≡ false
-        → pickedFrom t list rowSizes i (n - i) left before ≡ pickedFrom t list rowSizes (i + 1) (n - (i + 1)) left before
-    unfolding pickedFrom
-    stays-on list before e =
-        let d : n - i ≡ suc (n - (i + 1)) = omega arith in
-        rw (d, e, add-one i)
+      stays-on : (list : List ℕ) (before : List ℕ) → goesNow t list rowSizes left before i ≡ false
+          → pickedFrom t list rowSizes i (n - i) left before ≡ pickedFrom t list rowSizes (i + 1) (n - (i + 1)) left before
+      unfolding pickedFrom
+      stays-on list before e =
+          let d : n - i ≡ suc (n - (i + 1)) = omega arith in
+          rw (d, e, add-one i)
 
-    pub planned-stays : rowGoes s listed picks (getD rowSizes i 0) left i ≡ false → Planned s n rowSizes budget listed first picks left count (i + 1)
-    planned-stays e =
-        let same : pickUpTo (rows t) picks (i + 1) ≡ pickUpTo (rows t) picks i =
-        rw (add-one i) (up-to-passed (rows t) picks i (w .blank i (omega arith) inside)) in
-        record {
-          upto = omega arith;
-          long = w .long;
-          blank = λ k h l. w .blank k (omega arith) l;
-          many = rw same (w .many);
-          few = let z = w .few in omega arith;
-          rest = λ list marks. rw same (sym (stays-on list (pickUpTo (rows t) picks i) (sym (tells list marks) ∙ e)) ∙ w .rest list marks);
-        }
+      pub planned-stays : rowGoes s listed picks (getD rowSizes i 0) left i ≡ false → PickedSoFar s n rowSizes budget listed first picks left count (i + 1)
+      planned-stays e =
+          let same : pickUpTo (rows t) picks (i + 1) ≡ pickUpTo (rows t) picks i =
+          rw (add-one i) (up-to-passed (rows t) picks i (w .blank i (omega arith) inside)) in
+          record {
+            upto = omega arith;
+            long = w .long;
+            blank = λ k h l. w .blank k (omega arith) l;
+            many = rw same (w .many);
+            few = let z = w .few in omega arith;
+            rest = λ list marks. rw same (sym (stays-on list (pickUpTo (rows t) picks i) (sym (tells list marks) ∙ e)) ∙ w .rest list marks);
+          }
 
-    pub planned-takes : i < length picks → rowGoes s listed picks (getD rowSizes i 0) left i ≡ true
-        → Planned s n rowSizes budget listed first (set picks i true) (left - getD rowSizes i 0) (count + 1) (i + 1)
-    unfolding hashOf
-    planned-takes room e =
-        let now-set : getD (set picks i true) i false ≡ true = getD-set-same picks i true false room in
-        let more : pickUpTo (rows t) (set picks i true) (i + 1) ≡ pickUpTo (rows t) picks i ++ getD (rows t) i 0 ∷ [] =
-        rw (add-one i)
-        (up-to-taken (rows t) (set picks i true) i now-set
-        ∙ ap (λ (r : List ℕ). r ++ getD (rows t) i 0 ∷ [])
-        (up-to-same (rows t) picks (set picks i true) i
-        (λ k h. getD-set-other picks i k true false (λ same. let z : k ≡ i = same in absurd (omega arith)))))
-        in
-        record {
-          upto = omega arith;
-          long = length-set picks i true ∙ w .long;
-          blank =
-              λ k h l.
-              getD-set-other picks i k true false (λ same. let z : k ≡ i = same in absurd (omega arith)) ∙ w .blank k (omega arith) l;
-          many = rw more (let z = length-last (pickUpTo (rows t) picks i) (getD (rows t) i 0) in let y = w .many in omega arith);
-          few = let z = w .few in omega arith;
-          rest = λ list marks. rw more (sym (goes-on list (pickUpTo (rows t) picks i) (sym (tells list marks) ∙ e)) ∙ w .rest list marks);
-        }
+      pub planned-takes : i < length picks → rowGoes s listed picks (getD rowSizes i 0) left i ≡ true
+          → PickedSoFar s n rowSizes budget listed first (set picks i true) (left - getD rowSizes i 0) (count + 1) (i + 1)
+      unfolding hashOf
+      planned-takes room e =
+          let now-set : getD (set picks i true) i false ≡ true = getD-set-same picks i true false room in
+          let more : pickUpTo (rows t) (set picks i true) (i + 1) ≡ pickUpTo (rows t) picks i ++ getD (rows t) i 0 ∷ [] =
+          rw (add-one i)
+          (up-to-taken (rows t) (set picks i true) i now-set
+          ∙ ap (λ (r : List ℕ). r ++ getD (rows t) i 0 ∷ [])
+          (up-to-same (rows t) picks (set picks i true) i
+          (λ k h. getD-set-other picks i k true false (λ same. let z : k ≡ i = same in absurd (omega arith)))))
+          in
+          record {
+            upto = omega arith;
+            long = length-set picks i true ∙ w .long;
+            blank =
+                λ k h l.
+                getD-set-other picks i k true false (λ same. let z : k ≡ i = same in absurd (omega arith)) ∙ w .blank k (omega arith) l;
+            many = rw more (let z = length-last (pickUpTo (rows t) picks i) (getD (rows t) i 0) in let y = w .many in omega arith);
+            few = let z = w .few in omega arith;
+            rest = λ list marks. rw more (sym (goes-on list (pickUpTo (rows t) picks i) (sym (tells list marks) ∙ e)) ∙ w .rest list marks);
+          }
 
-  pub planned-ends : (first picks : List Bool) (left count i : ℕ) → Planned s n rowSizes budget listed first picks left count i → n ≤ i
+  pub planned-ends : (first picks : List Bool) (left count i : ℕ) → PickedSoFar s n rowSizes budget listed first picks left count i → n ≤ i
       → (list : List ℕ) → RowMarks s n list listed
       → MarksPicked s n rowSizes budget list picks count
   planned-ends first picks left count i w h list marks =
       let at : i ≡ n = let z = w .upto in omega arith in
-      let whole : pickUpTo (rows t) picks i ≡ pickOf t list rowSizes budget = no-more t list rowSizes i (n - i) left (pickUpTo (rows t) picks i) (omega arith) ∙ w .rest list marks in
+      let whole : pickUpTo (rows t) picks i ≡ pickOf t list rowSizes budget =
+      no-more t list rowSizes i (n - i) left (pickUpTo (rows t) picks i) (omega arith) ∙ w .rest list marks in
       record {
         hashes = sym (up-to-all (rows t) picks n long-rows) ∙ ap (pickUpTo (rows t) picks) (sym at) ∙ whole;
         many = w .many ∙ ap length whole;
@@ -224,14 +228,16 @@ module _ (s : List ℕ) (n : ℕ) (rowSizes : List ℕ) (budget : ℕ) (listed :
 
 -- ---- what was marked is what is put
 
-module _ (s : List ℕ) (n : ℕ) (rowSizes : List ℕ) (budget : ℕ) (list : List ℕ) (picks : List Bool) (count : ℕ) (w : MarksPicked s n rowSizes budget list picks count) where
-  pub picked-size : sizes .hash * count ≡ length (hashesBytes (pickOf (rowsAt s 0 n) list rowSizes budget))
-  picked-size = rw (length-hashes-bytes (pickOf (rowsAt s 0 n) list rowSizes budget)) (let z = w .many in omega arith)
+module _ (s : List ℕ) (n : ℕ) (rowSizes : List ℕ) (budget : ℕ) (list : List ℕ) (picks : List Bool) (count : ℕ)
+    (w : MarksPicked s n rowSizes budget list picks count)
+  where
+    pub picked-size : sizes .hash * count ≡ length (hashesBytes (pickOf (rowsAt s 0 n) list rowSizes budget))
+    picked-size = rw (length-hashes-bytes (pickOf (rowsAt s 0 n) list rowSizes budget)) (let z = w .many in omega arith)
 
-  pub picked-marked : count ≡ marked n picks
-  picked-marked =
-      w .many ∙ ap length (sym (w .hashes)) ∙ picked-count (rows (rowsAt s 0 n)) picks n (length-rows (rowsAt s 0 n) ∙ length-rows-at s 0 n)
+    pub picked-marked : count ≡ marked n picks
+    picked-marked =
+        w .many ∙ ap length (sym (w .hashes)) ∙ picked-count (rows (rowsAt s 0 n)) picks n (length-rows (rowsAt s 0 n) ∙ length-rows-at s 0 n)
 
-  pub picked-put : (out next : List ℕ) → next ≡ sets out 0 (hashesBytes (picked (rows (rowsAt s 0 n)) picks))
-      → next ≡ sets out 0 (hashesBytes (pickOf (rowsAt s 0 n) list rowSizes budget))
-  picked-put out next e = rw (w .hashes) at e
+    pub picked-put : (out next : List ℕ) → next ≡ sets out 0 (hashesBytes (picked (rows (rowsAt s 0 n)) picks))
+        → next ≡ sets out 0 (hashesBytes (pickOf (rowsAt s 0 n) list rowSizes budget))
+    picked-put out next e = rw (w .hashes) at e

@@ -1,7 +1,7 @@
 -- The planner's pick is always accepted: at each row what was picked before it is in order, sound and within the budget, and where nothing was picked no row
 -- before it would go by itself. Assumes nothing.
 use Prim.Native.Nat.{ℕ, zero, suc, _+_, _-_, _≤_, _<_}
-use mathlib.Core.Bool.{Bool, true, false, not, _&&_, _||_}
+use mathlib.Core.Bool.{true, false, not, _&&_, _||_}
 use mathlib.Core.List.{List, [], _∷_, _++_, map}
 use mathlib.Core.Path.{_≡_, refl, sym, ap, subst, _∙_}
 use native.Mathlib.Omega.{arith}
@@ -122,7 +122,8 @@ module _ (t : List Row) (list rowSizes : List ℕ) (budget : ℕ) (good : GoodTa
       }
 
   -- row i stays: where nothing was picked before it isn't a pick by itself
-  pub alone-goes : (i left : ℕ) → i < length t → left ≡ budget → pickFits t list rowSizes budget (hashOf t i ∷ []) ≡ true → goesNow t list rowSizes left [] i ≡ true
+  pub alone-goes : (i left : ℕ) → i < length t → left ≡ budget → pickFits t list rowSizes budget (hashOf t i ∷ []) ≡ true
+      → goesNow t list rowSizes left [] i ≡ true
   unfolding goesNow goesWith
   alone-goes i left l q e =
       let h : ℕ = hashOf t i in

@@ -19,7 +19,7 @@ ghost use Prim.Native.Nat.{ℕ, _*_, _≤_};
 ghost use lib.Dec.{leb};
 ghost use lib.ListN.{length};
 ghost use Rattle.hash_order.specs.Order.{every};
-ghost use Rattle.pick.specs.Internal.PickMarks.{RowMarks, rowFits, MarksChecked};
+ghost use Rattle.pick.specs.Internal.PickMarks.{RowMarks, rowMayGo, MarksChecked};
 ghost use Rattle.pick.specs.PickCalls.{pickAnswered, checkAnswer};
 ghost use Rattle.pick.specs.Picking.{firstBroken, sizeSum, emptyAllowed, pickChecked};
 ghost use Rattle.rules.specs.Hash.{hashesAt};
@@ -51,7 +51,7 @@ fn row_fits(
     picks: &[bool],
 ) -> bool
     requires { ⌜ GoodRows (now table) n × (n ≤ length (now listed)) × (n ≤ length (now picks)) ⌝ }
-    ensures { λ r. ⌜ r ≡ rowFits (now (table .entry)) n (now (listed .entry)) (now (picks .entry)) from row ⌝ }
+    ensures { λ r. ⌜ r ≡ rowMayGo (now (table .entry)) n (now (listed .entry)) (now (picks .entry)) from row ⌝ }
 {
     if n <= row {
         return false;

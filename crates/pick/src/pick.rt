@@ -12,7 +12,6 @@ use table_check::check::check_indexed;
 use table_graph::marked::put_marked;
 use table_graph::marks::mark_list;
 ghost use mathlib.Core.List.{List};
-ghost use mathlib.Core.Path.{_≡_};
 ghost use Prim.Native.Nat.{ℕ, _*_, _≤_};
 ghost use lib.ListN.{length};
 ghost use Rattle.pick.specs.Internal.PickMarks.{RowMarks, MarksPicked};

@@ -21,8 +21,8 @@ unfoldable pub markedGo : List Bool → List Bool → List ℕ → Bool
 markedGo listed picks ks = every (λ k. not (getD listed k false) || getD picks k false) ks
 
 -- One of the first n rows that breaks no rule: it is listed, isn't before the first that it may be, and what it depends on goes with it.
-unfoldable pub rowFits : List ℕ → ℕ → List Bool → List Bool → ℕ → ℕ → Bool
-rowFits table n listed picks from row =
+unfoldable pub rowMayGo : List ℕ → ℕ → List Bool → List Bool → ℕ → ℕ → Bool
+rowMayGo table n listed picks from row =
     (ltb row n && getD listed row false) && (leb from row && markedGo listed picks (usedAt table row))
 
 -- Row i goes now: it is listed, what it depends on goes with it, and its size fits what is left.

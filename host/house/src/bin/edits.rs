@@ -84,13 +84,17 @@ const READ: &[(&str, &str)] = &[
         "bloom_probe/contains_past_field",
         "`clear-bit-requires` of `contains::contains_hash`",
     ),
+    (
+        "pick/any_order_accepted",
+        "`returns-4` of `check::row_fits`",
+    ),
+    (
+        "pick/left_dependency_goes",
+        "`loop-again-2` of `goes::goes_with`",
+    ),
     ("sample_replay/all_agree", "`loop-again` of `walk::walk`"),
     ("rules/limits_order", "`returns` of `sizes::limits`"),
     ("rules/number_swapped", "`returns-9` of `Refusal::number`"),
-    (
-        "rules/passed_limit",
-        "`returns-2` of `passed::passed_hashes`",
-    ),
     ("rules/value_of_ten", "`returns-10` of `Refusal::value`"),
     ("send/need_twice", "`returns-3` of `chosen::held_unmarked`"),
     (

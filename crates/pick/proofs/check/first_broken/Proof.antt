@@ -58,7 +58,9 @@ returns c =
     let start = l .before .before .before .before .before .before .before in
     sym
     (broken-here _ list _ _ _ _ (l .loop-test .taken)
-    (sym (row-fits _ _ (start .pre .0 .rows) list _ marks _ _ (start .pre .4) _ _ _ (h .look-up .ensures)) ∙ sym (f .row-fits .ensures) ∙ not-true _ (c .if1 .taken)))
+    (sym (row-fits _ _ (start .pre .0 .rows) list _ marks _ _ (start .pre .4) _ _ _ (h .look-up .ensures))
+    ∙ sym (f .row-fits .ensures)
+    ∙ not-true _ (c .if1 .taken)))
     ∙ l .before .loop .inv .rest list marks
 
 add-from : tie.Need-add-from Inv-loop μ-loop
@@ -67,7 +69,8 @@ add-from c =
     let start = h .before .before .before .before .before .before .before .before in
     let t = rowsAt (start .args .table .now) 0 (start .args .n) in
     let hash = hashAt (start .args .pick .now) (sizes .hash * h .before .before .loop .k) in
-    omega (arith, h .look-up .ensures, index-at-most (rows t) hash, length-rows t, length-rows-at (start .args .table .now) 0 (start .args .n), start .pre .0 .rows .few)
+    let long = length-rows-at (start .args .table .now) 0 (start .args .n) in
+    omega (arith, h .look-up .ensures, index-at-most (rows t) hash, length-rows t, long, start .pre .0 .rows .few)
 
 add-k : tie.Need-add-k Inv-loop μ-loop
 add-k c = search needs

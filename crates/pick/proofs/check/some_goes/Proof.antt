@@ -54,7 +54,8 @@ loop-again c =
     let start = l .before .before .before .before .before .before in
     record {
       upto = omega (arith, l .loop-test .taken);
-      rest = none-next _ _ (start .pre .0) _ _ _ _ (start .pre .4) _ (l .loop-test .taken) (sym (g .goes-now .ensures) ∙ c .if1 .left) (l .before .loop .inv .rest);
+      rest =
+          none-next _ _ (start .pre .0) _ _ _ _ (start .pre .4) _ (l .loop-test .taken) (sym (g .goes-now .ensures) ∙ c .if1 .left) (l .before .loop .inv .rest);
     }
 
 returns-2 : tie.Need-returns-2 Inv-loop μ-loop

@@ -79,7 +79,8 @@ returns c =
     let d = e .before .before in
     let l = d .before .before in
     sym
-    (go-left _ _ _ _ _ (l .before .dep-count .ensures) _ _ (d .before .loop-test .taken) (d .dep .ensures) (not-false _ (e .if1 .left)) (not-true _ (c .if2 .taken)))
+    (go-left _ _ _ _ _ (l .before .dep-count .ensures) _ _ (d .before .loop-test .taken) (d .dep .ensures) (not-false _ (e .if1 .left))
+    (not-true _ (c .if2 .taken)))
     ∙ l .loop .inv .rest
 
 loop-less-2 : tie.Need-loop-less-2 Inv-loop μ-loop

@@ -7,13 +7,13 @@ use borrow.Author.Needs.{needs}
 use borrow.Author.Tests.{not-true, not-false}
 use Rattle.table.proofs.GoodLaws.{good-part}
 use Rattle.pick.proofs.GoesLaws.{goes-within}
-use Rattle.pick.proofs.PickedRows.{Planned, planned-starts, planned-stays, planned-takes, planned-ends}
+use Rattle.pick.proofs.PickedRows.{PickedSoFar, planned-starts, planned-stays, planned-takes, planned-ends}
 use Rattle.pick.proofs.pick.pick_marked.Statement.{statement}
 use Rattle.pick.proofs.pick.pick_marked.Tie as tie
 
 abbrev Inv-loop : tie.InvT-loop
 Inv-loop table n row-sizes budget listed picks₀ left₀ count₀ i₀ picks left count i =
-    Planned table n row-sizes budget listed picks₀ picks left count i
+    PickedSoFar table n row-sizes budget listed picks₀ picks left count i
 
 abbrev μ-loop : tie.MeasureT-loop
 μ-loop table n row-sizes budget listed picks₀ left₀ count₀ i₀ picks left count i = n - i

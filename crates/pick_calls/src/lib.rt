@@ -1,0 +1,3 @@
+// Exported calls of the crate `pick`.
+pub mod answer;
+pub mod calls;
