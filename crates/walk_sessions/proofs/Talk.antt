@@ -11,13 +11,15 @@ use Rattle.bloom.specs.Have.{Have}
 use Rattle.bloom.specs.declared.setting.Setting.{Setting}
 use Rattle.table_graph.proofs.BelowLaws.{beyond-few}
 use Rattle.table_graph.specs.Graph.{heads, beyond}
-use Rattle.session.proofs.GoodLaws.{fresh-good}
-use Rattle.session.specs.GoodState.{SoundTable}
+use Rattle.session.proofs.GoodLaws.{fresh-good, body-few}
+use Rattle.session.proofs.PlanLaws.{planned-held}
+use Rattle.session.specs.GoodState.{SoundTable, GoodState}
 use Rattle.session.specs.Receive.{Said, Received, left, sharedAfter, received, receiveBytes}
 use Rattle.message.specs.Message.{counted, messageBytes}
 use Rattle.message.specs.declared.version.MessageVersion.{MessageVersion}
 use Rattle.waiting_missing.specs.Missing.{missing}
 use Rattle.hash_order.proofs.OrderLaws.{member-none}
+use Rattle.pick.specs.declared.check.Picked.the-variants.{Fine}
 use Rattle.rules.specs.Sizes.{sizes}
 use Rattle.send.specs.ToSend.{toSendLess}
 use Rattle.session.specs.Plan.{Body, Plan, Planned, documentPart, empty, havesFor, bodyOf, planOf, planned, plan, after}
@@ -31,7 +33,7 @@ use Rattle.walk.specs.Round.{Part, Loads, trim}
 use Rattle.walk.specs.Walk.{At, accepted, Walk01, heardIn}
 use Rattle.wire.specs.Item.{prefixedBytes}
 use Rattle.walk_sessions.specs.Talk.{bytesFor, goes, Pair, asked, toA, answered, toB, pairAt, carried, Reached, Granted, Underway, Tables, Agrees, Statement2, Theorem2}
-use Rattle.walk_sessions.proofs.Answers.{Answers, answers}
+use Rattle.walk_sessions.proofs.Answers.{Answers, taking, mid-good, answers}
 use Rattle.walk_sessions.proofs.Asks.{Asks, asks}
 use Rattle.walk_sessions.proofs.Returns.{Returns, returns}
 use Rattle.walk_sessions.proofs.Sides.{Fixed, nothing, SideA, SideB, Going}
@@ -136,7 +138,7 @@ module _ (setA setB : ℕ → Setting) (A : List Row) (B : ℕ → List Row) (W 
     haves = havesFor (setB k .bits) (setB k .probes) (B k) need (heardIn k A) (b .sharedHeads)
 
     abbrev ask : Plan
-    ask = planOf (setB k .bits) (setB k .probes) (B k) (W k) b
+    ask = planOf (setB k .bits) (setB k .probes) (B k) (W k) b (bodyOf (B k) b)
 
     abbrev m : Said
     m = heardSaid ask
@@ -145,7 +147,7 @@ module _ (setA setB : ℕ → Setting) (A : List Row) (B : ℕ → List Row) (W 
     asking : Asks (setB k .bits) (setB k .probes) A (B k) (W k) k b
     asking = asks (setB k .bits) (setB k .probes) A (B k) (W k) k b (fixedB k) going (st .sideB)
 
-    asked-is : asked setA setB A B W U hosts k (pair k) ≡ Planned.says ask (planned (B k) b)
+    asked-is : asked setA setB A B W U hosts k (pair k) ≡ Planned.says ask (planned (B k) b (bodyOf (B k) b))
     unfolding asked
     asked-is = asking .says
 
@@ -154,21 +156,28 @@ module _ (setA setB : ℕ → Setting) (A : List Row) (B : ℕ → List Row) (W 
     mid = received (length A) A a m
 
     abbrev reply : Plan
-    reply = planOf (setA k .bits) (setA k .probes) A (U k) mid
+    reply = planOf (setA k .bits) (setA k .probes) A (U k) mid (bodyOf A mid)
 
-    answering : Answers (setA k .bits) (setA k .probes) A (B k) (U k) k (st .sent) a need haves m
+    mid-good-k : GoodState mid
+    mid-good-k =
+        mid-good (setA k .bits) (setA k .probes) A (B k) (U k) k (st .sent) a need haves m (fixedA k) (st .sideB .part) going (st .sideA)
+        (asking .known) (asking .hears)
+
+    answering : Answers (setA k .bits) (setA k .probes) A (B k) (U k) k (st .sent) a need haves m (bodyOf A mid) Fine
     answering =
         answers (setA k .bits) (setA k .probes) A (B k) (U k) k (st .sent) a need haves m (fixedA k) (st .sideB .part) going (st .sideA)
-        (asking .known) (asking .hears)
+        (asking .known) (asking .hears) (bodyOf A mid) Fine
+        (record { fine = refl; own = planned-held A (tables .good) mid; few = body-few A mid table-sound mid-good-k })
 
     toA-is : toA setA setB A B W U hosts k (pair k) ≡ Received.took mid
     unfolding toA bytesFor
     toA-is =
         ap (λ (p : Planned). receiveBytes true (length A) A a (bytesFor (hosts k) p)) asked-is
         ∙ asking .crosses (hosts k) (length A) A a (omega arith)
-        ∙ answering .takes
+        ∙ taking (setA k .bits) (setA k .probes) A (B k) (U k) k (st .sent) a need haves m (fixedA k) (st .sideB .part) going (st .sideA)
+        (asking .known) (asking .hears)
 
-    answered-is : answered setA setB A B W U hosts k (pair k) ≡ Planned.says reply (planned A mid)
+    answered-is : answered setA setB A B W U hosts k (pair k) ≡ Planned.says reply (planned A mid (bodyOf A mid))
     unfolding answered
     answered-is = ap (λ (r : Received). plan (setA k .bits) (setA k .probes) A (U k) (left r a)) toA-is ∙ answering .says
 
@@ -185,7 +194,7 @@ module _ (setA setB : ℕ → Setting) (A : List Row) (B : ℕ → List Row) (W 
     agrees =
         record {
           said = ask;
-          next = planned (B k) b;
+          next = planned (B k) b (bodyOf (B k) b);
           speaks = asked-is;
           heads-agree = asking .heads-are;
           need-agrees = asking .need-are;
@@ -195,7 +204,7 @@ module _ (setA setB : ℕ → Setting) (A : List Row) (B : ℕ → List Row) (W 
           heard = mid;
           hears = toA-is;
           reply = reply;
-          next′ = planned A mid;
+          next′ = planned A mid (bodyOf A mid);
           replies = answered-is;
           by-list = λ e.
               by-list e
@@ -232,7 +241,7 @@ module _ (setA setB : ℕ → Setting) (A : List Row) (B : ℕ → List Row) (W 
           record {
             list =
                 λ q s e.
-                let both : Planned.says q s ≡ Planned.says reply (planned A mid) = sym e ∙ answered-is in
+                let both : Planned.says q s ≡ Planned.says reply (planned A mid (bodyOf A mid)) = sym e ∙ answered-is in
                 let is : q ≡ reply = cc in
                 rw is listed;
             small = fits;
@@ -244,7 +253,7 @@ module _ (setA setB : ℕ → Setting) (A : List Row) (B : ℕ → List Row) (W 
 
     module _ (granted : Granted setA setB A B W U hosts k) where
       list : reply .body .document ≡ false
-      list = granted .list reply (planned A mid) answered-is
+      list = granted .list reply (planned A mid (bodyOf A mid)) answered-is
 
       loaded : Loads A (B k) (W k) (reply .body .hashes) (B (suc k)) (W (suc k))
       loaded = rw goes-is at (granted .loads)
@@ -281,7 +290,7 @@ module _ (setA setB : ℕ → Setting) (A : List Row) (B : ℕ → List Row) (W 
           (answering .hears)
 
       abbrev end : State
-      end = received (length (B k)) (B (suc k)) (planned (B k) b) (heardSaid reply)
+      end = received (length (B k)) (B (suc k)) (planned (B k) b (bodyOf (B k) b)) (heardSaid reply)
 
       small : length (messageBytes (messageFor (hosts k) reply)) ≤ sizes .message
       unfolding bytesFor
@@ -291,10 +300,10 @@ module _ (setA setB : ℕ → Setting) (A : List Row) (B : ℕ → List Row) (W 
       unfolding toB bytesFor
       toB-is =
           ap₂ (λ (p q : Planned). receiveBytes true (length (B k)) (B (suc k)) (after p b) (bytesFor (hosts k) q)) asked-is answered-is
-          ∙ answering .crosses (hosts k) small (length (B k)) (B (suc k)) (planned (B k) b) (loads-longer loaded)
+          ∙ answering .crosses (hosts k) small (length (B k)) (B (suc k)) (planned (B k) b (bodyOf (B k) b)) (loads-longer loaded)
           ∙ returning .takes
 
-      a-is : pair (suc k) .atA ≡ planned A mid
+      a-is : pair (suc k) .atA ≡ planned A mid (bodyOf A mid)
       unfolding pairAt
       a-is = ap (λ (p : Planned). after p (left (toA setA setB A B W U hosts k (pair k)) a)) answered-is
 
@@ -327,7 +336,7 @@ module _ (setA setB : ℕ → Setting) (A : List Row) (B : ℕ → List Row) (W 
       next-sent = ap (λ (l : List ℕ). trim A (heads (B k)) (st .sent) ++ l) (by-list list)
 
       -- B's last-sync hashes afterwards
-      pub next-shared : lastSync (suc k) ≡ sharedAfter (length (B k)) (B (suc k)) (planned (B k) b) (heardSaid reply)
+      pub next-shared : lastSync (suc k) ≡ sharedAfter (length (B k)) (B (suc k)) (planned (B k) b (bodyOf (B k) b)) (heardSaid reply)
       unfolding received
       next-shared = ap (λ (s : State). s .sharedHeads) b-is
 
