@@ -32,6 +32,7 @@ use Rattle.settings.specs.Settings.{settingFor}
 use Rattle.settings.specs.declared.choice.Choice.{Choice}
 use Rattle.settings.specs.declared.find.SettingAnswer.the-variants.{Chosen}
 use Rattle.session.specs.Written.{Host, chunksFor}
+use Rattle.walk_sessions.specs.Passing.{Passes}
 
 -- bt_plan, over a host's memory, its tables and its buffers: what it leaves is PlanMade with 10 and 7. What slices of bytes hold are bytes.
 abbrev pub PlanSaid : (κs : Lfts (of-bt-plan.ended .signature .lifetimes)) → Args (of-bt-plan.ended .signature) κs → AtExit of-bt-plan.ended κs → Type 0
@@ -39,7 +40,7 @@ PlanSaid κs
     (session, (shared, (last-sent, (their-heads, (their-need, (haves, (bytes, (sent, (table, (index, (waiting, (heads, (need, (have, (list, (answer, _))))))))))))))))
     (session′, (_, (last-sent′, (_, (_, (_, (_, (sent′, (_, (_, (_, (heads′, (need′, (have′, (list′, (answer′, _)))))))))))))))) =
     OfBytes (lentOf (now shared) (now last-sent′) (now their-heads) (now their-need) (now haves) (now bytes) (now sent′))
-    → PlanMade defaultSetting (now table) (now index) (now waiting)
+    → PlanMade defaultSetting Passes.all (now table) (now index) (now waiting)
     (record {
       words = now session;
       lists = lentOf (now shared) (now last-sent) (now their-heads) (now their-need) (now haves) (now bytes) (now sent);
@@ -59,7 +60,7 @@ PlanWithSaid κs
     (_, (_, (session′, (_, (last-sent′, (_, (_, (_, (_, (sent′, (_, (_, (_, (heads′, (need′, (have′, (list′, (answer′, _)))))))))))))))))) =
     SettingGood bits probes
     → OfBytes (lentOf (now shared) (now last-sent′) (now their-heads) (now their-need) (now haves) (now bytes) (now sent′))
-    → PlanMade (record { bits = bits; probes = probes }) (now table) (now index) (now waiting)
+    → PlanMade (record { bits = bits; probes = probes }) Passes.all (now table) (now index) (now waiting)
     (record {
       words = now session;
       lists = lentOf (now shared) (now last-sent) (now their-heads) (now their-need) (now haves) (now bytes) (now sent);
@@ -80,7 +81,7 @@ PlanSettledSaid κs
     (c : Choice)
     → settingFor (now settings) station version ≡ Chosen c
     → OfBytes (lentOf (now shared) (now last-sent′) (now their-heads) (now their-need) (now haves) (now bytes) (now sent′))
-    → PlanMade (record { bits = c .bits; probes = c .probes }) (now table) (now index) (now waiting)
+    → PlanMade (record { bits = c .bits; probes = c .probes }) Passes.all (now table) (now index) (now waiting)
     (record {
       words = now session;
       lists = lentOf (now shared) (now last-sent) (now their-heads) (now their-need) (now haves) (now bytes) (now sent);

@@ -53,6 +53,11 @@ pub passed-as : (t : List Row) (s : State) (p : Passes) → bodyPassed t s p .do
 passed-as t s Passes.all = refl
 passed-as t s (Passes.picked rowSizes budget pick) = picked-as t s rowSizes budget pick
 
+-- what the check says of it is that it is accepted
+pub fine-accepted : (t : List Row) (s : State) (p : Passes) → checkPassed t s p ≡ Fine → AcceptedIn t s p
+fine-accepted t s Passes.all e = tt
+fine-accepted t s (Passes.picked rowSizes budget pick) e = e
+
 -- what is accepted may go: a pick names rows, each once
 pub may-go : (t : List Row) (s : State) (p : Passes) → SoundTable t → GoodState s → AcceptedIn t s p → MayGo t (bodyPassed t s p) (checkPassed t s p)
 may-go t s Passes.all sound g a = record { fine = refl; own = planned-held t (sound .good) s; few = body-few t s sound g }
