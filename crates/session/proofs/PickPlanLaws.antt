@@ -9,8 +9,8 @@ use lib.Dec.{ltb}
 use lib.ListN.{length}
 use Rattle.hash_order.proofs.KeepLaws.{every-member, every-one, hashes-inside}
 use Rattle.hash_order.specs.Order.{every, ascend}
-use Rattle.pick.proofs.PickLaws.{check-tells}
-use Rattle.pick.specs.Picking.{pickChecked}
+use Rattle.pick.proofs.PickLaws.{check-tells, planner-accepted}
+use Rattle.pick.specs.Picking.{pickChecked, pickOf}
 use Rattle.pick.specs.declared.check.Picked.{Picked}
 use Rattle.pick.specs.declared.check.Picked.the-variants.{Fine, Breaks}
 use Rattle.rules.proofs.Cases.{split, true-false}
@@ -168,6 +168,12 @@ module _ (bits probes : ℕ) (rowSizes : List ℕ) (budget : ℕ) (t : List Row)
       (λ d. absurd (true-false (isFine Fine) refl (ap isFine (sym (checked-document t s rowSizes budget pick d) ∙ is))))
       (λ d. (d, sym (checked-list t s rowSizes budget pick d) ∙ is))
 
+  planner-checked : GoodTable t → length rowSizes ≡ length t → bodyChecked t s rowSizes budget (pickOf t (bodyOf t s .hashes) rowSizes budget) ≡ Fine
+  planner-checked good each =
+      split (bodyOf t s .document)
+      (λ d. checked-document t s rowSizes budget _ d)
+      (λ d. checked-list t s rowSizes budget _ d ∙ planner-accepted t (bodyOf t s .hashes) rowSizes budget good each)
+
   pick-rows : (pick : List ℕ) → GoodTable t → every (held t) (askedOf (planPicked bits probes rowSizes budget t w s pick)) ≡ true
   pick-rows pick good =
       body-rows bits probes t w s (bodyPicked t s pick) (bodyChecked t s rowSizes budget pick) (picked-held t s rowSizes budget pick good)
@@ -194,6 +200,7 @@ module _ (bits probes : ℕ) (rowSizes : List ℕ) (budget : ℕ) (t : List Row)
         whole = whole-plans;
         named = pick-named;
         refused = pick-refused;
+        planner = planner-checked;
         rows = pick-rows;
         good = λ pick sound g. leaves-good pick sound g _ refl;
       }

@@ -4,8 +4,9 @@ use Prim.Native.Nat.{ℕ}
 use mathlib.Core.Bool.{true, false}
 use mathlib.Core.List.{List, _++_}
 use mathlib.Core.Path.{_≡_}
+use lib.ListN.{length}
 use Rattle.hash_order.specs.Order.{every, ascend}
-use Rattle.pick.specs.Picking.{pickChecked}
+use Rattle.pick.specs.Picking.{pickChecked, pickOf}
 use Rattle.pick.specs.declared.check.Picked.the-variants.{Fine, Breaks}
 use Rattle.rules.specs.declared.refusal.Refusal.the-variants.{BadPick}
 use Rattle.session.specs.Arms.{askedOf}
@@ -29,6 +30,8 @@ pub record PicksPlan (bits probes : ℕ) (rowSizes : List ℕ) (budget : ℕ) (t
   -- 17 is answered only for a pick that isn't accepted, with its place, and with a document for none
   pub refused : (pick : List ℕ) (place : ℕ) → planPicked bits probes rowSizes budget t w s pick ≡ Planned.refused (BadPick place)
       → (bodyOf t s .document ≡ false) × (pickChecked t (bodyOf t s .hashes) rowSizes budget pick ≡ Breaks place)
+  -- the planner's own pick, of what the session asks for and with one size a row, is accepted
+  pub planner : GoodTable t → length rowSizes ≡ length t → bodyChecked t s rowSizes budget (pickOf t (bodyOf t s .hashes) rowSizes budget) ≡ Fine
   -- 02, M-105: each hash whose change it asks the host for is a row of the table that was lent
   pub rows : (pick : List ℕ) → GoodTable t → every (held t) (askedOf (planPicked bits probes rowSizes budget t w s pick)) ≡ true
   -- a good session stays good
