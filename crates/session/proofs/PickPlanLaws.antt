@@ -47,7 +47,7 @@ use Rattle.session.specs.Plan.{
 use Rattle.session_state.specs.Session.{State}
 use Rattle.session.proofs.Arms.{body-rows}
 use Rattle.session.proofs.GoodLaws.{body-good}
-use Rattle.session.proofs.PlanLaws.{planned-held, plan-need-past, plan-resets, plan-silent, plan-sent-past, plan-ends, plan-saying}
+use Rattle.session.proofs.PlanLaws.{planned-held, speaks-body, plan-need-past, plan-resets, plan-silent, plan-sent-past, plan-ends, plan-saying}
 use Rattle.table.specs.Table.{Row, GoodTable, rows, held}
 use Rattle.waiting.specs.Waiting.{Waiting}
 
@@ -137,6 +137,42 @@ module _ (bits probes : ℕ) (t : List Row) (w : List Waiting) (s : State) (b : 
       (λ v.
       broken c (planOf bits probes t w s b) (planned t s b) place (sym (plan-ends bits probes t w s b c few y z (ltb-false _ _ v)) ∙ e)))))
 
+  -- ---- silence
+
+  refused-unsilent : {A : Type 0} {r : Refusal} → Planned.refused r ≡ Planned.silent → A
+  refused-unsilent e = absurd (let z : _≡_ {A = ℕ} 0 1 = cc in omega arith)
+
+  reset-unsilent : {A : Type 0} {p : Plan} → Planned.reset p ≡ Planned.silent → A
+  reset-unsilent e = absurd (let z : _≡_ {A = ℕ} 0 1 = cc in omega arith)
+
+  ends-unsilent : {A : Type 0} (c : Picked) (q : Plan) (n : State) → unlessBroken c (Planned.says q n) ≡ Planned.silent → A
+  ends-unsilent Fine q n e = absurd (let z : _≡_ {A = ℕ} 0 1 = cc in omega arith)
+  ends-unsilent (Breaks place) q n e = refused-unsilent e
+
+  -- a plan is silent where the tests of silence say so
+  silent-tested : (c : Picked) → planBody bits probes t w s b c ≡ Planned.silent → silence t s (isFine c && empty (b .hashes)) ≡ true
+  silent-tested c e =
+      split (ltb (sizes .hashes) (length (needOf t w (s .readOnly) (heard (s .theirHeads)))))
+      (λ x. refused-unsilent (sym (plan-need-past bits probes t w s b c (ltb-true _ _ x)) ∙ e))
+      (λ x.
+      let few = ltb-false _ _ x in
+      split (unknownSync t (s .theirHave))
+      (λ y. reset-unsilent (sym (plan-resets bits probes t w s b c few y) ∙ e))
+      (λ y.
+      split (silence t s (isFine c && empty (b .hashes)))
+      (λ z. z)
+      (λ z.
+      split (ltb (sizes .sentHashes) (length (sentAfter s b)))
+      (λ v. refused-unsilent (sym (plan-sent-past bits probes t w s b c few y z (ltb-true _ _ v)) ∙ e))
+      (λ v.
+      ends-unsilent c (planOf bits probes t w s b) (planned t s b) (sym (plan-ends bits probes t w s b c few y z (ltb-false _ _ v)) ∙ e)))))
+
+  -- and they don't where a pick breaks a rule and nothing is in flight
+  broken-told : (c : Picked) (place : ℕ) → c ≡ Breaks place → s .inFlight ≡ false → planBody bits probes t w s b c ≡ Planned.silent → ⊥
+  broken-told c place is lands e =
+      true-false (silence t s (isFine c && empty (b .hashes))) (silent-tested c e)
+      (speaks-body t s (isFine c && empty (b .hashes)) lands (ap (λ (k : Picked). isFine k && empty (b .hashes)) is))
+
 -- ---- the plan
 
 module _ (bits probes : ℕ) (rowSizes : List ℕ) (budget : ℕ) (t : List Row) (w : List Waiting) (s : State) where
@@ -200,6 +236,7 @@ module _ (bits probes : ℕ) (rowSizes : List ℕ) (budget : ℕ) (t : List Row)
         whole = whole-plans;
         named = pick-named;
         refused = pick-refused;
+        told = λ pick place. broken-told bits probes t w s (bodyPicked t s pick) (bodyChecked t s rowSizes budget pick) place;
         planner = planner-checked;
         rows = pick-rows;
         good = λ pick sound g. leaves-good pick sound g _ refl;

@@ -30,6 +30,10 @@ pub record PicksPlan (bits probes : ℕ) (rowSizes : List ℕ) (budget : ℕ) (t
   -- 17 is answered only for a pick that isn't accepted, with its place, and with a document for none
   pub refused : (pick : List ℕ) (place : ℕ) → planPicked bits probes rowSizes budget t w s pick ≡ Planned.refused (BadPick place)
       → (bodyOf t s .document ≡ false) × (pickChecked t (bodyOf t s .hashes) rowSizes budget pick ≡ Breaks place)
+  -- and a host whose pick isn't accepted, even an empty one, learns of it: there is no silence where nothing is in flight
+  pub told : (pick : List ℕ) (place : ℕ) → bodyChecked t s rowSizes budget pick ≡ Breaks place → s .inFlight ≡ false
+      → planPicked bits probes rowSizes budget t w s pick ≡ Planned.silent
+      → ⊥
   -- the planner's own pick, of what the session asks for and with one size a row, is accepted
   pub planner : GoodTable t → length rowSizes ≡ length t → bodyChecked t s rowSizes budget (pickOf t (bodyOf t s .hashes) rowSizes budget) ≡ Fine
   -- 02, M-105: each hash whose change it asks the host for is a row of the table that was lent
