@@ -64,13 +64,13 @@ single-sound t list sizes budget h e =
 
 -- ---- the parts of a hash that fits
 
-pub record Fits (t : List Row) (list pick : List ℕ) (from h : ℕ) : Type 0 where
+pub record FitsRules (t : List Row) (list pick : List ℕ) (from h : ℕ) : Type 0 where
   pub held-there : held t h ≡ true
   pub listed : member h list ≡ true
   pub behind : from ≤ rowNumber t h
   pub with-it : goesWith t list pick h ≡ true
 
-fits-has : (t : List Row) (list pick : List ℕ) (from h : ℕ) → hashFits t list pick from h ≡ true → Fits t list pick from h
+fits-has : (t : List Row) (list pick : List ℕ) (from h : ℕ) → hashFits t list pick from h ≡ true → FitsRules t list pick from h
 unfolding hashFits
 fits-has t list pick from h e =
     let a = both _ _ e in
@@ -78,7 +78,7 @@ fits-has t list pick from h e =
     let c = both _ _ (a .1) in
     record { held-there = b .0; listed = b .1; behind = leb-true from (rowNumber t h) (c .0); with-it = c .1 }
 
-has-fits : (t : List Row) (list pick : List ℕ) (from h : ℕ) → Fits t list pick from h → hashFits t list pick from h ≡ true
+has-fits : (t : List Row) (list pick : List ℕ) (from h : ℕ) → FitsRules t list pick from h → hashFits t list pick from h ≡ true
 unfolding hashFits
 has-fits t list pick from h f = rw (f .held-there, f .listed, le-leb from (rowNumber t h) (f .behind), f .with-it)
 
@@ -91,7 +91,7 @@ module _ (t : List Row) (list pick : List ℕ) where
   -- each hash fits, one behind the other
   unfoldable pub AllFits : ℕ → List ℕ → Type 0
   AllFits from [] = Unit {0}
-  AllFits from (h ∷ hs) = Fits t list pick from h × AllFits (suc (rn h)) hs
+  AllFits from (h ∷ hs) = FitsRules t list pick from h × AllFits (suc (rn h)) hs
 
   broken-first : (from p h : ℕ) (hs : List ℕ) → hashFits t list pick from h ≡ false → firstBroken t list pick from p (h ∷ hs) ≡ p
   unfolding firstBroken
@@ -144,7 +144,7 @@ module _ (t : List Row) (list pick : List ℕ) where
 
 -- ---- what acceptance says
 
-pub record Accepts (t : List Row) (list sizes : List ℕ) (budget : ℕ) (pick : List ℕ) : Type 0 where
+pub record AcceptedParts (t : List Row) (list sizes : List ℕ) (budget : ℕ) (pick : List ℕ) : Type 0 where
   pub fits : AllFits t list pick 0 pick
   pub each : length sizes ≡ length t
   pub small : sizeSum t sizes pick ≤ budget
@@ -167,7 +167,7 @@ not-fine p e = true-false (isFine (Breaks p)) (ap isFine e) refl
     isFine (Breaks q) = false
 
 pub accepts : (t : List Row) (list sizes : List ℕ) (budget : ℕ) (pick : List ℕ) → pickChecked t list sizes budget pick ≡ Fine
-    → Accepts t list sizes budget pick
+    → AcceptedParts t list sizes budget pick
 unfolding pickChecked
 accepts t list sizes budget pick e =
     let (a, b, c, d) = taken _ _ _ _ _ _ _ _ e (not-fine _) (not-fine _) (not-fine _) (not-fine _) in
@@ -178,7 +178,7 @@ accepts t list sizes budget pick e =
       some = λ l. split (emptyAllowed t list sizes budget) (λ x. x) (λ x. absurd (true-false _ (and-true _ _ (eq-eqb (length pick) 0 l) (ap not x)) d));
     }
 
-pub accepted-is : (t : List Row) (list sizes : List ℕ) (budget : ℕ) (pick : List ℕ) → Accepts t list sizes budget pick
+pub accepted-is : (t : List Row) (list sizes : List ℕ) (budget : ℕ) (pick : List ℕ) → AcceptedParts t list sizes budget pick
     → pickChecked t list sizes budget pick ≡ Fine
 unfolding pickChecked
 accepted-is t list sizes budget pick a =
@@ -431,7 +431,7 @@ order-ascends f (x ∷ l) o =
 
 fits-made : (t : List Row) (list pick : List ℕ) (from : ℕ) (hs : List ℕ) → ascends (map (rowNumber t) hs) ≡ true
     → ((h : ℕ) → member h hs ≡ true → from ≤ rowNumber t h)
-    → ((h : ℕ) → member h hs ≡ true → Fits t list pick 0 h)
+    → ((h : ℕ) → member h hs ≡ true → FitsRules t list pick 0 h)
     → AllFits t list pick from hs
 unfolding AllFits
 fits-made t list pick from [] a f s = tt

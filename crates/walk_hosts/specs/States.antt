@@ -6,7 +6,7 @@ use Rattle.bloom.specs.declared.setting.Setting.{Setting}
 use Rattle.walk_hosts.specs.Memory.{Tabled}
 use Rattle.table.specs.TableBytes.{tableOf}
 use Rattle.walk_sessions.specs.Passing.{Passes, FitIn}
-use Rattle.walk_sessions.specs.Talk.{Accepts, Underway, WalkStated}
+use Rattle.walk_sessions.specs.Talk.{PassAccepted, Underway, WalkStated}
 use Rattle.waiting.specs.WaitingBytes.{waitingOf}
 use Rattle.walk.specs.Round.{Part}
 use Rattle.walk_hosts.specs.Calls.{planIn, Both, GoodSettings, CallsRound, TalkOfCalls, A, B, W, U}
@@ -30,5 +30,5 @@ CallsState = (setA setB : ℕ → Setting) → GoodSettings setA setB
     → ((k : ℕ) → FitIn (tableOf a) (pass k))
     → (k : ℕ) (h : k < n)
     → Underway setA setB pass (A setA setB pass a b w u hosts) (B setA setB pass a b w u hosts) (W setA setB pass a b w u hosts) (U setA setB pass a b w u hosts) hosts k
-    → Accepts setA setB pass (A setA setB pass a b w u hosts) (B setA setB pass a b w u hosts) (W setA setB pass a b w u hosts) (U setA setB pass a b w u hosts) hosts k
+    → PassAccepted setA setB pass (A setA setB pass a b w u hosts) (B setA setB pass a b w u hosts) (W setA setB pass a b w u hosts) (U setA setB pass a b w u hosts) hosts k
     → CallsStated setA setB pass a b w u hosts k (talk .at k) (talk .at (suc k)) (talk .made k h)

@@ -16,7 +16,7 @@ use Rattle.waiting.specs.Waiting.{Waiting}
 use Rattle.walk.proofs.Theorem1.{theorem-1}
 use Rattle.walk.specs.Walk.{Demand3, Walk, holdsAll, lacking}
 use Rattle.walk_sessions.specs.Passing.{Passes}
-use Rattle.walk_sessions.specs.Talk.{pairAt, Reached, Accepts, Granted, Underway, Tables, Ended, Corollary}
+use Rattle.walk_sessions.specs.Talk.{pairAt, Reached, PassAccepted, Granted, Underway, Tables, Ended, Corollary}
 use Rattle.walk_sessions.proofs.Passing.{passed-walks}
 use Rattle.walk_sessions.proofs.Talk.{Standing, reached-going, inside-standing, next, statement-2}
 use Rattle.session.specs.Written.{Host}
@@ -78,7 +78,7 @@ module _ (setA setB : ℕ → Setting) (pass : ℕ → Passes) (A : List Row) (B
   ended =
       let l = found (search (suc m)) in
       let inner : (k : ℕ) → k ≤ l .round → Underway setA setB pass A B W U hosts k = λ k h. inside k (λ j i. l .comes j (omega arith)) in
-      let accepted : (k : ℕ) → k ≤ l .round → Accepts setA setB pass A B W U hosts k = λ k h. all k (inner k h .reached) .accepts in
+      let accepted : (k : ℕ) → k ≤ l .round → PassAccepted setA setB pass A B W U hosts k = λ k h. all k (inner k h .reached) .accepts in
       let two = statement-2 setA setB pass A B W U hosts tables in
       let st = stands-after (l .round) (l .comes) in
       let walk = walk-of (suc (l .round)) st in

@@ -31,7 +31,7 @@ use Rattle.walk.specs.Round.{Part, Loads, trim}
 use Rattle.walk.specs.Walk.{At, accepted, heardIn}
 use Rattle.wire.specs.Item.{prefixedBytes}
 use Rattle.walk_sessions.specs.Passing.{Passes, planPassing, AcceptedIn, Replies, WalkPassed}
-use Rattle.walk_sessions.specs.Talk.{bytesFor, goes, Pair, asked, toA, answered, toB, pairAt, carried, Reached, Accepts, Granted, Underway, Tables, Agrees, Statement2, Theorem2}
+use Rattle.walk_sessions.specs.Talk.{bytesFor, goes, Pair, asked, toA, answered, toB, pairAt, carried, Reached, PassAccepted, Granted, Underway, Tables, Agrees, Statement2, Theorem2}
 use Rattle.walk_sessions.proofs.Answers.{Answers, taking, mid-good, answers}
 use Rattle.walk_sessions.proofs.Asks.{Asks, asks}
 use Rattle.walk_sessions.proofs.Passing.{
@@ -194,7 +194,7 @@ module _ (setA setB : ℕ → Setting) (pass : ℕ → Passes) (A : List Row) (B
 
     -- a pick that the check accepts of the walk's offer is accepted in A's session, where that goes by list
     pub accepts-offer : empty (heads (B k)) ≡ false → length offer ≤ length A / documentPart → AcceptedOf A (pass k) offer
-        → Accepts setA setB pass A B W U hosts k
+        → PassAccepted setA setB pass A B W U hosts k
     accepts-offer found short fine =
         let whole : Answers (setA k .bits) (setA k .probes) A (B k) (U k) k (st .sent) a need haves m (bodyOf A mid) Fine =
         answers (setA k .bits) (setA k .probes) A (B k) (U k) k (st .sent) a need haves m (fixedA k) (st .sideB .part) going (st .sideA)
@@ -203,7 +203,7 @@ module _ (setA setB : ℕ → Setting) (pass : ℕ → Passes) (A : List Row) (B
         let list : bodyOf A mid .document ≡ false = whole .short found short in
         subst (λ (r : Received). AcceptedIn A (left r a) (pass k)) (sym toA-is) (offer-accepted A mid (pass k) offer list (whole .list list) fine)
 
-    module _ (accepts : Accepts setA setB pass A B W U hosts k) where
+    module _ (accepts : PassAccepted setA setB pass A B W U hosts k) where
       accepted-there : AcceptedIn A mid (pass k)
       accepted-there = subst (λ (r : Received). AcceptedIn A (left r a) (pass k)) toA-is accepts
 
@@ -299,7 +299,7 @@ module _ (setA setB : ℕ → Setting) (pass : ℕ → Passes) (A : List Row) (B
     -- ---- and what is granted in it
 
     module _ (granted : Granted setA setB pass A B W U hosts k) where
-      abbrev accepts : Accepts setA setB pass A B W U hosts k
+      abbrev accepts : PassAccepted setA setB pass A B W U hosts k
       accepts = granted .accepts
 
       list : reply .body .document ≡ false

@@ -39,7 +39,7 @@ use Rattle.walk.specs.Walk.{heardIn, holdsAll, lacking}
 use Rattle.wire.specs.Item.{prefixedBytes}
 use Rattle.walk_picked.specs.PickedWalk.{AllFit}
 use Rattle.walk_sessions.specs.Passing.{Passes, FitIn, Replies}
-use Rattle.walk_sessions.specs.Talk.{pairAt, Reached, Accepts, Granted, Tables, Ended}
+use Rattle.walk_sessions.specs.Talk.{pairAt, Reached, PassAccepted, Granted, Tables, Ended}
 use Rattle.walk_sessions.proofs.Corollary.{corollary}
 use Rattle.walk_sessions.proofs.Passing.{AcceptedOf}
 use Rattle.walk_sessions.proofs.Sides.{Going}
@@ -241,7 +241,7 @@ module _ (pass : ℕ → Passes) (brings : BringsAll pass) where
   grants k st going T none t is one found loads few =
       let same : offers k (st .sent) ≡ brought k = offers-so k (st .sent) T none t is in
       let short : length (offers k (st .sent)) ≤ length three / documentPart = rw same (omega (arith, one)) in
-      let accepts : Accepts set-by-a set-by-b pass three held-by-b waiting-at-b waiting-at-a lent k =
+      let accepts : PassAccepted set-by-a set-by-b pass three held-by-b waiting-at-b waiting-at-a lent k =
       accepts-offer set-by-a set-by-b pass three held-by-b waiting-at-b waiting-at-a lent tables k st going found short
       (subst (AcceptedOf three (pass k)) (sym same) (brings .accepted k))
       in

@@ -82,12 +82,12 @@ module _ (setA setB : ℕ → Setting) (pass : ℕ → Passes) (A : List Row) (B
   Reached k = (j : ℕ) → j < k → holdsAll A (B (suc j)) ≡ false
 
   -- 02, M-110: the pick that A passes in round k, if it passes one, is accepted.
-  abbrev pub Accepts : ℕ → Type 0
-  Accepts k = AcceptedIn A (left (toA k (pairAt k)) (pairAt k .atA)) (pass k)
+  abbrev pub PassAccepted : ℕ → Type 0
+  PassAccepted k = AcceptedIn A (left (toA k (pairAt k)) (pairAt k .atA)) (pass k)
 
   -- What 01 grants in round k, and what 02 does.
   pub record Granted (k : ℕ) : Type 0 where
-    pub accepts : Accepts k
+    pub accepts : PassAccepted k
     -- the reply goes by list
     pub list : (q : Plan) (s : State) → answered k (pairAt k) ≡ Planned.says q s → q .body .document ≡ false
     -- the message that has the reply is within its size; B's message always is
@@ -146,7 +146,7 @@ module _ (setA setB : ℕ → Setting) (pass : ℕ → Passes) (A : List Row) (B
   -- The sessions are the walk, round by round.
   pub record Statement2 : Type 0 where
     -- in every round that is reached inside what is granted B speaks the walk's words, A hears them and answers, by list with the walk's reply
-    pub stated : (k : ℕ) → Underway k → Accepts k → WalkStated k
+    pub stated : (k : ℕ) → Underway k → PassAccepted k → WalkStated k
     -- in every round that is reached and granted B takes A's answer
     pub taken : (k : ℕ) → Underway k → Granted k → (s : State) × (toB k (pairAt k) ≡ Received.took s)
 
