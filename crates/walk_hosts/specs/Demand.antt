@@ -13,7 +13,7 @@
 -- sent the document. Anything where changes are made meanwhile or messages get lost. How many false yeses there are.
 use Rattle.walk_picked.specs.PickedWalk.{M110}
 use Rattle.walk_sessions.specs.Passing.{PassedWalks}
-use Rattle.walk_sessions.specs.Talk.{Theorem2, Corollary}
+use Rattle.walk_sessions.specs.Talk.{Theorem2, Sessions01, SessionsPicked, Corollary}
 use Rattle.walk.specs.Walk.{Walk01Walks, Round01Rounds, Walk01New, Walk01Goes, Theorem1}
 use Rattle.walk_hosts.specs.Calls.{CallsAreSteps, CallsCorollary, CallsGo}
 use Rattle.walk_hosts.specs.Contracts.{Contracts}
@@ -35,6 +35,9 @@ pub record Demand : Type 0 where
   pub passed : PassedWalks
   -- two fresh sessions, speaking through bytes, state the heads, needs, haves and replies of such a walk, with the filters that B builds
   pub sessions : Theorem2
+  -- of 01's own walk where no pick is passed, of the walk with picks where one is in each round
+  pub sessions01 : Sessions01
+  pub sessionsPicked : SessionsPicked
   -- after at most 2 (m + 1) messages, none a reset and none refused, the validator holds the station's table
   pub caughtUp : Corollary
   -- two hosts that make the exported calls in turn, each planning with its pair of the round and A with what it passes, hold just these sessions

@@ -31,7 +31,7 @@ use Rattle.walk.specs.Round.{Part, Loads, trim}
 use Rattle.walk.specs.Walk.{At, accepted, heardIn}
 use Rattle.wire.specs.Item.{prefixedBytes}
 use Rattle.walk_sessions.specs.Passing.{Passes, planPassing, AcceptedIn, Replies, WalkPassed}
-use Rattle.walk_sessions.specs.Talk.{bytesFor, goes, Pair, asked, toA, answered, toB, pairAt, carried, Reached, PassAccepted, Granted, Underway, Tables, Agrees, Statement2, Theorem2}
+use Rattle.walk_sessions.specs.Talk.{bytesFor, goes, Pair, asked, toA, answered, toB, pairAt, carried, Reached, PassAccepted, Granted, Underway, Tables, Agrees, Statement2, Theorem2, Sessions01, SessionsPicked}
 use Rattle.walk_sessions.proofs.Answers.{Answers, taking, mid-good, answers}
 use Rattle.walk_sessions.proofs.Asks.{Asks, asks}
 use Rattle.walk_sessions.proofs.Passing.{
@@ -432,3 +432,13 @@ module _ (setA setB : ℕ → Setting) (pass : ℕ → Passes) (A : List Row) (B
 -- Theorem 2.
 pub theorem-2 : Theorem2
 theorem-2 setA setB pass A B W U hosts tables = statement-2 setA setB pass A B W U hosts tables
+
+pub sessions-01 : Sessions01
+sessions-01 setA setB A B W U hosts tables k i =
+    let x = theorem-2 setA setB (λ j. Passes.all) A B W U hosts tables .stated k i tt in
+    (x, passed-walks .whole (λ j. setB j .bits) (λ j. setB j .probes) _ A (B 0) k (x .at) (x .walk))
+
+pub sessions-picked : SessionsPicked
+sessions-picked setA setB rowSizes budget pick A B W U hosts tables k i accepts =
+    let x = theorem-2 setA setB (λ j. Passes.picked rowSizes (budget j) (pick j)) A B W U hosts tables .stated k i accepts in
+    (x, passed-walks .picks (λ j. setB j .bits) (λ j. setB j .probes) budget rowSizes pick _ A (B 0) k (x .at) (x .walk))

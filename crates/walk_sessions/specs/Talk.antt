@@ -22,7 +22,8 @@ use Rattle.session_state.specs.Session.{State, fresh}
 use Rattle.table.specs.Table.{Row, GoodTable, rows, held}
 use Rattle.waiting.specs.Waiting.{Waiting}
 use Rattle.walk.specs.Round.{Part, Loads, trim}
-use Rattle.walk.specs.Walk.{At, heardIn, holdsAll, lacking}
+use Rattle.walk.specs.Walk.{At, Walk01, heardIn, holdsAll, lacking}
+use Rattle.walk_picked.specs.PickedWalk.{WalkPicked}
 use Rattle.walk_sessions.specs.Passing.{Passes, planPassing, AcceptedIn, FitIn, Replies, WalkPassed}
 
 -- The bytes that go across: none where nothing is said.
@@ -145,7 +146,8 @@ module _ (setA setB : ℕ → Setting) (pass : ℕ → Passes) (A : List Row) (B
 
   -- The sessions are the walk, round by round.
   pub record Statement2 : Type 0 where
-    -- in every round that is reached inside what is granted B speaks the walk's words, A hears them and answers, by list with the walk's reply
+    -- in every round that is reached inside what is granted, and where what A passes is accepted, B speaks the walk's words, A hears them and answers, by list
+    -- with the walk's reply
     pub stated : (k : ℕ) → Underway k → PassAccepted k → WalkStated k
     -- in every round that is reached and granted B takes A's answer
     pub taken : (k : ℕ) → Underway k → Granted k → (s : State) × (toB k (pairAt k) ≡ Received.took s)
@@ -172,6 +174,25 @@ abbrev pub Theorem2 : Type 0
 Theorem2 = (setA setB : ℕ → Setting) (pass : ℕ → Passes) (A : List Row) (B : ℕ → List Row) (W U : ℕ → List Waiting) (hosts : ℕ → Host)
     → Tables setA setB pass A B W U hosts
     → Statement2 setA setB pass A B W U hosts
+
+-- Where no pick is passed the walk that they state is 01's own.
+abbrev pub Sessions01 : Type 0
+Sessions01 = (setA setB : ℕ → Setting) (A : List Row) (B : ℕ → List Row) (W U : ℕ → List Waiting) (hosts : ℕ → Host)
+    → Tables setA setB (λ j. Passes.all) A B W U hosts
+    → (k : ℕ) → Underway setA setB (λ j. Passes.all) A B W U hosts k
+    → (x : WalkStated setA setB (λ j. Passes.all) A B W U hosts k)
+    × Walk01 (λ j. setB j .bits) (λ j. setB j .probes) (λ j. pairAt setA setB (λ i. Passes.all) A B W U hosts j .atB .sharedHeads) A (B 0) k (x .at)
+
+-- Where one is passed in each round, with the budget of that round, it is the walk with picks.
+abbrev pub SessionsPicked : Type 0
+SessionsPicked = (setA setB : ℕ → Setting) (rowSizes : List ℕ) (budget : ℕ → ℕ) (pick : ℕ → List ℕ) (A : List Row) (B : ℕ → List Row) (W U : ℕ → List Waiting)
+    (hosts : ℕ → Host)
+    → Tables setA setB (λ j. Passes.picked rowSizes (budget j) (pick j)) A B W U hosts
+    → (k : ℕ) → Underway setA setB (λ j. Passes.picked rowSizes (budget j) (pick j)) A B W U hosts k
+    → PassAccepted setA setB (λ j. Passes.picked rowSizes (budget j) (pick j)) A B W U hosts k
+    → (x : WalkStated setA setB (λ j. Passes.picked rowSizes (budget j) (pick j)) A B W U hosts k)
+    × WalkPicked (λ j. setB j .bits) (λ j. setB j .probes) budget rowSizes
+    (λ j. pairAt setA setB (λ i. Passes.picked rowSizes (budget i) (pick i)) A B W U hosts j .atB .sharedHeads) A (B 0) k (x .at)
 
 -- Where the premises hold, B holds A after at most as many rounds as it lacks rows, and one.
 abbrev pub Corollary : Type 0
