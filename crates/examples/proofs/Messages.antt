@@ -25,6 +25,7 @@ use Rattle.session.specs.Plan.{
   haveOf,
   havesFor,
   unknownSync,
+  listOf,
   bodyHeard,
   bodyOf,
   silence,
@@ -34,7 +35,7 @@ use Rattle.session.specs.Plan.{
   versionFor,
   planOf,
   planned,
-  plan,
+  planBody,
 }
 use Rattle.session_state.specs.Session.{fresh, freshReadOnly, setReadOnly}
 use Rattle.table.specs.Table.{rowsFrom, rowsWhere}
@@ -101,7 +102,7 @@ pub writes : Writes fresh (0x42 ∷ 0x00 ∷ 0x00 ∷ 0x01 ∷ 0x00 ∷ 0x00 ∷
     × Writes (setReadOnly fresh true) (0x42 ∷ 0x00 ∷ 0x00 ∷ 0x01 ∷ 0x00 ∷ 0x00 ∷ 0x00 ∷ 0x02 ∷ 0x02 ∷ 0x86 ∷ [])
 unfolding
     setReadOnly
-    plan
+    planBody
     planOf
     planned
     needOf
@@ -143,11 +144,11 @@ unfolding
     shortest
     sevens
 writes = (
-  record { said = planOf defaultBits defaultProbes [] [] fresh; next = planned [] fresh; speaks = refl; written = λ host. refl },
-  record { said = planOf defaultBits defaultProbes [] [] freshReadOnly; next = planned [] freshReadOnly; speaks = refl; written = λ host. refl },
+  record { said = planOf defaultBits defaultProbes [] [] fresh (listOf []); next = planned [] fresh (listOf []); speaks = refl; written = λ host. refl },
+  record { said = planOf defaultBits defaultProbes [] [] freshReadOnly (listOf []); next = planned [] freshReadOnly (listOf []); speaks = refl; written = λ host. refl },
   record {
-    said = planOf defaultBits defaultProbes [] [] (setReadOnly fresh true);
-    next = planned [] (setReadOnly fresh true);
+    said = planOf defaultBits defaultProbes [] [] (setReadOnly fresh true) (listOf []);
+    next = planned [] (setReadOnly fresh true) (listOf []);
     speaks = refl;
     written = λ host. refl;
   },

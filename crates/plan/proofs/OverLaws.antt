@@ -62,12 +62,12 @@ module _ (r : Radio) (rowSizes : List ℕ) (s : Session) (l : Lent) (table index
   whole-plans (Unknown x) e = refl
 
   -- a pick goes
-  pub picked-plans : (a : SettingAnswer) (pick : List ℕ) → r .limited ≡ true
+  pub pick-plans : (a : SettingAnswer) (pick : List ℕ) → r .limited ≡ true
       → planAfter s l table index waiting (planOver a r rowSizes pick (tableOf table) (waitingOf waiting) (stateOf s l))
       ≡ planPickedBy a rowSizes (r .budget) pick s l table index waiting
   unfolding planPickedBy planOver
-  picked-plans (Chosen c) pick e = rw (over-picked r rowSizes (tableOf table) (waitingOf waiting) (stateOf s l) c pick e)
-  picked-plans (Unknown x) pick e = refl
+  pick-plans (Chosen c) pick e = rw (over-picked r rowSizes (tableOf table) (waitingOf waiting) (stateOf s l) c pick e)
+  pick-plans (Unknown x) pick e = refl
 
 -- ---- bits and probes that are passed, and those of a list
 
@@ -104,6 +104,6 @@ module _ (s : Session) (l : Lent) (table index waiting : List ℕ) {a b : Settin
   pub by-same : a ≡ b → planBy a s l table index waiting ≡ planBy b s l table index waiting
   by-same e = rw e
 
-  pub picked-same : (rowSizes : List ℕ) (budget : ℕ) (pick : List ℕ) → a ≡ b
+  pub pick-same-answer : (rowSizes : List ℕ) (budget : ℕ) (pick : List ℕ) → a ≡ b
       → planPickedBy a rowSizes budget pick s l table index waiting ≡ planPickedBy b rowSizes budget pick s l table index waiting
-  picked-same rowSizes budget pick e = rw e
+  pick-same-answer rowSizes budget pick e = rw e

@@ -45,7 +45,7 @@ module _ (bits probes : ℕ) (t : List Row) (w : List Waiting) (s : State) (b : 
   said-rows Fine f = f refl
   said-rows (Breaks place) f = refl
 
-  body-rows : every (held t) (askedOf (planBody bits probes t w s b c)) ≡ true
+  pub body-rows : every (held t) (askedOf (planBody bits probes t w s b c)) ≡ true
   unfolding planBody resetOf every
   body-rows =
       split (ltb (sizes .hashes) (length (needOf t w (s .readOnly) (heard (s .theirHeads)))))

@@ -32,6 +32,7 @@ pub use Rattle.session.proofs.ReceiveLaws.{
 }
 pub use Rattle.session.proofs.PlanCalls.{plan-called-once, plan-refused-leaves, silence-leaves, reset-leaves}
 pub use Rattle.session.proofs.Arms.{probes-inside, planned-rows}
+pub use Rattle.session.proofs.PickPlanLaws.{plans-with-picks}
 pub use Rattle.session.proofs.KeptCalls.{plan-stays-good, receive-stays-good, failed-stays-good}
 pub use Rattle.session.proofs.KeptSessions.{counts-back}
 pub use Rattle.session.proofs.Stands.{stand-same}

@@ -2,6 +2,7 @@ pub mod Arms
 pub mod GoodState
 pub mod Kept
 pub mod Laid
+pub mod PickPlan
 pub mod Plan
 pub mod PlanCall
 pub mod Receive

@@ -20,7 +20,8 @@ use Rattle.table.specs.TableBytes.{u16sAt, countOf, usedOf, unusedOf, rowOf, ro
 use Rattle.table.specs.TableCalls.{passedOn}
 use Rattle.table.specs.Table.{Row, rows, hashOf, held}
 use Rattle.table.specs.declared.check.Checked.the-variants.{Good}
-use Rattle.walk_sessions.proofs.TalkExample.{held-by-b, waiting-at-b, waiting-at-a, lent, set-by-a, set-by-b, good-at-a, good-at-b, all-granted}
+use Rattle.walk_sessions.proofs.TalkExample.{held-by-b, waiting-at-b, waiting-at-a, lent, set-by-a, set-by-b, good-at-a, good-at-b, BringsAll, all-granted}
+use Rattle.walk_sessions.specs.Passing.{Passes, FitIn}
 use Rattle.walk_sessions.specs.Talk.{Reached, Granted}
 use Rattle.waiting.specs.WaitingBytes.{
   asksCountOf,
@@ -177,43 +178,9 @@ beside-b (suc (suc (suc k))) = beside-none (tableOf all-rows)
 settings : GoodSettings set-by-a set-by-b
 settings = record { atA = good-at-a; atB = good-at-b }
 
-lends : Lends set-by-a set-by-b all-rows at-b waits-b waits-a lent
-lends =
-    record {
-      tableA = tabled-three;
-      tableB = tabled-b;
-      waitsA = λ k. beside-none (tableOf all-rows);
-      waitsB = beside-b;
-      changes = λ k. record { change = λ h. bytes-none; document = bytes-none };
-      out = zeroed-out;
-      wide = zeroed-wide;
-      buffer = zeroes (sizes .message);
-      room = zeroes-room (sizes .message);
-    }
-
--- ---- all is granted
-
-abbrev ReachedGrants : List Row → (ℕ → List Row) → (ℕ → List Waiting) → (ℕ → List Waiting) → Type 0
-ReachedGrants A B W U = (k : ℕ) → Reached set-by-a set-by-b A B W U lent k → Granted set-by-a set-by-b A B W U lent k
-
-granted : AllGranted set-by-a set-by-b all-rows at-b waits-b waits-a lent
-granted =
-    subst (λ (A : List Row). ReachedGrants A (λ k. tableOf (at-b k)) (λ k. waitingOf (waits-b k)) (λ k. waitingOf (waits-a k))) (sym (computed .2))
-    (subst (λ (U : ℕ → List Waiting). ReachedGrants three (λ k. tableOf (at-b k)) (λ k. waitingOf (waits-b k)) U) (fun-ext (λ k. sym (none-waits [] .0)))
-    (subst (λ (W : ℕ → List Waiting). ReachedGrants three (λ k. tableOf (at-b k)) W waiting-at-a) (fun-ext waits-are)
-    (subst (λ (B : ℕ → List Row). ReachedGrants three B waiting-at-b waiting-at-a) (fun-ext tables-are) all-granted)))
-
 part : Part (tableOf all-rows) (tableOf a-row)
 part =
     subst (λ (A : List Row). Part A (tableOf a-row)) (sym (computed .2)) (subst (λ (B : List Row). Part three B) (sym (computed .0)) part-one)
-
--- two hosts with memory and buffers of limit size talk for n rounds, and the corollary speaks of it: every premise is met here
-pub calls-example : (n : ℕ) → (talk : TalkOfCalls set-by-a set-by-b all-rows at-b waits-b waits-a lent n)
-    × CallsEnd set-by-a set-by-b all-rows at-b waits-b waits-a lent n talk
-calls-example n =
-    let both : Both = record { atA = zeroed; atB = zeroed } in
-    let talk = calls-go set-by-a set-by-b settings all-rows at-b waits-b waits-a lent lends both zeroed-fresh zeroed-fresh n in
-    (talk, calls-corollary set-by-a set-by-b settings all-rows at-b waits-b waits-a lent n talk tabled-three part (none-waits [] .0) granted)
 
 -- ---- what the calls are lent
 
@@ -248,21 +215,59 @@ hears-met h = record { good = refl; said = h .said; bytes = h .bytes }
 said-speaks : {answer written : List ℕ} {o : Buffers} {hashes : List ℕ} → SaidSo answer written o hashes → speaks answer ≡ true
 said-speaks s = rw (s .planned, s .message)
 
--- The premises of the contracts of bt_write_message and bt_receive, for both ends of a round.
-pub record RoundLends (k : ℕ) {s s′ : Both} (r : CallsRound set-by-a set-by-b all-rows at-b waits-b waits-a lent k s s′) : Type 0 where
-  pub asks : WriteMet (lent k) (r .asks .answer) (r .asks .out′)
-  pub hears : ReceiveLent 1 (r .question) (r .midA .lists)
-  pub answers : WriteMet (lent k) (r .answers .answer) (r .answers .out′)
-  pub takes : ReceiveLent 1 (r .reply) (s′ .atB .lists)
+-- ---- a talk of calls, in which A plans with picks or without
 
--- They are met in the first round of the talk above, in which both ends speak.
-pub contracts-example : RoundLends 0 (calls-example 1 .0 .made 0 (omega arith))
-contracts-example =
-    let r = calls-example 1 .0 .made 0 (omega arith) in
-    let so = calls-example 1 .1 .all 0 (omega arith) (omega arith) in
-    record {
-      asks = write-met (r .asks .writes (said-speaks (so .asks)));
-      hears = hears-met (r .hears);
-      answers = write-met (r .answers .writes (said-speaks (so .answers)));
-      takes = hears-met (r .takes);
-    }
+module _ (pass : ℕ → Passes) (brings : BringsAll pass) where
+  lends : Lends set-by-a set-by-b pass all-rows at-b waits-b waits-a lent
+  lends =
+      record {
+        tableA = tabled-three;
+        tableB = tabled-b;
+        waitsA = λ k. beside-none (tableOf all-rows);
+        waitsB = beside-b;
+        changes = λ k. record { change = λ h. bytes-none; document = bytes-none };
+        out = zeroed-out;
+        wide = zeroed-wide;
+        buffer = zeroes (sizes .message);
+        room = zeroes-room (sizes .message);
+      }
+
+  abbrev ReachedGrants : List Row → (ℕ → List Row) → (ℕ → List Waiting) → (ℕ → List Waiting) → Type 0
+  ReachedGrants A B W U = (k : ℕ) → Reached set-by-a set-by-b pass A B W U lent k → Granted set-by-a set-by-b pass A B W U lent k
+
+  granted : AllGranted set-by-a set-by-b pass all-rows at-b waits-b waits-a lent
+  granted =
+      subst (λ (A : List Row). ReachedGrants A (λ k. tableOf (at-b k)) (λ k. waitingOf (waits-b k)) (λ k. waitingOf (waits-a k))) (sym (computed .2))
+      (subst (λ (U : ℕ → List Waiting). ReachedGrants three (λ k. tableOf (at-b k)) (λ k. waitingOf (waits-b k)) U) (fun-ext (λ k. sym (none-waits [] .0)))
+      (subst (λ (W : ℕ → List Waiting). ReachedGrants three (λ k. tableOf (at-b k)) W waiting-at-a) (fun-ext waits-are)
+      (subst (λ (B : ℕ → List Row). ReachedGrants three B waiting-at-b waiting-at-a) (fun-ext tables-are) (all-granted pass brings))))
+
+  every-change-fits : (k : ℕ) → FitIn (tableOf all-rows) (pass k)
+  every-change-fits k = subst (λ (A : List Row). FitIn A (pass k)) (sym (computed .2)) (brings .fits k)
+
+  -- two hosts with memory and buffers of limit size talk for n rounds, and the corollary speaks of it: every premise is met here
+  pub calls-example : (n : ℕ) → (talk : TalkOfCalls set-by-a set-by-b pass all-rows at-b waits-b waits-a lent n)
+      × CallsEnd set-by-a set-by-b pass all-rows at-b waits-b waits-a lent n talk
+  calls-example n =
+      let both : Both = record { atA = zeroed; atB = zeroed } in
+      let talk = calls-go set-by-a set-by-b settings pass all-rows at-b waits-b waits-a lent lends both zeroed-fresh zeroed-fresh n in
+      (talk, calls-corollary set-by-a set-by-b settings pass all-rows at-b waits-b waits-a lent n talk tabled-three part (none-waits [] .0) every-change-fits granted)
+
+  -- The premises of the contracts of bt_write_message and bt_receive, for both ends of a round.
+  pub record RoundLends (k : ℕ) {s s′ : Both} (r : CallsRound set-by-a set-by-b pass all-rows at-b waits-b waits-a lent k s s′) : Type 0 where
+    pub asks : WriteMet (lent k) (r .asks .answer) (r .asks .out′)
+    pub hears : ReceiveLent 1 (r .question) (r .midA .lists)
+    pub answers : WriteMet (lent k) (r .answers .answer) (r .answers .out′)
+    pub takes : ReceiveLent 1 (r .reply) (s′ .atB .lists)
+
+  -- They are met in the first round of the talk above, in which both ends speak.
+  pub contracts-example : RoundLends 0 (calls-example 1 .0 .made 0 (omega arith))
+  contracts-example =
+      let r = calls-example 1 .0 .made 0 (omega arith) in
+      let so = calls-example 1 .1 .all 0 (omega arith) (omega arith) in
+      record {
+        asks = write-met (r .asks .writes (said-speaks (so .asks)));
+        hears = hears-met (r .hears);
+        answers = write-met (r .answers .writes (said-speaks (so .answers)));
+        takes = hears-met (r .takes);
+      }

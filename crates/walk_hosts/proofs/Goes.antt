@@ -25,7 +25,7 @@ use Rattle.message.specs.Sound.{Each}
 use Rattle.message.specs.Write.{partsOf, chunksFrom, messageOutput}
 use Rattle.message_calls.specs.MessageWords.{versionOf, sectionOf}
 use Rattle.hash_order.specs.Order.{member, every}
-use Rattle.session.specs.PlanCall.{Buffers, planWith, plannedAnswer, plannedRoomed, plannedRooms, putInto, plannedLists}
+use Rattle.session.specs.PlanCall.{Buffers, plannedAnswer, plannedRoomed, plannedRooms, putInto, plannedLists}
 use Rattle.session.specs.ReceiveCall.{receivedAnswer, receivedLists}
 use Rattle.rules.proofs.Cases.{split}
 use Rattle.rules.proofs.Hash.{slice-parts, bytes-slice}
@@ -43,10 +43,12 @@ use Rattle.session_state.specs.Session.{State}
 use Rattle.session_state.specs.Value.{Lent}
 use Rattle.table.specs.TableBytes.{tableOf}
 use Rattle.table.specs.Table.{Row}
+use Rattle.walk_sessions.proofs.Passing.{bodyPassed, checkPassed, passing-is}
+use Rattle.walk_sessions.specs.Passing.{Passes, planPassing}
 use Rattle.walk_sessions.specs.Talk.{bytesFor, pairAt}
 use Rattle.waiting.specs.WaitingBytes.{waitingOf}
 use Rattle.waiting.specs.Waiting.{Waiting}
-use Rattle.walk_hosts.specs.Calls.{speaks, haveWordsIn, planIn, PlanMade, Speaks, Hears, Both}
+use Rattle.walk_hosts.specs.Calls.{speaks, haveWordsIn, planIn, planMade, PlanMade, Speaks, Hears, Both}
 use Rattle.walk_hosts.specs.Calls.{GoodSettings, CallsRound, TalkOfCalls, AreSessions, Lends, CallsGo}
 use Rattle.walk_hosts.proofs.Planning.{held-good, reset-is}
 use Rattle.walk_hosts.proofs.Receiving.{receive-for, receive-holds}
@@ -81,7 +83,7 @@ whole-all (c ∷ cs) = ap (λ (n : ℕ). length c + n) (whole-all cs) ∙ sym (l
 
 -- ---- what is planned has fields of bytes
 
-module _ (setting : Setting) (keeps : SettingGood (setting .bits) (setting .probes)) (table waiting : List ℕ) (tabled : Tabled table)
+module _ (setting : Setting) (keeps : SettingGood (setting .bits) (setting .probes)) (pass : Passes) (table waiting : List ℕ) (tabled : Tabled table)
     (beside : Beside (tableOf table) waiting) (x : State) (m : Memory) (h : Holds x m) where
   abbrev t : List Row
   t = tableOf table
@@ -89,22 +91,23 @@ module _ (setting : Setting) (keeps : SettingGood (setting .bits) (setting .prob
   abbrev w : List Waiting
   w = waitingOf waiting
 
-  planned-fields : (q : Plan) (s : State) → plan (setting .bits) (setting .probes) t w x ≡ Planned.says q s → Each FieldBytes (q .haves)
+  planned-fields : (q : Plan) (s : State) → planPassing pass (setting .bits) (setting .probes) t w x ≡ Planned.says q s → Each FieldBytes (q .haves)
   unfolding planOf haveOf Each
   planned-fields q s e =
       let need : List ℕ = needOf t w (x .readOnly) (heard (x .theirHeads)) in
-      rw (plan-saying (setting .bits) (setting .probes) t w x q s e .message)
+      let over = sym (passing-is pass (setting .bits) (setting .probes) t w x) ∙ e in
+      rw (plan-saying (setting .bits) (setting .probes) t w x (bodyPassed t x pass) (checkPassed t x pass) q s over .message)
       (split (every (λ g. member g (heard (x .theirHeads))) need)
       (λ f.
       rw (have-one (setting .bits) (setting .probes) t need (heard (x .theirHeads)) (x .sharedHeads) f)
       (field-bytes (setting .bits) (setting .probes) _, tt))
       (λ f. rw (have-none (setting .bits) (setting .probes) t need (heard (x .theirHeads)) (x .sharedHeads) f) tt))
 
-  reset-fields : (q : Plan) → plan (setting .bits) (setting .probes) t w x ≡ Planned.reset q → Each FieldBytes (q .haves)
+  reset-fields : (q : Plan) → planPassing pass (setting .bits) (setting .probes) t w x ≡ Planned.reset q → Each FieldBytes (q .haves)
   unfolding resetOf Each
-  reset-fields q e = rw (reset-is table waiting tabled beside setting keeps x (held-good x m h) q e) (bytes-none, tt)
+  reset-fields q e = rw (reset-is table waiting tabled beside setting keeps pass x (held-good x m h) q e) (bytes-none, tt)
 
-  said-bytes : (host : Host) → HostBytes host → (p : Planned) → plan (setting .bits) (setting .probes) t w x ≡ p → Bytes (bytesFor host p)
+  said-bytes : (host : Host) → HostBytes host → (p : Planned) → planPassing pass (setting .bits) (setting .probes) t w x ≡ p → Bytes (bytesFor host p)
   unfolding bytesFor
   said-bytes host b (Planned.refused r) e = bytes-none
   said-bytes host b Planned.silent e = bytes-none
@@ -130,7 +133,7 @@ module _ (setting : Setting) (keeps : SettingGood (setting .bits) (setting .prob
 
   module _ (host : Host) (b : HostBytes host) (o : Buffers) (wide : RoomyOut o) (buffer : List ℕ) (room : sizes .message ≤ length buffer) where
     abbrev planned : Planned
-    planned = plannedRoomed (plannedRooms o (m .lists)) (planWith (setting .bits) (setting .probes) (sessionOf (m .words)) (m .lists) table (tabled .index) waiting)
+    planned = plannedRoomed (plannedRooms o (m .lists)) (planMade setting pass (sessionOf (m .words)) (m .lists) table (tabled .index) waiting)
 
     abbrev then : Memory
     then = record { words = plannedSession (plannedAnswer planned) (m .words); lists = plannedLists planned (m .lists) }
@@ -141,7 +144,7 @@ module _ (setting : Setting) (keeps : SettingGood (setting .bits) (setting .prob
     abbrev answer : List ℕ
     answer = plannedWords (plannedAnswer planned)
 
-    plans : PlanMade setting table (tabled .index) waiting m then o parts answer
+    plans : PlanMade setting pass table (tabled .index) waiting m then o parts answer
     plans =
         record {
           call = record { answer = refl; session = refl; lists = refl; buffers = refl };
@@ -162,7 +165,7 @@ module _ (setting : Setting) (keeps : SettingGood (setting .bits) (setting .prob
     abbrev message : List ℕ
     message = cond (speaks answer) (cond (eqb (getD written 0 0) 0) (take (getD written 1 0) (contentOf output buffer)) []) []
 
-    speech : Speaks setting host table (tabled .index) waiting m then message
+    speech : Speaks setting pass host table (tabled .index) waiting m then message
     speech =
         record {
           out = o;
@@ -189,8 +192,8 @@ module _ (setting : Setting) (keeps : SettingGood (setting .bits) (setting .prob
 
     speech-bytes : Bytes message
     speech-bytes =
-        let p : Planned = plan (setting .bits) (setting .probes) t w x in
-        let c = crossing setting keeps host table waiting tabled beside x m then h message speech p refl in
+        let p : Planned = planPassing pass (setting .bits) (setting .probes) t w x in
+        let c = crossing setting keeps pass host table waiting tabled beside x m then h message speech p refl in
         split (ltb (sizes .message) (length (bytesFor host p)))
         (λ e. let none : message ≡ [] = c .long (ltb-true _ _ e) in subst Bytes (sym none) bytes-none)
         (λ e. let same : message ≡ bytesFor host p = c .small (ltb-false _ _ e) in subst Bytes (sym same) (said-bytes host b p refl))
@@ -261,27 +264,27 @@ module _ (table : List ℕ) (tabled : Tabled table) (before : ℕ) (message : Li
 
 -- ---- a round
 
-module _ (setA setB : ℕ → Setting) (keep : GoodSettings setA setB) (a : List ℕ) (b w u : ℕ → List ℕ) (hosts : ℕ → Host)
-    (lends : Lends setA setB a b w u hosts) where
+module _ (setA setB : ℕ → Setting) (keep : GoodSettings setA setB) (pass : ℕ → Passes) (a : List ℕ) (b w u : ℕ → List ℕ) (hosts : ℕ → Host)
+    (lends : Lends setA setB pass a b w u hosts) where
   module _ (k : ℕ) (s : Both) (x y : State) (heldA : Holds x (s .atA)) (heldB : Holds y (s .atB)) where
     abbrev midB : Memory
     midB =
-        then (setB k) (keep .atB k) (b k) (w k) (lends .tableB k) (lends .waitsB k) y (s .atB) heldB
+        then (setB k) (keep .atB k) Passes.all (b k) (w k) (lends .tableB k) (lends .waitsB k) y (s .atB) heldB
         (hosts k) (lends .changes k) (lends .out) (lends .wide) (lends .buffer) (lends .room)
 
     abbrev question : List ℕ
     question =
-        message (setB k) (keep .atB k) (b k) (w k) (lends .tableB k) (lends .waitsB k) y (s .atB) heldB
+        message (setB k) (keep .atB k) Passes.all (b k) (w k) (lends .tableB k) (lends .waitsB k) y (s .atB) heldB
         (hosts k) (lends .changes k) (lends .out) (lends .wide) (lends .buffer) (lends .room)
 
-    asks : Speaks (setB k) (hosts k) (b k) (lends .tableB k .index) (w k) (s .atB) midB question
+    asks : Speaks (setB k) Passes.all (hosts k) (b k) (lends .tableB k .index) (w k) (s .atB) midB question
     asks =
-        speech (setB k) (keep .atB k) (b k) (w k) (lends .tableB k) (lends .waitsB k) y (s .atB) heldB
+        speech (setB k) (keep .atB k) Passes.all (b k) (w k) (lends .tableB k) (lends .waitsB k) y (s .atB) heldB
         (hosts k) (lends .changes k) (lends .out) (lends .wide) (lends .buffer) (lends .room)
 
     question-bytes : Bytes question
     question-bytes =
-        speech-bytes (setB k) (keep .atB k) (b k) (w k) (lends .tableB k) (lends .waitsB k) y (s .atB) heldB
+        speech-bytes (setB k) (keep .atB k) Passes.all (b k) (w k) (lends .tableB k) (lends .waitsB k) y (s .atB) heldB
         (hosts k) (lends .changes k) (lends .out) (lends .wide) (lends .buffer) (lends .room)
 
     abbrev midA : Memory
@@ -298,29 +301,29 @@ module _ (setA setB : ℕ → Setting) (keep : GoodSettings setA setB) (a : List
 
     abbrev endA : Memory
     endA =
-        then (setA k) (keep .atA k) a (u k) (lends .tableA) (lends .waitsA k) heardA midA heldMid
+        then (setA k) (keep .atA k) (pass k) a (u k) (lends .tableA) (lends .waitsA k) heardA midA heldMid
         (hosts k) (lends .changes k) (lends .out) (lends .wide) (lends .buffer) (lends .room)
 
     abbrev reply : List ℕ
     reply =
-        message (setA k) (keep .atA k) a (u k) (lends .tableA) (lends .waitsA k) heardA midA heldMid
+        message (setA k) (keep .atA k) (pass k) a (u k) (lends .tableA) (lends .waitsA k) heardA midA heldMid
         (hosts k) (lends .changes k) (lends .out) (lends .wide) (lends .buffer) (lends .room)
 
-    answers : Speaks (setA k) (hosts k) a (lends .tableA .index) (u k) midA endA reply
+    answers : Speaks (setA k) (pass k) (hosts k) a (lends .tableA .index) (u k) midA endA reply
     answers =
-        speech (setA k) (keep .atA k) a (u k) (lends .tableA) (lends .waitsA k) heardA midA heldMid
+        speech (setA k) (keep .atA k) (pass k) a (u k) (lends .tableA) (lends .waitsA k) heardA midA heldMid
         (hosts k) (lends .changes k) (lends .out) (lends .wide) (lends .buffer) (lends .room)
 
     reply-bytes : Bytes reply
     reply-bytes =
-        speech-bytes (setA k) (keep .atA k) a (u k) (lends .tableA) (lends .waitsA k) heardA midA heldMid
+        speech-bytes (setA k) (keep .atA k) (pass k) a (u k) (lends .tableA) (lends .waitsA k) heardA midA heldMid
         (hosts k) (lends .changes k) (lends .out) (lends .wide) (lends .buffer) (lends .room)
 
     abbrev saidB : State
     saidB = after (plan (setB k .bits) (setB k .probes) (tableOf (b k)) (waitingOf (w k)) y) y
 
     spokenB : Holds saidB midB
-    spokenB = speaking-holds (setB k) (keep .atB k) (hosts k) (b k) (w k) (lends .tableB k) (lends .waitsB k) y (s .atB) midB heldB question asks
+    spokenB = speaking-holds (setB k) (keep .atB k) Passes.all (hosts k) (b k) (w k) (lends .tableB k) (lends .waitsB k) y (s .atB) midB heldB question asks
 
     abbrev endB : Memory
     endB = later (b (suc k)) (lends .tableB (suc k)) (length (tableOf (b k))) reply reply-bytes saidB midB spokenB
@@ -328,7 +331,7 @@ module _ (setA setB : ℕ → Setting) (keep : GoodSettings setA setB) (a : List
     abbrev end : Both
     end = record { atA = endA; atB = endB }
 
-    goes : CallsRound setA setB a b w u hosts k s end
+    goes : CallsRound setA setB pass a b w u hosts k s end
     goes =
         record {
           tableA = lends .tableA;
@@ -349,14 +352,14 @@ module _ (setA setB : ℕ → Setting) (keep : GoodSettings setA setB) (a : List
   -- ---- all rounds
 
   module _ (start : Both) (freshA : Fresh (start .atA)) (freshB : Fresh (start .atB)) where
-    standing : (k : ℕ) → (s : Both) × AreSessions setA setB a b w u hosts k s
+    standing : (k : ℕ) → (s : Both) × AreSessions setA setB pass a b w u hosts k s
     unfolding pairAt
     standing zero = (start, record { holdsA = fresh-holds (start .atA) freshA; holdsB = fresh-holds (start .atB) freshB })
     standing (suc k) =
         let (s, h) = standing k in
-        (end k s _ _ (h .holdsA) (h .holdsB), next setA setB keep a b w u hosts k s _ (goes k s _ _ (h .holdsA) (h .holdsB)) h)
+        (end k s _ _ (h .holdsA) (h .holdsB), next setA setB keep pass a b w u hosts k s _ (goes k s _ _ (h .holdsA) (h .holdsB)) h)
 
-    talk : (n : ℕ) → TalkOfCalls setA setB a b w u hosts n
+    talk : (n : ℕ) → TalkOfCalls setA setB pass a b w u hosts n
     unfolding standing
     talk n =
         record {

@@ -1,7 +1,7 @@
 -- A plan call is the step: over memory that holds a session, with room, it answers what the step plans, leaves the session that the step leaves, and in the
 -- buffers the message that the step states. Assumes nothing.
 use Prim.Native.Nat.{ℕ, _≤_, _<_}
-use mathlib.Core.Bool.{true}
+use mathlib.Core.Bool.{true, _&&_}
 use mathlib.Core.List.{List, []}
 use mathlib.Core.Option.{Option, none, some}
 use mathlib.Core.Path.{_≡_, refl, sym, ap, _∙_}
@@ -17,7 +17,7 @@ use Rattle.session.specs.PlanCall.{Buffers, afterTables, planWith, plannedAnswe
 use Rattle.table_graph.specs.Graph.{heads}
 use Rattle.table_index.proofs.CheckLaws.{checked-table}
 use Rattle.session.specs.Kept.{plannedIn}
-use Rattle.session.proofs.KeptCalls.{plan-stays-good}
+use Rattle.session.proofs.KeptCalls.{body-stays-good}
 use Rattle.session.proofs.KeptSessions.{good-state}
 use Rattle.session_check.specs.SessionGood.{sessionGood}
 use Rattle.session_check.proofs.GoodSessions.{LentBytes}
@@ -29,9 +29,25 @@ use Rattle.rules.specs.declared.refusal.Refusal.{Refusal}
 use Rattle.rules.proofs.Cases.{split}
 use Rattle.session.specs.GoodState.{SoundTable, WhereHeard, GoodState}
 use Rattle.session.specs.Laid.{laidBytes}
-use Rattle.session.specs.Plan.{Plan, Planned, heard, needOf, unknownSync, silence, sentAfter, planOf, resetOf, plan, after}
-use Rattle.session.proofs.GoodLaws.{heads-sound, body-few, planned-good, said-sound}
-use Rattle.session.proofs.PlanLaws.{body-hashes, have-or-none, said-flags, plan-need-past, plan-resets, plan-silent, plan-sent-past, plan-is, plan-saying}
+use Rattle.session.specs.Plan.{
+  Body,
+  Plan,
+  Planned,
+  heard,
+  needOf,
+  unknownSync,
+  empty,
+  silence,
+  sentAfter,
+  planOf,
+  resetOf,
+  isFine,
+  unlessBroken,
+  planBody,
+  after,
+}
+use Rattle.session.proofs.GoodLaws.{heads-sound, body-good, said-sound}
+use Rattle.session.proofs.PlanLaws.{have-or-none, said-flags, plan-need-past, plan-resets, plan-silent, plan-sent-past, plan-ends, plan-saying}
 use Rattle.plan_calls.specs.PlanWords.{plannedWords, plannedSession}
 use Rattle.call_words.specs.SessionWords.{sessionWords, sessionOf}
 use Rattle.call_words.proofs.WordLaws.{words-back}
@@ -39,14 +55,20 @@ use Rattle.session_state.specs.Session.{State}
 use Rattle.session_state.specs.Value.{Lent, stateOf, countsOf}
 use Rattle.session_state.specs.declared.session.Session.{Session}
 use Rattle.table.specs.TableBytes.{tableOf}
-use Rattle.table.specs.Table.{Row, rows}
+use Rattle.table.specs.Table.{Row, rows, held}
 use Rattle.table.proofs.GoodLaws.{rows-hashes}
 use Rattle.table.proofs.TableLaws.{table-good}
 use Rattle.waiting.specs.WaitingBytes.{waitingOf}
 use Rattle.table.specs.TableCalls.{passedOn}
 use Rattle.waiting.specs.WaitingCalls.{tablesChecked}
 use Rattle.waiting.specs.Waiting.{Waiting}
-use Rattle.walk_hosts.specs.Calls.{PlanMade}
+use Rattle.hash_order.proofs.KeepLaws.{every-member, hashes-inside}
+use Rattle.pick.specs.declared.check.Picked.{Picked}
+use Rattle.pick.specs.declared.check.Picked.the-variants.{Fine as PickedFine, Breaks}
+use Rattle.walk_sessions.proofs.Answers.{MayGo}
+use Rattle.walk_sessions.proofs.Passing.{bodyPassed, checkPassed, passing-is, fine-accepted, may-go}
+use Rattle.walk_sessions.specs.Passing.{Passes, planPassing}
+use Rattle.walk_hosts.specs.Calls.{planMade, PlanMade}
 use Rattle.walk_hosts.specs.Memory.{Memory, Roomy, OfBytes, Holds, RoomyOut, Tabled, Beside}
 use Rattle.walk_hosts.proofs.Rooms.{Fine, planned-room, reset-roomed, says-roomed}
 
@@ -119,23 +141,33 @@ module _ (table waiting : List ℕ) (tabled : Tabled table) (beside : Beside (ta
         flags = omega arith;
       }
 
-  module _ (setting : Setting) (keeps : SettingGood (setting .bits) (setting .probes)) (x : State) (good : GoodState x) where
+  module _ (setting : Setting) (keeps : SettingGood (setting .bits) (setting .probes)) (pass : Passes) (x : State) (good : GoodState x) where
+    -- what goes, and what the check says of it
+    abbrev body : Body
+    body = bodyPassed t x pass
+
+    abbrev check : Picked
+    check = checkPassed t x pass
+
+    over : {p : Planned} → planPassing pass (setting .bits) (setting .probes) t w x ≡ p → planBody (setting .bits) (setting .probes) t w x body check ≡ p
+    over e = sym (passing-is pass (setting .bits) (setting .probes) t w x) ∙ e
+
     -- a reset is the one of this table
-    pub reset-is : (q : Plan) → plan (setting .bits) (setting .probes) t w x ≡ Planned.reset q → q ≡ resetOf t
+    pub reset-is : (q : Plan) → planPassing pass (setting .bits) (setting .probes) t w x ≡ Planned.reset q → q ≡ resetOf t
     reset-is q e =
         split (ltb (sizes .hashes) (length (needOf t w (x .readOnly) (heard (x .theirHeads)))))
-        (λ a. refused-other (sym (plan-need-past (setting .bits) (setting .probes) t w x (ltb-true _ _ a)) ∙ e))
+        (λ a. refused-other (sym (plan-need-past (setting .bits) (setting .probes) t w x body check (ltb-true _ _ a)) ∙ over e))
         (λ a.
         let few : length (needOf t w (x .readOnly) (heard (x .theirHeads))) ≤ sizes .hashes = ltb-false _ _ a in
         split (unknownSync t (x .theirHave))
-        (λ b. let is : Planned.reset q ≡ Planned.reset (resetOf t) = sym e ∙ plan-resets (setting .bits) (setting .probes) t w x few b in cc)
+        (λ b. let is : Planned.reset q ≡ Planned.reset (resetOf t) = sym (over e) ∙ plan-resets (setting .bits) (setting .probes) t w x body check few b in cc)
         (λ b.
-        split (silence t x)
-        (λ c. silent-other (sym (plan-silent (setting .bits) (setting .probes) t w x few b c) ∙ e))
+        split (silence t x (isFine check && empty (body .hashes)))
+        (λ c. silent-other (sym (plan-silent (setting .bits) (setting .probes) t w x body check few b c) ∙ over e))
         (λ c.
-        split (ltb (sizes .sentHashes) (length (sentAfter t x)))
-        (λ d. refused-other (sym (plan-sent-past (setting .bits) (setting .probes) t w x few b c (ltb-true _ _ d)) ∙ e))
-        (λ d. says-other (sym (plan-is (setting .bits) (setting .probes) t w x few b c (ltb-false _ _ d)) ∙ e)))))
+        split (ltb (sizes .sentHashes) (length (sentAfter x body)))
+        (λ d. refused-other (sym (plan-sent-past (setting .bits) (setting .probes) t w x body check few b c (ltb-true _ _ d)) ∙ over e))
+        (λ d. ended check _ _ (sym (plan-ends (setting .bits) (setting .probes) t w x body check few b c (ltb-false _ _ d)) ∙ over e)))))
       where
         refused-other : {A : Type 0} {r : Refusal} {p : Plan} → Planned.refused r ≡ Planned.reset p → A
         refused-other f = absurd (let z : _≡_ {A = ℕ} 0 1 = cc in omega arith)
@@ -146,6 +178,10 @@ module _ (table waiting : List ℕ) (tabled : Tabled table) (beside : Beside (ta
         says-other : {A : Type 0} {p q : Plan} {s : State} → Planned.says p s ≡ Planned.reset q → A
         says-other f = absurd (let z : _≡_ {A = ℕ} 0 1 = cc in omega arith)
 
+        ended : {A : Type 0} {q : Plan} (k : Picked) (p : Plan) (s : State) → unlessBroken k (Planned.says p s) ≡ Planned.reset q → A
+        ended PickedFine p s f = says-other f
+        ended (Breaks place) p s f = refused-other f
+
     heard-hashes : AreHashes (heard (x .theirHeads))
     unfolding AreHashes
     heard-hashes = found (x .theirHeads) (good .theirHeads)
@@ -154,19 +190,33 @@ module _ (table waiting : List ℕ) (tabled : Tabled table) (beside : Beside (ta
         found none g = tt
         found (some hs) g = g .are
 
-    pub says-fine : (q : Plan) (s : State) → plan (setting .bits) (setting .probes) t w x ≡ Planned.says q s → Fine q
+    may-hashes : MayGo t body check → AreHashes (body .hashes)
+    unfolding held
+    may-hashes may = hashes-inside (body .hashes) (rows t) (sound .are) (λ h m. every-member (held t) (body .hashes) (may .own) h m)
+
+    -- what goes with a message are hashes
+    said-hashes : (q : Plan) (s : State) → planPassing pass (setting .bits) (setting .probes) t w x ≡ Planned.says q s → AreHashes (body .hashes)
+    said-hashes q s e =
+        may-hashes (may-go t x pass sound good (fine-accepted t x pass (plan-saying (setting .bits) (setting .probes) t w x body check q s (over e) .fine)))
+
+    -- and it leaves a good session
+    leaves-good : (q : Plan) (s : State) → planPassing pass (setting .bits) (setting .probes) t w x ≡ Planned.says q s → GoodState s
+    leaves-good q s e = body-good (setting .bits) (setting .probes) t w x sound good body check (said-hashes q s e) q s (over e)
+
+    pub says-fine : (q : Plan) (s : State) → planPassing pass (setting .bits) (setting .probes) t w x ≡ Planned.says q s → Fine q
     unfolding planOf
     says-fine q s e =
-        let p = plan-saying (setting .bits) (setting .probes) t w x q s e in
+        let p = plan-saying (setting .bits) (setting .probes) t w x body check q s (over e) in
+        let may = may-go t x pass sound good (fine-accepted t x pass (p .fine)) in
         let need = missing-hashes t waiting (heard (x .theirHeads)) (beside .bytes) heard-hashes in
-        let g = said-sound (setting .bits) (setting .probes) keeps t sound w x good need q s e in
+        let g = said-sound (setting .bits) (setting .probes) keeps t sound w x good need body check q s (over e) in
         record {
           heads = g .heads;
           need = g .need;
           haves = g .haves;
           one = rw (p .message) (have-or-none (setting .bits) (setting .probes) t _ _ _);
-          few = rw (p .message) (body-few t x sound good);
-          are = rw (p .message) (body-hashes t (sound .good) x (sound .are));
+          few = rw (p .message) (may .few);
+          are = rw (p .message) (may-hashes may);
           flags = rw (p .message) (small-flags _ (said-flags _ _));
         }
       where
@@ -175,30 +225,31 @@ module _ (table waiting : List ℕ) (tabled : Tabled table) (beside : Beside (ta
 
     module _ (o : Buffers) (l : Lent) (wide : RoomyOut o) (room : Roomy l) where
       -- 7 is never answered
-      has-room : (p : Planned) → plan (setting .bits) (setting .probes) t w x ≡ p → plannedRoomed (plannedRooms o l) p ≡ p
+      has-room : (p : Planned) → planPassing pass (setting .bits) (setting .probes) t w x ≡ p → plannedRoomed (plannedRooms o l) p ≡ p
       unfolding plannedRoomed
       has-room (Planned.refused r) e = refl
       has-room Planned.silent e = refl
       has-room (Planned.reset q) e = reset-roomed o l wide room q (rw (reset-is q e) reset-fine)
       has-room (Planned.says q s) e =
-          says-roomed o l wide room q s (says-fine q s e) (planned-good (setting .bits) (setting .probes) t w x sound good q s e)
+          says-roomed o l wide room q s (says-fine q s e) (leaves-good q s e)
 
       -- what is planned for the words is the step's plan
-      plan-with : (c : Session) → c ≡ countsOf x → sessionGood (countsOf x) l ≡ true → stateOf (countsOf x) l ≡ x
-          → planWith (setting .bits) (setting .probes) c l table (tabled .index) waiting ≡ plan (setting .bits) (setting .probes) t w x
+      plan-with : (p : Passes) (c : Session) → c ≡ countsOf x → sessionGood (countsOf x) l ≡ true → stateOf (countsOf x) l ≡ x
+          → planMade setting p c l table (tabled .index) waiting ≡ planPassing p (setting .bits) (setting .probes) t w x
       unfolding planWith tablesChecked passedOn afterTables
-      plan-with c counts goods value = rw (counts, goods, tabled .good, beside .good, value)
+      plan-with Passes.all c counts goods value = rw (counts, goods, tabled .good, beside .good, value)
+      plan-with (Passes.picked rowSizes budget pick) c counts goods value = rw (counts, goods, tabled .good, beside .good, value)
 
     -- ---- the call
 
     module _ (m m′ : Memory) (o o′ : Buffers) (answer : List ℕ) (h : Holds x m) (wide : RoomyOut o)
-        (made : PlanMade setting table (tabled .index) waiting m m′ o o′ answer) where
+        (made : PlanMade setting pass table (tabled .index) waiting m m′ o o′ answer) where
       abbrev p : Planned
-      p = plan (setting .bits) (setting .probes) t w x
+      p = planPassing pass (setting .bits) (setting .probes) t w x
 
-      plan-for : plannedRoomed (plannedRooms o (m .lists)) (planWith (setting .bits) (setting .probes) (sessionOf (m .words)) (m .lists) table (tabled .index) waiting) ≡ p
+      plan-for : plannedRoomed (plannedRooms o (m .lists)) (planMade setting pass (sessionOf (m .words)) (m .lists) table (tabled .index) waiting) ≡ p
       plan-for =
-          ap (plannedRoomed (plannedRooms o (m .lists))) (plan-with o (m .lists) wide (h .room) (sessionOf (m .words)) (h .counts) (h .stays .good) (h .stays .value))
+          ap (plannedRoomed (plannedRooms o (m .lists))) (plan-with o (m .lists) wide (h .room) pass (sessionOf (m .words)) (h .counts) (h .stays .good) (h .stays .value))
           ∙ has-room o (m .lists) wide (h .room) p refl
 
       -- it answers what the step plans
@@ -231,15 +282,15 @@ module _ (table waiting : List ℕ) (tabled : Tabled table) (beside : Beside (ta
       unfolding plannedAnswer plannedLists
       changed q s e =
           let l : Lent = m .lists in
-          let left : GoodState s = planned-good (setting .bits) (setting .probes) t w x sound good q s e in
+          let left : GoodState s = leaves-good q s e in
           let lists : m′ .lists ≡ plannedIn s l = rw e at plan-lists in
           let words : m′ .words ≡ sessionWords (countsOf s) = rw e at plan-words in
-          let before : plan (setting .bits) (setting .probes) t w (stateOf (countsOf x) l) ≡ Planned.says q s = rw (h .stays .value) e in
+          let before : planBody (setting .bits) (setting .probes) t w (stateOf (countsOf x) l) body check ≡ Planned.says q s = rw (h .stays .value) (over e) in
           record {
             counts = ap sessionOf words ∙ words-back (countsOf s);
             stays =
                 rw lists
-                (plan-stays-good (setting .bits) (setting .probes) t w sound (countsOf x) l (h .stays .good) (of-bytes l (h .bytes)) q s before
+                (body-stays-good (setting .bits) (setting .probes) t w sound (countsOf x) l (h .stays .good) (of-bytes l (h .bytes)) body check (said-hashes q s e) q s before
                 (planned-room o l wide (h .room) s left));
             bytes = made .bytes;
             room = rw lists (still-roomy s l (h .room));

@@ -18,11 +18,12 @@ use Rattle.message.specs.Message.{messageBytes}
 use Rattle.session.specs.PlanCall.{statedOf, plannedAnswer, messagePut, putInto}
 use Rattle.rules.specs.Sizes.{sizes}
 use Rattle.rules.proofs.Cases.{split}
-use Rattle.session.specs.Plan.{Plan, Planned, plan, after}
+use Rattle.session.specs.Plan.{Plan, Planned, after}
 use Rattle.plan_calls.specs.PlanWords.{statedWords, plannedWords}
 use Rattle.session_state.specs.Session.{State}
 use Rattle.table.specs.TableBytes.{tableOf}
 use Rattle.table.specs.Table.{Row}
+use Rattle.walk_sessions.specs.Passing.{Passes, planPassing}
 use Rattle.walk_sessions.specs.Talk.{bytesFor}
 use Rattle.waiting.specs.WaitingBytes.{waitingOf}
 use Rattle.walk_hosts.specs.Calls.{Speaks, speaks, planIn}
@@ -39,27 +40,27 @@ pub record Crosses (bytes message : List ℕ) : Type 0 where
 nothing-crosses : (message : List ℕ) → message ≡ [] → Crosses [] message
 nothing-crosses message e = record { small = λ h. e; long = λ h. e }
 
-module _ (setting : Setting) (keeps : SettingGood (setting .bits) (setting .probes)) (host : Host) (table waiting : List ℕ) (tabled : Tabled table)
+module _ (setting : Setting) (keeps : SettingGood (setting .bits) (setting .probes)) (pass : Passes) (host : Host) (table waiting : List ℕ) (tabled : Tabled table)
     (beside : Beside (tableOf table) waiting) (x : State) (m m′ : Memory) (h : Holds x m) (message : List ℕ)
-    (speech : Speaks setting host table (tabled .index) waiting m m′ message) where
+    (speech : Speaks setting pass host table (tabled .index) waiting m m′ message) where
   abbrev p : Planned
-  p = plan (setting .bits) (setting .probes) (tableOf table) (waitingOf waiting) x
+  p = planPassing pass (setting .bits) (setting .probes) (tableOf table) (waitingOf waiting) x
 
   good : GoodState x
   good = held-good x m h
 
   pub speaking-holds : Holds (after p x) m′
   speaking-holds =
-      plan-holds table waiting tabled beside setting keeps x good m m′ (speech .out) (speech .out′) (speech .answer) h (speech .room) (speech .plans)
+      plan-holds table waiting tabled beside setting keeps pass x good m m′ (speech .out) (speech .out′) (speech .answer) h (speech .room) (speech .plans)
 
   words : speech .answer ≡ plannedWords (plannedAnswer p)
-  words = plan-answer table waiting tabled beside setting keeps x good m m′ (speech .out) (speech .out′) (speech .answer) h (speech .room) (speech .plans)
+  words = plan-answer table waiting tabled beside setting keeps pass x good m m′ (speech .out) (speech .out′) (speech .answer) h (speech .room) (speech .plans)
 
   -- what is stated is written
   module _ (q : Plan) (fine : Fine q) (says : putInto p (speech .out) ≡ messagePut q (speech .out)) (what : ℕ) (is : speech .answer ≡ statedWords what (statedOf q))
       (told : speaks (speech .answer) ≡ true) where
     there : PlanPut q (speech .out) (speech .out′)
-    there = plan-put table waiting tabled beside setting keeps x good m m′ (speech .out) (speech .out′) (speech .answer) h (speech .room) (speech .plans) q says
+    there = plan-put table waiting tabled beside setting keeps pass x good m m′ (speech .out) (speech .out′) (speech .answer) h (speech .room) (speech .plans) q says
 
     pub stated-read : planIn (speech .answer) (speech .out′) ≡ q
     stated-read = plan-read q fine (speech .out) (speech .out′) (speech .room) there what (speech .answer) is
@@ -85,12 +86,12 @@ module _ (setting : Setting) (keeps : SettingGood (setting .bits) (setting .prob
   crossing (Planned.refused r) e = nothing-crosses message (speech .silent (rw (words, e, number-some r)))
   crossing Planned.silent e = nothing-crosses message (speech .silent (rw (words, e)))
   crossing (Planned.reset q) e =
-      let fine : Fine q = rw (reset-is table waiting tabled beside setting keeps x good q e) (reset-fine table waiting tabled beside) in
+      let fine : Fine q = rw (reset-is table waiting tabled beside setting keeps pass x good q e) (reset-fine table waiting tabled beside) in
       let is : speech .answer ≡ statedWords 1 (statedOf q) = rw e at words in
       stated-crosses q fine (rw e) 1 is (rw is)
   crossing (Planned.says q s) e =
       let is : speech .answer ≡ statedWords 2 (statedOf q) = rw e at words in
-      stated-crosses q (says-fine table waiting tabled beside setting keeps x good q s e) (rw e) 2 is (rw is)
+      stated-crosses q (says-fine table waiting tabled beside setting keeps pass x good q s e) (rw e) 2 is (rw is)
 
   -- the other end hears what the step's plan says
   pub heard-so : (before : ℕ) (t : List Row) (y : State)
@@ -117,7 +118,7 @@ module _ (setting : Setting) (keeps : SettingGood (setting .bits) (setting .prob
   unfolding plannedAnswer putInto
   speaking-said q s e =
       let is : speech .answer ≡ statedWords 2 (statedOf q) = rw e at words in
-      let fine : Fine q = says-fine table waiting tabled beside setting keeps x good q s e in
+      let fine : Fine q = says-fine table waiting tabled beside setting keeps pass x good q s e in
       record {
         planned = rw is;
         kind = rw is;

@@ -22,7 +22,7 @@ use Rattle.rules.specs.Hash.{hashesAt}
 use Rattle.rules.specs.Sizes.{sizes}
 use Rattle.rules.specs.declared.refusal.Refusal.{Refusal}
 use Rattle.rules.proofs.Cases.{split}
-use Rattle.session.specs.Plan.{Plan, Planned, plan, after}
+use Rattle.session.specs.Plan.{Plan, Planned, after}
 use Rattle.call_words.specs.SessionWords.{sessionOf}
 use Rattle.call_words.proofs.WordLaws.{words-back}
 use Rattle.session_state.specs.Counts.{freshCounts}
@@ -30,6 +30,7 @@ use Rattle.session_state.specs.Session.{State, fresh}
 use Rattle.session_state.specs.Value.{heardHashes, heardHaves}
 use Rattle.table.specs.TableBytes.{tableOf}
 use Rattle.table.specs.Table.{Row}
+use Rattle.walk_sessions.specs.Passing.{Passes, planPassing, FitIn}
 use Rattle.walk_sessions.specs.Talk.{Pair, bytesFor, goes, asked, toA, answered, toB, pairAt, Reached, Granted, Tables, Ended}
 use Rattle.walk_sessions.proofs.Corollary.{corollary}
 use Rattle.waiting.specs.WaitingBytes.{waitingOf}
@@ -84,21 +85,21 @@ taken-small before t x z bytes e =
     untaken f = absurd (let c : _≡_ {A = ℕ} 0 1 = cc in omega arith)
 
 -- what is said and taken: its calls answered 0
-module _ (setting : Setting) (keeps : SettingGood (setting .bits) (setting .probes)) (host : Host) (table waiting : List ℕ) (tabled : Tabled table)
+module _ (setting : Setting) (keeps : SettingGood (setting .bits) (setting .probes)) (pass : Passes) (host : Host) (table waiting : List ℕ) (tabled : Tabled table)
     (beside : Beside (tableOf table) waiting) (x : State) (m m′ : Memory) (h : Holds x m) (message : List ℕ)
-    (speech : Speaks setting host table (tabled .index) waiting m m′ message) (q : Plan) (s : State)
-    (says : plan (setting .bits) (setting .probes) (tableOf table) (waitingOf waiting) x ≡ Planned.says q s)
+    (speech : Speaks setting pass host table (tabled .index) waiting m m′ message) (q : Plan) (s : State)
+    (says : planPassing pass (setting .bits) (setting .probes) (tableOf table) (waitingOf waiting) x ≡ Planned.says q s)
     (theirs : List ℕ) (accepted : Tabled theirs) (before : ℕ) (y z : State) (l l′ : Memory) (held : Holds y l) (hearing : Hears theirs (accepted .index) before message l l′)
     (took : receiveBytes true before (tableOf theirs) y (messageBytes (messageFor host q)) ≡ Received.took z) where
   answered-so : SaidSo (speech .answer) (speech .written) (speech .out′) (q .body .hashes) × (getD (hearing .answer) 0 0 ≡ 0)
   unfolding receivedAnswer
   answered-so =
-      let done = speaking-said setting keeps host table waiting tabled beside x m m′ h message speech q s says in
+      let done = speaking-said setting keeps pass host table waiting tabled beside x m m′ h message speech q s says in
       let wrote = done .crosses (taken-small before (tableOf theirs) y z _ took) in
       let took-so : getD (hearing .answer) 0 0 ≡ 0 = rw (receive-answer theirs accepted before message (hearing .said) y l held l′ hearing, wrote .0, took) in
       (record { planned = done .planned; message = done .kind; wrote = wrote .1; carries = ap (λ (r : Plan). r .body .hashes) (done .read) }, took-so)
 
-module _ (setA setB : ℕ → Setting) (keep : GoodSettings setA setB) (a : List ℕ) (b w u : ℕ → List ℕ) (hosts : ℕ → Host) where
+module _ (setA setB : ℕ → Setting) (keep : GoodSettings setA setB) (pass : ℕ → Passes) (a : List ℕ) (b w u : ℕ → List ℕ) (hosts : ℕ → Host) where
   abbrev A : List Row
   A = tableOf a
 
@@ -111,12 +112,12 @@ module _ (setA setB : ℕ → Setting) (keep : GoodSettings setA setB) (a : List
   abbrev U : ℕ → List Waiting
   U = λ k. waitingOf (u k)
 
-  abbrev pair : ℕ → Pair setA setB A B W U hosts
-  pair = sessions setA setB a b w u hosts
+  abbrev pair : ℕ → Pair setA setB pass A B W U hosts
+  pair = sessions setA setB pass a b w u hosts
 
   -- ---- one round
 
-  module _ (k : ℕ) (s s′ : Both) (r : CallsRound setA setB a b w u hosts k s s′) (before : AreSessions setA setB a b w u hosts k s) where
+  module _ (k : ℕ) (s s′ : Both) (r : CallsRound setA setB pass a b w u hosts k s s′) (before : AreSessions setA setB pass a b w u hosts k s) where
     abbrev x : State
     x = pair k .atA
 
@@ -124,43 +125,43 @@ module _ (setA setB : ℕ → Setting) (keep : GoodSettings setA setB) (a : List
     y = pair k .atB
 
     abbrev heardA : State
-    heardA = left (toA setA setB A B W U hosts k (pair k)) x
+    heardA = left (toA setA setB pass A B W U hosts k (pair k)) x
 
     -- B has spoken
-    spokenB : Holds (after (askedIn setA setB a b w u hosts k) y) (r .midB)
+    spokenB : Holds (after (askedIn setA setB pass a b w u hosts k) y) (r .midB)
     unfolding asked
-    spokenB = speaking-holds (setB k) (keep .atB k) (hosts k) (b k) (w k) (r .tableB) (r .waitsB) y (s .atB) (r .midB) (before .holdsB) (r .question) (r .asks)
+    spokenB = speaking-holds (setB k) (keep .atB k) Passes.all (hosts k) (b k) (w k) (r .tableB) (r .waitsB) y (s .atB) (r .midB) (before .holdsB) (r .question) (r .asks)
 
     -- A has heard it
     pub held-mid : Holds heardA (r .midA)
     unfolding asked toA
     held-mid =
         subst (λ (z : State). Holds z (r .midA))
-        (heard-so (setB k) (keep .atB k) (hosts k) (b k) (w k) (r .tableB) (r .waitsB) y (s .atB) (r .midB) (before .holdsB) (r .question) (r .asks)
+        (heard-so (setB k) (keep .atB k) Passes.all (hosts k) (b k) (w k) (r .tableB) (r .waitsB) y (s .atB) (r .midB) (before .holdsB) (r .question) (r .asks)
         (length A) A x)
         (receive-holds a (r .tableA) (length A) (r .question) (r .hears .said) x (s .atA) (before .holdsA) (r .midA) (r .hears))
 
     -- A has answered
-    spokenA : Holds (after (answeredIn setA setB a b w u hosts k) heardA) (s′ .atA)
+    spokenA : Holds (after (answeredIn setA setB pass a b w u hosts k) heardA) (s′ .atA)
     unfolding answered
-    spokenA = speaking-holds (setA k) (keep .atA k) (hosts k) a (u k) (r .tableA) (r .waitsA) heardA (r .midA) (s′ .atA) held-mid (r .reply) (r .answers)
+    spokenA = speaking-holds (setA k) (keep .atA k) (pass k) (hosts k) a (u k) (r .tableA) (r .waitsA) heardA (r .midA) (s′ .atA) held-mid (r .reply) (r .answers)
 
     -- B has heard that
-    heldB : Holds (left (toB setA setB A B W U hosts k (pair k)) (after (askedIn setA setB a b w u hosts k) y)) (s′ .atB)
+    heldB : Holds (left (toB setA setB pass A B W U hosts k (pair k)) (after (askedIn setA setB pass a b w u hosts k) y)) (s′ .atB)
     unfolding asked answered toB
     heldB =
         subst (λ (z : State). Holds z (s′ .atB))
-        (heard-so (setA k) (keep .atA k) (hosts k) a (u k) (r .tableA) (r .waitsA) heardA (r .midA) (s′ .atA) held-mid (r .reply) (r .answers)
+        (heard-so (setA k) (keep .atA k) (pass k) (hosts k) a (u k) (r .tableA) (r .waitsA) heardA (r .midA) (s′ .atA) held-mid (r .reply) (r .answers)
         (length (B k)) (B (suc k)) _)
         (receive-holds (b (suc k)) (r .loadedB) (length (B k)) (r .reply) (r .takes .said) _ (r .midB) spokenB (s′ .atB) (r .takes))
 
-    pub next : AreSessions setA setB a b w u hosts (suc k) s′
+    pub next : AreSessions setA setB pass a b w u hosts (suc k) s′
     unfolding pairAt
     next = record { holdsA = spokenA; holdsB = heldB }
 
   -- ---- all rounds
 
-  are-sessions : (n : ℕ) (talk : TalkOfCalls setA setB a b w u hosts n) (k : ℕ) → k ≤ n → AreSessions setA setB a b w u hosts k (talk .at k)
+  are-sessions : (n : ℕ) (talk : TalkOfCalls setA setB pass a b w u hosts n) (k : ℕ) → k ≤ n → AreSessions setA setB pass a b w u hosts k (talk .at k)
   unfolding pairAt
   are-sessions n talk zero h = record { holdsA = fresh-holds _ (talk .freshA); holdsB = fresh-holds _ (talk .freshB) }
   are-sessions n talk (suc k) h = next k _ _ (talk .made k (omega arith)) (are-sessions n talk k (omega arith))
@@ -168,8 +169,8 @@ module _ (setA setB : ℕ → Setting) (keep : GoodSettings setA setB) (a : List
   -- ---- the corollary
 
   -- what is given of the bytes is what theorem 2 asks of the tables
-  pub tables-given : Tabled a → Part A (B 0) → W 0 ≡ [] → Tables setA setB A B W U hosts
-  tables-given tabled part nothing =
+  pub tables-given : Tabled a → Part A (B 0) → W 0 ≡ [] → ((k : ℕ) → FitIn A (pass k)) → Tables setA setB pass A B W U hosts
+  tables-given tabled part nothing fits =
       let sound = table-sound a tabled in
       record {
         good = sound .good;
@@ -177,20 +178,22 @@ module _ (setA setB : ℕ → Setting) (keep : GoodSettings setA setB) (a : List
         hashes = sound .are;
         part = part;
         nothing = nothing;
+        fits = fits;
         settingA = λ k n h. keep .atA k .each n (le-trans h (sound .few));
         settingB = λ k n h. keep .atB k .each n (le-trans h (sound .few));
       }
 
-  module _ (n : ℕ) (talk : TalkOfCalls setA setB a b w u hosts n) (tabled : Tabled a) (part : Part A (B 0)) (nothing : W 0 ≡ [])
-      (all : (k : ℕ) → Reached setA setB A B W U hosts k → Granted setA setB A B W U hosts k) where
-    end : Ended setA setB A B W U hosts (lacking A (B 0))
-    end = corollary setA setB A B W U hosts (tables-given tabled part nothing) all
+  module _ (n : ℕ) (talk : TalkOfCalls setA setB pass a b w u hosts n) (tabled : Tabled a) (part : Part A (B 0)) (nothing : W 0 ≡ [])
+      (fits : (k : ℕ) → FitIn A (pass k))
+      (all : (k : ℕ) → Reached setA setB pass A B W U hosts k → Granted setA setB pass A B W U hosts k) where
+    end : Ended setA setB pass A B W U hosts (lacking A (B 0))
+    end = corollary setA setB pass A B W U hosts (tables-given tabled part nothing fits) all
 
     module _ (k : ℕ) (upTo : k ≤ end .last) (h : k < n) where
-      abbrev r : CallsRound setA setB a b w u hosts k (talk .at k) (talk .at (suc k))
+      abbrev r : CallsRound setA setB pass a b w u hosts k (talk .at k) (talk .at (suc k))
       r = talk .made k h
 
-      before : AreSessions setA setB a b w u hosts k (talk .at k)
+      before : AreSessions setA setB pass a b w u hosts k (talk .at k)
       before = are-sessions n talk k (omega arith)
 
       abbrev question : Plan
@@ -199,11 +202,11 @@ module _ (setA setB : ℕ → Setting) (keep : GoodSettings setA setB) (a : List
       abbrev reply : Plan
       reply = end .answers k upTo .0
 
-      goes-question : goes (askedIn setA setB a b w u hosts k) ≡ question .body .hashes
+      goes-question : goes (askedIn setA setB pass a b w u hosts k) ≡ question .body .hashes
       unfolding goes
       goes-question = ap goes (end .asks k upTo .2)
 
-      goes-reply : goes (answeredIn setA setB a b w u hosts k) ≡ reply .body .hashes
+      goes-reply : goes (answeredIn setA setB pass a b w u hosts k) ≡ reply .body .hashes
       unfolding goes
       goes-reply = ap goes (end .answers k upTo .2)
 
@@ -213,29 +216,29 @@ module _ (setA setB : ℕ → Setting) (keep : GoodSettings setA setB) (a : List
       takes-question =
           sym (ap (λ (p : Planned). receiveBytes true (length A) A (pair k .atA) (bytesFor (hosts k) p)) (end .asks k upTo .2)) ∙ end .hears k upTo .1
 
-      takes-reply : receiveBytes true (length (B k)) (B (suc k)) (after (askedIn setA setB a b w u hosts k) (pair k .atB))
+      takes-reply : receiveBytes true (length (B k)) (B (suc k)) (after (askedIn setA setB pass a b w u hosts k) (pair k .atB))
           (messageBytes (messageFor (hosts k) reply))
           ≡ Received.took (end .takes k upTo .0)
       unfolding toB bytesFor
       takes-reply =
           sym
-          (ap (λ (p : Planned). receiveBytes true (length (B k)) (B (suc k)) (after (askedIn setA setB a b w u hosts k) (pair k .atB)) (bytesFor (hosts k) p))
+          (ap (λ (p : Planned). receiveBytes true (length (B k)) (B (suc k)) (after (askedIn setA setB pass a b w u hosts k) (pair k .atB)) (bytesFor (hosts k) p))
           (end .answers k upTo .2))
           ∙ end .takes k upTo .1
 
       question-answered : SaidSo (r .asks .answer) (r .asks .written) (r .asks .out′) (question .body .hashes) × (getD (r .hears .answer) 0 0 ≡ 0)
       unfolding asked
       question-answered =
-          answered-so (setB k) (keep .atB k) (hosts k) (b k) (w k) (r .tableB) (r .waitsB) _ _ _ (before .holdsB) (r .question) (r .asks) question _
+          answered-so (setB k) (keep .atB k) Passes.all (hosts k) (b k) (w k) (r .tableB) (r .waitsB) _ _ _ (before .holdsB) (r .question) (r .asks) question _
           (end .asks k upTo .2) a (r .tableA) (length A) _ _ _ _ (before .holdsA) (r .hears) takes-question
 
       reply-answered : SaidSo (r .answers .answer) (r .answers .written) (r .answers .out′) (reply .body .hashes) × (getD (r .takes .answer) 0 0 ≡ 0)
       unfolding answered
       reply-answered =
-          answered-so (setA k) (keep .atA k) (hosts k) a (u k) (r .tableA) (r .waitsA) _ _ _ (held-mid k _ _ r before) (r .reply) (r .answers) reply _
+          answered-so (setA k) (keep .atA k) (pass k) (hosts k) a (u k) (r .tableA) (r .waitsA) _ _ _ (held-mid k _ _ r before) (r .reply) (r .answers) reply _
           (end .answers k upTo .2) (b (suc k)) (r .loadedB) (length (B k)) _ _ _ _ (spokenB k _ _ r before) (r .takes) takes-reply
 
-      all-answered : AllAnswered setA setB a b w u hosts k (talk .at k) (talk .at (suc k)) r
+      all-answered : AllAnswered setA setB pass a b w u hosts k (talk .at k) (talk .at (suc k)) r
       all-answered =
           record {
             asks = rw goes-question (question-answered .0);
@@ -244,7 +247,7 @@ module _ (setA setB : ℕ → Setting) (keep : GoodSettings setA setB) (a : List
             takes = reply-answered .1;
           }
 
-    calls-end : CallsEnd setA setB a b w u hosts n talk
+    calls-end : CallsEnd setA setB pass a b w u hosts n talk
     calls-end = record { ended = end; all = all-answered }
 
 pub calls-are-steps : CallsAreSteps

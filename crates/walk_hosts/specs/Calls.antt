@@ -1,6 +1,6 @@
 -- Two hosts that make the exported calls in turn, over tables as bytes. 01, The catch-up walk, its last rule: what theorem 2 says of two fresh sessions is
--- to hold of bt_fresh, bt_plan, bt_write_message and bt_receive; and, by 02, M-107, with any allowed bits and probes at each end, others each round. Each call
--- stands here as what it ensures over words and bytes.
+-- to hold of bt_fresh, bt_plan, bt_write_message and bt_receive; and, by 02, M-107, with any allowed bits and probes at each end, others each round, and where A
+-- plans with picks (M-110). Each call stands here as what it ensures over words and bytes.
 use Prim.Native.Nat.{ℕ, suc, _*_, _≤_, _<_}
 use mathlib.Core.Bool.{Bool, true, false, cond, not, _&&_}
 use mathlib.Core.List.{List, []}
@@ -16,15 +16,18 @@ use Rattle.message.specs.Flags.{flagsOf}
 use Rattle.message.specs.Message.{total}
 use Rattle.message.specs.Write.{partsOf, chunksFrom, messageOutput}
 use Rattle.message_calls.specs.MessageWords.{versionOf, sectionOf}
-use Rattle.session.specs.PlanCall.{Buffers, planWith}
+use Rattle.session.specs.PlanCall.{Buffers, planAfter, planWith}
 use Rattle.rules.specs.Hash.{Bytes, hashesAt}
 use Rattle.rules.specs.Sizes.{sizes}
-use Rattle.session.specs.Plan.{Plan, Planned}
+use Rattle.session.specs.Plan.{Plan, Planned, planPicked}
 use Rattle.plan_calls.specs.PlanWords.{PlanAnswered}
 use Rattle.receive_calls.specs.ReceiveWords.{ReceiveAnswered}
 use Rattle.call_words.specs.SessionWords.{flagOf, sessionOf}
+use Rattle.session_state.specs.Value.{Lent, stateOf}
+use Rattle.session_state.specs.declared.session.Session.{Session}
 use Rattle.table.specs.TableBytes.{tableOf}
 use Rattle.table.specs.Table.{Row}
+use Rattle.walk_sessions.specs.Passing.{Passes, FitIn}
 use Rattle.walk_sessions.specs.Talk.{goes, Pair, asked, answered, pairAt, Reached, Granted, Ended}
 use Rattle.waiting.specs.WaitingBytes.{waitingOf}
 use Rattle.waiting.specs.Waiting.{Waiting}
@@ -56,9 +59,16 @@ planIn answer o =
 
 -- ---- the calls, each from memory to memory
 
--- Planning with a filter of this setting, over a memory and the message's four buffers: bt_plan with 10 and 7, bt_plan_with, bt_plan_settled.
-pub record PlanMade (setting : Setting) (table index waiting : List ℕ) (m m′ : Memory) (o o′ : Buffers) (answer : List ℕ) : Type 0 where
-  pub call : PlanAnswered (planWith (setting .bits) (setting .probes) (sessionOf (m .words)) (m .lists) table index waiting)
+-- What is planned with a filter of this setting, where this is passed: as ever, or with a pick (02, M-110).
+abbrev pub planMade : Setting → Passes → Session → Lent → List ℕ → List ℕ → List ℕ → Planned
+planMade setting Passes.all s l table index waiting = planWith (setting .bits) (setting .probes) s l table index waiting
+planMade setting (Passes.picked rowSizes budget pick) s l table index waiting =
+    planAfter s l table index waiting
+    (planPicked (setting .bits) (setting .probes) rowSizes budget (tableOf table) (waitingOf waiting) (stateOf s l) pick)
+
+-- Planning so, over a memory and the message's four buffers: bt_plan with 10 and 7, bt_plan_with, bt_plan_settled; bt_plan_picked with a pick.
+pub record PlanMade (setting : Setting) (pass : Passes) (table index waiting : List ℕ) (m m′ : Memory) (o o′ : Buffers) (answer : List ℕ) : Type 0 where
+  pub call : PlanAnswered (planMade setting pass (sessionOf (m .words)) (m .lists) table index waiting)
       (m .words) (m′ .words) (m .lists) (m′ .lists) o o′ answer
   pub bytes : OfBytes (m′ .lists)
 
@@ -76,12 +86,12 @@ pub record WriteMade (host : Host) (plan : List ℕ) (o : Buffers) (answer messa
   pub message-is : message ≡ cond (eqb (getD answer 0 0) 0) (take (getD answer 1 0) after) []
 
 -- A unit speaks: it plans, and where something is said the message is written.
-pub record Speaks (setting : Setting) (host : Host) (table index waiting : List ℕ) (m m′ : Memory) (message : List ℕ) : Type 0 where
+pub record Speaks (setting : Setting) (pass : Passes) (host : Host) (table index waiting : List ℕ) (m m′ : Memory) (message : List ℕ) : Type 0 where
   pub out : Buffers
   pub out′ : Buffers
   pub room : RoomyOut out
   pub answer : List ℕ
-  pub plans : PlanMade setting table index waiting m m′ out out′ answer
+  pub plans : PlanMade setting pass table index waiting m m′ out out′ answer
   pub silent : speaks answer ≡ false → message ≡ []
   pub written : List ℕ
   pub writes : speaks answer ≡ true → WriteMade host answer out′ written message
@@ -112,9 +122,9 @@ pub record GoodSettings (setA setB : ℕ → Setting) : Type 0 where
   pub atA : (k : ℕ) → SettingGood (setA k .bits) (setA k .probes)
   pub atB : (k : ℕ) → SettingGood (setB k .bits) (setB k .probes)
 
--- What A and what B build the filters of each round with; the bytes of A's table, of B's tables before each round, of what waits beside B and beside A; and
+-- What A and what B build the filters of each round with, and what A passes; the bytes of A's table, of B's tables before each round, of what waits beside B and beside A; and
 -- what is lent for each round's messages.
-module _ (setA setB : ℕ → Setting) (a : List ℕ) (b w u : ℕ → List ℕ) (hosts : ℕ → Host) where
+module _ (setA setB : ℕ → Setting) (pass : ℕ → Passes) (a : List ℕ) (b w u : ℕ → List ℕ) (hosts : ℕ → Host) where
   -- The tables that the bytes are.
   abbrev pub A : List Row
   A = tableOf a
@@ -142,9 +152,9 @@ module _ (setA setB : ℕ → Setting) (a : List ℕ) (b w u : ℕ → List ℕ)
     pub midB : Memory
     pub question : List ℕ
     pub reply : List ℕ
-    pub asks : Speaks (setB k) (hosts k) (b k) (tableB .index) (w k) (s .atB) midB question
+    pub asks : Speaks (setB k) Passes.all (hosts k) (b k) (tableB .index) (w k) (s .atB) midB question
     pub hears : Hears a (tableA .index) (length A) question (s .atA) midA
-    pub answers : Speaks (setA k) (hosts k) a (tableA .index) (u k) midA (s′ .atA) reply
+    pub answers : Speaks (setA k) (pass k) (hosts k) a (tableA .index) (u k) midA (s′ .atA) reply
     pub takes : Hears (b (suc k)) (loadedB .index) (length (B k)) reply midB (s′ .atB)
 
   -- n rounds from two fresh sessions on, each from the memory that the one before it left.
@@ -157,16 +167,16 @@ module _ (setA setB : ℕ → Setting) (a : List ℕ) (b w u : ℕ → List ℕ)
   -- ---- what is to be shown
 
   -- The sessions of Talk.antt over the tables that the bytes are.
-  abbrev pub sessions : ℕ → Pair setA setB A B W U hosts
-  sessions = pairAt setA setB A B W U hosts
+  abbrev pub sessions : ℕ → Pair setA setB pass A B W U hosts
+  sessions = pairAt setA setB pass A B W U hosts
 
   -- What B asks in round k.
   abbrev pub askedIn : ℕ → Planned
-  askedIn k = asked setA setB A B W U hosts k (sessions k)
+  askedIn k = asked setA setB pass A B W U hosts k (sessions k)
 
   -- What A answers in round k.
   abbrev pub answeredIn : ℕ → Planned
-  answeredIn k = answered setA setB A B W U hosts k (sessions k)
+  answeredIn k = answered setA setB pass A B W U hosts k (sessions k)
 
   -- Both memories hold the pair of sessions before round k.
   pub record AreSessions (k : ℕ) (s : Both) : Type 0 where
@@ -182,11 +192,11 @@ module _ (setA setB : ℕ → Setting) (a : List ℕ) (b w u : ℕ → List ℕ)
 
   -- All that Talk.antt grants, in each round that is reached.
   abbrev pub AllGranted : Type 0
-  AllGranted = (k : ℕ) → Reached setA setB A B W U hosts k → Granted setA setB A B W U hosts k
+  AllGranted = (k : ℕ) → Reached setA setB pass A B W U hosts k → Granted setA setB pass A B W U hosts k
 
   -- The user's words, of the calls: there is a last round as in Talk.antt, and in the rounds up to it all calls answer 0.
   pub record CallsEnd (n : ℕ) (talk : TalkOfCalls n) : Type 0 where
-    pub ended : Ended setA setB A B W U hosts (lacking A (B 0))
+    pub ended : Ended setA setB pass A B W U hosts (lacking A (B 0))
     pub all : (k : ℕ) → k ≤ ended .last → (h : k < n) → AllAnswered k (talk .at k) (talk .at (suc k)) (talk .made k h)
 
   -- What hosts lend: good tables before every round, bytes of changes, and buffers with room.
@@ -204,24 +214,25 @@ module _ (setA setB : ℕ → Setting) (a : List ℕ) (b w u : ℕ → List ℕ)
 -- A talk of calls is the talk of steps, whatever good pairs the two ends plan with.
 abbrev pub CallsAreSteps : Type 0
 CallsAreSteps = (setA setB : ℕ → Setting) → GoodSettings setA setB
-    → (a : List ℕ) (b w u : ℕ → List ℕ) (hosts : ℕ → Host) (n : ℕ) (talk : TalkOfCalls setA setB a b w u hosts n)
+    → (pass : ℕ → Passes) (a : List ℕ) (b w u : ℕ → List ℕ) (hosts : ℕ → Host) (n : ℕ) (talk : TalkOfCalls setA setB pass a b w u hosts n)
     → (k : ℕ) → k ≤ n
-    → AreSessions setA setB a b w u hosts k (talk .at k)
+    → AreSessions setA setB pass a b w u hosts k (talk .at k)
 
 -- Theorem 2 and its corollary are about the calls too: B's table a part of A's, nothing waiting, and all of it granted.
 abbrev pub CallsCorollary : Type 0
 CallsCorollary = (setA setB : ℕ → Setting) → GoodSettings setA setB
-    → (a : List ℕ) (b w u : ℕ → List ℕ) (hosts : ℕ → Host) (n : ℕ) (talk : TalkOfCalls setA setB a b w u hosts n)
+    → (pass : ℕ → Passes) (a : List ℕ) (b w u : ℕ → List ℕ) (hosts : ℕ → Host) (n : ℕ) (talk : TalkOfCalls setA setB pass a b w u hosts n)
     → Tabled a
     → Part (tableOf a) (tableOf (b 0))
     → waitingOf (w 0) ≡ []
-    → AllGranted setA setB a b w u hosts
-    → CallsEnd setA setB a b w u hosts n talk
+    → ((k : ℕ) → FitIn (tableOf a) (pass k))
+    → AllGranted setA setB pass a b w u hosts
+    → CallsEnd setA setB pass a b w u hosts n talk
 
 -- A talk of calls can always be made, so that no statement about such talks is empty.
 abbrev pub CallsGo : Type 0
 CallsGo = (setA setB : ℕ → Setting) → GoodSettings setA setB
-    → (a : List ℕ) (b w u : ℕ → List ℕ) (hosts : ℕ → Host) → Lends setA setB a b w u hosts
+    → (pass : ℕ → Passes) (a : List ℕ) (b w u : ℕ → List ℕ) (hosts : ℕ → Host) → Lends setA setB pass a b w u hosts
     → (s : Both) → Fresh (s .atA) → Fresh (s .atB)
     → (n : ℕ)
-    → TalkOfCalls setA setB a b w u hosts n
+    → TalkOfCalls setA setB pass a b w u hosts n

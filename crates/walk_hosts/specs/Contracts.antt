@@ -16,14 +16,17 @@ use Rattle.session_check.specs.SessionGood.{lentOf}
 use Rattle.walk_hosts.specs.Memory.{OfBytes, Roomy, Fresh}
 use Rattle.message.specs.Message.{total}
 use Rattle.message.specs.Write.{chunksFrom}
-use Rattle.rules.specs.Hash.{Bytes}
+use Rattle.rules.specs.Hash.{Bytes, hashesAt}
+use Rattle.rules.specs.Passed.{passedHashes}
 use Rattle.rules.specs.Sizes.{sizes}
+use Rattle.rules.specs.declared.passed.Passed.the-variants.{Hashes}
 use Rattle.call_words.specs.SessionWords.{flagOf}
 use Rattle.session_state.specs.Value.{Lent}
 use Rattle.walk_hosts.specs.Calls.{haveWordsIn, planIn, PlanMade, WriteMade, Hears}
 use Rattle.plan_calls.proofs.calls.bt_plan as of-bt-plan
 use Rattle.plan_calls.proofs.plan_with.bt_plan_with as of-bt-plan-with
 use Rattle.plan_calls.proofs.plan_settled.bt_plan_settled as of-bt-plan-settled
+use Rattle.plan_calls.proofs.plan_picked.bt_plan_picked as of-bt-plan-picked
 use Rattle.receive_calls.proofs.calls.bt_receive as of-bt-receive
 use Rattle.message_calls.proofs.calls.bt_write_message as of-bt-write-message
 use Rattle.state_calls.proofs.calls.bt_fresh as of-bt-fresh
@@ -32,6 +35,7 @@ use Rattle.settings.specs.Settings.{settingFor}
 use Rattle.settings.specs.declared.choice.Choice.{Choice}
 use Rattle.settings.specs.declared.find.SettingAnswer.the-variants.{Chosen}
 use Rattle.session.specs.Written.{Host, chunksFor}
+use Rattle.walk_sessions.specs.Passing.{Passes}
 
 -- bt_plan, over a host's memory, its tables and its buffers: what it leaves is PlanMade with 10 and 7. What slices of bytes hold are bytes.
 abbrev pub PlanSaid : (κs : Lfts (of-bt-plan.ended .signature .lifetimes)) → Args (of-bt-plan.ended .signature) κs → AtExit of-bt-plan.ended κs → Type 0
@@ -39,7 +43,7 @@ PlanSaid κs
     (session, (shared, (last-sent, (their-heads, (their-need, (haves, (bytes, (sent, (table, (index, (waiting, (heads, (need, (have, (list, (answer, _))))))))))))))))
     (session′, (_, (last-sent′, (_, (_, (_, (_, (sent′, (_, (_, (_, (heads′, (need′, (have′, (list′, (answer′, _)))))))))))))))) =
     OfBytes (lentOf (now shared) (now last-sent′) (now their-heads) (now their-need) (now haves) (now bytes) (now sent′))
-    → PlanMade defaultSetting (now table) (now index) (now waiting)
+    → PlanMade defaultSetting Passes.all (now table) (now index) (now waiting)
     (record {
       words = now session;
       lists = lentOf (now shared) (now last-sent) (now their-heads) (now their-need) (now haves) (now bytes) (now sent);
@@ -59,7 +63,7 @@ PlanWithSaid κs
     (_, (_, (session′, (_, (last-sent′, (_, (_, (_, (_, (sent′, (_, (_, (_, (heads′, (need′, (have′, (list′, (answer′, _)))))))))))))))))) =
     SettingGood bits probes
     → OfBytes (lentOf (now shared) (now last-sent′) (now their-heads) (now their-need) (now haves) (now bytes) (now sent′))
-    → PlanMade (record { bits = bits; probes = probes }) (now table) (now index) (now waiting)
+    → PlanMade (record { bits = bits; probes = probes }) Passes.all (now table) (now index) (now waiting)
     (record {
       words = now session;
       lists = lentOf (now shared) (now last-sent) (now their-heads) (now their-need) (now haves) (now bytes) (now sent);
@@ -80,7 +84,29 @@ PlanSettledSaid κs
     (c : Choice)
     → settingFor (now settings) station version ≡ Chosen c
     → OfBytes (lentOf (now shared) (now last-sent′) (now their-heads) (now their-need) (now haves) (now bytes) (now sent′))
-    → PlanMade (record { bits = c .bits; probes = c .probes }) (now table) (now index) (now waiting)
+    → PlanMade (record { bits = c .bits; probes = c .probes }) Passes.all (now table) (now index) (now waiting)
+    (record {
+      words = now session;
+      lists = lentOf (now shared) (now last-sent) (now their-heads) (now their-need) (now haves) (now bytes) (now sent);
+    })
+    (record {
+      words = now session′;
+      lists = lentOf (now shared) (now last-sent′) (now their-heads) (now their-need) (now haves) (now bytes) (now sent′);
+    })
+    (record { heads = now heads; need = now need; have = now have; list = now list })
+    (record { heads = now heads′; need = now need′; have = now have′; list = now list′ })
+    (now answer′)
+
+-- bt_plan_picked, where the list answers a choice and the pick's bytes are whole hashes: what it leaves is PlanMade with its bits and probes and that pick.
+abbrev pub PlanPickedSaid : (κs : Lfts (of-bt-plan-picked.ended .signature .lifetimes)) → Args (of-bt-plan-picked.ended .signature) κs → AtExit of-bt-plan-picked.ended κs → Type 0
+PlanPickedSaid κs
+    (settings, (station, (version, (row-sizes, (budget, (pick, (session, (shared, (last-sent, (their-heads, (their-need, (haves, (bytes, (sent, (table, (index, (waiting, (heads, (need, (have, (list, (answer, _))))))))))))))))))))))
+    (_, (_, (_, (_, (_, (_, (session′, (_, (last-sent′, (_, (_, (_, (_, (sent′, (_, (_, (_, (heads′, (need′, (have′, (list′, (answer′, _)))))))))))))))))))))) =
+    (c : Choice) (n : ℕ)
+    → settingFor (now settings) station version ≡ Chosen c
+    → passedHashes (now pick) ≡ Hashes n
+    → OfBytes (lentOf (now shared) (now last-sent′) (now their-heads) (now their-need) (now haves) (now bytes) (now sent′))
+    → PlanMade (record { bits = c .bits; probes = c .probes }) (Passes.picked (now row-sizes) budget (hashesAt (now pick) 0 n)) (now table) (now index) (now waiting)
     (record {
       words = now session;
       lists = lentOf (now shared) (now last-sent) (now their-heads) (now their-need) (now haves) (now bytes) (now sent);
@@ -146,11 +172,12 @@ ReceiveSaid κs
 abbrev pub FreshSaid : (κs : Lfts (of-bt-fresh.ended .signature .lifetimes)) → Args (of-bt-fresh.ended .signature) κs → AtExit of-bt-fresh.ended κs → Type 0
 FreshSaid κs _ (session′, _) = (lists : Lent) → OfBytes lists → Roomy lists → Fresh (record { words = now session′; lists = lists })
 
--- The calls that a talk is made of: three that plan, and one each that writes, receives and begins.
+-- The calls that a talk is made of: four that plan, and one each that writes, receives and begins.
 pub record Contracts : Type 0 where
   pub plan : Ties of-bt-plan.ended of-bt-plan.Reads.Post PlanSaid
   pub planWith : Ties of-bt-plan-with.ended of-bt-plan-with.Reads.Post PlanWithSaid
   pub planSettled : Ties of-bt-plan-settled.ended of-bt-plan-settled.Reads.Post PlanSettledSaid
+  pub planPicked : Ties of-bt-plan-picked.ended of-bt-plan-picked.Reads.Post PlanPickedSaid
   pub write : Ties of-bt-write-message.ended of-bt-write-message.Reads.Post WriteSaid
   pub receive : Ties of-bt-receive.ended of-bt-receive.Reads.Post ReceiveSaid
   pub fresh : Ties of-bt-fresh.ended of-bt-fresh.Reads.Post FreshSaid

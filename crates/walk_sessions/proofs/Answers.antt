@@ -18,9 +18,11 @@ use Rattle.message.specs.Message.{counted, messageBytes}
 use Rattle.message.specs.Sound.{SoundHashes}
 use Rattle.waiting_missing.proofs.MissingLaws.{missing-held}
 use Rattle.waiting_missing.specs.Missing.{missing}
-use Rattle.hash_order.proofs.KeepLaws.{keep-member, keep-same, every-member, every-one}
+use Rattle.hash_order.proofs.KeepLaws.{keep-member, keep-same, every-member, every-one, hashes-inside}
 use Rattle.hash_order.proofs.OrderLaws.{member-append}
 use Rattle.hash_order.specs.Order.{member, every}
+use Rattle.pick.specs.declared.check.Picked.{Picked}
+use Rattle.pick.specs.declared.check.Picked.the-variants.{Fine}
 use Rattle.rules.proofs.Cases.{either, true-false, and-false}
 use Rattle.rules.specs.Hash.{AreHashes}
 use Rattle.rules.specs.Sizes.{sizes}
@@ -42,12 +44,12 @@ use Rattle.session.specs.Plan.{
   sentAfter,
   planOf,
   planned,
-  plan,
+  isFine,
+  planBody,
 }
 use Rattle.session.specs.Receive.{Said, Received, flagged, sentFlagged, sentLeft, loads, received, receive, receiveBytes}
-use Rattle.session.proofs.GoodLaws.{planned-good, received-good}
+use Rattle.session.proofs.GoodLaws.{body-good, received-good}
 use Rattle.session.proofs.PlanLaws.{
-  planned-held,
   list-hashes,
   sent-ascends,
   sent-members,
@@ -59,7 +61,7 @@ use Rattle.session.proofs.PlanLaws.{
 }
 use Rattle.session.proofs.ReceiveLaws.{shared-taken, left-members, left-inside, receive-is}
 use Rattle.session_state.specs.Session.{State}
-use Rattle.table.specs.Table.{Row, held}
+use Rattle.table.specs.Table.{Row, rows, held}
 use Rattle.waiting.specs.Waiting.{Waiting}
 use Rattle.walk.specs.Round.{Part, trim}
 use Rattle.wire.specs.Item.{prefixedBytes}
@@ -101,40 +103,47 @@ unfolding same
 some-head [] e = e
 some-head (h ∷ hs) e = refl
 
+-- What may go: what the check says of it is fine, it names rows of A, and no more than may be sent at once.
+pub record MayGo (A : List Row) (g : Body) (c : Picked) : Type 0 where
+  pub fine : c ≡ Fine
+  pub own : every (held A) (g .hashes) ≡ true
+  pub few : length (g .hashes) ≤ sizes .hashesToSend
+
 -- b is B's table, u what waits beside A; need and haves are what B said, and m is what A hears of it
 module _ (bits probes : ℕ) (A b : List Row) (u : List Waiting) (k : ℕ) (T : List ℕ) (a : State) (need : List ℕ) (haves : List Have) (m : Said) where
   -- A's session when it has heard B
   abbrev mid : State
   mid = received (length A) A a m
 
-  abbrev q : Plan
-  q = planOf bits probes A u mid
-
   -- T when B's heads and all below them were taken off
   abbrev trimmed : List ℕ
   trimmed = trim A (heads b) T
 
-  -- What A does in round k.
-  pub record Answers : Type 0 where
-    -- it takes the message and answers
-    pub takes : receive true (length A) A a m ≡ Received.took mid
-    pub says : plan bits probes A u mid ≡ Planned.says q (planned A mid)
-    pub body-is : q .body ≡ bodyOf A mid
-    -- what is heard of the answer, from its bytes
-    pub hears : HeardWords (heads A) [] (haveOf bits probes A (heads b) ∷ []) (heardSaid q)
-    pub crosses : (host : Host) → length (messageBytes (messageFor host q)) ≤ sizes .message
-        → (before : ℕ) (t : List Row) (r : State)
-        → before ≤ length t
-        → receiveBytes true before t r (messageBytes (messageFor host q)) ≡ receive true before t r (heardSaid q)
-    -- it is within its size if its chunks leave room
-    pub fits : (host : Host) → mostWords + length (counted prefixedBytes (chunksFor host q)) ≤ sizes .message
-        → length (messageBytes (messageFor host q)) ≤ sizes .message
-    -- to a peer with heads it goes by list if the walk's reply is no more than that part of the rows
-    pub short : empty (heads b) ≡ false → length (toSendLess A haves need trimmed) ≤ length A / documentPart → bodyOf A mid .document ≡ false
-    -- by list it is the walk's reply
-    pub list : bodyOf A mid .document ≡ false → bodyOf A mid .hashes ≡ toSendLess A haves need trimmed
-    -- and A's side stands again
-    pub next : bodyOf A mid .document ≡ false → SideA A (suc k) (trimmed ++ bodyOf A mid .hashes) (planned A mid)
+  -- g is what goes, c what the check says of it
+  module _ (g : Body) (c : Picked) where
+    abbrev q : Plan
+    q = planOf bits probes A u mid g
+
+    -- What A does in round k.
+    pub record Answers : Type 0 where
+      -- it answers
+      pub says : planBody bits probes A u mid g c ≡ Planned.says q (planned A mid g)
+      pub body-is : q .body ≡ g
+      -- what is heard of the answer, from its bytes
+      pub hears : HeardWords (heads A) [] (haveOf bits probes A (heads b) ∷ []) (heardSaid q)
+      pub crosses : (host : Host) → length (messageBytes (messageFor host q)) ≤ sizes .message
+          → (before : ℕ) (t : List Row) (r : State)
+          → before ≤ length t
+          → receiveBytes true before t r (messageBytes (messageFor host q)) ≡ receive true before t r (heardSaid q)
+      -- it is within its size if its chunks leave room
+      pub fits : (host : Host) → mostWords + length (counted prefixedBytes (chunksFor host q)) ≤ sizes .message
+          → length (messageBytes (messageFor host q)) ≤ sizes .message
+      -- to a peer with heads it goes by list if the walk's reply is no more than that part of the rows
+      pub short : empty (heads b) ≡ false → length (toSendLess A haves need trimmed) ≤ length A / documentPart → bodyOf A mid .document ≡ false
+      -- by list the walk's reply is what the session asks for
+      pub list : bodyOf A mid .document ≡ false → bodyOf A mid .hashes ≡ toSendLess A haves need trimmed
+      -- and A's side stands again
+      pub next : bodyOf A mid .document ≡ false → SideA A (suc k) (trimmed ++ g .hashes) (planned A mid g)
 
   module _ (fixed : Fixed bits probes A) (part : Part A b) (going : Going A b k) (inv : SideA A k T a)
       (known : unknownSync A (some (havesHeard haves)) ≡ false) (hm : HeardWords (heads b) need haves m) where
@@ -144,11 +153,12 @@ module _ (bits probes : ℕ) (A b : List Row) (u : List Waiting) (k : ℕ) (T : 
     heads-held : every (held A) (m .heads) ≡ true
     heads-held = every-one (held A) (m .heads) (λ h e. part .within h (b-heads h (rw (hm .heads-are) at e)))
 
-    taking : receive true (length A) A a m ≡ Received.took mid
+    -- it takes the message
+    pub taking : receive true (length A) A a m ≡ Received.took mid
     taking =
         receive-is true (length A) A a m (and-false (loads a m)) (rw (shared-taken (length A) A a m heads-held) (hm .sound .heads .few))
 
-    mid-good : GoodState mid
+    pub mid-good : GoodState mid
     mid-good = received-good (length A) A a m (fixed .sound .are) (inv .good) (hm .sound) true mid taking
 
     mid-writes : mid .readOnly ≡ false
@@ -195,20 +205,7 @@ module _ (bits probes : ℕ) (A b : List Row) (u : List Waiting) (k : ℕ) (T : 
     unfolding received
     mid-left = refl
 
-    -- ---- A speaks
-
-    sent-own : (h : ℕ) → member h (sentAfter A mid) ≡ true → held A h ≡ true
-    sent-own h e =
-        either (member h (bodyOf A mid .hashes)) (member h (mid .sentHashes)) (sym (sent-members A mid h) ∙ e)
-        (λ f. every-member (held A) (bodyOf A mid .hashes) (planned-held A (fixed .sound .good) mid) h f)
-        (λ f. inv .own h (left-inside A a m h (rw mid-left at f)))
-
-    speaks : (k : ℕ) → Going A b k → (k ≡ 0 → a .haveResponded ≡ false) → silence A mid ≡ false
-    speaks zero o f = speaks-first A mid (mid-responded ∙ f refl)
-    speaks (suc k) o f =
-        speaks-apart A mid mid-lands
-        (rw mid-heads (not-same (heads b) (heads A) (λ e. heads-apart A b (fixed .sound .good) part (o (omega arith)) (heads b) b-heads (sym e))))
-        mid-writes
+    -- ---- A needs nothing
 
     needs-none : missing A u (heard (mid .theirHeads)) ≡ []
     needs-none = rw mid-heads (missing-held A u (heads b) (λ h e. part .within h (b-heads h e)))
@@ -216,24 +213,6 @@ module _ (bits probes : ℕ) (A b : List Row) (u : List Waiting) (k : ℕ) (T : 
     need-sound : SoundHashes (missing A u (heard (mid .theirHeads)))
     unfolding AreHashes
     need-sound = rw needs-none (record { few = omega arith; are = tt })
-
-    speaking : plan bits probes A u mid ≡ Planned.says q (planned A mid)
-    speaking =
-        plan-is bits probes A u mid
-        (rw (mid-writes, need-missing A u (heard (mid .theirHeads))) (need-sound .few))
-        (rw mid-have known)
-        (speaks k going (inv .first))
-        (le-trans (rows-few A (fixed .sound) (sentAfter A mid) (sent-ascends A mid) sent-own) (omega arith))
-
-    speech : Spoken bits probes A u mid
-    speech = spoken bits probes A u mid A fixed (fixed .sound) (omega arith) mid-good mid-writes mid-keeps need-sound
-
-    back : HeardWords (heads A) [] (haveOf bits probes A (heads b) ∷ []) (heardSaid q)
-    unfolding every
-    back =
-        let l : List ℕ = heard (mid .theirHeads) in
-        hears-as (speech .hears) needs-none
-        (ap₂ (λ (n x : List ℕ). havesFor bits probes A n l x) needs-none mid-shared ∙ have-one bits probes A [] l (heads b) refl)
 
     -- ---- B has heads, so A forgets nothing
 
@@ -283,32 +262,70 @@ module _ (bits probes : ℕ) (A b : List Row) (u : List Waiting) (k : ℕ) (T : 
       by-list : bodyOf A mid .hashes ≡ toSendLess A haves need trimmed
       by-list = list-hashes A mid (havesHeard haves) need mid-peer mid-have mid-need list ∙ selects not-lost
 
-      stands : SideA A (suc k) (trimmed ++ bodyOf A mid .hashes) (planned A mid)
+    -- ---- A speaks
+
+    module _ (g : Body) (c : Picked) (may : MayGo A g c) where
+      sent-own : (h : ℕ) → member h (sentAfter mid g) ≡ true → held A h ≡ true
+      sent-own h e =
+          either (member h (g .hashes)) (member h (mid .sentHashes)) (sym (sent-members mid g h) ∙ e)
+          (λ f. every-member (held A) (g .hashes) (may .own) h f)
+          (λ f. inv .own h (left-inside A a m h (rw mid-left at f)))
+
+      own-hashes : AreHashes (g .hashes)
+      unfolding held
+      own-hashes = hashes-inside (g .hashes) (rows A) (fixed .sound .are) (λ h e. every-member (held A) (g .hashes) (may .own) h e)
+
+      speaks : (k : ℕ) → Going A b k → (k ≡ 0 → a .haveResponded ≡ false) → silence A mid (isFine c && empty (g .hashes)) ≡ false
+      speaks zero o f = speaks-first A mid _ (mid-responded ∙ f refl)
+      speaks (suc k) o f =
+          speaks-apart A mid _ mid-lands
+          (rw mid-heads (not-same (heads b) (heads A) (λ e. heads-apart A b (fixed .sound .good) part (o (omega arith)) (heads b) b-heads (sym e))))
+          mid-writes
+
+      speaking : planBody bits probes A u mid g c ≡ Planned.says (q g c) (planned A mid g)
+      speaking =
+          plan-is bits probes A u mid g c
+          (rw (mid-writes, need-missing A u (heard (mid .theirHeads))) (need-sound .few))
+          (rw mid-have known)
+          (speaks k going (inv .first))
+          (le-trans (rows-few A (fixed .sound) (sentAfter mid g) (sent-ascends mid g) sent-own) (omega arith))
+          (may .fine)
+
+      speech : Spoken bits probes A u mid g
+      speech = spoken bits probes A u mid g A fixed (fixed .sound) (omega arith) mid-good mid-writes mid-keeps need-sound (may .few)
+
+      back : HeardWords (heads A) [] (haveOf bits probes A (heads b) ∷ []) (heardSaid (q g c))
+      unfolding every
+      back =
+          let l : List ℕ = heard (mid .theirHeads) in
+          hears-as (speech .hears) needs-none
+          (ap₂ (λ (n x : List ℕ). havesFor bits probes A n l x) needs-none mid-shared ∙ have-one bits probes A [] l (heads b) refl)
+
+      stands : bodyOf A mid .document ≡ false → SideA A (suc k) (trimmed ++ g .hashes) (planned A mid g)
       unfolding planned
-      stands =
+      stands list =
           record {
-            good = planned-good bits probes A u mid (fixed .sound) mid-good _ _ speaking;
+            good = body-good bits probes A u mid (fixed .sound) mid-good g c own-hashes _ _ speaking;
             writes = mid-writes;
             keeps = refl;
             first = λ e. absurd (omega arith);
             sent = λ h.
-                sent-members A mid h
-                ∙ ap (_||_ (member h (bodyOf A mid .hashes))) (mid-sent not-lost h)
-                ∙ or-swap (member h (bodyOf A mid .hashes)) (member h trimmed)
-                ∙ sym (member-append h trimmed (bodyOf A mid .hashes));
+                sent-members mid g h
+                ∙ ap (_||_ (member h (g .hashes))) (mid-sent (not-lost list) h)
+                ∙ or-swap (member h (g .hashes)) (member h trimmed)
+                ∙ sym (member-append h trimmed (g .hashes));
             own = sent-own;
           }
 
-    pub answers : Answers
-    answers =
-        record {
-          takes = taking;
-          says = speaking;
-          body-is = speech .body-is;
-          hears = back;
-          crosses = speech .crosses;
-          fits = speech .fits;
-          short = few-listed;
-          list = by-list;
-          next = stands;
-        }
+      pub answers : Answers g c
+      answers =
+          record {
+            says = speaking;
+            body-is = speech .body-is;
+            hears = back;
+            crosses = speech .crosses;
+            fits = speech .fits;
+            short = few-listed;
+            list = by-list;
+            next = stands;
+          }

@@ -4,7 +4,7 @@ use Prim.Native.Nat.{ℕ, zero, suc, _/_, _≤_}
 use mathlib.Core.Bool.{Bool, true, false}
 use mathlib.Core.List.{List, [], _∷_}
 use mathlib.Core.Option.{none, some}
-use mathlib.Core.Path.{_≡_, ap, _∙_}
+use mathlib.Core.Path.{_≡_, refl, ap, _∙_}
 use native.Mathlib.Omega.{arith}
 use borrow.Author.Tests.{le-ltb}
 use lib.ListN.{length}
@@ -12,7 +12,7 @@ use Rattle.bloom.specs.Have.{Have}
 use Rattle.table_graph.proofs.BelowLaws.{not-below-beyond}
 use Rattle.table_graph.proofs.HeadLaws.{head-held}
 use Rattle.table_graph.specs.Graph.{heads}
-use Rattle.session.proofs.GoodLaws.{planned-good}
+use Rattle.session.proofs.GoodLaws.{planned-good, body-few}
 use Rattle.session.specs.GoodState.{GoodState}
 use Rattle.session.specs.Receive.{receive, receiveBytes}
 use Rattle.send_members.proofs.SLaws.{last-syncs-one, filters-one}
@@ -23,6 +23,7 @@ use Rattle.hash_order.proofs.KeepLaws.{every-one}
 use Rattle.hash_order.proofs.OrderLaws.{member-none}
 use Rattle.hash_order.specs.Order.{member, every, ascend}
 use Rattle.bloom_probe.specs.Contains.{contains, anyContains}
+use Rattle.pick.specs.declared.check.Picked.the-variants.{Fine}
 use Rattle.rules.proofs.Cases.{split, or-left, and-false}
 use Rattle.send.proofs.SelectLaws.{sent-empty, less-none}
 use Rattle.send.specs.ToSend.{toSendLess}
@@ -39,6 +40,7 @@ use Rattle.session.specs.Plan.{
   bodyFor,
   bodyHeard,
   bodyOf,
+  empty,
   silence,
   sentAfter,
   planOf,
@@ -80,7 +82,7 @@ sync-known t v f = rw (every-one (held t) (v .lastSync) f)
 
 module _ (bits probes : ℕ) (A b : List Row) (w : List Waiting) (k : ℕ) (s : State) where
   abbrev q : Plan
-  q = planOf bits probes b w s
+  q = planOf bits probes b w s (bodyOf b s)
 
   -- the walk's need and haves
   abbrev need : List ℕ
@@ -92,15 +94,15 @@ module _ (bits probes : ℕ) (A b : List Row) (w : List Waiting) (k : ℕ) (s : 
   -- What B says in round k.
   pub record Asks : Type 0 where
     -- it speaks, and neither resets nor is silent
-    pub says : plan bits probes b w s ≡ Planned.says q (planned b s)
+    pub says : plan bits probes b w s ≡ Planned.says q (planned b s (bodyOf b s))
     -- the walk's words
     pub heads-are : q .heads ≡ heads b
     pub need-are : q .need ≡ need
     pub haves-are : q .haves ≡ haves
     -- nothing is carried, and nothing was sent
     pub body-is : q .body ≡ listOf []
-    pub sent : sentAfter b s ≡ []
-    pub good : GoodState (planned b s)
+    pub sent : sentAfter s (bodyOf b s) ≡ []
+    pub good : GoodState (planned b s (bodyOf b s))
     -- what is heard of it, from its bytes
     pub hears : HeardWords (heads b) need haves (heardSaid q)
     pub crosses : (host : Host) (before : ℕ) (t : List Row) (r : State) → before ≤ length t
@@ -122,12 +124,13 @@ module _ (bits probes : ℕ) (A b : List Row) (w : List Waiting) (k : ℕ) (s : 
     need-sound : SoundHashes (missing b w (heard (s .theirHeads)))
     need-sound = rw (heard-is k (inv .heard-so)) (missing-sound A (fixed .sound) b w (inv .waits) (heardIn k A) (heard-rows k))
 
-    speech : Spoken bits probes b w s
+    speech : Spoken bits probes b w s (bodyOf b s)
     speech =
-        spoken bits probes b w s A fixed (part-sound A (fixed .sound) b (inv .part)) (part-few A (fixed .sound) b (inv .part)) (inv .good)
+        spoken bits probes b w s (bodyOf b s) A fixed (part-sound A (fixed .sound) b (inv .part)) (part-few A (fixed .sound) b (inv .part)) (inv .good)
         (inv .writes)
         (inv .keeps)
         need-sound
+        (body-few b s (part-sound A (fixed .sound) b (inv .part)) (inv .good))
 
     -- every row beyond the last-sync hashes that were heard is in the filter
     nothing-sent : (v : Have) → Covers b v → toSendLess b (v ∷ []) [] [] ≡ []
@@ -154,10 +157,10 @@ module _ (bits probes : ℕ) (A b : List Row) (w : List Waiting) (k : ℕ) (s : 
     no-reset k (nothing e f g) = rw f
     no-reset k (said v e f g c) = rw g (sync-known b v (c .holds))
 
-    speaks : (k : ℕ) → Going A b k → HeardBefore A b s k → silence b s ≡ false
-    speaks k o (nothing e f g) = speaks-first b s g
+    speaks : (k : ℕ) → Going A b k → HeardBefore A b s k → silence b s (empty (bodyOf b s .hashes)) ≡ false
+    speaks k o (nothing e f g) = speaks-first b s _ g
     speaks k o (said v e f g c) =
-        speaks-apart b s (inv .lands)
+        speaks-apart b s _ (inv .lands)
         (rw e
         (not-same (heads A) (heads b)
         (heads-apart A b (fixed .sound .good) (inv .part) (o (omega arith)) (heads b) (head-held b (inv .part .good)))))
@@ -166,17 +169,18 @@ module _ (bits probes : ℕ) (A b : List Row) (w : List Waiting) (k : ℕ) (s : 
     body : bodyOf b s ≡ listOf []
     body = body-none k going (inv .heard-so)
 
-    sent-none : sentAfter b s ≡ []
+    sent-none : sentAfter s (bodyOf b s) ≡ []
     unfolding sentAfter ascend
     sent-none = rw (body, inv .sent)
 
-    speaking : plan bits probes b w s ≡ Planned.says q (planned b s)
+    speaking : plan bits probes b w s ≡ Planned.says q (planned b s (bodyOf b s))
     speaking =
-        plan-is bits probes b w s
+        plan-is bits probes b w s (bodyOf b s) Fine
         (rw (inv .writes, need-missing b w (heard (s .theirHeads))) (need-sound .few))
         (no-reset k (inv .heard-so))
         (speaks k going (inv .heard-so))
         (rw sent-none (omega arith))
+        refl
 
     sync-held : unknownSync A (some (havesHeard haves)) ≡ false
     unfolding havesHeard haveOf unknownSync

@@ -2,6 +2,7 @@ pub mod Answers
 pub mod Asks
 pub mod Corollary
 pub mod Message
+pub mod Passing
 pub mod Promises
 pub mod Returns
 pub mod Sides

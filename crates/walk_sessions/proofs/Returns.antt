@@ -22,7 +22,7 @@ use Rattle.bloom_probe.proofs.FieldLaws.{accepted-contained}
 use Rattle.bloom_probe.specs.Build.{filterOf}
 use Rattle.rules.proofs.Cases.{split, both, either, true-false, and-false}
 use Rattle.rules.specs.Sizes.{sizes}
-use Rattle.session.specs.Plan.{haveOf, sentAfter, planned}
+use Rattle.session.specs.Plan.{haveOf, bodyOf, sentAfter, planned}
 use Rattle.session_state.specs.Session.{State}
 use Rattle.table.specs.Table.{Row, held}
 use Rattle.waiting.specs.Waiting.{Waiting}
@@ -38,20 +38,20 @@ use Rattle.session.specs.Written.{heardHave, havesHeard}
 module _ (A b : List Row) (w : List Waiting) (b′ : List Row) (w′ : List Waiting) (k : ℕ) (s : State) (m : Said) where
   -- B's session when it has heard A
   abbrev end : State
-  end = received (length b) b′ (planned b s) m
+  end = received (length b) b′ (planned b s (bodyOf b s)) m
 
   -- What B does at the end of round k.
   pub record Returns : Type 0 where
     -- it takes the answer
-    pub takes : receive true (length b) b′ (planned b s) m ≡ Received.took end
+    pub takes : receive true (length b) b′ (planned b s (bodyOf b s)) m ≡ Received.took end
     -- and its side stands again
     pub next : SideB A b′ w′ (suc k) end
 
-  module _ (bits probes : ℕ) (fixed : Fixed bits probes A) (inv : SideB A b w k s) (good : GoodState (planned b s)) (none : sentAfter b s ≡ [])
+  module _ (bits probes : ℕ) (fixed : Fixed bits probes A) (inv : SideB A b w k s) (good : GoodState (planned b s (bodyOf b s))) (none : sentAfter s (bodyOf b s) ≡ [])
       (part′ : Part A b′) (waits′ : Waits A w′) (more : (h : ℕ) → held b h ≡ true → held b′ h ≡ true)
       (hm : HeardWords (heads A) [] (haveOf bits probes A (heads b) ∷ []) m) where
     abbrev asking : State
-    asking = planned b s
+    asking = planned b s (bodyOf b s)
 
     asking-shared : asking .sharedHeads ≡ s .sharedHeads
     unfolding planned

@@ -9,7 +9,7 @@ use lib.ListN.{length, length-replicate}
 use Rattle.bloom.specs.Have.{Have}
 use Rattle.table_graph.proofs.BelowLaws.{beyond-few}
 use Rattle.table_graph.specs.Graph.{heads, beyond}
-use Rattle.session.proofs.GoodLaws.{heads-sound, body-few}
+use Rattle.session.proofs.GoodLaws.{heads-sound}
 use Rattle.session.specs.GoodState.{SoundTable, SoundHaves, GoodState, SoundSaid}
 use Rattle.session.specs.Receive.{Said, receive, receiveBytes}
 use Rattle.message.specs.Flags.{syncReset, readOnlyFlag, hasFlag}
@@ -24,7 +24,7 @@ use Rattle.bloom_probe.specs.Build.{filterOf}
 use Rattle.rules.proofs.Cases.{split}
 use Rattle.rules.specs.Sizes.{sizes}
 use Rattle.session.proofs.PlanLaws.{have-one, have-none, have-or-none, said-flags}
-use Rattle.session.specs.Plan.{Plan, heard, haveOf, havesFor, listOf, bodyOf, headsFor, flagsFor, needOf, planOf}
+use Rattle.session.specs.Plan.{Body, Plan, heard, haveOf, havesFor, listOf, headsFor, flagsFor, needOf, planOf}
 use Rattle.session_state.specs.Session.{State}
 use Rattle.table.specs.Table.{Row}
 use Rattle.waiting.specs.Waiting.{Waiting}
@@ -66,9 +66,10 @@ hears-as x e f =
       sound = x .sound;
     }
 
-module _ (bits probes : ℕ) (t : List Row) (w : List Waiting) (s : State) where
+-- b is what goes
+module _ (bits probes : ℕ) (t : List Row) (w : List Waiting) (s : State) (b : Body) where
   abbrev q : Plan
-  q = planOf bits probes t w s
+  q = planOf bits probes t w s b
 
   abbrev asked : List ℕ
   asked = missing t w (heard (s .theirHeads))
@@ -82,7 +83,7 @@ module _ (bits probes : ℕ) (t : List Row) (w : List Waiting) (s : State) where
     pub heads-are : q .heads ≡ heads t
     pub need-are : q .need ≡ asked
     pub haves-are : q .haves ≡ given
-    pub body-is : q .body ≡ bodyOf t s
+    pub body-is : q .body ≡ b
     -- what is heard of it
     pub hears : HeardWords (heads t) asked given (heardSaid q)
     -- a message within its size is heard so
@@ -93,10 +94,10 @@ module _ (bits probes : ℕ) (t : List Row) (w : List Waiting) (s : State) where
     -- it is within its size if its chunks leave room, and so if it carries nothing
     pub fits : (host : Host) → mostWords + length (counted prefixedBytes (chunksFor host q)) ≤ sizes .message
         → length (messageBytes (messageFor host q)) ≤ sizes .message
-    pub small : bodyOf t s ≡ listOf [] → (host : Host) → length (messageBytes (messageFor host q)) ≤ sizes .message
+    pub small : b ≡ listOf [] → (host : Host) → length (messageBytes (messageFor host q)) ≤ sizes .message
 
   module _ (A : List Row) (fixed : Fixed bits probes A) (sound : SoundTable t) (few : length t ≤ length A) (good : GoodState s)
-      (writes : s .readOnly ≡ false) (keeps : s .needsReset ≡ false) (needs : SoundHashes asked) where
+      (writes : s .readOnly ≡ false) (keeps : s .needsReset ≡ false) (needs : SoundHashes asked) (goes : length (b .hashes) ≤ sizes .hashesToSend) where
     plan-heads : q .heads ≡ heads t
     unfolding planOf headsFor
     plan-heads = rw keeps
@@ -113,7 +114,7 @@ module _ (bits probes : ℕ) (t : List Row) (w : List Waiting) (s : State) where
     unfolding planOf
     plan-flags = rw (writes, keeps)
 
-    plan-body : q .body ≡ bodyOf t s
+    plan-body : q .body ≡ b
     unfolding planOf
     plan-body = refl
 
@@ -151,7 +152,7 @@ module _ (bits probes : ℕ) (t : List Row) (w : List Waiting) (s : State) where
           need = need-said;
           few = haves-said .few;
           haves = haves-said .each;
-          chunks = chunks-few host q (rw plan-body (body-few t s sound good));
+          chunks = chunks-few host q (rw plan-body goes);
           size = size;
         }
 
@@ -165,7 +166,7 @@ module _ (bits probes : ℕ) (t : List Row) (w : List Waiting) (s : State) where
         refl)
         room
 
-    said-small : bodyOf t s ≡ listOf [] → (host : Host) → length (messageBytes (messageFor host q)) ≤ sizes .message
+    said-small : b ≡ listOf [] → (host : Host) → length (messageBytes (messageFor host q)) ≤ sizes .message
     said-small none host = said-fits host (rw (no-chunks host q (plan-body ∙ none)) no-chunk-small)
 
     said-heard : HeardWords (heads t) asked given (heardSaid q)

@@ -23,6 +23,8 @@ use Rattle.table.specs.Table.{Row, GoodTable, rows, held}
 use Rattle.waiting.specs.Waiting.{Waiting}
 use Rattle.walk.specs.Round.{Part, Loads, trim}
 use Rattle.walk.specs.Walk.{At, Walk01, heardIn, holdsAll, lacking}
+use Rattle.walk_picked.specs.PickedWalk.{WalkPicked}
+use Rattle.walk_sessions.specs.Passing.{Passes, planPassing, AcceptedIn, FitIn, Replies, WalkPassed}
 
 -- The bytes that go across: none where nothing is said.
 unfoldable pub bytesFor : Host → Planned → List ℕ
@@ -38,9 +40,10 @@ goes Planned.silent = []
 goes (Planned.reset p) = []
 goes (Planned.says p s) = p .body .hashes
 
--- The hosts: what A and what B build the filters of each round with (02, M-107: any allowed pairs, and those need not be the same), B's tables before each
--- round and what waits beside them, what waits beside A (of no account), and what is lent for each round's messages.
-module _ (setA setB : ℕ → Setting) (A : List Row) (B : ℕ → List Row) (W U : ℕ → List Waiting) (hosts : ℕ → Host) where
+-- The hosts: what A and what B build the filters of each round with (02, M-107: any allowed pairs, and those need not be the same), what A passes in each round
+-- (02, M-110: a pick, or none), B's tables before each round and what waits beside them, what waits beside A (of no account), and what is lent for each round's
+-- messages.
+module _ (setA setB : ℕ → Setting) (pass : ℕ → Passes) (A : List Row) (B : ℕ → List Row) (W U : ℕ → List Waiting) (hosts : ℕ → Host) where
   pub record Pair : Type 0 where
     pub atA : State
     pub atB : State
@@ -55,7 +58,7 @@ module _ (setA setB : ℕ → Setting) (A : List Row) (B : ℕ → List Row) (W 
 
   -- A answers.
   unfoldable pub answered : ℕ → Pair → Planned
-  answered k x = plan (setA k .bits) (setA k .probes) A (U k) (left (toA k x) (x .atA))
+  answered k x = planPassing (pass k) (setA k .bits) (setA k .probes) A (U k) (left (toA k x) (x .atA))
 
   -- B hears the answer, beside its table after loading.
   unfoldable pub toB : ℕ → Pair → Received
@@ -79,8 +82,13 @@ module _ (setA setB : ℕ → Setting) (A : List Row) (B : ℕ → List Row) (W 
   abbrev pub Reached : ℕ → Type 0
   Reached k = (j : ℕ) → j < k → holdsAll A (B (suc j)) ≡ false
 
-  -- What 01 grants in round k.
+  -- 02, M-110: the pick that A passes in round k, if it passes one, is accepted.
+  abbrev pub PassAccepted : ℕ → Type 0
+  PassAccepted k = AcceptedIn A (left (toA k (pairAt k)) (pairAt k .atA)) (pass k)
+
+  -- What 01 grants in round k, and what 02 does.
   pub record Granted (k : ℕ) : Type 0 where
+    pub accepts : PassAccepted k
     -- the reply goes by list
     pub list : (q : Plan) (s : State) → answered k (pairAt k) ≡ Planned.says q s → q .body .document ≡ false
     -- the message that has the reply is within its size; B's message always is
@@ -101,6 +109,8 @@ module _ (setA setB : ℕ → Setting) (A : List Row) (B : ℕ → List Row) (W 
     pub hashes : AreHashes (rows A)
     pub part : Part A (B 0)
     pub nothing : W 0 ≡ []
+    -- where a pick is passed, every change fits the budget
+    pub fits : (k : ℕ) → FitIn A (pass k)
     -- filters over A's rows keep the filter rules, at both ends and in each round: all pairs that M-107 allows do
     pub settingA : (k n : ℕ) → n ≤ length A → filterRules n (setA k .bits) (setA k .probes) (fieldSize n (setA k .bits)) ≡ true
     pub settingB : (k n : ℕ) → n ≤ length A → filterRules n (setB k .bits) (setB k .probes) (fieldSize n (setB k .bits)) ≡ true
@@ -121,13 +131,14 @@ module _ (setA setB : ℕ → Setting) (A : List Row) (B : ℕ → List Row) (W 
     pub reply : Plan
     pub next′ : State
     pub replies : answered k (pairAt k) ≡ Planned.says reply next′
-    -- where the reply goes by list it is the walk's
-    pub by-list : reply .body .document ≡ false → reply .body .hashes ≡ toSendLess A (said .haves) (said .need) (trim A (heads (B k)) T)
+    -- where the reply goes by list it is the walk's: the whole offer, or the pick of it that was passed
+    pub by-list : reply .body .document ≡ false
+        → Replies A (pass k) (toSendLess A (said .haves) (said .need) (trim A (heads (B k)) T)) (reply .body .hashes)
 
   -- A walk came to round k over B's tables, its replies are what the messages carried, and the round's words are the walk's.
   pub record WalkStated (k : ℕ) : Type 0 where
     pub at : At
-    pub walk : Walk01 (λ j. setB j .bits) (λ j. setB j .probes) (λ j. pairAt j .atB .sharedHeads) A (B 0) k at
+    pub walk : WalkPassed pass (λ j. setB j .bits) (λ j. setB j .probes) (λ j. pairAt j .atB .sharedHeads) A (B 0) k at
     pub table : at .table ≡ B k
     pub waits : at .waits ≡ W k
     pub replies : at .named ≡ carried k
@@ -135,8 +146,9 @@ module _ (setA setB : ℕ → Setting) (A : List Row) (B : ℕ → List Row) (W 
 
   -- The sessions are the walk, round by round.
   pub record Statement2 : Type 0 where
-    -- in every round that is reached inside what is granted B speaks the walk's words, A hears them and answers, by list with the walk's reply
-    pub stated : (k : ℕ) → Underway k → WalkStated k
+    -- in every round that is reached inside what is granted, and where what A passes is accepted, B speaks the walk's words, A hears them and answers, by list
+    -- with the walk's reply
+    pub stated : (k : ℕ) → Underway k → PassAccepted k → WalkStated k
     -- in every round that is reached and granted B takes A's answer
     pub taken : (k : ℕ) → Underway k → Granted k → (s : State) × (toB k (pairAt k) ≡ Received.took s)
 
@@ -159,13 +171,32 @@ module _ (setA setB : ℕ → Setting) (A : List Row) (B : ℕ → List Row) (W 
 
 -- What is to be shown of two sessions over such tables.
 abbrev pub Theorem2 : Type 0
-Theorem2 = (setA setB : ℕ → Setting) (A : List Row) (B : ℕ → List Row) (W U : ℕ → List Waiting) (hosts : ℕ → Host)
-    → Tables setA setB A B W U hosts
-    → Statement2 setA setB A B W U hosts
+Theorem2 = (setA setB : ℕ → Setting) (pass : ℕ → Passes) (A : List Row) (B : ℕ → List Row) (W U : ℕ → List Waiting) (hosts : ℕ → Host)
+    → Tables setA setB pass A B W U hosts
+    → Statement2 setA setB pass A B W U hosts
+
+-- Where no pick is passed the walk that they state is 01's own.
+abbrev pub Sessions01 : Type 0
+Sessions01 = (setA setB : ℕ → Setting) (A : List Row) (B : ℕ → List Row) (W U : ℕ → List Waiting) (hosts : ℕ → Host)
+    → Tables setA setB (λ j. Passes.all) A B W U hosts
+    → (k : ℕ) → Underway setA setB (λ j. Passes.all) A B W U hosts k
+    → (x : WalkStated setA setB (λ j. Passes.all) A B W U hosts k)
+    × Walk01 (λ j. setB j .bits) (λ j. setB j .probes) (λ j. pairAt setA setB (λ i. Passes.all) A B W U hosts j .atB .sharedHeads) A (B 0) k (x .at)
+
+-- Where one is passed in each round, with the budget of that round, it is the walk with picks.
+abbrev pub SessionsPicked : Type 0
+SessionsPicked = (setA setB : ℕ → Setting) (rowSizes : List ℕ) (budget : ℕ → ℕ) (pick : ℕ → List ℕ) (A : List Row) (B : ℕ → List Row) (W U : ℕ → List Waiting)
+    (hosts : ℕ → Host)
+    → Tables setA setB (λ j. Passes.picked rowSizes (budget j) (pick j)) A B W U hosts
+    → (k : ℕ) → Underway setA setB (λ j. Passes.picked rowSizes (budget j) (pick j)) A B W U hosts k
+    → PassAccepted setA setB (λ j. Passes.picked rowSizes (budget j) (pick j)) A B W U hosts k
+    → (x : WalkStated setA setB (λ j. Passes.picked rowSizes (budget j) (pick j)) A B W U hosts k)
+    × WalkPicked (λ j. setB j .bits) (λ j. setB j .probes) budget rowSizes
+    (λ j. pairAt setA setB (λ i. Passes.picked rowSizes (budget i) (pick i)) A B W U hosts j .atB .sharedHeads) A (B 0) k (x .at)
 
 -- Where the premises hold, B holds A after at most as many rounds as it lacks rows, and one.
 abbrev pub Corollary : Type 0
-Corollary = (setA setB : ℕ → Setting) (A : List Row) (B : ℕ → List Row) (W U : ℕ → List Waiting) (hosts : ℕ → Host)
-    → Tables setA setB A B W U hosts
-    → ((k : ℕ) → Reached setA setB A B W U hosts k → Granted setA setB A B W U hosts k)
-    → Ended setA setB A B W U hosts (lacking A (B 0))
+Corollary = (setA setB : ℕ → Setting) (pass : ℕ → Passes) (A : List Row) (B : ℕ → List Row) (W U : ℕ → List Waiting) (hosts : ℕ → Host)
+    → Tables setA setB pass A B W U hosts
+    → ((k : ℕ) → Reached setA setB pass A B W U hosts k → Granted setA setB pass A B W U hosts k)
+    → Ended setA setB pass A B W U hosts (lacking A (B 0))

@@ -1,7 +1,7 @@
 -- `plan_calls::plan_picked::bt_plan_picked` meets its contract: the pick goes, and what a list answers keeps the filter rules over any rows. Assumes nothing.
 use mathlib.Core.Path.{refl, _∙_}
 use borrow.Author.Needs.{needs}
-use Rattle.plan.proofs.OverLaws.{picked-plans, picked-same, listed-good}
+use Rattle.plan.proofs.OverLaws.{pick-plans, pick-same-answer, listed-good}
 use Rattle.plan_calls.proofs.PlanWordLaws.{plan-answered, called-as}
 use Rattle.plan_calls.proofs.plan_picked.bt_plan_picked.Statement.{statement}
 use Rattle.plan_calls.proofs.plan_picked.bt_plan_picked.Tie as tie
@@ -45,7 +45,7 @@ returns c =
     let start = called .before .before .before .before .before .before .before in
     let setting = start .before .before in
     plan-answered _
-    (called-as (picked-plans _ _ _ _ _ _ _ _ _ refl ∙ picked-same _ _ _ _ _ _ _ _ (setting .setting-at .ensures))
+    (called-as (pick-plans _ _ _ _ _ _ _ _ _ refl ∙ pick-same-answer _ _ _ _ _ _ _ _ (setting .setting-at .ensures))
     (rw (start .session-of .ensures) at (called .generate-sync-message .ensures)))
     (c .before .planned-session .ensures) (c .planned-words .ensures)
 

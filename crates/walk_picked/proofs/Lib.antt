@@ -1,0 +1,2 @@
+pub mod PickedWalkLaws
+pub mod Promises
