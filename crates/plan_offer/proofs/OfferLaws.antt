@@ -25,7 +25,7 @@ use Rattle.session_state.specs.Value.{Lent, heardCount, heardHashes, heardHaves
 use Rattle.session_state.specs.declared.session.Heard.{Heard}
 use Rattle.session_state.specs.declared.session.Heard.the-variants.{Nothing, Count}
 use Rattle.session_state.specs.declared.session.Session.{Session}
-use Rattle.table.proofs.TableLaws.{length-rows-at, table-good}
+use Rattle.table.proofs.TableLaws.{table-good}
 use Rattle.table.specs.Table.{Row, rows}
 use Rattle.table.specs.TableBytes.{rowsAt, tableOf}
 use Rattle.table.specs.declared.check.Checked.{Checked}
@@ -37,7 +37,6 @@ use Rattle.table_index.proofs.CheckLaws.{checked-table}
 use Rattle.table_index.specs.Index.{indexChecked}
 use Rattle.plan_offer.specs.Internal.OfferReady.{OfferReady}
 use Rattle.plan_offer.specs.OfferCall.{Offered, offeredAfter, offerOf, offerAnswer, offerContent, OfferCalled}
-use Rattle.plan_offer.specs.declared.offer.OfferAnswer.{OfferAnswer}
 use Rattle.plan_offer.specs.declared.offer.OfferAnswer.the-variants.{Offers, Refused}
 
 -- ---- a refusal
