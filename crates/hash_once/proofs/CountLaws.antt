@@ -36,7 +36,7 @@ or-twice false y = refl
 
 module _ (f : ℕ → ℕ) where
   -- the same number again
-  again : (x y : ℕ) (l : List ℕ) → f x ≡ f y → ascend (map f (x ∷ y ∷ l)) ≡ ascend (map f (y ∷ l))
+  pub again : (x y : ℕ) (l : List ℕ) → f x ≡ f y → ascend (map f (x ∷ y ∷ l)) ≡ ascend (map f (y ∷ l))
   unfolding member
   again x y l e =
       ascend-alike (map f (x ∷ y ∷ l)) (map f (y ∷ l)) (λ z. rw e (or-twice (eqb z (f y)) (member z (map f l))))

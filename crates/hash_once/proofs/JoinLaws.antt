@@ -1,5 +1,5 @@
 -- Hashes counted once each beside others that ascend: along their order each adds one, unless it follows again or is one of the others. Assumes nothing.
-use Prim.Native.Nat.{ℕ, suc, _+_, _-_, _*_, _≤_, _<_}
+use Prim.Native.Nat.{ℕ, _+_, _-_, _*_, _≤_, _<_}
 use mathlib.Core.Bool.{Bool, true, false, cond, _||_, _&&_}
 use mathlib.Core.List.{List, [], _∷_, _++_, map}
 use mathlib.Core.Path.{_≡_, refl, sym, ap, _∙_}
@@ -8,9 +8,9 @@ use native.Mathlib.Omega.{arith}
 use borrow.Author.Tests.{ltb-true, ltb-false, lt-ltb, le-ltb, eqb-true, eqb-false, eq-eqb}
 use lib.Dec.{ltb, eqb}
 use lib.ListN.{length, getD}
-use Rattle.hash_order.proofs.OrderLaws.{member-append, member-here, index-member, insert-there, insert-longer, ascend-ascends, ascend-members, ascend-same}
-use Rattle.hash_order.specs.Order.{member, ascends, ascend, insertOnce, placeOf}
-use Rattle.rules.proofs.Cases.{split, same-truth, both, true-false, and-true}
+use Rattle.hash_order.proofs.OrderLaws.{member-append, index-member, insert-there, insert-longer, ascend-ascends, ascend-members, ascend-same}
+use Rattle.hash_order.specs.Order.{member, ascends, ascend, placeOf}
+use Rattle.rules.proofs.Cases.{split, both, true-false, and-true}
 use Rattle.rules.proofs.Hash.{length-hashes-at}
 use Rattle.rules.specs.Hash.{hashAt, hashesAt}
 use Rattle.rules.specs.LittleEndian.{u16At}

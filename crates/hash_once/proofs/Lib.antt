@@ -5,3 +5,4 @@ pub mod JoinLaws
 pub mod MergeLaws
 pub mod OrderLaws
 pub mod PutLaws
+pub mod RankLaws

@@ -1,3 +1,4 @@
 -- What the contracts of internal functions cite; no rule of 01 stands here.
 pub mod Count
 pub mod Merge
+pub mod Ranks

@@ -59,7 +59,7 @@ pub fn count_once(list: &[u8], count: usize) -> usize
 }
 
 // Whether the entry behind entry k of the order names the same hash.
-fn named_again(list: &[u8], order: &[u8], count: usize, k: usize) -> bool
+pub fn named_again(list: &[u8], order: &[u8], count: usize, k: usize) -> bool
     requires { ⌜ HashOrder (now list) (now order) count × (k < count) ⌝ }
     ensures { λ r. ⌜ r ≡ namedAgain (now (list .entry)) (now (order .entry)) count k ⌝ }
 {

@@ -109,6 +109,7 @@ exported-bind =
                 (joined (once (p .answer) (q .answer)) refl))))))))))))),
           );
       bt-hashes-to-send = λ κs a x y u v p q. (refl, skip (skip (skip (skip (skip (joined (once (p .content) (q .content)) (joined (once (p .answer) (q .answer)) refl)))))));
+      bt-offer = λ κs a x y u v p q. (refl, skip (skip (skip (skip (skip (skip (skip (skip (skip (skip (joined (once (p .content) (q .content)) (joined (once (p .answer) (q .answer)) refl))))))))))));
       bt-read-message = λ κs a x y u v p q. (refl, skip (joined (once (p .haves) (q .haves)) (joined (once (p .chunks) (q .chunks)) (joined (once (p .ignored) (q .ignored)) (joined (once (p .answer) (q .answer)) refl)))));
       bt-peek-heads = λ κs a x y u v p q. (refl, skip (joined (once (p .content) (q .content)) (joined (once (p .answer) (q .answer)) refl)));
       bt-write-message = λ κs a x y u v p q. (refl, skip (skip (skip (skip (skip (skip (skip (skip (joined (once (p .content) (q .content)) (joined (once (p .answer) (q .answer)) refl))))))))));
@@ -130,6 +131,7 @@ exported-bind =
       planned-session = λ κs a x y u v p q. (once p q, refl);
       received-words = λ κs a x y u v p q. (once p q, refl);
       received-session = λ κs a x y u v p q. (once p q, refl);
+      offer-words = λ κs a x y u v p q. (once p q, refl);
       version-word = λ κs a x y u v p q. (once p q, refl);
       version-of = λ κs a x y u v p q. (once p q, refl);
       section-word = λ κs a x y u v p q. (once p q, refl);

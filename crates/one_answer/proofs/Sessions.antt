@@ -60,6 +60,7 @@ sessions-bind =
                 (joined (ap (λ (b : Buffers). b .have) same)
                 (joined (ap (λ (b : Buffers). b .list) same) refl))))))))))))))))),
           );
+      offer = λ κs a x y u v p q. (once (p .answer) (q .answer), skip (skip (skip (skip (skip (skip (skip (skip (skip (skip (joined (once (p .content) (q .content)) refl)))))))))));
       receive-sync-message = λ κs a x y u v p q.
           let same = once (p .lists) (q .lists) in (
             once (p .answer) (q .answer),

@@ -64,6 +64,8 @@ use Rattle.plan_calls.proofs.answer.planned_session as of-planned-session
 use Rattle.receive_calls.proofs.answer.received_words as of-received-words
 use Rattle.receive_calls.proofs.answer.received_session as of-received-session
 use Rattle.send_calls.proofs.calls.bt_hashes_to_send as of-bt-hashes-to-send
+use Rattle.offer_calls.proofs.calls.bt_offer as of-bt-offer
+use Rattle.offer_calls.proofs.answer.offer_words as of-offer-words
 use Rattle.message_calls.proofs.calls.bt_read_message as of-bt-read-message
 use Rattle.message_calls.proofs.calls.bt_peek_heads as of-bt-peek-heads
 use Rattle.message_calls.proofs.calls.bt_write_message as of-bt-write-message
@@ -151,6 +153,9 @@ pub record ExportedBind : Type 0 where
   pub received-session : Binds of-received-session.ended of-received-session.Reads.Post
   -- the crate send_calls
   pub bt-hashes-to-send : Binds of-bt-hashes-to-send.ended of-bt-hashes-to-send.Reads.Post
+  -- the crate offer_calls
+  pub bt-offer : Binds of-bt-offer.ended of-bt-offer.Reads.Post
+  pub offer-words : Binds of-offer-words.ended of-offer-words.Reads.Post
   -- the crate message_calls
   pub bt-read-message : Binds of-bt-read-message.ended of-bt-read-message.Reads.Post
   pub bt-peek-heads : Binds of-bt-peek-heads.ended of-bt-peek-heads.Reads.Post

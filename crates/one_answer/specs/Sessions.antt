@@ -20,6 +20,7 @@ use Rattle.receive.proofs.receive.receive_sync_message as of-receive-sync-messa
 use Rattle.plan_parts.proofs.silence.heard_none as of-heard-none
 use Rattle.plan_parts.proofs.silence.is_silent as of-is-silent
 use Rattle.plan_decide.proofs.puts.puts_of as of-puts-of
+use Rattle.plan_offer.proofs.offer.offer as of-offer
 use Rattle.receive_parts.proofs.flags.take_flags as of-take-flags
 use Rattle.receive_decide.proofs.decide.taken as of-taken
 use Rattle.receive_make.proofs.check.check_receive as of-check-receive
@@ -49,6 +50,8 @@ pub record SessionsBind : Type 0 where
   pub generate-sync-message : Binds of-generate-sync-message.ended of-generate-sync-message.Reads.Post
   pub plan-with : Binds of-plan-with.ended of-plan-with.Reads.Post
   pub plan-settled : Binds of-plan-settled.ended of-plan-settled.Reads.Post
+  -- the crate plan_offer
+  pub offer : Binds of-offer.ended of-offer.Reads.Post
   -- the crate receive
   pub receive-sync-message : Binds of-receive-sync-message.ended of-receive-sync-message.Reads.Post
   -- the crate plan_parts

@@ -1,1 +1,2 @@
+pub mod Internal
 pub mod OfferCall

@@ -1,0 +1,2 @@
+pub mod OfferTies
+pub mod OfferWordLaws
