@@ -94,6 +94,21 @@ exported-bind =
                 (joined (ap (λ (b : Buffers). b .list) same)
                 (joined (once (p .answer) (q .answer)) refl)))))))))))))))))),
           );
+      bt-plan-picked = λ κs a x y u v p q.
+          let same = once (p .buffers) (q .buffers) in
+          let kept = once (p .lists) (q .lists) in (
+            refl,
+            skip (skip (skip (skip (skip (skip (joined (once (p .session) (q .session)) (skip
+                (joined (ap (λ (l : Lent). l .lastSent) kept)
+                (skip (skip (skip (skip
+                (joined (ap (λ (l : Lent). l .sent) kept)
+                (skip (skip (skip
+                (joined (ap (λ (b : Buffers). b .heads) same)
+                (joined (ap (λ (b : Buffers). b .need) same)
+                (joined (ap (λ (b : Buffers). b .have) same)
+                (joined (ap (λ (b : Buffers). b .list) same)
+                (joined (once (p .answer) (q .answer)) refl))))))))))))))))))))),
+          );
       bt-receive = λ κs a x y u v p q.
           let same = once (p .lists) (q .lists) in (
             refl,

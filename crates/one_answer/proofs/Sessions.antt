@@ -25,40 +25,14 @@ sessions-bind =
           let same = once (p .buffers) (q .buffers) in
           let kept = once (p .lists) (q .lists) in (
             once (p .answer) (q .answer),
-            skip (skip (skip (skip (skip
+            skip (skip (skip (skip (skip (skip (skip (skip (skip
                 (joined (ap (λ (l : Lent). l .lastSent) kept)
                 (skip (skip (skip (skip
                 (joined (ap (λ (l : Lent). l .sent) kept)
                 (joined (ap (λ (b : Buffers). b .heads) same)
                 (joined (ap (λ (b : Buffers). b .need) same)
                 (joined (ap (λ (b : Buffers). b .have) same)
-                (joined (ap (λ (b : Buffers). b .list) same) refl)))))))))))))),
-          );
-      plan-with = λ κs a x y u v p q.
-          let same = once (p .buffers) (q .buffers) in
-          let kept = once (p .lists) (q .lists) in (
-            once (p .answer) (q .answer),
-            skip (skip (skip (skip (skip (skip (skip
-                (joined (ap (λ (l : Lent). l .lastSent) kept)
-                (skip (skip (skip (skip
-                (joined (ap (λ (l : Lent). l .sent) kept)
-                (joined (ap (λ (b : Buffers). b .heads) same)
-                (joined (ap (λ (b : Buffers). b .need) same)
-                (joined (ap (λ (b : Buffers). b .have) same)
-                (joined (ap (λ (b : Buffers). b .list) same) refl)))))))))))))))),
-          );
-      plan-settled = λ κs a x y u v p q.
-          let same = once (p .buffers) (q .buffers) in
-          let kept = once (p .lists) (q .lists) in (
-            once (p .answer) (q .answer),
-            skip (skip (skip (skip (skip (skip (skip (skip
-                (joined (ap (λ (l : Lent). l .lastSent) kept)
-                (skip (skip (skip (skip
-                (joined (ap (λ (l : Lent). l .sent) kept)
-                (joined (ap (λ (b : Buffers). b .heads) same)
-                (joined (ap (λ (b : Buffers). b .need) same)
-                (joined (ap (λ (b : Buffers). b .have) same)
-                (joined (ap (λ (b : Buffers). b .list) same) refl))))))))))))))))),
+                (joined (ap (λ (b : Buffers). b .list) same) refl)))))))))))))))))),
           );
       offer = λ κs a x y u v p q. (once (p .answer) (q .answer), skip (skip (skip (skip (skip (skip (skip (skip (skip (skip (joined (once (p .content) (q .content)) refl)))))))))));
       receive-sync-message = λ κs a x y u v p q.
@@ -75,6 +49,7 @@ sessions-bind =
           );
       heard-count = λ κs a x y u v p q. (once p q, refl);
       heard-none = λ κs a x y u v p q. (once (p []) (q []), refl);
+      nothing-goes = λ κs a x y u v p q. (once p q, refl);
       is-silent = λ κs a x y u v p q. (once p q, refl);
       puts-of = λ κs a x y u v p q. (once p q, refl);
       take-flags = λ κs a x y u v p q. (once p q, refl);

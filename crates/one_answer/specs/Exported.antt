@@ -58,6 +58,7 @@ use Rattle.state_calls.proofs.answer.saved_session as of-saved-session
 use Rattle.plan_calls.proofs.calls.bt_plan as of-bt-plan
 use Rattle.plan_calls.proofs.plan_with.bt_plan_with as of-bt-plan-with
 use Rattle.plan_calls.proofs.plan_settled.bt_plan_settled as of-bt-plan-settled
+use Rattle.plan_calls.proofs.plan_picked.bt_plan_picked as of-bt-plan-picked
 use Rattle.receive_calls.proofs.calls.bt_receive as of-bt-receive
 use Rattle.plan_calls.proofs.answer.planned_words as of-planned-words
 use Rattle.plan_calls.proofs.answer.planned_session as of-planned-session
@@ -146,6 +147,7 @@ pub record ExportedBind : Type 0 where
   pub bt-plan : Binds of-bt-plan.ended of-bt-plan.Reads.Post
   pub bt-plan-with : Binds of-bt-plan-with.ended of-bt-plan-with.Reads.Post
   pub bt-plan-settled : Binds of-bt-plan-settled.ended of-bt-plan-settled.Reads.Post
+  pub bt-plan-picked : Binds of-bt-plan-picked.ended of-bt-plan-picked.Reads.Post
   pub bt-receive : Binds of-bt-receive.ended of-bt-receive.Reads.Post
   pub planned-words : Binds of-planned-words.ended of-planned-words.Reads.Post
   pub planned-session : Binds of-planned-session.ended of-planned-session.Reads.Post

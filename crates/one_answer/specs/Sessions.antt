@@ -14,8 +14,7 @@ use Rattle.session_saved.proofs.saved.encode as of-saved-encode
 use Rattle.session_saved.proofs.saved.parse as of-saved-parse
 use Rattle.session_saved.proofs.saved.decode as of-saved-decode
 use Rattle.plan.proofs.plan.generate_sync_message as of-generate-sync-message
-use Rattle.plan.proofs.plan.plan_settled as of-plan-settled
-use Rattle.plan.proofs.plan.plan_with as of-plan-with
+use Rattle.plan_count.proofs.carried.nothing_goes as of-nothing-goes
 use Rattle.receive.proofs.receive.receive_sync_message as of-receive-sync-message
 use Rattle.plan_parts.proofs.silence.heard_none as of-heard-none
 use Rattle.plan_parts.proofs.silence.is_silent as of-is-silent
@@ -48,8 +47,6 @@ pub record SessionsBind : Type 0 where
   pub saved-decode : Binds of-saved-decode.ended of-saved-decode.Reads.Post
   -- the crate plan
   pub generate-sync-message : Binds of-generate-sync-message.ended of-generate-sync-message.Reads.Post
-  pub plan-with : Binds of-plan-with.ended of-plan-with.Reads.Post
-  pub plan-settled : Binds of-plan-settled.ended of-plan-settled.Reads.Post
   -- the crate plan_offer
   pub offer : Binds of-offer.ended of-offer.Reads.Post
   -- the crate receive
@@ -57,6 +54,8 @@ pub record SessionsBind : Type 0 where
   -- the crate plan_parts
   pub heard-none : Binds of-heard-none.ended of-heard-none.Reads.Post
   pub is-silent : Binds of-is-silent.ended of-is-silent.Reads.Post
+  -- the crate plan_count
+  pub nothing-goes : Binds of-nothing-goes.ended of-nothing-goes.Reads.Post
   -- the crate plan_decide
   pub puts-of : Binds of-puts-of.ended of-puts-of.Reads.Post
   -- the crate receive_parts

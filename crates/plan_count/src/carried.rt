@@ -137,7 +137,17 @@ fn pick_list(
     let count = pick.len() / HASH_SIZE;
     set_marks(n, false, marks);
     set_marks(asked, false, needs);
-    let picked = check_marked(table, index, n, row_sizes, budget, pick, count, fresh, marks);
+    let picked = check_marked(
+        table,
+        index,
+        n,
+        row_sizes,
+        budget,
+        pick,
+        count,
+        fresh,
+        marks,
+    );
     copy_marks(n, marks, fresh);
     Carried {
         body: BodyCount {

@@ -57,13 +57,7 @@ fn is_quiet(
         session.last_sent_heads,
     );
     let equal = heard_as(table, index, n, head_marks, their_heads, heard);
-    is_silent(
-        told,
-        equal,
-        session.read_only,
-        nothing,
-        session.in_flight,
-    )
+    is_silent(told, equal, session.read_only, nothing, session.in_flight)
 }
 
 // The numbers of a plan with what is asked for, and the marks of what they count. A have is given where nothing is asked for but heads that were heard.
