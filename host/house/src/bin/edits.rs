@@ -1,5 +1,6 @@
 //! Writes docs/EDITS.md from the edits and from what the prover said of each when the
-//! gate last tried them (target/must-fail).
+//! gate last tried them (target/must-fail). An edit that wasn't tried since target/ was
+//! removed keeps its row.
 
 use house::edits::{self, Edit};
 use house::{facts, root};
@@ -8,7 +9,7 @@ use std::fs;
 
 const HEAD: &str = "# Edits that must be refused
 
-Each is a wrong program, or a wrong definition, of the same shape as what stands: crates/CRATE/must-fail/EDIT.edit. The gate applies each to a copy of its crate, and the prover has to refuse it. The last column names the first false fact that the prover could then no longer show: `returns` is what a function ensures where it returns, `loop-again` that a loop's body keeps what is claimed of it, `loop-holds` that it holds before the loop, `..-requires` what a called function asks for; any other name is a law, with its file. Where an edit makes a test weaker, the log's first error may be of a fact that still holds, with the false one behind it; what is named here was read in the logs. `make edits` writes this page from what the gate left in target/.
+Each is a wrong program, or a wrong definition, of the same shape as what stands: crates/CRATE/must-fail/EDIT.edit. The gate applies each to a copy of its crate, and the prover has to refuse it. The last column names the first false fact that the prover could then no longer show: `returns` is what a function ensures where it returns, `loop-again` that a loop's body keeps what is claimed of it, `loop-holds` that it holds before the loop, `..-requires` what a called function asks for; any other name is a law, with its file. Where an edit makes a test weaker, the log's first error may be of a fact that still holds, with the false one behind it; what is named here was read in the logs. `make edits` writes this page from what the gate left in target/; an edit that was not tried since keeps its row.
 ";
 
 /// Edits of which the log's first error isn't the false fact, or doesn't say of which
@@ -110,10 +111,6 @@ const READ: &[(&str, &str)] = &[
         "`loop-again` of `check::numbers_good`",
     ),
     (
-        "receive_decide/shared_heads_stay",
-        "`returns` of `decide::received_session`",
-    ),
-    (
         "waiting/waiting_unasked",
         "`returns-5` of `check::waiting_good`",
     ),
@@ -137,7 +134,20 @@ fn told(log: &str, krate: &str, name: &str) -> Option<String> {
     }
 }
 
+/// What the page says now of an edit whose slip is still the same.
+fn standing(page: &str, krate: &str, name: &str, slip: &str) -> Option<String> {
+    let section = page
+        .split("\n## ")
+        .find(|part| part.lines().next() == Some(krate))?;
+    let row = section
+        .lines()
+        .find_map(|line| line.strip_prefix(&format!("| `{name}` | {slip} | ")))?;
+    Some(row.strip_suffix(" |")?.to_string())
+}
+
 fn main() {
+    let path = root().join("docs/EDITS.md");
+    let now = fs::read_to_string(&path).unwrap_or_default();
     let mut page = HEAD.to_string();
     let mut last = String::new();
     let mut untold = Vec::new();
@@ -157,8 +167,11 @@ fn main() {
             .join(&krate)
             .join(&name)
             .join(".log");
-        let log = fs::read_to_string(log).unwrap_or_default();
-        match told(&log, &krate, &name) {
+        let fact = match fs::read_to_string(log) {
+            Ok(log) => told(&log, &krate, &name),
+            Err(_) => standing(&now, &krate, &name, &slip),
+        };
+        match fact {
             Some(fact) => {
                 let _ = writeln!(page, "| `{name}` | {slip} | {fact} |");
             }
@@ -172,6 +185,5 @@ fn main() {
         );
         std::process::exit(1);
     }
-    let path = root().join("docs/EDITS.md");
     fs::write(&path, page).unwrap_or_else(|why| panic!("{}: {why}", path.display()));
 }
