@@ -1,7 +1,7 @@
 //! What is said within a budget: that of a radio, and that of a message.
 
 use super::generate::{checked, Plan};
-use super::{Session, HAVE_RESPONDED, IN_FLIGHT, SENT, SUPPORTS_V2};
+use super::{Session, HAVE_RESPONDED, IN_FLIGHT, SUPPORTS_V2};
 use crate::hash::{hashes_in, ChangeHash, HASH};
 use crate::index::Index;
 use crate::limits::{MESSAGE_SIZE, TO_SEND_SIZE};
@@ -202,11 +202,6 @@ impl Session {
             let budget = budget.min((room - spare) as u64);
             *self = before.clone();
             self.words[SUPPORTS_V2] = by_v2.into();
-            if document && self.offer(&unit.table)?.hashes.is_empty() {
-                // All of it was sent, and nothing of it came.
-                self.words[SENT] = 0;
-                self.trim();
-            }
             let plan = unit.plan(self, Some(budget))?;
             self.words[SUPPORTS_V2] = v2;
             let Some(plan) = plan.filter(|plan| self.has_news(before, plan)) else {

@@ -68,7 +68,7 @@ impl Radio<'_> {
     /// has its listed dependencies picked.
     pub fn pick(&self) -> Vec<Hash> {
         let listed: HashSet<&Hash> = self.list.iter().collect();
-        let mut picked: Vec<Hash> = Vec::new();
+        let (mut picked, mut pick) = (HashSet::new(), Vec::new());
         let mut left = self.budget;
         for (row, size) in self.table.rows.iter().zip(self.sizes) {
             let mut on = row.dependencies.iter().map(|&on| self.table.rows[on].hash);
@@ -76,11 +76,12 @@ impl Radio<'_> {
                 && on.all(|on| !listed.contains(&on) || picked.contains(&on))
                 && *size <= left;
             if goes {
-                picked.push(row.hash);
+                picked.insert(row.hash);
+                pick.push(row.hash);
                 left -= size;
             }
         }
-        picked
+        pick
     }
 }
 
