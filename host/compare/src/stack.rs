@@ -525,6 +525,7 @@ fn sessions(random: &mut Random) -> Vec<Deep> {
             session.their_heads = list;
             let planning = Planning {
                 by: By::Crate,
+                picking: None,
                 session,
                 table: table_bytes(&rows),
                 index: index_of(&table_bytes(&rows)),

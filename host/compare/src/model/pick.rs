@@ -22,7 +22,8 @@ impl Radio<'_> {
     /// length".
     pub fn check(&self, pick: &[Hash]) -> Result<(), Refused> {
         let whole = (17, pick.len() as u64);
-        if let Some(place) = self.first_broken(pick) {
+        let listed: HashSet<&Hash> = self.list.iter().collect();
+        if let Some(place) = self.first_broken(&listed, pick) {
             return Err((17, place as u64));
         }
         if self.sizes.len() != self.table.rows.len() || self.sum(pick) > self.budget.into() {
@@ -32,7 +33,8 @@ impl Radio<'_> {
         // pick by itself".
         let alone = |hash: &Hash| {
             let single = [*hash];
-            self.first_broken(&single).is_none() && self.sum(&single) <= self.budget.into()
+            let fits = self.first_broken(&listed, &single).is_none();
+            fits && self.sum(&single) <= self.budget.into()
         };
         match pick.is_empty() && self.list.iter().any(alone) {
             true => Err(whole),
@@ -42,8 +44,7 @@ impl Radio<'_> {
 
     /// "hashes from the list, each once, in table order; every dependency that is itself in
     /// the list goes with it".
-    fn first_broken(&self, pick: &[Hash]) -> Option<usize> {
-        let listed: HashSet<&Hash> = self.list.iter().collect();
+    fn first_broken(&self, listed: &HashSet<&Hash>, pick: &[Hash]) -> Option<usize> {
         let picked: HashSet<&Hash> = pick.iter().collect();
         let mut above = None;
         pick.iter().position(|hash| {

@@ -257,7 +257,7 @@ pub fn own_have(numbers: Numbers, table: &Table, s: &Value) -> OwnHave {
 /// V2 known, or their heads empty and V2 known)": whether it is the document, and
 /// the hashes. Nothing goes to a read-only peer, nor before a have and a need were
 /// heard.
-fn body(table: &Table, s: &Value) -> (bool, Vec<Hash>) {
+pub fn body(table: &Table, s: &Value) -> (bool, Vec<Hash>) {
     let rows = || table.rows.iter().map(|row| row.hash).collect();
     let (Some(haves), Some(need), false) = (&s.their_have, &s.their_need, s.is(PEER_READ_ONLY))
     else {
@@ -273,6 +273,33 @@ fn body(table: &Table, s: &Value) -> (bool, Vec<Hash>) {
         true => (true, rows()),
         false => (false, list),
     }
+}
+
+/// What is planned over good tables with a pick, as `planned`; 4 and 1 of a pick as it is
+/// lent come first, whatever the body.
+pub fn planned_picked(
+    numbers: Numbers,
+    table: &Table,
+    waiting: &Waiting,
+    s: &Value,
+    picking: &Picking,
+) -> Result<Planned, Refused> {
+    let Picking {
+        sizes,
+        budget,
+        pick,
+    } = picking;
+    let pick = hash_list(pick)?;
+    planned_of(numbers, table, waiting, s, |list| {
+        let radio = Radio {
+            table,
+            list: &list,
+            sizes,
+            budget: *budget,
+        };
+        let checked = radio.check(&pick);
+        (pick, checked)
+    })
 }
 
 /// What a pick is made of: 10 for the session, 4 and 6 for the table, 12 for its index.
@@ -303,25 +330,10 @@ pub fn of_lent(
     let table = table::indexed(table, index)?;
     let waiting = table::waiting(&table, waiting)?;
     let numbers = by.numbers()?;
-    let Some(Picking {
-        sizes,
-        budget,
-        pick,
-    }) = picking
-    else {
-        return planned(numbers, &table, &waiting, &s);
-    };
-    let pick = hash_list(pick)?;
-    planned_of(numbers, &table, &waiting, &s, |list| {
-        let radio = Radio {
-            table: &table,
-            list: &list,
-            sizes,
-            budget: *budget,
-        };
-        let checked = radio.check(&pick);
-        (pick, checked)
-    })
+    match picking {
+        Some(picking) => planned_picked(numbers, &table, &waiting, &s, picking),
+        None => planned(numbers, &table, &waiting, &s),
+    }
 }
 
 /// The buffers that a call writes, in the order in which their room is tested.

@@ -45,28 +45,30 @@ impl Offering {
 struct OfferCall<'a> {
     offering: &'a Offering,
     list: Guarded<u8>,
-    expected: [u64; 4],
     answer: [u64; 4],
 }
 
 impl<'a> OfferCall<'a> {
     fn new(offering: &'a Offering, fill: Fill) -> Self {
-        let mut list = Guarded::new(offering.room, fill);
-        let expected = match offering.model() {
-            Err((number, value)) => [number, value, 0, 0],
-            Ok((document, hashes)) => match list.expected().get_mut(..HASH * hashes.len()) {
-                Some(start) => {
-                    start.copy_from_slice(&hashes.concat());
-                    [0, document.into(), hashes.len() as u64, 0]
-                }
-                None => [7, (HASH * hashes.len()) as u64, 0, 0],
-            },
-        };
         OfferCall {
             offering,
-            list,
-            expected,
+            list: Guarded::new(offering.room, fill),
             answer: [UNWRITTEN; 4],
+        }
+    }
+
+    /// Has the model write what is expected; returns its answer.
+    fn expect(&mut self) -> [u64; 4] {
+        let (document, hashes) = match self.offering.model() {
+            Ok(offered) => offered,
+            Err((number, value)) => return [number, value, 0, 0],
+        };
+        match self.list.expected().get_mut(..HASH * hashes.len()) {
+            Some(start) => {
+                start.copy_from_slice(&hashes.concat());
+                [0, document.into(), hashes.len() as u64, 0]
+            }
+            None => [7, (HASH * hashes.len()) as u64, 0, 0],
         }
     }
 
@@ -93,9 +95,9 @@ impl<'a> OfferCall<'a> {
         );
     }
 
-    fn agrees(&self) -> Result<(), String> {
+    fn agrees(&self, expected: [u64; 4]) -> Result<(), String> {
         let told = |why: String| format!("{:?}: {why}", self.offering);
-        same_answer(self.answer, self.expected).map_err(told)?;
+        same_answer(self.answer, expected).map_err(told)?;
         self.list.agrees().map_err(told)
     }
 
@@ -136,13 +138,14 @@ pub fn compare_offers(offerings: &[Offering]) -> Result<Vec<Offer>, String> {
         .iter()
         .flat_map(|one| FILLS.map(|fill| OfferCall::new(one, fill)));
     let mut calls: Vec<OfferCall> = both.collect();
+    let expected: Vec<_> = calls.iter_mut().map(OfferCall::expect).collect();
     let mut batch = Batch::new();
     for call in &mut calls {
         call.ask(&mut batch);
     }
     batch.run();
-    for call in &calls {
-        call.agrees()?;
+    for (call, expected) in calls.iter().zip(expected) {
+        call.agrees(expected)?;
     }
     let first = calls.iter().step_by(FILLS.len());
     Ok(first.map(OfferCall::offer).collect())
