@@ -91,7 +91,7 @@ impl Random {
 
     /// A list of rows: none, all, or some; in table order, or with others before them, with
     /// repeats, in any order, or with hashes that aren't held.
-    fn to_send(&mut self, held: &[Hash], strangers: &[Hash]) -> Vec<Hash> {
+    fn listed(&mut self, held: &[Hash], strangers: &[Hash]) -> Vec<Hash> {
         let one_in = 1 + self.below(3);
         let mut list: Vec<Hash> = match self.below(10) {
             0 => Vec::new(),
@@ -121,7 +121,7 @@ impl Random {
     pub fn radio(&mut self, rows: Range<usize>) -> OwnRadio {
         let graph = self.graph(rows);
         let strangers = graph.hashes[graph.rows.len()..].to_vec();
-        let list = self.to_send(graph.held(), &strangers);
+        let list = self.listed(graph.held(), &strangers);
         let sizes = self.sizes(graph.rows.len());
         OwnRadio {
             table: table_bytes(&graph.rows),
