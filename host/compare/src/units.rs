@@ -38,7 +38,9 @@ pub trait Unit {
 
     /// The same with a pick of what there is to send by list, which is made of the table's
     /// bytes and that list. The crate's own unit has none.
-    fn speak_picked(&mut self, by: &By, pick: &mut Picks) -> Option<Vec<u8>>;
+    fn speak_picked(&mut self, _: &By, _: &mut Picks) -> Option<Vec<u8>> {
+        panic!("this unit sends all of a list");
+    }
 
     fn hear(&mut self, message: &[u8]) -> Heard;
 

@@ -1,7 +1,6 @@
 //! The crate's own unit.
 
-use super::{Heard, Picks, Unit};
-use crate::model::plan::By;
+use super::{Heard, Unit};
 use crate::model::session::Value;
 use crate::sessions::published::{state, value};
 use crate_under_test::facade::{Automerge, Message, State, SyncDoc};
@@ -21,10 +20,6 @@ impl Unit for Published {
     fn speak(&mut self) -> Option<Vec<u8>> {
         let message = self.document.generate_sync_message(&mut self.state);
         message.map(Message::encode)
-    }
-
-    fn speak_picked(&mut self, _: &By, _: &mut Picks) -> Option<Vec<u8>> {
-        panic!("this unit sends all of a list");
     }
 
     fn hear(&mut self, message: &[u8]) -> Heard {
