@@ -9,6 +9,8 @@ mod catch_ups;
 mod every;
 #[path = "picks/limits.rs"]
 mod limits;
+#[path = "picks/literal.rs"]
+mod literal;
 #[path = "picks/offers.rs"]
 mod offers;
 #[path = "picks/plans.rs"]

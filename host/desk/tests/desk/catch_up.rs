@@ -153,6 +153,22 @@ fn a_catch_up_within_a_budget() {
     assert_eq!(value(&json, "budget"), "null");
 }
 
+/// docs/API.md shows what the command does.
+#[test]
+fn the_page_shows_the_sample_within_a_budget() {
+    let [station, validator] = ["station.table", "validator.table"].map(|n| samples().join(n));
+    let words = [
+        "catch-up",
+        text(&station),
+        text(&validator),
+        "--budget",
+        "3000",
+    ];
+    let shown = run(&words).ended(0).out;
+    let page = include_str!("../../../../docs/API.md");
+    assert!(page.contains(&format!("```text\n{shown}```\n")), "{shown}");
+}
+
 /// A budget in which a change doesn't fit: the row never comes, and that is said. Where only
 /// a row that is held doesn't fit, all of them come and nothing is proved.
 #[test]
