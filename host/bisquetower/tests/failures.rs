@@ -312,6 +312,47 @@ fn a_part_of_the_most_bytes_goes() {
     }
 }
 
+/// The same of a part whose chunks take more than a byte to count, in version 1.
+#[test]
+fn a_part_of_many_changes_and_the_most_bytes_goes() {
+    let part = |contents: usize| {
+        let mut station = unit(chain(300));
+        for n in 300..=500 {
+            let length = match n {
+                300 => contents,
+                500 => MESSAGE,
+                _ => 100,
+            };
+            let contents = vec![7; length];
+            let change = Change {
+                contents,
+                ..change(n)
+            };
+            station.host.add(change).unwrap();
+        }
+        let question = Message {
+            heads: vec![hash(299)],
+            need: (300..=500).map(hash).collect(),
+            ..Message::default()
+        };
+        let host = &mut station.host;
+        station
+            .session
+            .receive_sync_message(host, question)
+            .unwrap();
+        let bytes = station.session.next_message(&station.host).unwrap();
+        let sent = station.session.sent_hashes().len();
+        (sent, bytes.expect("a part").len())
+    };
+    let about = MESSAGE - 50_000;
+    let (all, size) = part(about);
+    assert_eq!(all, 200);
+    let most = about + MESSAGE - size;
+    assert_eq!(part(most), (200, MESSAGE));
+    // The last of them doesn't fit any more: 170 bytes, and two for its length.
+    assert_eq!(part(most + 1), (199, MESSAGE + 1 - 172));
+}
+
 /// A value that no bytes say is refused before anything is loaded.
 #[test]
 fn a_message_that_cant_be_encoded_isnt_received() {

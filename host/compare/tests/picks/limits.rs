@@ -165,12 +165,15 @@ fn sums_at_64_bits() {
     }
 }
 
+/// What goes wrong, and the refusal that it is.
+type Fault = (fn(&mut Given), [u64; 2]);
+
 /// Tables and indexes are refused first, and 7 comes last.
 #[test]
 fn the_order_of_refusals() {
     let good = given(&[&[], &[0]], &[0, 1], &[1, 1], 2);
     let long = vec![0; 32 * HASHES_TO_SEND + 1];
-    let faults: [(fn(&mut Given), [u64; 2]); 5] = [
+    let faults: [Fault; 5] = [
         (|own| own.table.resize(256 * ROWS + 1, 0), [4, 0]),
         (|own| own.table[32] = 112, [6, 0]),
         (|own| own.index[0] ^= 1, [12, 0]),
