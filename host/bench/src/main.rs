@@ -13,6 +13,7 @@ mod counts;
 mod filter;
 mod measure;
 mod message;
+mod picks;
 mod pool;
 mod runs;
 mod salvage;
@@ -27,7 +28,7 @@ use bisquetower::raw;
 use std::process::ExitCode;
 
 /// What is measured, in this order.
-const SUBJECTS: [(&str, fn()); 10] = [
+const SUBJECTS: [(&str, fn()); 11] = [
     ("wire", wire::measure_all),
     ("filter", filter::measure_all),
     ("tables", tables::measure_all),
@@ -37,6 +38,7 @@ const SUBJECTS: [(&str, fn()); 10] = [
     ("settings", settings::measure_all),
     ("counts", counts::measure_all),
     ("salvage", salvage::measure_all),
+    ("picks", picks::measure_all),
     ("steep", steep::measure_all),
 ];
 

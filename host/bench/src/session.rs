@@ -258,6 +258,17 @@ impl Desk {
         planned!(self, lent, &[], plan_settled, settings, station, version)
     }
 
+    /// With a pick, by the crate's numbers and with nothing waiting.
+    pub fn plan_picked(
+        &mut self,
+        sizes: &[u64],
+        budget: u64,
+        pick: &[u8],
+        lent: &Indexed,
+    ) -> [u64; ANSWER_WORDS] {
+        planned!(self, lent, &[], plan_picked, &[], 0, 0, sizes, budget, pick)
+    }
+
     /// Writes what was planned, with these chunks; the message's length.
     fn write(&mut self, plan: &[u64; ANSWER_WORDS], chunks: &[u8], lengths: &[u64]) -> usize {
         let [heads, need, have, _] = &self.said;

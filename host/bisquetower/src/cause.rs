@@ -101,6 +101,8 @@ pub(crate) enum Rule {
     Captured(InFilter),
     /// A total of counts, by what is counted, stays within 64 bits.
     Total(&'static str),
+    /// A pick keeps to what picks are.
+    Pick(Pick),
 }
 
 /// Whose items are counted.
@@ -187,6 +189,29 @@ pub(crate) enum Row {
     Lost(usize),
 }
 
+/// What is wrong with a pick: with the hash at an index, or with all of it.
+#[derive(Clone, Copy, Debug, PartialEq, Eq)]
+pub(crate) enum Pick {
+    /// No row has this hash.
+    Unknown(usize),
+    /// Its row isn't listed.
+    Unlisted { place: usize, row: usize },
+    /// Its row isn't behind the one before it.
+    Order {
+        place: usize,
+        row: usize,
+        after: usize,
+    },
+    /// It depends on a row that is listed and isn't picked.
+    Without { place: usize, on: usize },
+    /// There isn't one size a row.
+    Sizes { sizes: usize, rows: usize },
+    /// The sizes are more than the budget.
+    Sum { sum: u128, budget: u64 },
+    /// Nothing is picked, and this row could go by itself.
+    Empty(usize),
+}
+
 /// Where a setting stands, or what it was for.
 #[derive(Clone, Copy, Debug, PartialEq, Eq)]
 pub(crate) enum Chosen {
@@ -271,6 +296,7 @@ impl fmt::Display for Cause {
             Rule::Setting { of, rule } => write!(f, "{of} {rule}"),
             Rule::Captured(rule) => write!(f, "the filter {rule}"),
             Rule::Total(counted) => write!(f, "the total of {counted} would pass 64 bits"),
+            Rule::Pick(rule) => rule.fmt(f),
         }
     }
 }
@@ -379,6 +405,61 @@ impl fmt::Display for Row {
             Row::Twice(row) => write!(f, "has the hash of row {}", shown(row)),
             Row::Held(row) => write!(f, "has the hash of row {} of the change table", shown(row)),
             Row::Lost(row) => write!(f, "depends on row {}, which is dropped", shown(row)),
+        }
+    }
+}
+
+impl fmt::Display for Pick {
+    fn fmt(&self, f: &mut fmt::Formatter<'_>) -> fmt::Result {
+        let at = |place: usize| format!("the picked hash at index {}", shown(place));
+        match *self {
+            Pick::Unknown(place) => write!(f, "{} is no row of the table", at(place)),
+            Pick::Unlisted { place, row } => {
+                write!(
+                    f,
+                    "{} is row {}, which isn't in the list",
+                    at(place),
+                    shown(row)
+                )
+            }
+            Pick::Order { place, row, after } => {
+                let (at, row, after) = (at(place), shown(row), shown(after));
+                write!(
+                    f,
+                    "{at} is row {row}, behind row {after}; picked rows ascend"
+                )
+            }
+            Pick::Without { place, on } => {
+                let on = shown(on);
+                let at = at(place);
+                write!(
+                    f,
+                    "{at} depends on row {on}, which is in the list and isn't picked"
+                )
+            }
+            Pick::Sizes { sizes, rows } => {
+                let (sizes, rows) = (shown(sizes), shown(rows));
+                write!(
+                    f,
+                    "{sizes} sizes are passed for {rows} rows; there is one a row"
+                )
+            }
+            Pick::Sum { sum, budget } => {
+                // A sum past 64 bits is past every budget.
+                let sum = u64::try_from(sum).map_or("more than 64 bits".to_string(), grouped);
+                let budget = grouped(budget);
+                write!(
+                    f,
+                    "the sizes of the picked rows sum to {sum}; the budget is {budget}"
+                )
+            }
+            Pick::Empty(row) => {
+                let row = shown(row);
+                write!(
+                    f,
+                    "nothing is picked, and row {row} of the list fits by itself"
+                )
+            }
         }
     }
 }

@@ -7,6 +7,7 @@
 
 mod counts;
 mod lent;
+mod pick;
 mod read;
 mod rows;
 mod salvage;
@@ -14,12 +15,13 @@ mod settings;
 mod written;
 
 pub(crate) use counts::{adding, capture};
-pub(crate) use lent::{passed, planning, receiving, selecting, session};
+pub(crate) use lent::{passed, planning, planning_picked, receiving, selecting, session};
+pub(crate) use pick::{pick, picking};
 pub(crate) use read::{filter, message, state};
 pub(crate) use rows::{narrowed, old_table, table, tables};
 pub(crate) use salvage::dropped;
 pub(crate) use settings::{list, setting};
-pub(crate) use written::{building, parts, saved, writing};
+pub(crate) use written::{building, counted, parts, saved, writing};
 
 use crate::cause::Numbers;
 use crate::Limits;
@@ -27,7 +29,7 @@ use crate::Limits;
 /// The refusals that are looked into: an item that is cut, a number in a bad form, a limit, a
 /// filter without bits, a bad change table, a bad waiting table, bad numbers, a row that is
 /// too wide for the rows of before, a bad settings list, a bad new setting, a total that
-/// would pass 64 bits.
+/// would pass 64 bits, a pick that isn't accepted.
 const CUT: u64 = 1;
 const BAD_NUMBER: u64 = 3;
 const LIMIT: u64 = 4;
@@ -39,6 +41,7 @@ const TOO_WIDE: u64 = 13;
 const BAD_SETTINGS: u64 = 14;
 const BAD_SETTING: u64 = 15;
 const TOTAL: u64 = 16;
+const BAD_PICK: u64 = 17;
 
 /// What is wrong with a filter's numbers, in the order in which 01 tests them. Without
 /// entries the others may be any.

@@ -22,6 +22,13 @@ pub trait Host {
     /// The bytes of a change that is held, as `load` takes them.
     fn change(&self, hash: &ChangeHash) -> Result<Cow<'_, [u8]>, Self::Error>;
 
+    /// How many bytes [`change`](Host::change) lends for a change that is held: asked of
+    /// every change that is to be sent, where a message has a budget. A host that knows it
+    /// without making the bytes says so here.
+    fn change_size(&self, hash: &ChangeHash) -> Result<usize, Self::Error> {
+        self.change(hash).map(|bytes| bytes.len())
+    }
+
     /// The whole document, as `load` takes it.
     fn save(&self) -> Result<Vec<u8>, Self::Error>;
 

@@ -12,6 +12,10 @@ use std::fmt;
 const RECORD: u8 = 1;
 const DOCUMENT: u8 = 0;
 
+/// Bytes of a change's record without dependencies and contents: its first byte, its hash,
+/// and how many there are of both.
+const RECORD_SIZE: usize = 1 + HASH + 1 + 4;
+
 /// A change: its name, what it was made on, and bytes that nobody here looks at.
 #[derive(Clone, Debug, PartialEq, Eq)]
 pub struct Change {
@@ -128,6 +132,16 @@ impl Host for Memory {
         let mut record = Vec::new();
         write_change(&self.changes[row], &mut record);
         Ok(Cow::Owned(record))
+    }
+
+    fn change_size(&self, hash: &ChangeHash) -> Result<usize, MemoryError> {
+        let row = self.rows.find(hash).ok_or(MemoryError::Unknown(*hash))?;
+        let Change {
+            dependencies,
+            contents,
+            ..
+        } = &self.changes[row];
+        Ok(RECORD_SIZE + HASH * dependencies.len() + contents.len())
     }
 
     fn save(&self) -> Result<Vec<u8>, MemoryError> {

@@ -8,7 +8,7 @@ use std::fmt;
 /// them.
 #[derive(Clone, Copy, Debug)]
 pub struct Refusal {
-    /// 1 to 16.
+    /// 1 to 17.
     pub number: u64,
     /// A place, a row, a record, a byte, a length or 0, by the number.
     pub value: u64,
@@ -75,8 +75,8 @@ impl Refusal {
     }
 
     /// What broke in particular, where it was looked for and found: in messages, saved
-    /// states, filters, tables, settings and sessions that are values of this crate, and in
-    /// captures and totals.
+    /// states, filters, tables, settings and sessions that are values of this crate, in
+    /// captures and totals, and in picks.
     pub fn cause(&self) -> Option<Cause> {
         self.cause
     }
@@ -111,6 +111,9 @@ impl Refusal {
             14 => format!("record {value} is the first bad record of the settings list"),
             15 => "the new setting is bad, or no version is left for it".to_string(),
             16 => "a total would pass 64 bits".to_string(),
+            17 => format!(
+                "the pick isn't accepted, for its hash at index {value}, or as a whole if it has {value} of them"
+            ),
             number => format!("no refusal has the number {number} (its value: {value})"),
         }
     }
@@ -163,7 +166,7 @@ mod tests {
     /// Refusals 8, 10 to 12, 15 and 16 have the value 0 always, so theirs don't show it.
     #[test]
     fn each_sentence_is_its_own_and_shows_its_value() {
-        let sentences: Vec<String> = (1..=16).map(|number| sentence(number, 66)).collect();
+        let sentences: Vec<String> = (1..=17).map(|number| sentence(number, 66)).collect();
         for (k, one) in sentences.iter().enumerate() {
             let number = k + 1;
             let shown = if number == 2 { "42" } else { "66" };
@@ -175,8 +178,8 @@ mod tests {
             assert!(!sentences[..k].contains(one), "{one}");
         }
         assert_eq!(
-            sentence(17, 0),
-            "no refusal has the number 17 (its value: 0)"
+            sentence(18, 0),
+            "no refusal has the number 18 (its value: 0)"
         );
     }
 }

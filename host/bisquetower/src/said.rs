@@ -133,12 +133,13 @@ impl Message {
         Ok(length as usize)
     }
 
-    /// Refuses what `encode` refuses, and writes nothing: 7 is the last of a write's
-    /// refusals, so where no room brings that one, room is all that is wanted.
-    pub(crate) fn check(&self) -> Result<(), Refusal> {
+    /// Refuses what `encode` refuses, and writes nothing; else it tells how many bytes that
+    /// writes. 7 is the last of a write's refusals, so where no room brings that one, room is
+    /// all that is wanted.
+    pub(crate) fn check(&self) -> Result<usize, Refusal> {
         match self.encode_into(&mut []) {
-            Err(refusal) if refusal.number == room::TOO_SHORT => Ok(()),
-            written => written.map(|_| ()),
+            Err(refusal) if refusal.number == room::TOO_SHORT => Ok(refusal.value as usize),
+            written => written,
         }
     }
 }

@@ -5,9 +5,11 @@ mod parts;
 mod receive;
 #[cfg(test)]
 mod tests;
+mod within;
 
 pub use generate::Plan;
 pub use parts::SessionParts;
+pub use within::Offer;
 
 use crate::hash::{hashes_in, ChangeHash, HASH};
 use crate::have::{haves_in, Have};

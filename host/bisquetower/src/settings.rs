@@ -186,6 +186,26 @@ fn setting(record: &[u8]) -> Setting {
     }
 }
 
+/// The station and the version of a choice that is lent alone.
+pub(crate) const STATION: u64 = 0;
+pub(crate) const VERSION: u64 = 1;
+
+/// A list of one record, by which a call is told a choice; what isn't allowed stands in it
+/// too. No setting has 0 probes, with which a filter looks at one bit, as it does with 1.
+pub(crate) fn lent(choice: Choice) -> [u8; RECORD] {
+    let numbers = [
+        VERSION as u32,
+        STATION as u32,
+        choice.bits,
+        choice.probes.max(1),
+    ];
+    let mut record = [0; RECORD];
+    for (four, number) in record.chunks_exact_mut(4).zip(numbers) {
+        four.copy_from_slice(&number.to_le_bytes());
+    }
+    record
+}
+
 /// The number of four bytes at a place.
 pub(crate) fn u32_at(bytes: &[u8], place: usize) -> u32 {
     let four = bytes[place..place + 4].try_into().expect("four bytes");

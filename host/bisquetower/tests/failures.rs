@@ -4,7 +4,7 @@ mod units;
 
 use bisquetower::limits::{HASHES, MESSAGE_SIZE as MESSAGE, ROWS};
 use bisquetower::{
-    Change, ChangeHash, Error, Host, Memory, MemoryError, Message, Refusal, Session,
+    Change, ChangeHash, Error, Host, Memory, MemoryError, Message, MessageFlags, Refusal, Session,
 };
 use std::borrow::Cow;
 use std::fmt;
@@ -123,47 +123,234 @@ fn heavy(light: u32, bytes: usize) -> Memory {
     memory
 }
 
-/// A message that can't be sent isn't taken as said, be it the whole document or a list,
-/// so it goes as soon as it can.
+/// Changes that no message holds together go in several, each of them as large as may be,
+/// be they the whole document or a list; afterwards version 2 is known as before.
 #[test]
-fn a_message_past_its_size_leaves_the_session() {
-    for held in [0, 27] {
+fn changes_past_a_message_go_in_parts() {
+    for (held, at_once, replies) in [(0, 28, 3), (27, 1, 3)] {
         let (mut station, mut validator) = (unit(heavy(27, MESSAGE / 2)), unit(chain(held)));
-        say(&mut validator, &mut station);
-        let before = station.session.clone();
-        for _ in 0..2 {
-            let bytes = station.session.next_message(&station.host);
-            assert_eq!(bytes, Err(Error::Refused(PAST_A_LIMIT)));
-            assert_eq!(station.session, before);
-            let message = station.session.generate(&station.host);
-            assert_eq!(message, Err(Error::Refused(PAST_A_LIMIT)));
-            assert_eq!(station.session, before);
+        let mut carried = vec![];
+        for round in 0.. {
+            let question = say(&mut validator, &mut station);
+            let before = station.session.clone();
+            let reply = station.session.clone().next_message(&station.host).unwrap();
+            assert!(reply.as_ref().is_none_or(|bytes| bytes.len() <= MESSAGE));
+            let Some(reply) = say(&mut station, &mut validator) else {
+                match question {
+                    Some(_) => continue,
+                    None => break,
+                }
+            };
+            let session = &station.session;
+            assert_eq!(
+                session.supports_v2_messages(),
+                before.supports_v2_messages()
+            );
+            // A document begins with 0, a change with 1.
+            assert!(reply.changes.iter().all(|chunk| chunk[0] == 1));
+            if !reply.changes.is_empty() {
+                carried.push(session.sent_hashes().len());
+            }
+            assert!(round < 20);
         }
-        station.host = heavy(27, MESSAGE / 4);
-        let reply = say(&mut station, &mut validator).expect("it is small enough");
-        // A document begins with 0, a change with 1.
-        assert_eq!(reply.changes[0][0] == 0, held == 0);
-        talk(&mut validator, &mut station);
+        assert_eq!((carried[0], carried.len()), (at_once, replies));
         assert_eq!(validator.host.changes(), station.host.changes());
     }
 }
 
-/// A message of just the most bytes goes, and one with a byte more doesn't.
+/// A document that no message holds, whose first part gets lost: it is sent again to a peer
+/// that says that it holds nothing.
+#[test]
+fn a_document_in_parts_that_got_lost() {
+    let (mut station, mut validator) = (unit(heavy(27, MESSAGE / 2)), unit(Memory::new()));
+    let question = validator.session.next_message(&validator.host);
+    let question = question.unwrap().expect("the first message");
+    let reply = |station: &mut units::Unit| {
+        station
+            .session
+            .receive(&mut station.host, &question)
+            .unwrap();
+        let message = station.session.generate(&station.host).unwrap();
+        message.expect("a part").changes.len()
+    };
+    let parts = [(); 5].map(|()| reply(&mut station));
+    assert_eq!(parts, [28; 5]);
+}
+
+/// A change that no message holds keeps nothing else back: what can go goes, then heads and
+/// needs are said, and where that leaves nothing to say it is refused, and goes as soon as
+/// it can.
+#[test]
+fn a_change_past_a_message() {
+    for held in [0, 20, 29] {
+        let (mut station, mut validator) = (unit(heavy(29, MESSAGE)), unit(chain(held)));
+        let mut rounds = 0;
+        let refused = loop {
+            say(&mut validator, &mut station);
+            let before = station.session.clone();
+            let bytes = station.session.clone().next_message(&station.host);
+            let message = station.session.generate(&station.host);
+            assert_eq!(message.is_ok(), bytes.is_ok());
+            match message {
+                Ok(None) => panic!("a change is left to be sent"),
+                Ok(Some(message)) => {
+                    let bytes = message.encode().unwrap();
+                    let session = &mut validator.session;
+                    session.receive(&mut validator.host, &bytes).unwrap();
+                }
+                Err(refused) => {
+                    assert_eq!(station.session, before);
+                    break refused;
+                }
+            }
+            rounds += 1;
+            assert!(rounds < 20);
+        };
+        assert_eq!(refused, Error::Refused(PAST_A_LIMIT));
+        assert!(
+            refused.to_string().contains("the message takes 4,194,"),
+            "{refused}"
+        );
+        // All but the last change came.
+        assert_eq!(validator.host.changes(), &station.host.changes()[..29]);
+        station.host = heavy(29, MESSAGE / 2);
+        talk(&mut station, &mut validator);
+        assert_eq!(validator.host.changes(), station.host.changes());
+    }
+}
+
+/// A unit with a change that no message holds still asks for what the other one has, and
+/// gets it, before it is refused.
+#[test]
+fn a_change_past_a_message_keeps_no_question_back() {
+    let own = |first: u8, size: usize| Change {
+        hash: ChangeHash([first; 32]),
+        dependencies: vec![hash(9)],
+        contents: vec![7; size],
+    };
+    let (mut station, mut validator) = (unit(chain(10)), unit(chain(10)));
+    station.host.add(own(1, MESSAGE)).unwrap();
+    validator.host.add(own(2, 10)).unwrap();
+    let mut asked = 0;
+    let refused = loop {
+        say(&mut validator, &mut station);
+        let message = match station.session.generate(&station.host) {
+            Ok(message) => message.expect("a change is left to be sent"),
+            Err(refused) => break refused,
+        };
+        assert!(message.changes.is_empty());
+        asked += usize::from(message.need == [ChangeHash([2; 32])]);
+        let bytes = message.encode().unwrap();
+        let session = &mut validator.session;
+        session.receive(&mut validator.host, &bytes).unwrap();
+    };
+    assert_eq!(refused, Error::Refused(PAST_A_LIMIT));
+    assert!(station.host.changes().contains(&own(2, 10)));
+    assert!(asked < 3);
+}
+
+/// A message of just the most bytes goes, and a change of a byte more doesn't.
 #[test]
 fn a_message_of_the_most_bytes_goes() {
     let reply = |contents: usize| {
         let (mut station, mut validator) = (unit(heavy(29, contents)), unit(chain(29)));
         say(&mut validator, &mut station);
         let value = station.session.clone().generate(&station.host);
-        let bytes = station.session.next_message(&station.host);
-        assert_eq!(value.is_ok(), bytes.is_ok());
-        bytes.map(|bytes| bytes.expect("a reply").len())
+        let bytes = station.session.next_message(&station.host).unwrap();
+        let bytes = bytes.expect("a reply");
+        assert_eq!(value.unwrap().unwrap().encode().as_ref(), Ok(&bytes));
+        bytes.len()
     };
     let about = MESSAGE - 1_000;
-    let others = reply(about).unwrap() - about;
-    assert_eq!(reply(MESSAGE - others), Ok(MESSAGE));
-    let past = reply(MESSAGE - others + 1);
-    assert_eq!(past, Err(Error::Refused(PAST_A_LIMIT)));
+    let others = reply(about) - about;
+    assert_eq!(reply(MESSAGE - others), MESSAGE);
+    // Its heads alone.
+    assert!(reply(MESSAGE - others + 1) < others);
+}
+
+/// Where changes go in parts, the parts too may have just the most bytes: the change that
+/// fits alone goes, with one behind it that doesn't fit beside it, and at a byte more none.
+#[test]
+fn a_part_of_the_most_bytes_goes() {
+    for v2 in [false, true] {
+        let part = |contents: usize| {
+            let mut station = unit(chain(300));
+            for n in [300, 301] {
+                let contents = vec![7; if n == 300 { contents } else { 100 }];
+                station
+                    .host
+                    .add(Change {
+                        contents,
+                        ..change(n)
+                    })
+                    .unwrap();
+            }
+            let question = Message {
+                heads: vec![hash(299)],
+                need: vec![hash(301), hash(300)],
+                flags: v2.then(MessageFlags::new),
+                ..Message::default()
+            };
+            let host = &mut station.host;
+            station
+                .session
+                .receive_sync_message(host, question)
+                .unwrap();
+            let bytes = station.session.next_message(&station.host).unwrap();
+            (
+                station.session.sent_hashes().len(),
+                bytes.expect("a reply").len(),
+            )
+        };
+        let about = MESSAGE - 5_000;
+        let (both, size) = part(about);
+        assert_eq!(both, 2);
+        // The second change takes 170 bytes, and in version 1 two for its length.
+        let others = size - about - 170 - if v2 { 0 } else { 2 };
+        assert_eq!(part(MESSAGE - others), (1, MESSAGE));
+        assert_eq!(part(MESSAGE - others + 1).0, 0);
+    }
+}
+
+/// The same of a part whose chunks take more than a byte to count, in version 1.
+#[test]
+fn a_part_of_many_changes_and_the_most_bytes_goes() {
+    let part = |contents: usize| {
+        let mut station = unit(chain(300));
+        for n in 300..=500 {
+            let length = match n {
+                300 => contents,
+                500 => MESSAGE,
+                _ => 100,
+            };
+            let contents = vec![7; length];
+            let change = Change {
+                contents,
+                ..change(n)
+            };
+            station.host.add(change).unwrap();
+        }
+        let question = Message {
+            heads: vec![hash(299)],
+            need: (300..=500).map(hash).collect(),
+            ..Message::default()
+        };
+        let host = &mut station.host;
+        station
+            .session
+            .receive_sync_message(host, question)
+            .unwrap();
+        let bytes = station.session.next_message(&station.host).unwrap();
+        let sent = station.session.sent_hashes().len();
+        (sent, bytes.expect("a part").len())
+    };
+    let about = MESSAGE - 50_000;
+    let (all, size) = part(about);
+    assert_eq!(all, 200);
+    let most = about + MESSAGE - size;
+    assert_eq!(part(most), (200, MESSAGE));
+    // The last of them doesn't fit any more: 170 bytes, and two for its length.
+    assert_eq!(part(most + 1), (199, MESSAGE + 1 - 172));
 }
 
 /// A value that no bytes say is refused before anything is loaded.

@@ -5,6 +5,7 @@ pub mod counts;
 pub mod filter;
 pub mod index;
 pub mod message;
+pub mod pick;
 pub mod salvage;
 pub mod selection;
 pub mod session;

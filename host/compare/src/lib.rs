@@ -15,8 +15,8 @@
 //! differ.
 //!
 //! A module for each subject: `wire`, `filters`, `tables`, `settings`, `states`, `messages`,
-//! `counts`, `salvage` and `selections` (the hashes to send) make the comparisons, and `writes`
-//! those of every call that writes one buffer and that the crate has. `inputs` and `model` have
+//! `counts`, `salvage`, `selections` (the hashes to send) and `picks` make the comparisons, and
+//! `writes` those of every call that writes one buffer and that the crate has. `inputs` and `model` have
 //! a module for each of them too. The models of messages, of hashes to send and of sessions are also held against
 //! the crate alone; the crate's graph can't be had, and its stand-in takes the crate's
 //! place there. `samples` is what is stored of the crate's answers.
@@ -34,6 +34,7 @@ pub mod guarded;
 pub mod inputs;
 pub mod messages;
 pub mod model;
+pub mod picks;
 pub mod published;
 pub mod salvage;
 pub mod samples;

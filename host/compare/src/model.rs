@@ -6,6 +6,7 @@ pub mod counts;
 pub mod filter;
 pub mod have;
 pub mod message;
+pub mod pick;
 pub mod plan;
 pub mod receive;
 pub mod salvage;

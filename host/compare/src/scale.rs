@@ -10,6 +10,7 @@ mod counts;
 mod filters;
 mod kinds;
 mod messages;
+mod picks;
 mod report;
 mod salvage;
 pub mod script;

@@ -11,12 +11,12 @@ use crate::inputs::table::{set_number, table_bytes, waiting_bytes, Likeness, Sha
 use crate::inputs::Random;
 use crate::messages::parts::Chunks;
 use crate::model::number_bytes;
-use crate::model::plan::By;
+use crate::model::plan::{By, Picking};
 use crate::model::settings::{Choice, Setting, RECORD};
 use crate::model::state::{Session, READ_ONLY, V2, WORDS};
 use crate::model::table::{converted, Hash, HASH, NOW, OLD};
 use crate::sessions::lent::Lent;
-use crate::sessions::library::{plan, receive, Planning, Receiving};
+use crate::sessions::library::{offer, plan, receive, Offering, Planning, Receiving};
 use crate::tables::but_the_last;
 use bisquetower::limits::{
     CHUNKS, DEPENDENCIES, FIELD_SIZE, HASHES, HAVES, HAVES_SIZE, HAVES_WORDS, HAVE_SIZE, LIST_SIZE,
@@ -65,6 +65,7 @@ pub fn calls() -> Vec<Deep> {
     calls.extend(messages(&mut random));
     calls.extend(sessions(&mut random));
     calls.extend(salvages(&mut random));
+    calls.extend(picks(&mut random));
     calls
 }
 
@@ -368,6 +369,37 @@ fn salvages(random: &mut Random) -> Vec<Deep> {
     calls.into()
 }
 
+/// Everything is listed, twice, and picked, of the largest tables; beside them a pick whose
+/// last hash breaks a rule, an empty one, and an index that doesn't fit.
+fn picks(random: &mut Random) -> Vec<Deep> {
+    let mut deep_calls = Vec::new();
+    for shape in [Shape::Wide, Shape::Deep, Shape::Full, Shape::Any] {
+        let rows = random.rows(ROWS, shape, Likeness::Descending);
+        let all: Vec<u8> = rows.iter().flat_map(|row| row.hash).collect();
+        let table = table_bytes(&rows);
+        let mut broken = all.clone();
+        broken[LIST_SIZE - 1] ^= 1;
+        let fits = Arc::new((index_of(&table), table, [&all[..], &all[..]].concat()));
+        let not = Arc::new((vec![0; 2 * ROWS], fits.1.clone(), fits.2.clone()));
+        for lent in [fits, not] {
+            let own = Arc::clone(&lent);
+            deep_calls.push(deep("bt_pick", move || {
+                let (index, table, list) = &*own;
+                let (sizes, out) = (vec![1; ROWS], &mut vec![0; LIST_SIZE]);
+                raw::pick(table, index, list, &sizes, u64::MAX, out)
+            }));
+            for (pick, budget) in [(&all, u64::MAX), (&broken, u64::MAX), (&Vec::new(), 0)] {
+                let (own, pick) = (Arc::clone(&lent), pick.clone());
+                deep_calls.push(deep("bt_check_pick", move || {
+                    let (index, table, list) = &*own;
+                    raw::check_pick(table, index, list, &vec![1; ROWS], budget, &pick)
+                }));
+            }
+        }
+    }
+    deep_calls
+}
+
 /// The words of a session in which every list is as long as it may be, with these flags.
 fn full_session(flags: [bool; 7]) -> [u64; WORDS] {
     let full = Session {
@@ -466,12 +498,19 @@ fn messages(random: &mut Random) -> Vec<Deep> {
     ]
 }
 
-/// The three calls that plan, each also with nothing shared, so that the filter is over
-/// all rows. They share what they are lent, which is large.
+/// The four calls that plan, each also with nothing shared, so that the filter is over
+/// all rows; and what there is to send. They share what they are lent, which is large.
 fn plans(planning: Planning) -> Vec<Deep> {
     let mut nothing_shared = planning.clone();
     nothing_shared.session.words[0] = 0;
     let mut deep_calls = Vec::new();
+    let offering = Arc::new(Offering {
+        session: planning.session.clone(),
+        table: planning.table.clone(),
+        index: planning.index.clone(),
+        room: TO_SEND_SIZE,
+    });
+    deep_calls.push(deep("bt_offer", move || offer(&offering).answer));
     for planning in [planning, nothing_shared].map(Arc::new) {
         let settled = By::Settings {
             list: settings_list(),
@@ -491,8 +530,42 @@ fn plans(planning: Planning) -> Vec<Deep> {
             };
             deep(name, move || plan(&own()).answer)
         }));
+        deep_calls.extend([true, false].map(|all| plan_picked(&planning, all)));
     }
     deep_calls
+}
+
+/// A plan with a pick of every row, or of none, by a settings list. Nothing was sent before:
+/// so every row is listed that the peer asks for.
+fn plan_picked(planning: &Arc<Planning>, all: bool) -> Deep {
+    let planning = Arc::clone(planning);
+    let own = move || {
+        let mut planning = Planning::clone(&planning);
+        planning.session.words[8] = 0;
+        let hashes = planning
+            .table
+            .chunks_exact(ROW_SIZE)
+            .map(|row| &row[..HASH]);
+        let pick: Vec<u8> = hashes.flatten().copied().collect();
+        let (pick, budget) = if all {
+            (pick, u64::MAX)
+        } else {
+            (Vec::new(), 0)
+        };
+        planning.by = By::Settings {
+            list: settings_list(),
+            station: 9_999,
+            version: u64::MAX,
+        };
+        let sizes = vec![1; ROWS];
+        planning.picking = Some(Picking {
+            sizes,
+            budget,
+            pick,
+        });
+        planning
+    };
+    deep("bt_plan_picked", move || plan(&own()).answer)
 }
 
 /// Sessions in which every list is as long as it may be, over as many rows as there may
@@ -525,6 +598,7 @@ fn sessions(random: &mut Random) -> Vec<Deep> {
             session.their_heads = list;
             let planning = Planning {
                 by: By::Crate,
+                picking: None,
                 session,
                 table: table_bytes(&rows),
                 index: index_of(&table_bytes(&rows)),

@@ -125,7 +125,7 @@ pub const NAMES: [&str; 9] = [
 ];
 
 /// The first words that an answer may have: 0, or a refusal's number.
-pub const ANSWERS: usize = 17;
+pub const ANSWERS: usize = 18;
 
 impl<'a> Call<'a> {
     /// The call's place in `NAMES`.

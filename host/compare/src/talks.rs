@@ -8,7 +8,7 @@ use crate::model::message::parse;
 use crate::model::plan::By;
 use crate::model::session::Value;
 use crate::model::table::{Hash, DEPENDENCIES};
-use crate::units::{load, modelled, published, Heard, Make, Unit};
+use crate::units::{load, modelled, published, Heard, Make, Picks, Unit};
 use crate_under_test::facade::{Automerge, Change, ChangeHash};
 use std::collections::BTreeSet;
 
@@ -77,6 +77,12 @@ impl Pair {
             By::Crate => self.units[unit].speak(),
             other => self.units[unit].speak_by(other),
         };
+        self.note(unit, What::Spoke(said.clone()));
+        said
+    }
+
+    pub fn speak_picked(&mut self, unit: usize, by: &By, pick: &mut Picks) -> Option<Vec<u8>> {
+        let said = self.units[unit].speak_picked(by, pick);
         self.note(unit, What::Spoke(said.clone()));
         said
     }

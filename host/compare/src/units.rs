@@ -12,8 +12,9 @@ pub use published::published;
 
 use crate::inputs::message::OwnParts;
 use crate::inputs::table::{table_bytes, waiting_bytes, Row, WaitingRow};
-use crate::model::plan::{By, Plan};
+use crate::model::plan::{By, Picking, Plan};
 use crate::model::session::{laid, Value};
+use crate::model::table::Hash;
 use crate_under_test::facade::{Automerge, Change, ChangeHash};
 use crate_under_test::PatchLog;
 
@@ -35,6 +36,12 @@ pub trait Unit {
         self.speak()
     }
 
+    /// The same with a pick of what there is to send by list, which is made of the table's
+    /// bytes and that list. The crate's own unit has none.
+    fn speak_picked(&mut self, _: &By, _: &mut Picks) -> Option<Vec<u8>> {
+        panic!("this unit sends all of a list");
+    }
+
     fn hear(&mut self, message: &[u8]) -> Heard;
 
     fn set_read_only(&mut self, on: bool);
@@ -49,6 +56,9 @@ pub trait Unit {
 
     fn document(&mut self) -> &mut Automerge;
 }
+
+/// Makes a pick of a list.
+pub type Picks<'a> = dyn FnMut(&[u8], &[Hash]) -> Picking + 'a;
 
 /// Makes a unit of some kind.
 pub type Make = fn(Automerge, Value) -> Box<dyn Unit>;

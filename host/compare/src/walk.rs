@@ -8,11 +8,11 @@ use crate::inputs::table::{table_bytes, Row, SHAPES};
 use crate::inputs::Random;
 use crate::model::plan::{By, Plan, OF_THE_CRATE};
 use crate::model::session::Value;
-use crate::model::table::{table, Hash};
+use crate::model::table::{hashes_of, table, Hash};
 use crate::model::walk::{Giving, Stated, Walk};
 use crate::sessions::published::plan_of;
 use crate::talks::{document_of, Pair};
-use crate::units::{proved, published, Heard, Make};
+use crate::units::{proved, published, Heard, Make, Picks};
 use crate_under_test::facade::Message;
 use std::collections::{BTreeMap, BTreeSet};
 use std::fmt;
@@ -147,19 +147,61 @@ pub fn catch_up(make: Make, apart: &Apart) -> Option<CaughtUp> {
 pub fn catch_up_by(
     makes: [Make; 2],
     apart: &Apart,
+    by: impl FnMut(usize) -> By,
+) -> Option<CaughtUp> {
+    catch_up_as(makes, apart, by, |pair, by| {
+        (pair.speak_by(STATION, by), None)
+    })
+}
+
+/// The same of a station that picks what goes with each reply (02, M-110): "a reply is then
+/// an accepted pick, under the premise that every change fits the budget".
+pub fn catch_up_picked(
+    makes: [Make; 2],
+    apart: &Apart,
+    by: impl FnMut(usize) -> By,
+    pick: &mut Picks,
+) -> Option<CaughtUp> {
+    catch_up_as(makes, apart, by, |pair, by| {
+        let mut picked = Vec::new();
+        let said = pair.speak_picked(STATION, by, &mut |table, list| {
+            let picking = pick(table, list);
+            picked = hashes_of(&picking.pick);
+            picking
+        });
+        (said, Some(picked))
+    })
+}
+
+/// What a station replies, and the pick that it made of what there was to send, if it made
+/// one.
+type Reply = (Option<Vec<u8>>, Option<Vec<Hash>>);
+
+fn catch_up_as(
+    makes: [Make; 2],
+    apart: &Apart,
     mut by: impl FnMut(usize) -> By,
+    mut replies: impl FnMut(&mut Pair, &By) -> Reply,
 ) -> Option<CaughtUp> {
     let (mut pair, mut walk) = (apart.pair(makes), apart.walk());
     let mut promised = Promised::of(&walk);
-    let mut replies = Vec::new();
-    while replies.is_empty() || walk.lacks() > 0 {
+    let mut made = Vec::new();
+    while made.is_empty() || walk.lacks() > 0 {
         let bys = [by(STATION), by(VALIDATOR)];
-        let reply = round(&mut pair, &mut walk, &mut promised, &bys)?;
-        replies.push(reply);
+        made.push(round(
+            &mut pair,
+            &mut walk,
+            &mut promised,
+            &bys,
+            &mut replies,
+        )?);
     }
     promised.look_at_the_end();
     let lacking = promised.lacking;
-    Some(CaughtUp { lacking, replies })
+    Some(CaughtUp {
+        lacking,
+        replies: made,
+    })
 }
 
 /// A catch-up of units of the library, of which one now and then is the crate's, by
@@ -182,6 +224,7 @@ fn round(
     walk: &mut Walk,
     promised: &mut Promised,
     bys: &[By; 2],
+    replies: &mut impl FnMut(&mut Pair, &By) -> Reply,
 ) -> Option<Vec<Hash>> {
     let numbers = bys[VALIDATOR].numbers().expect("good numbers");
     let giving = Giving {
@@ -197,25 +240,27 @@ fn round(
     let offer = walk.offer(&stated);
     let sent = pair.units[STATION].session().sent;
     assert_eq!(&sent, walk.sent(), "T, without what the validator has");
-    let (reply, answered) = speak(pair, STATION, bys);
+    let (reply, pick) = replies(pair, &bys[STATION]);
+    let (reply, answered) = said(reply);
     if answered.document {
         return None;
     }
-    assert_eq!(answered.hashes, offer);
-    promised.look(walk, &offer);
-    walk.reply(&offer);
+    let replied = pick.unwrap_or_else(|| offer.clone());
+    assert_eq!(answered.hashes, replied);
+    assert!(replied.iter().all(|hash| offer.contains(hash)));
+    promised.look(walk, &replied);
+    walk.reply(&replied);
     let sent = pair.units[STATION].session().sent;
     assert_eq!(&sent, walk.sent(), "T, with the reply");
 
     assert_eq!(pair.hear(VALIDATOR, &reply), Heard::Taken);
     assert_eq!(pair.held(VALIDATOR), walk.held());
     assert_eq!(waiting(pair), walk.waiting());
-    Some(offer)
+    Some(replied)
 }
 
-/// What a unit says, which it must, and what that says.
-fn speak(pair: &mut Pair, unit: usize, bys: &[By; 2]) -> (Vec<u8>, Plan) {
-    let message = pair.speak_by(unit, &bys[unit]);
+/// What a unit said, which it must, and what that says.
+fn said(message: Option<Vec<u8>>) -> (Vec<u8>, Plan) {
     let message = message.expect("it has something to say");
     let plan = plan_of(&Message::decode(&message).expect("a good message"));
     (message, plan)
@@ -223,7 +268,7 @@ fn speak(pair: &mut Pair, unit: usize, bys: &[By; 2]) -> (Vec<u8>, Plan) {
 
 /// Has a unit say its next message, and the other one hear it.
 fn send(pair: &mut Pair, unit: usize, bys: &[By; 2]) -> (Vec<u8>, Plan) {
-    let (message, plan) = speak(pair, unit, bys);
+    let (message, plan) = said(pair.speak_by(unit, &bys[unit]));
     assert_eq!(pair.hear(1 - unit, &message), Heard::Taken);
     (message, plan)
 }

@@ -19,7 +19,7 @@ pub use talk::{Said, Talk};
 const OPTIONS: Options = Options {
     command: "catch-up",
     switches: &["--json", "--force"],
-    valued: &["--svg", "--settings", "--station", "--at"],
+    valued: &["--svg", "--settings", "--station", "--at", "--budget"],
 };
 
 pub fn run(words: &[OsString]) -> Result<String, Failure> {
@@ -34,8 +34,9 @@ pub fn run(words: &[OsString]) -> Result<String, Failure> {
         return Err(OPTIONS.wrong("standard output can be the JSON or the drawing, not both"));
     }
     let choice = chosen(&args)?;
+    let budget = OPTIONS.number(&args, "--budget")?;
     let [station, validator] = names.map(|name| table::read(&name));
-    let talk = Talk::of(&station?, &validator?, choice)?;
+    let talk = Talk::of(&station?, &validator?, choice, budget)?;
     if drawn_alone {
         return judged(&talk, svg::draw(&talk));
     }
@@ -78,6 +79,10 @@ fn judged(talk: &Talk, shown: String) -> Result<String, Failure> {
                 number(row.row)
             ),
             "find out which table is wrong: a change depends on the same changes everywhere.",
+        ),
+        None if !talk.all_fit() => (
+            lines::ended(talk),
+            "give a budget that takes the largest change: what doesn't fit never goes.",
         ),
         None => (
             lines::ended(talk),

@@ -72,7 +72,7 @@ its own, the others 0.
 
 const CATCH_UP: &str = "\
 bisquetower catch-up STATION VALIDATOR [--json] [--svg FILE [--force]]
-                     [--settings FILE --station N [--at V]]
+                     [--settings FILE --station N [--at V]] [--budget BYTES]
 
 Two units with these change tables talk through the proved sessions, the
 validator first, until both are silent. A line a round: rows that the validator
@@ -88,6 +88,8 @@ them after at most m + 1 rounds, where replies go by list: only of such a talk
   --settings FILE  a settings list: filters are built with what station N has in
               it, at version V or the newest, and where it is read-only the
               station takes no changes; of that nothing is proved
+  --budget BYTES  what changes may take of a message; rows that didn't fit are
+              left for the next ones, and a document goes whole
 
 Changes go as their names and dependencies, without contents.
 Exit status: 1 if the tables contradict each other, or an end doesn't hold the

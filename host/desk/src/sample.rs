@@ -84,7 +84,7 @@ fn told(folder: &OsStr, files: usize) -> String {
 /// Names and bytes: good ones, then damaged ones.
 fn samples() -> Result<Vec<(String, Vec<u8>)>, Failure> {
     let (station, validator) = tables::sample()?;
-    let talk = Talk::of(&station, &validator, Choice::default())?;
+    let talk = Talk::of(&station, &validator, Choice::default(), None)?;
     let filter = Filter::from_hashes(validator.hashes()).map_err(tables::refused)?;
     let [station_state, validator_state] = talk.states;
     let mut samples = vec![

@@ -1,13 +1,17 @@
 //! Units over the crate `bisquetower`, through every scenario and in random talks, step
 //! for step as two of automerge's own do.
 
-use bisquetower::{ChangeHash, Error, Filter, Have, Host, Refusal, Session, SessionParts};
-use compare::inputs::Seed;
+use bisquetower::{ChangeHash, Error, Filter, Have, Host, Refusal, Session, SessionParts, Table};
+use compare::inputs::session::record;
+use compare::inputs::{Random, Seed};
 use compare::model::have::OwnHave;
+use compare::model::plan::{By, Picking};
 use compare::model::session::Value;
-use compare::model::table::Hash;
+use compare::model::table::{Hash, ROW};
+use compare::scaled;
 use compare::talks::{scripts, talks};
-use compare::units::{load, table_of, waiting_of, Heard, Unit};
+use compare::units::{load, table_of, waiting_of, Heard, Picks, Unit};
+use compare::walk::{catch_up_picked, Spread};
 use crate_under_test::facade::Automerge;
 use std::borrow::Cow;
 
@@ -25,6 +29,51 @@ fn random_scripts() {
     let seed = Seed::fixed();
     let steps = scripts(unit, &mut seed.random(8), 100, 12);
     assert!(steps > 4_000, "{steps}");
+}
+
+/// What the planner picks of a list, of rows whose changes take as many bytes as these.
+fn planned(table: &[u8], list: &[Hash], sizes: Vec<u64>, budget: u64) -> Picking {
+    let own = Table::new(table).expect("a good table");
+    let pick = own
+        .pick(&named(list), &sizes, budget)
+        .expect("one size a row");
+    Picking {
+        pick: bare(pick).concat(),
+        sizes,
+        budget,
+    }
+}
+
+/// Catch-ups within budgets that take every change, each reply another one: what
+/// `generate_within` says is the planner's pick, and the walk's promise holds of it.
+fn catch_ups_within(random: &mut Random, count: usize) -> Spread {
+    let mut spread = Spread::default();
+    for _ in 0..count {
+        let apart = random.apart(3..41);
+        let size = |row: &[u8]| {
+            let own = apart.rows.iter().position(|own| own.hash == row[..32]);
+            record(&apart.rows, own.expect("a row")).len() as u64
+        };
+        let done = catch_up_picked([unit; 2], &apart, |_| By::Crate, &mut |table, list| {
+            let sizes: Vec<u64> = table.chunks_exact(ROW).map(size).collect();
+            let most = sizes.iter().max().copied().unwrap_or(0);
+            let budget = most + random.below(400) as u64;
+            planned(table, list, sizes, budget)
+        });
+        if let Some(done) = done {
+            spread.count(&done);
+        }
+    }
+    spread
+}
+
+#[test]
+fn random_catch_ups_within_budgets() {
+    let seed = Seed::fixed();
+    let count = scaled(200, 2_000);
+    let spread = catch_ups_within(&mut seed.random(9), count);
+    let (kept, longest) = (spread.catch_ups(), spread.at_the_bound());
+    assert!(3 * kept > count as u64 && 10 * longest > kept, "{spread}");
 }
 
 /// The stand-in for automerge's document, as a host.
@@ -76,6 +125,33 @@ impl Unit for Safe {
         let message = self.session.generate(&self.document);
         let message = message.expect("within the limits")?;
         Some(message.encode().expect("within the limits"))
+    }
+
+    /// By a plan with the pick, and within the budget: both say the same.
+    fn speak_picked(&mut self, _: &By, pick: &mut Picks) -> Option<Vec<u8>> {
+        let (table, waiting) = (self.document.table(), self.document.waiting());
+        let offer = self.session.offer(&table).expect("within the limits");
+        let Picking {
+            sizes,
+            budget,
+            pick,
+        } = match offer.document {
+            true => Picking::default(),
+            false => pick(&table, &bare(offer.hashes)),
+        };
+        let mut same = self.session.clone();
+        let pick: Vec<ChangeHash> = pick
+            .chunks_exact(32)
+            .map(|hash| ChangeHash::try_from(hash).expect("a hash"))
+            .collect();
+        let plan = same.plan_picked(&table, &waiting, &sizes, budget, &pick);
+        let plan = plan.expect("an accepted pick")?;
+        let planned = plan.lend(&self.document).expect("its rows").encode();
+        let within = self.session.next_message_within(&self.document, budget);
+        let within = within.expect("within the limits");
+        assert_eq!(within, planned.ok());
+        assert_eq!(self.session, same);
+        within
     }
 
     fn hear(&mut self, message: &[u8]) -> Heard {

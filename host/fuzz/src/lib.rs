@@ -3,19 +3,20 @@
 use compare::counts::{compare as compare_captures, compare_additions, Addition, Capture};
 use compare::filters::{compare_reads as compare_filters, Build, Haves, Part};
 use compare::guarded::FILLS;
-use compare::inputs::index::Beside;
+use compare::inputs::index::{index_of, Beside};
 use compare::inputs::settings::settings_bytes;
 use compare::inputs::table::{set_number, table_bytes, Row};
 use compare::messages::{compare as compare_messages, compare_lists};
 use compare::model::filter::{self, Filter};
-use compare::model::plan::{By, Numbers};
+use compare::model::plan::{By, Numbers, Picking};
 use compare::model::session::Value;
 use compare::model::settings::{Choice, Setting};
 use compare::model::table::DEPENDENCIES;
+use compare::picks::{compare_checks, compare_picks, Given};
 use compare::salvage::{compare as compare_salvaged, Rooms as Buffers};
 use compare::scale::script;
 use compare::sessions::lent::Lent;
-use compare::sessions::library::{compare_plans, Planning};
+use compare::sessions::library::{compare_offers, compare_plans, Offering, Planning};
 use compare::settings::{compare as compare_settings, Call as SettingsCall};
 use compare::states::{compare_reads as compare_states, Reading};
 use compare::tables::{compare as compare_tables, Call, Rooms};
@@ -270,6 +271,71 @@ pub fn salvage(data: &[u8]) {
         (&table, Buffers::Enough),
         (&table, Buffers::One(short)),
     ]));
+}
+
+/// How many rows there are, how many hashes a pick has, and the budget; of each row three
+/// bytes: by whose bits it depends on the rows just before it, its size, and how often it is
+/// listed; of each hash of the pick the number of its row, or of none; and what stands behind
+/// the pick's hashes. The planner, the check, and a plan for a peer that asks for the list.
+pub fn pick(data: &[u8]) {
+    let [count, length, budget, rest @ ..] = data else {
+        return;
+    };
+    let (three, rest) = rest.split_at((3 * usize::from(*count)).min(rest.len()));
+    let (numbers, behind) = rest.split_at(usize::from(*length).min(rest.len()));
+    let hash = |number: usize| {
+        let mut hash = [0x17; 32];
+        hash[0] = (number as u8).wrapping_mul(0x65);
+        hash
+    };
+    let row = |(number, three): (usize, &[u8])| {
+        let on = (0..8)
+            .rev()
+            .filter(|bit| three[0] >> bit & 1 == 1 && *bit < number);
+        Row {
+            hash: hash(number),
+            dependencies: on.map(|bit| number - 1 - bit).collect(),
+        }
+    };
+    let three = || three.chunks_exact(3).enumerate();
+    let rows: Vec<Row> = three().map(row).collect();
+    let listed = three().flat_map(|(number, three)| vec![number; usize::from(three[2] % 3)]);
+    let list: Vec<[u8; 32]> = listed.map(hash).collect();
+    // A size is small, or a large part of 64 bits.
+    let size = |byte: u8| match byte {
+        ..=0xef => u64::from(byte),
+        _ => u64::from(byte & 15) << 60,
+    };
+    let sizes: Vec<u64> = three().map(|(_, three)| size(three[1])).collect();
+    let pick = numbers.iter().flat_map(|&number| hash(number.into()));
+    let pick: Vec<u8> = pick.chain(behind.iter().copied()).collect();
+    let table = table_bytes(&rows);
+    let given = Given {
+        index: index_of(&table),
+        table: table.clone(),
+        list: list.concat(),
+        sizes: sizes.clone(),
+        budget: size(*budget),
+    };
+    agreed(compare_picks(&given, Rooms::Around));
+    agreed(compare_checks(&[(&given, &pick)]));
+    let session = Value {
+        their_need: Some(list),
+        their_have: Some(Vec::new()),
+        ..Value::default()
+    };
+    let picking = Picking {
+        sizes,
+        budget: given.budget,
+        pick,
+    };
+    let session = Lent::laid(&session);
+    agreed(compare_offers(&[Offering::new(
+        session.clone(),
+        table.clone(),
+    )]));
+    let planning = Planning::new(session, table, Vec::new()).picking(picking);
+    agreed(compare_plans(&[planning.clone(), planning], &FILLS));
 }
 
 /// A session script.

@@ -1,7 +1,8 @@
 //! Lists that were lent beside a session's words or a table, and those that a step would
 //! make: which one is too long, or doesn't ascend.
 
-use super::settings::pair;
+use super::pick::long_pick;
+use super::settings::{lent_pair, pair};
 use super::written::{first_long, items, synced};
 use super::{message, table, tables, BAD_NUMBERS, LIMIT};
 use crate::cause::{Cause, List, Rule};
@@ -68,6 +69,23 @@ pub(crate) fn planning(
             Err(_) => ("needs of the message", limits.hashes),
         }
     })
+}
+
+/// The refusal of a plan with a pick, which is tested behind the tables; the choice was lent
+/// as a settings list of one record.
+pub(crate) fn planning_picked(
+    choice: Choice,
+    own: &[u8],
+    waiting: &[u8],
+    heads: &[u8],
+    pick: &[ChangeHash],
+    refusal: Refusal,
+) -> Refusal {
+    let told = tables(own, waiting, lent_pair(choice, refusal));
+    match (told.cause(), told.number, long_pick(pick)) {
+        (None, LIMIT, Some(cause)) => told.because(cause),
+        _ => planning(choice, own, waiting, heads, told),
+    }
 }
 
 /// The refusal of a session that was lent a change table and a message's bytes. The table is

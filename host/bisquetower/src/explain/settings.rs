@@ -38,9 +38,21 @@ pub(crate) fn setting(newest: u32, choice: Choice, refusal: Refusal) -> Refusal 
 /// of this crate's, so that the bad numbers are the choice's. A filter may have 0 probes,
 /// though no setting does: it looks at one bit.
 pub(super) fn pair(choice: Choice, refusal: Refusal) -> Refusal {
-    if refusal.number != BAD_NUMBERS {
-        return refusal;
+    match refusal.number {
+        BAD_NUMBERS => wrong_pair(choice, refusal),
+        _ => refusal,
     }
+}
+
+/// The same where the choice was lent as a settings list.
+pub(super) fn lent_pair(choice: Choice, refusal: Refusal) -> Refusal {
+    match refusal.number {
+        BAD_SETTINGS => wrong_pair(choice, refusal),
+        _ => refusal,
+    }
+}
+
+fn wrong_pair(choice: Choice, refusal: Refusal) -> Refusal {
     let wrong = bits(choice.bits).or(probes(choice.probes, 0));
     wrong.map_or(refusal, |rule| because(refusal, Chosen::Filter, rule))
 }

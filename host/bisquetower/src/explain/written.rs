@@ -123,7 +123,7 @@ fn size(message: &Message) -> u64 {
 }
 
 /// Bytes of a number: seven bits each, and one for 0.
-fn counted(n: usize) -> u64 {
+pub(crate) fn counted(n: usize) -> u64 {
     u64::from((usize::BITS - n.leading_zeros()).div_ceil(7).max(1))
 }
 

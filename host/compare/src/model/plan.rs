@@ -1,16 +1,18 @@
 //! Document 01's "Writing follows `generate_sync_message` step by step": what a unit
-//! says next, the session after it, and the buffers and words of the call; and by which
-//! bits and probes its filter is built (02, M-107).
+//! says next, the session after it, and the buffers and words of the call; by which bits
+//! and probes its filter is built (02, M-107); and with a pick of what is to be sent (02,
+//! M-110).
 
 use super::filter::{field_size, keeps_rules, DEFAULT_BITS, DEFAULT_PROBES};
 use super::have::{Have, OwnHave};
+use super::pick::Radio;
 use super::selection::chosen;
 use super::session::{laid, put, short, Value};
 use super::settings::setting_at;
 use super::state::{
     Lists, HAVE_RESPONDED, IN_FLIGHT, NEEDS_RESET, PEER_READ_ONLY, READ_ONLY, RESET, V2, WORDS,
 };
-use super::table::{self, Hash, Table, Waiting};
+use super::table::{self, hash_list, Hash, Table, Waiting};
 use super::Refused;
 use bisquetower::limits::{ROWS, SENT_HASHES};
 
@@ -94,6 +96,30 @@ impl By {
     }
 }
 
+impl By {
+    /// The settings list, station and version that say these numbers; none of numbers that
+    /// are passed.
+    pub fn settings(&self) -> Option<(&[u8], u64, u64)> {
+        match self {
+            By::Crate => Some((&[], 0, 0)),
+            By::Passed(_) => None,
+            By::Settings {
+                list,
+                station,
+                version,
+            } => Some((list, *station, *version)),
+        }
+    }
+}
+
+/// A pick as it is lent, with what it is checked by.
+#[derive(Clone, Debug, Default, PartialEq, Eq)]
+pub struct Picking {
+    pub sizes: Vec<u64>,
+    pub budget: u64,
+    pub pick: Vec<u8>,
+}
+
 /// A message but for its chunks: the hashes of the body, and whether that is the
 /// document.
 #[derive(Clone, Debug, PartialEq, Eq)]
@@ -125,6 +151,19 @@ pub fn planned(
     waiting: &Waiting,
     s: &Value,
 ) -> Result<Planned, Refused> {
+    planned_of(numbers, table, waiting, s, |list| (list, Ok(())))
+}
+
+/// The same with a pick of a body that is a list: "document bodies stay whole". It names
+/// what goes, of which `check` says whether it may: "17, .. after 4 and before 7". What may
+/// not go is nothing to be silent about.
+fn planned_of(
+    numbers: Numbers,
+    table: &Table,
+    waiting: &Waiting,
+    s: &Value,
+    pick: impl FnOnce(Vec<Hash>) -> (Vec<Hash>, Result<(), Refused>),
+) -> Result<Planned, Refused> {
     let heads = table.heads(table.rows.len()).expect("all rows");
     let heard = s.their_heads.clone().unwrap_or_default();
     let need = match s.is(READ_ONLY) {
@@ -135,9 +174,14 @@ pub fn planned(
         return Ok(Planned::Reset(reset(heads)));
     }
     let (document, hashes) = body(table, s);
+    let (hashes, checked) = match document {
+        true => (hashes, Ok(())),
+        false => pick(hashes),
+    };
     let told = s.last_sent == heads && s.is(HAVE_RESPONDED);
     let equal = s.their_heads.as_ref() == Some(&heads);
-    let idle = (equal || s.is(READ_ONLY)) && hashes.is_empty();
+    let nothing = hashes.is_empty() && checked.is_ok();
+    let idle = (equal || s.is(READ_ONLY)) && nothing;
     if told && (idle || s.is(IN_FLIGHT)) {
         return Ok(Planned::Nothing);
     }
@@ -147,6 +191,7 @@ pub fn planned(
     if after.sent.len() > SENT_HASHES {
         return Err((4, 0));
     }
+    checked?;
     after.last_sent.clone_from(&heads);
     after.flags[IN_FLIGHT] = true;
     after.flags[HAVE_RESPONDED] = true;
@@ -212,7 +257,7 @@ pub fn own_have(numbers: Numbers, table: &Table, s: &Value) -> OwnHave {
 /// V2 known, or their heads empty and V2 known)": whether it is the document, and
 /// the hashes. Nothing goes to a read-only peer, nor before a have and a need were
 /// heard.
-fn body(table: &Table, s: &Value) -> (bool, Vec<Hash>) {
+pub fn body(table: &Table, s: &Value) -> (bool, Vec<Hash>) {
     let rows = || table.rows.iter().map(|row| row.hash).collect();
     let (Some(haves), Some(need), false) = (&s.their_have, &s.their_need, s.is(PEER_READ_ONLY))
     else {
@@ -230,10 +275,50 @@ fn body(table: &Table, s: &Value) -> (bool, Vec<Hash>) {
     }
 }
 
+/// What is planned over good tables with a pick, as `planned`; 4 and 1 of a pick as it is
+/// lent come first, whatever the body.
+pub fn planned_picked(
+    numbers: Numbers,
+    table: &Table,
+    waiting: &Waiting,
+    s: &Value,
+    picking: &Picking,
+) -> Result<Planned, Refused> {
+    let Picking {
+        sizes,
+        budget,
+        pick,
+    } = picking;
+    let pick = hash_list(pick)?;
+    planned_of(numbers, table, waiting, s, |list| {
+        let radio = Radio {
+            table,
+            list: &list,
+            sizes,
+            budget: *budget,
+        };
+        let checked = radio.check(&pick);
+        (pick, checked)
+    })
+}
+
+/// What a pick is made of: 10 for the session, 4 and 6 for the table, 12 for its index.
+pub fn offered(
+    words: &[u64; WORDS],
+    lists: &Lists,
+    table: &[u8],
+    index: &[u8],
+) -> Result<(bool, Vec<Hash>), Refused> {
+    let s = Value::of(words, lists)?;
+    Ok(body(&table::indexed(table, index)?, &s))
+}
+
 /// The plan over what is lent: "10, 6, 9", each table's 4 just before its rows, and 12
-/// "directly after 6"; then 14 of a settings list, "after 11", which a plan hasn't.
+/// "directly after 6"; then 14 of a settings list, "after 11", which a plan hasn't; then 4
+/// and 1 of a pick that is lent, whatever the body.
 pub fn of_lent(
     by: &By,
+    picking: Option<&Picking>,
     words: &[u64; WORDS],
     lists: &Lists,
     table: &[u8],
@@ -244,7 +329,11 @@ pub fn of_lent(
     let s = Value::of(words, lists)?;
     let table = table::indexed(table, index)?;
     let waiting = table::waiting(&table, waiting)?;
-    planned(by.numbers()?, &table, &waiting, &s)
+    let numbers = by.numbers()?;
+    match picking {
+        Some(picking) => planned_picked(numbers, &table, &waiting, &s, picking),
+        None => planned(numbers, &table, &waiting, &s),
+    }
 }
 
 /// The buffers that a call writes, in the order in which their room is tested.

@@ -4,7 +4,7 @@
 //! The index is tested and then left alone; nothing is looked up in it.
 
 use crate::model::Refused;
-use bisquetower::limits::{LIST_SIZE, OLD_DEPENDENCIES, OLD_ROWS, WAITING_SIZE};
+use bisquetower::limits::{OLD_DEPENDENCIES, OLD_ROWS, WAITING_SIZE};
 use std::collections::{BTreeMap, BTreeSet, HashMap, HashSet};
 
 pub use bisquetower::limits::{DEPENDENCIES, HASHES, ROWS, WAITING_ROWS};
@@ -189,7 +189,12 @@ fn waiting_row(record: &[u8]) -> Option<(Hash, Vec<Hash>)> {
 /// A hash list that is lent as bytes: more bytes than its limit is 4, else a
 /// partial hash at its end is 1 at that hash's start.
 pub(crate) fn hash_list(lent: &[u8]) -> Result<Vec<Hash>, Refused> {
-    if lent.len() > LIST_SIZE {
+    hash_list_up_to(HASHES, lent)
+}
+
+/// The same of a list that may have so many hashes.
+pub(crate) fn hash_list_up_to(most: usize, lent: &[u8]) -> Result<Vec<Hash>, Refused> {
+    if lent.len() > HASH * most {
         return Err((4, 0));
     }
     let cut = lent.len() % HASH;

@@ -87,10 +87,10 @@ impl Kind {
     }
 }
 
-/// Whether an answer is one that the crate has none of: refusals 4 to 7 and 9 to 16 of
+/// Whether an answer is one that the crate has none of: refusals 4 to 7 and 9 to 17 of
 /// documents 01 and 02.
 pub fn apart(first_word: u64) -> bool {
-    matches!(first_word, 4..=7 | 9..=16)
+    matches!(first_word, 4..=7 | 9..=17)
 }
 
 /// How long a buffer may be that is lent by number: as the longest list that is written.

@@ -3,7 +3,7 @@
 
 use super::case::Kind;
 use super::{
-    counts, filters, messages, salvage, selections, sessions, settings, states, tables, wire,
+    counts, filters, messages, picks, salvage, selections, sessions, settings, states, tables, wire,
 };
 use crate::model::settings::RECORD;
 use bisquetower::limits::{HASH_SIZE, ROW_SIZE, WAITING_ROW_SIZE};
@@ -188,6 +188,14 @@ pub const KINDS: &[Kind] = &[
         held: selections::choose_damaged,
     },
     Kind {
+        name: "picks",
+        bytes: &[],
+        numbers: UNIT,
+        a_round: 1_000,
+        make: sessions::unit,
+        held: picks::pick,
+    },
+    Kind {
         name: "sessions checked",
         bytes: &[],
         numbers: UNIT,
@@ -210,6 +218,14 @@ pub const KINDS: &[Kind] = &[
         a_round: 1_000,
         make: sessions::unit,
         held: sessions::plan_by,
+    },
+    Kind {
+        name: "plans with picks",
+        bytes: &[],
+        numbers: UNIT,
+        a_round: 800,
+        make: sessions::unit,
+        held: picks::plan_picked,
     },
     Kind {
         name: "receipts",

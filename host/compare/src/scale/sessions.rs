@@ -35,7 +35,7 @@ pub fn two_units(random: &mut Random) -> Case {
 }
 
 /// The numbers of a case's seed, and how many rows there may be.
-fn drawn(case: &Case) -> (Random, Range<usize>) {
+pub(super) fn drawn(case: &Case) -> (Random, Range<usize>) {
     let [seed, rows] = case.told();
     (Random(seed), 0..rows.min(ROWS as u64) as usize + 1)
 }

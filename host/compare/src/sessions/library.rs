@@ -1,10 +1,15 @@
 //! The library's two steps of a session against the model, in every word and byte of
-//! answers, sessions and buffers, and around them. Nothing else here calls these two.
+//! answers, sessions and buffers, and around them; and what the first of them has to send.
+//! Nothing else here calls these.
 
+mod offering;
 mod planning;
 mod receiving;
 
-pub use planning::{compare_plans, plan, plan_answer, same_as_plan, PlanLeft, Planning};
+pub use offering::{compare_offers, offer, Offer, Offering};
+pub use planning::{
+    compare_plans, plan, plan_answer, same_as_plan, same_as_whole, PlanLeft, Planning,
+};
 pub use receiving::{compare_receipts, receive, receive_answer, ReceiptLeft, Receiving};
 
 use crate::model::state::WORDS;

@@ -1,12 +1,13 @@
 //! A host over the model.
 
-use super::{load, parts_for, table_of, waiting_of, Heard, Unit};
+use super::{load, parts_for, table_of, waiting_of, Heard, Picks, Unit};
 use crate::model::message;
-use crate::model::plan::{self, By, Planned};
+use crate::model::plan::{self, By, Picking, Planned};
 use crate::model::receive::{self, Received, Said};
 use crate::model::session::Value;
 use crate::model::state::{self, READ_ONLY, WORDS};
-use crate::model::table::{self, hashes_of, HASH};
+use crate::model::table::{self, hashes_of, Table, Waiting, HASH};
+use crate::model::Refused;
 use crate_under_test::facade::Automerge;
 
 struct Modelled {
@@ -19,16 +20,16 @@ pub fn modelled(document: Automerge, session: Value) -> Box<dyn Unit> {
     Box::new(Modelled { document, session })
 }
 
-impl Unit for Modelled {
-    fn speak(&mut self) -> Option<Vec<u8>> {
-        self.speak_by(&By::Crate)
-    }
-
-    fn speak_by(&mut self, by: &By) -> Option<Vec<u8>> {
-        let table = table::table(&table_of(&self.document)).expect("a good table");
+impl Modelled {
+    /// What it says of a plan that is made of its table and what waits.
+    fn say(
+        &mut self,
+        plan: impl FnOnce(&Value, &[u8], &Table, &Waiting) -> Result<Planned, Refused>,
+    ) -> Option<Vec<u8>> {
+        let bytes = table_of(&self.document);
+        let table = table::table(&bytes).expect("a good table");
         let waiting = table::waiting(&table, &waiting_of(&self.document)).expect("a good table");
-        let numbers = by.numbers().expect("a good list");
-        let planned = plan::planned(numbers, &table, &waiting, &self.session);
+        let planned = plan(&self.session, &bytes, &table, &waiting);
         let planned = planned.expect("within the limits");
         let plan = match planned {
             Planned::Nothing => return None,
@@ -40,6 +41,29 @@ impl Unit for Modelled {
         };
         let parts = parts_for(&plan, &self.document);
         Some(message::bytes(&parts.parts()).expect("within the limits"))
+    }
+}
+
+impl Unit for Modelled {
+    fn speak(&mut self) -> Option<Vec<u8>> {
+        self.speak_by(&By::Crate)
+    }
+
+    fn speak_by(&mut self, by: &By) -> Option<Vec<u8>> {
+        let numbers = by.numbers().expect("a good list");
+        self.say(|s, _, table, waiting| plan::planned(numbers, table, waiting, s))
+    }
+
+    fn speak_picked(&mut self, by: &By, pick: &mut Picks) -> Option<Vec<u8>> {
+        let numbers = by.numbers().expect("a good list");
+        self.say(|s, bytes, table, waiting| {
+            let (document, list) = plan::body(table, s);
+            let picking = match document {
+                true => Picking::default(),
+                false => pick(bytes, &list),
+            };
+            plan::planned_picked(numbers, table, waiting, s, &picking)
+        })
     }
 
     fn hear(&mut self, message: &[u8]) -> Heard {

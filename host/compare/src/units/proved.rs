@@ -1,17 +1,19 @@
 //! A host over the library. Each of its steps is held against the model in every word
 //! and byte.
 
-use super::{load, parts_for, table_of, waiting_of, Heard, Unit};
+use super::{load, parts_for, table_of, waiting_of, Heard, Picks, Unit};
 use crate::guarded::FILLS;
 use crate::inputs::index::index_of;
 use crate::messages::parts;
 use crate::model::message;
-use crate::model::plan::By;
+use crate::model::plan::{By, Picking};
 use crate::model::session::Value;
 use crate::model::state::{READ_ONLY, WORDS};
 use crate::model::table::ROW;
 use crate::sessions::lent::Lent;
-use crate::sessions::library::{compare_plans, compare_receipts, Planning, Receiving};
+use crate::sessions::library::{
+    compare_offers, compare_plans, compare_receipts, Offering, Planning, Receiving,
+};
 use bisquetower::raw;
 use crate_under_test::facade::Automerge;
 
@@ -59,17 +61,17 @@ impl Proved {
         }
         table
     }
-}
 
-impl Unit for Proved {
-    fn speak(&mut self) -> Option<Vec<u8>> {
-        self.speak_by(&By::Crate)
-    }
-
-    fn speak_by(&mut self, by: &By) -> Option<Vec<u8>> {
+    /// What the library plans by these numbers.
+    fn planning(&mut self, by: &By) -> Planning {
         let (table, waiting) = (self.indexed(), waiting_of(&self.document));
         let mut planning = Planning::by(by.clone(), self.session.clone(), table, waiting);
         planning.index.clone_from(&self.index);
+        planning
+    }
+
+    /// Says what the library plans.
+    fn say(&mut self, planning: Planning) -> Option<Vec<u8>> {
         let left = compare_plans(&[planning], &FILLS).unwrap_or_else(|why| panic!("{why}"));
         let left = left.into_iter().next().expect("one answer");
         assert_eq!(left.answer[0], 0, "within the limits");
@@ -80,6 +82,29 @@ impl Unit for Proved {
         let mut out = vec![0; wanted.len()];
         assert_eq!(parts::write(&own.parts(), &mut out)[0], 0);
         Some(out)
+    }
+}
+
+impl Unit for Proved {
+    fn speak(&mut self) -> Option<Vec<u8>> {
+        self.speak_by(&By::Crate)
+    }
+
+    fn speak_by(&mut self, by: &By) -> Option<Vec<u8>> {
+        let planning = self.planning(by);
+        self.say(planning)
+    }
+
+    fn speak_picked(&mut self, by: &By, pick: &mut Picks) -> Option<Vec<u8>> {
+        let planning = self.planning(by);
+        let mut offering = Offering::new(self.session.clone(), planning.table.clone());
+        offering.index.clone_from(&self.index);
+        let offers = compare_offers(&[offering]).unwrap_or_else(|why| panic!("{why}"));
+        let picking = match offers[0].document {
+            true => Picking::default(),
+            false => pick(&planning.table, &offers[0].list),
+        };
+        self.say(planning.picking(picking))
     }
 
     fn hear(&mut self, message: &[u8]) -> Heard {

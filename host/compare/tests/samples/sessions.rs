@@ -25,6 +25,7 @@ fn the_library_takes_the_steps() {
             } => {
                 let left = plan(&Planning {
                     by: By::Crate,
+                    picking: None,
                     session,
                     table,
                     index,

@@ -3,18 +3,23 @@
 use super::talk::{Round, Talk};
 use crate::paint::Paint;
 use crate::text::{count, number};
+use bisquetower::refusal::grouped;
 use bisquetower::Choice;
 
-const HEADS: [&str; 8] = [
+const HEADS: [&str; 9] = [
     "round",
     "held",
     "asked",
     "false yes",
     "sent",
+    "left",
     "waiting",
     "to station",
     "to validator",
 ];
+
+/// The column of what is left, which is shown where there is a budget or something is left.
+const LEFT: usize = 5;
 
 pub fn text(talk: &Talk) -> String {
     let paint = Paint::of_output();
@@ -27,10 +32,10 @@ pub fn text(talk: &Talk) -> String {
         "A station of {station} and a validator of {}, {} short{own}.\n{}\n",
         number(talk.validator_rows),
         number(talk.missing),
-        chosen(talk.choice),
+        chosen(talk.choice) + &budget(talk),
     );
     if !talk.rounds.is_empty() {
-        text += &format!("{}\n", rounds(&talk.rounds, paint));
+        text += &format!("{}\n", rounds(talk, paint));
     }
     text += &outcome(talk, paint);
     let messages = count(talk.messages.len(), "message");
@@ -49,6 +54,15 @@ fn chosen(choice: Choice) -> String {
         false => "",
     };
     format!("Filters have {bits} an entry and {probes}{takes}.\n")
+}
+
+/// The budget, if there is one, beside what the largest change takes.
+fn budget(talk: &Talk) -> String {
+    let Some(budget) = talk.budget else {
+        return String::new();
+    };
+    let (budget, largest) = (grouped(budget), number(talk.largest));
+    format!("Changes of a message take at most {budget} bytes; the largest takes {largest}.\n")
 }
 
 fn outcome(talk: &Talk, paint: Paint) -> String {
@@ -74,11 +88,14 @@ fn outcome(talk: &Talk, paint: Paint) -> String {
     let bound = number(bound);
     let promise = match talk.proved() {
         true => format!("proved: at most {bound} (m + 1)"),
-        false if talk.by_list() => {
-            format!("m + 1 is {bound}, promised where both take changes, and the station doesn't")
+        false if !talk.by_list() => {
+            format!("m + 1 is {bound}, promised for replies by list, and the document went here")
+        }
+        false if !talk.all_fit() => {
+            format!("m + 1 is {bound}, promised where every change fits the budget")
         }
         false => {
-            format!("m + 1 is {bound}, promised for replies by list, and the document went here")
+            format!("m + 1 is {bound}, promised where both take changes, and the station doesn't")
         }
     };
     format!("{done}; {promise}.\n")
@@ -98,45 +115,46 @@ pub fn ended(talk: &Talk) -> String {
 
 /// A line for each round, or for several that are alike, in columns as wide as what
 /// stands in them.
-fn rounds(rounds: &[Round], paint: Paint) -> String {
-    let mut rows = Vec::new();
+fn rounds(talk: &Talk, paint: Paint) -> String {
+    let mut rows = vec![HEADS.map(str::to_string).to_vec()];
     let mut first = 1;
-    for alike in rounds.chunk_by(Round::eq) {
+    for alike in talk.rounds.chunk_by(Round::eq) {
         rows.push(cells(first, alike));
         first += alike.len();
     }
-    let heads = HEADS.map(str::to_string);
-    let widths: [usize; 8] = std::array::from_fn(|k| {
-        let lengths = rows.iter().map(|row| row[k].len());
-        lengths.fold(heads[k].len(), usize::max)
-    });
-    let mut text = format!("{}\n", paint.bold(&line(&heads, widths)));
-    for row in &rows {
-        text += &format!("{}\n", line(row, widths));
+    if talk.budget.is_none() && talk.rounds.iter().all(|round| round.left == 0) {
+        rows.iter_mut().for_each(|row| drop(row.remove(LEFT)));
+    }
+    let width = |k: usize| rows.iter().map(|row| row[k].len()).max().unwrap_or(0);
+    let widths: Vec<usize> = (0..rows[0].len()).map(width).collect();
+    let mut text = format!("{}\n", paint.bold(&line(&rows[0], &widths)));
+    for row in &rows[1..] {
+        text += &format!("{}\n", line(row, &widths));
     }
     text
 }
 
-fn cells(first: usize, alike: &[Round]) -> [String; 8] {
+fn cells(first: usize, alike: &[Round]) -> Vec<String> {
     let round = &alike[0];
     let numbers = match alike.len() {
         1 => number(first),
         rounds => format!("{} to {}", number(first), number(first + rounds - 1)),
     };
     let body = if round.document { " document" } else { "" };
-    [
+    vec![
         numbers,
         number(round.held),
         number(round.need),
         round.false_yes.map_or("-".to_string(), number),
         format!("{}{body}", number(round.sent)),
+        number(round.left),
         number(round.waiting),
         number(round.asked_bytes),
         number(round.reply_bytes),
     ]
 }
 
-fn line(cells: &[String; 8], widths: [usize; 8]) -> String {
+fn line(cells: &[String], widths: &[usize]) -> String {
     let cells = cells.iter().zip(widths);
     let cells: Vec<String> = cells
         .map(|(cell, width)| format!("{cell:>width$}"))

@@ -4,7 +4,8 @@ use super::premises::Difference;
 use crate::failure::Failure;
 use bisquetower::refusal::grouped;
 use bisquetower::{
-    Change, ChangeHash, Choice, Error, Host, Limits, Memory, MemoryError, Plan, Session, Table,
+    Change, ChangeHash, Choice, Error, Host, Limits, Memory, MemoryError, Message, MessageVersion,
+    Refusal, Session, Table,
 };
 use std::collections::HashSet;
 
@@ -19,9 +20,11 @@ pub struct Round {
     pub need: usize,
     /// Rows that the validator lacked and its filter took for held; none if it sent none.
     pub false_yes: Option<usize>,
-    /// Hashes that the reply names, and whether it was the whole document.
+    /// Hashes that the reply names, and whether it was the whole document; those that were
+    /// to be sent too and are left for later replies.
     pub sent: usize,
     pub document: bool,
+    pub left: usize,
     /// Rows that waited after the round, and those neither held nor waiting.
     pub waiting: usize,
     pub missing: usize,
@@ -39,11 +42,16 @@ pub struct Talk {
     pub foreign: usize,
     /// What both build their filters with, and whether the station takes no changes.
     pub choice: Choice,
+    /// The most bytes that the changes of a message take, if that is told; and what the
+    /// largest change of the station's takes.
+    pub budget: Option<u64>,
+    pub largest: usize,
     /// Where the validator's table isn't a part of the station's.
     pub differs: Option<Difference>,
     /// The rounds until both held the rows of both tables.
     pub rounds: Vec<Round>,
-    /// Whether a reply was the whole document, in those rounds or in what closed the talk.
+    /// Whether a reply was the whole document, or a part of one that no message holds, in
+    /// those rounds or in what closed the talk.
     pub document: bool,
     /// Whether both fell silent, and after how many rounds.
     pub silent: bool,
@@ -72,14 +80,32 @@ struct Unit {
     session: Session,
 }
 
+/// What a unit said: the message and its bytes, how many hashes it carries, whether they are
+/// the whole document, or it was to be that and went in part, and how many that were to go
+/// too are left.
+struct Spoken {
+    message: Message,
+    bytes: Vec<u8>,
+    sent: usize,
+    document: bool,
+    of_document: bool,
+    left: usize,
+}
+
 impl Round {
     /// What the validator says of the rows that it lacks.
-    fn asks(&mut self, plan: &Plan, lacked: &[ChangeHash]) {
-        self.need = plan.message.need.len();
-        self.false_yes = plan.message.have.first().map(|have| {
+    fn asks(&mut self, said: &Spoken, lacked: &[ChangeHash]) {
+        self.need = said.message.need.len();
+        self.false_yes = said.message.have.first().map(|have| {
             let yes = have.bloom.contains_hashes(lacked);
             yes.iter().filter(|yes| **yes).count()
         });
+        self.asked_bytes = said.bytes.len();
+    }
+
+    fn is_answered(&mut self, said: &Spoken) {
+        (self.sent, self.document, self.left) = (said.sent, said.document, said.left);
+        self.reply_bytes = said.bytes.len();
     }
 }
 
@@ -96,10 +122,17 @@ impl Talk {
         !self.document
     }
 
-    /// Whether it is a talk of which the bound is proved: of sessions that take changes.
+    /// Whether it is a talk of which the bound is proved: of sessions that take changes,
+    /// each of which fits the budget.
     pub fn proved(&self) -> bool {
-        let takes = !self.choice.read_only;
+        let takes = !self.choice.read_only && self.all_fit();
         self.bound().is_some() && self.by_list() && self.holds && takes
+    }
+
+    /// Whether every change of the station's fits the budget.
+    pub fn all_fit(&self) -> bool {
+        let largest = self.largest as u64;
+        self.budget.is_none_or(|budget| largest <= budget)
     }
 
     /// The row of which the tables say two things.
@@ -133,8 +166,13 @@ impl Talk {
 
     /// Has units with these tables talk until both are silent, or have talked for longer
     /// than any two tables ask that agree. Their filters are as the station chose, and so
-    /// is whether it takes changes.
-    pub fn of(station: &Table, validator: &Table, choice: Choice) -> Result<Talk, Failure> {
+    /// is whether it takes changes; the changes of each message keep to the budget.
+    pub fn of(
+        station: &Table,
+        validator: &Table,
+        choice: Choice,
+        budget: Option<u64>,
+    ) -> Result<Talk, Failure> {
         let (mut all, own) = (station.hashes(), validator.hashes());
         let foreign = lacking(&all, &own);
         let mut talk = Talk {
@@ -143,12 +181,15 @@ impl Talk {
             missing: lacking(&own, &all).len(),
             foreign: foreign.len(),
             choice,
+            budget,
             differs: Difference::first(station, validator),
             ..Talk::default()
         };
         all.extend(foreign);
         let mut units = [unit(station)?, unit(validator)?];
         units[0].session.set_read_only(choice.read_only);
+        let sizes = all.iter().map(|hash| units[0].memory.change_size(hash));
+        talk.largest = sizes.flatten().max().unwrap_or(0);
         // Twice the bound of either way is never reached.
         let most = 2 * (talk.missing + talk.foreign) + 8;
         while talk.talked < most && !talk.silent {
@@ -176,18 +217,16 @@ impl Talk {
             waited,
             ..Round::default()
         };
-        let question = say(validator, station, self.choice)?;
-        if let Some((plan, bytes)) = &question {
-            round.asks(plan, &lacked);
-            round.asked_bytes = bytes.len();
-            self.said(false, bytes);
+        let question = say(validator, station, self.choice, self.budget)?;
+        if let Some(said) = &question {
+            round.asks(said, &lacked);
+            self.said(false, &said.bytes);
         }
-        let reply = say(station, validator, self.choice)?;
-        if let Some((plan, bytes)) = &reply {
-            (round.sent, round.document) = (plan.hashes.len(), plan.document);
-            self.document |= plan.document;
-            round.reply_bytes = bytes.len();
-            self.said(true, bytes);
+        let reply = say(station, validator, self.choice, self.budget)?;
+        if let Some(said) = &reply {
+            round.is_answered(said);
+            self.document |= said.of_document;
+            self.said(true, &said.bytes);
         }
         let waits = validator.memory.waiting();
         if waits.len() > self.waiting.len() {
@@ -232,19 +271,42 @@ fn unit(table: &Table) -> Result<Unit, Failure> {
 }
 
 /// What one unit says to the other, if there is something to say.
-fn say(from: &mut Unit, to: &mut Unit, choice: Choice) -> Result<Option<(Plan, Vec<u8>)>, Failure> {
-    let memory = &from.memory;
-    let planned = from
-        .session
-        .plan_with(&memory.table(), &memory.waiting(), choice);
-    let Some(plan) = planned.map_err(|refusal| failed(refusal.into()))? else {
+fn say(
+    from: &mut Unit,
+    to: &mut Unit,
+    choice: Choice,
+    budget: Option<u64>,
+) -> Result<Option<Spoken>, Failure> {
+    let Unit { memory, session } = from;
+    let before = session.clone();
+    let message = match budget {
+        Some(budget) => session.generate_within_with(memory, budget, choice),
+        None => session.generate_with(memory, choice),
+    };
+    let Some(message) = message.map_err(failed)? else {
         return Ok(None);
     };
-    let message = plan.clone().lend(memory);
-    let message = message.map_err(|why| failed(Error::Lend(why)))?;
-    let bytes = message.encode().map_err(|refusal| failed(refusal.into()))?;
+    let refused = |refusal: Refusal| failed(refusal.into());
+    let [offer, left] = [&before, session].map(|session| session.offer(&memory.table()));
+    let (offer, left) = (offer.map_err(refused)?, left.map_err(refused)?);
+    // A document that no message holds goes by list, and then in version 1.
+    let document = offer.document && message.version == MessageVersion::V2;
+    let now = session.sent_hashes();
+    let sent = match document {
+        true => offer.hashes.len(),
+        false => now.len() - before.sent_hashes().len(),
+    };
+    let left = lacking(&now, &left.hashes).len();
+    let bytes = message.encode().map_err(refused)?;
     to.session.receive(&mut to.memory, &bytes).map_err(failed)?;
-    Ok(Some((plan, bytes)))
+    Ok(Some(Spoken {
+        message,
+        bytes,
+        sent,
+        document,
+        of_document: offer.document,
+        left,
+    }))
 }
 
 fn failed(why: Error<MemoryError>) -> Failure {

@@ -82,6 +82,165 @@ fn a_station_talks_as_it_chose() {
     run(&words).ended(2);
 }
 
+/// The lines of a catch-up's rounds, word by word, below their heads.
+fn rounds(shown: &str) -> Vec<Vec<String>> {
+    let lines = shown
+        .lines()
+        .skip_while(|line| !line.contains("to validator"));
+    let lines = lines.skip(1).take_while(|line| !line.is_empty());
+    let words = |line: &str| line.split_whitespace().map(str::to_string).collect();
+    lines.map(words).collect()
+}
+
+/// A row a round in the smallest budget that takes one; all of them in one that is large
+/// enough; and what is left after each round is shown.
+#[test]
+fn a_catch_up_within_a_budget() {
+    let here = folder("catch-up-budget");
+    let all: Vec<u32> = (0..60).collect();
+    let station = chain(&here, "station.table", &all);
+    let validator = chain(&here, "validator.table", &all[..50]);
+    let words = ["catch-up", &station, &validator];
+    let within = |budget: &str| {
+        let shown = run(&[&words[..], &["--budget", budget]].concat());
+        shown.ended(0).out
+    };
+    // A change of the chain takes 70 bytes.
+    let shown = within("70");
+    let told = "Changes of a message take at most 70 bytes; the largest takes 70.\n";
+    assert!(shown.contains(told), "{shown}");
+    let lines = rounds(&shown);
+    assert_eq!(lines.len(), 10, "{shown}");
+    for (k, line) in lines.iter().enumerate() {
+        // Round, held, asked, false yes, sent, left, waiting.
+        let told = [&line[1], &line[4], &line[5], &line[6]];
+        let expected = [50 + k, 1, 9 - k, 0].map(|n| n.to_string());
+        assert_eq!(told, expected.each_ref(), "{shown}");
+    }
+    assert!(shown.contains("After 10 rounds the validator"), "{shown}");
+    assert!(shown.contains("proved: at most 11 (m + 1)"), "{shown}");
+
+    let lines = rounds(&within("350"));
+    assert_eq!(lines.len(), 2);
+    assert_eq!([&lines[0][4], &lines[0][5]], ["5", "5"]);
+    assert_eq!([&lines[1][4], &lines[1][5]], ["5", "0"]);
+    let lines = rounds(&within("349"));
+    assert_eq!([&lines[0][4], &lines[0][5]], ["4", "6"]);
+    let whole = within("700");
+    assert_eq!(rounds(&whole).len(), 1);
+
+    // Without one the column isn't there, and all else is the same.
+    let plain = run(&words).ended(0).out;
+    assert!(!plain.contains(" left "), "{plain}");
+    let mut line = rounds(&whole).remove(0);
+    assert_eq!(line.remove(5), "0");
+    assert_eq!(rounds(&plain), [line]);
+
+    let json = run(&[&words[..], &["--budget", "140", "--json"]].concat());
+    let json = json.ended(0).out;
+    assert_eq!(
+        (field(&json, "budget"), field(&json, "largest_change")),
+        (140, 70)
+    );
+    assert_eq!(value(&json, "proved"), "true", "{json}");
+    let lefts: Vec<&str> = json.matches("\"left\": ").collect();
+    assert_eq!(lefts.len(), 5, "{json}");
+    assert!(
+        json.contains("\"sent\": 2, \"body\": \"list\", \"left\": 8"),
+        "{json}"
+    );
+    let json = run(&[&words[..], &["--json"]].concat()).ended(0).out;
+    assert_eq!(value(&json, "budget"), "null");
+}
+
+/// docs/API.md shows what the command does.
+#[test]
+fn the_page_shows_the_sample_within_a_budget() {
+    let [station, validator] = ["station.table", "validator.table"].map(|n| samples().join(n));
+    let words = [
+        "catch-up",
+        text(&station),
+        text(&validator),
+        "--budget",
+        "3000",
+    ];
+    let shown = run(&words).ended(0).out;
+    let page = include_str!("../../../../docs/API.md");
+    assert!(page.contains(&format!("```text\n{shown}```\n")), "{shown}");
+}
+
+/// A budget in which a change doesn't fit: the row never comes, and that is said. Where only
+/// a row that is held doesn't fit, all of them come and nothing is proved.
+#[test]
+fn a_budget_that_is_too_small() {
+    let here = folder("catch-up-too-small");
+    let all: Vec<u32> = (0..20).collect();
+    let station = chain(&here, "station.table", &all);
+    let validator = chain(&here, "validator.table", &all[..17]);
+    for budget in ["0", "69"] {
+        let words = ["catch-up", &station, &validator, "--budget", budget];
+        let failed = run(&words).ended(1);
+        let told = format!("at most {budget} bytes; the largest takes 70.");
+        assert!(failed.out.contains(&told), "{failed:?}");
+        let ended = "both were still talking after 14 rounds, and of the 20 rows";
+        assert!(failed.out.contains(ended), "{failed:?}");
+        assert!(!failed.out.contains("proved"), "{failed:?}");
+        let next = "give a budget that takes the largest change";
+        assert!(failed.err.contains(next), "{failed:?}");
+    }
+
+    let mut rows = chained(&all.iter().copied().map(hash).collect::<Vec<_>>());
+    rows[5].1.push(hash(2));
+    let station = table(&here, "wide.table", rows.clone());
+    rows.truncate(17);
+    let validator = table(&here, "short.table", rows);
+    let words = ["catch-up", &station, &validator, "--budget"];
+    let shown = run(&[&words[..], &["70"]].concat()).ended(0).out;
+    assert!(shown.contains("After 3 rounds the validator"), "{shown}");
+    let promise = "m + 1 is 4, promised where every change fits the budget.\n";
+    assert!(shown.contains(promise), "{shown}");
+    let shown = run(&[&words[..], &["102"]].concat()).ended(0).out;
+    assert!(shown.contains("proved: at most 4 (m + 1)"), "{shown}");
+}
+
+/// The document goes whole within any budget; numbers that aren't budgets are told.
+#[test]
+fn a_document_and_wrong_budgets() {
+    let here = folder("catch-up-document-budget");
+    let station = chain(&here, "station.table", &[1, 2, 3, 4]);
+    let words = ["catch-up", &station, "-", "--budget"];
+    let shown = run_with(&[&words[..], &["1"]].concat(), b"").ended(0).out;
+    assert_eq!(rounds(&shown)[0][4..7], ["4", "document", "0"], "{shown}");
+    for wrong in ["", "-1", "many", "1.5", "18446744073709551616"] {
+        let told = run_with(&[&words[..], &[wrong]].concat(), b"").ended(2).err;
+        assert!(told.contains("--budget wants a number"), "{told}");
+    }
+    run_with(&[&words[..], &["18446744073709551615"]].concat(), b"").ended(0);
+}
+
+/// Changes that no message holds together go in parts, without a budget too: here a document
+/// of rows that depend on many.
+#[test]
+fn a_document_that_no_message_holds() {
+    let here = folder("catch-up-large");
+    let hashes: Vec<ChangeHash> = (0..1_500).map(hash).collect();
+    let wide = |n: usize| hashes[n.saturating_sub(111)..n].to_vec();
+    let rows = (0..1_500).map(|n| (hashes[n], wide(n)));
+    let station = table(&here, "station.table", rows.collect());
+    let words = ["catch-up", &station, "-"];
+    let shown = run_with(&words, b"").ended(0).out;
+    let lines = rounds(&shown);
+    assert_eq!(lines.len(), 2, "{shown}");
+    assert_eq!(lines[0][0..3], ["1", "0", "0"], "{shown}");
+    let number = |text: &str| text.replace(',', "").parse::<usize>().unwrap();
+    let [sent, left] = [4, 5].map(|k| number(&lines[0][k]));
+    assert_eq!(sent + left, 1_500, "{shown}");
+    assert!(number(&lines[0][8]) <= 4 << 20, "{shown}");
+    assert_eq!(number(&lines[1][4]), left, "{shown}");
+    let promise = "promised for replies by list, and the document went here";
+    assert!(shown.contains(promise), "{shown}");
+}
+
 /// Three false yeses hide each other: a round for each, and the first.
 #[test]
 fn the_sample_takes_four_rounds() {

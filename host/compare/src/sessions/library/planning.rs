@@ -4,7 +4,7 @@ use super::{sixteen, sixteen_of, SPARE};
 use crate::guarded::{Fill, Guarded, FILLS};
 use crate::inputs::index::index_of;
 use crate::model::have::haves;
-use crate::model::plan::{self, By, Plan, Planned, ANSWER_WORDS, NOTHING, OF_THE_CRATE};
+use crate::model::plan::{self, By, Picking, Plan, Planned, ANSWER_WORDS, NOTHING, OF_THE_CRATE};
 use crate::model::state::{Lists, WORDS};
 use crate::model::table::{hashes_of, HASH};
 use crate::model::Refused;
@@ -16,6 +16,9 @@ use bisquetower::raw::{Batch, UNWRITTEN};
 #[derive(Clone, Debug)]
 pub struct Planning {
     pub by: By,
+    /// What goes of a list. Its call is told the numbers by a settings list, which is empty
+    /// where they are the crate's.
+    pub picking: Option<Picking>,
     pub session: Lent,
     pub table: Vec<u8>,
     pub index: Vec<u8>,
@@ -33,16 +36,28 @@ impl Planning {
 
     /// By other numbers.
     pub fn by(by: By, session: Lent, table: Vec<u8>, waiting: Vec<u8>) -> Planning {
-        let mut planning = Planning {
+        let planning = Planning {
             by,
+            picking: None,
             session,
             index: index_of(&table),
             table,
             waiting,
             rooms: [0; 6],
         };
-        planning.rooms = planning.wants().map(|want| want + SPARE);
-        planning
+        planning.roomy()
+    }
+
+    /// The same with a pick.
+    pub fn picking(mut self, picking: Picking) -> Planning {
+        self.picking = Some(picking);
+        self.roomy()
+    }
+
+    /// With room to spare.
+    fn roomy(mut self) -> Planning {
+        self.rooms = self.wants().map(|want| want + SPARE);
+        self
     }
 
     /// What the model plans, were there room for everything.
@@ -50,7 +65,9 @@ impl Planning {
         let Lent { words, .. } = &self.session;
         let (table, index) = (&self.table, &self.index);
         let lists = self.session.lists();
-        plan::of_lent(&self.by, words, &lists, table, index, &self.waiting)
+        let picking = self.picking.as_ref();
+        let (by, waiting) = (&self.by, &self.waiting);
+        plan::of_lent(by, picking, words, &lists, table, index, waiting)
     }
 
     /// How long the buffers have to be, those of the session for what they have too.
@@ -105,6 +122,7 @@ impl<'a> PlanCall<'a> {
     fn expect(&mut self) -> [u64; ANSWER_WORDS] {
         let Planning {
             by,
+            picking,
             session,
             table,
             index,
@@ -116,7 +134,8 @@ impl<'a> PlanCall<'a> {
             sent: self.buffers[5].left(),
             ..session.lists()
         };
-        let planned = plan::of_lent(by, &session.words, &lists, table, index, waiting);
+        let (picking, words) = (picking.as_ref(), &session.words);
+        let planned = plan::of_lent(by, picking, words, &lists, table, index, waiting);
         let [heads, need, have, list, last_sent, sent] =
             self.buffers.each_mut().map(Guarded::expected);
         let mut buffers = plan::Buffers {
@@ -133,6 +152,7 @@ impl<'a> PlanCall<'a> {
     fn ask<'m>(&'m mut self, batch: &mut Batch<'m>) {
         let Planning {
             by,
+            picking,
             session,
             table,
             index,
@@ -140,7 +160,7 @@ impl<'a> PlanCall<'a> {
             ..
         } = self.planning;
         let [heads, need, have, list, last_sent, sent] = self.buffers.each_mut().map(Guarded::lent);
-        // What all three are lent, behind what tells the numbers.
+        // What all four are lent, behind what tells the numbers and the pick.
         macro_rules! ask {
             ($call:ident, $($numbers:expr),*) => {
                 batch.$call(
@@ -164,14 +184,34 @@ impl<'a> PlanCall<'a> {
                 )
             };
         }
-        match by {
-            By::Crate => ask!(plan,),
-            By::Passed(numbers) => ask!(plan_with, numbers.bits, numbers.probes),
-            By::Settings {
-                list: settings,
-                station,
-                version,
-            } => ask!(plan_settled, settings, *station, *version),
+        match (by, picking) {
+            (By::Crate, None) => ask!(plan,),
+            (By::Passed(numbers), None) => ask!(plan_with, numbers.bits, numbers.probes),
+            (
+                By::Settings {
+                    list: settings,
+                    station,
+                    version,
+                },
+                None,
+            ) => ask!(plan_settled, settings, *station, *version),
+            (_, Some(picking)) => {
+                let (settings, station, version) = by.settings().expect("no numbers are passed");
+                let Picking {
+                    sizes,
+                    budget,
+                    pick,
+                } = picking;
+                ask!(
+                    plan_picked,
+                    settings,
+                    station,
+                    version,
+                    sizes,
+                    *budget,
+                    pick
+                )
+            }
         }
     }
 
@@ -265,13 +305,21 @@ pub fn same_as_plan(planning: &Planning) -> Result<bool, String> {
     if *by == By::Crate || by.numbers() != Ok(OF_THE_CRATE) {
         return Ok(false);
     }
+    same_as_whole(planning)?;
+    Ok(true)
+}
+
+/// That a call leaves what `bt_plan` does, in every word and byte: by the crate's numbers,
+/// and with a pick that is all there is to send, if it has one.
+pub fn same_as_whole(planning: &Planning) -> Result<(), String> {
     let left = plan(planning);
     let plain = plan(&Planning {
         by: By::Crate,
+        picking: None,
         ..planning.clone()
     });
     match left == plain {
-        true => Ok(true),
+        true => Ok(()),
         false => Err(format!("{planning:?}: {left:?} isn't bt_plan's {plain:?}")),
     }
 }

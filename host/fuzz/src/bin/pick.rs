@@ -1,0 +1,3 @@
+#![no_main]
+
+fuzz::target!(fuzz::pick);
