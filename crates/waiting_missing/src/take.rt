@@ -102,7 +102,7 @@ pub fn take_refs(
 }
 
 // So few hashes are taken as they stand, which costs less than an order of them, even where each of them moves all that were found.
-const FEW: usize = 1024;
+const FEW_LISTED: usize = 1024;
 
 // Takes the numbers of the list's hashes that stand one behind the other in an order.
 fn take_along(
@@ -167,7 +167,7 @@ pub fn take_listed(
     ensures { λ r. ⌜ TookListed (now (list .entry)) place entries (now (waiting .entry))
         (unknown (rowsAt (now (table .entry)) 0 n) (waitingsAt (now (waiting .entry)) 0 m)) (now (refs .entry)) (now (refs .exit)) r ⌝ }
 {
-    if entries <= FEW {
+    if entries <= FEW_LISTED {
         return take_refs(
             table,
             index,
