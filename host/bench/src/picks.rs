@@ -206,7 +206,7 @@ fn plan_picked(listed: &Listed, size: &str) {
         name: "plan picked",
         size,
         calls: 1,
-        note: "library: half of what is asked for; crate: all of it, its changes copied",
+        note: "one input for all calls; library: half of what is asked for; crate: all of it, its changes copied",
     };
     let published = |state: &mut State| {
         let message = document.generate_sync_message(state);

@@ -58,12 +58,13 @@ fn what_is_taken_is_within_the_promise() {
 }
 
 /// The functions whose calls take more than the smallest stack that a thread can have.
-const DEEP: [&str; 7] = [
+const DEEP: [&str; 8] = [
     "bt_count_capture",
     "bt_missing",
     "bt_plan",
     "bt_plan_with",
     "bt_plan_settled",
+    "bt_plan_picked",
     "bt_receive",
     "bt_salvage",
 ];

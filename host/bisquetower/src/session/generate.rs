@@ -43,7 +43,7 @@ impl Session {
     /// [`next_message_within`](Session::next_message_within) has the same for a radio that
     /// takes less.
     ///
-    /// Where the library is linked this takes up to 256 KiB of the thread's stack.
+    /// Where the library is linked this takes up to 288 KiB of the thread's stack.
     pub fn next_message<H: Host>(&mut self, host: &H) -> Result<Option<Vec<u8>>, Error<H::Error>> {
         self.next_message_with(host, Choice::default())
     }

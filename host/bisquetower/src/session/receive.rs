@@ -11,7 +11,7 @@ impl Session {
     /// Takes a message from the peer. The host loads its changes, unless the session is
     /// read-only or the message is refused.
     ///
-    /// Where the library is linked this takes up to 64 KiB of the thread's stack.
+    /// Where the library is linked this takes up to 160 KiB of the thread's stack.
     pub fn receive<H: Host>(
         &mut self,
         host: &mut H,

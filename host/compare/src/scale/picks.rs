@@ -52,7 +52,8 @@ pub fn plan_picked(case: &Case) -> Compared {
     let rows = saying.table.len() / ROW;
     let picking = random.picking(&saying.table, rows, offer.list.clone());
     let (mut table, mut waiting) = (saying.table, saying.waiting);
-    if random.one_in(8) {
+    let spoilt = random.one_in(8);
+    if spoilt {
         match random.below(2) {
             0 => random.damage(&mut table),
             _ => random.damage(&mut waiting),
@@ -72,7 +73,9 @@ pub fn plan_picked(case: &Case) -> Compared {
     }
     let left = compare_plans(&[planning.clone(), planning.clone()], &FILLS)?;
     let left = &left[0];
-    let plan = left.plan.as_ref().filter(|_| offer.answer[0] == 0);
+    // Of a table that was damaged and is good, another list is to be sent.
+    let offered = offer.answer[0] == 0 && !spoilt;
+    let plan = left.plan.as_ref().filter(|_| offered);
     let whole = plan.is_some_and(|plan| offer.document || plan.hashes == offer.list);
     if whole && planning.by.numbers() == Ok(OF_THE_CRATE) {
         same_as_whole(&planning)?;
