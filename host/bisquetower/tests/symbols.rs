@@ -3,7 +3,9 @@
 
 #[path = "../build/kit.rs"]
 mod kit;
+mod objects;
 
+use objects::Function;
 use std::collections::BTreeSet;
 use std::path::{Path, PathBuf};
 use std::process::Command;
@@ -55,7 +57,8 @@ fn the_page_names_what_the_archive_asks_for() {
     assert_eq!(told(&root()), asked_for(&archive()));
 }
 
-/// Bytes of a page, and those below its stack that a function may use without taking them.
+/// Bytes of a page, and those below its stack that a function that calls none may use
+/// without taking them.
 const PAGE: usize = 4_096;
 const RED_ZONE: usize = 128;
 
@@ -69,14 +72,17 @@ const TOUCH: [u8; 8] = [0x48, 0xc7, 0x04, 0x24, 0, 0, 0, 0];
 fn stack_is_taken_and_touched_page_by_page() {
     let code = std::fs::read(archive()).expect("the archive is read");
     let mut pages = 0;
-    for at in (0..code.len()).filter(|&at| code[at..].starts_with(&TAKE)) {
-        let (number, behind) = code[at + TAKE.len()..].split_at(4);
-        let bytes = u32::from_le_bytes(number.try_into().expect("four bytes")) as usize;
-        if bytes == PAGE {
-            assert!(behind.starts_with(&TOUCH), "a page isn't touched, at {at}");
-            pages += 1;
-        } else {
-            assert!(bytes + RED_ZONE <= PAGE, "{bytes} bytes at once, at {at}");
+    for Function { name, code, calls } in objects::of_archive(&code) {
+        for at in (0..code.len()).filter(|&at| code[at..].starts_with(&TAKE)) {
+            let (number, behind) = code[at + TAKE.len()..].split_at(4);
+            let bytes = u32::from_le_bytes(number.try_into().expect("four bytes")) as usize;
+            let below = if calls { 0 } else { RED_ZONE };
+            if bytes == PAGE {
+                assert!(behind.starts_with(&TOUCH), "{name}: a page isn't touched");
+                pages += 1;
+            } else {
+                assert!(bytes + below < PAGE, "{name}: {bytes} bytes at once");
+            }
         }
     }
     assert!(pages > 0, "no function that takes a page is seen");
