@@ -70,8 +70,8 @@ const READ: &[(&str, &str)] = &[
         "`returns-3` of `missing::missing_from`",
     ),
     (
-        "plan/other_filter",
-        "`returns` of `plan::generate_sync_message`",
+        "plan_count/unpicked_sent",
+        "`returns` of `carried::pick_list`",
     ),
     (
         "plan_parts/told_other_heads",
