@@ -1,35 +1,29 @@
 -- What is missing found by numbers: the numbers of the list's hashes, then those of the hashes that the marked rows ask for, are taken in turn. A number is
 -- that of a hash of the list, or of one of the waiting rows' bytes.
 use Prim.Native.Nat.{ℕ, zero, suc, _+_, _-_, _*_, _/_, _≤_, _<_}
-use mathlib.Core.Bool.{Bool, true, false, cond, not, _&&_, _||_}
-use mathlib.Core.List.{List, [], _∷_, _++_, map, append-nil, append-assoc}
+use mathlib.Core.Bool.{Bool, true, false, cond, not}
+use mathlib.Core.List.{List, [], _∷_, _++_, append-nil, append-assoc}
 use mathlib.Core.Path.{_≡_, refl, sym, ap, _∙_}
 use native.Mathlib.Nat.{add-zero, zero-add}
 use native.Mathlib.Omega.{arith}
 use lib.ListN.{length, getD, replicate, length-replicate}
-use Rattle.hash_order.proofs.KeepLaws.{keep-member}
-use Rattle.hash_order.proofs.OrderLaws.{member-none, member-append, member-index, index-member, ascend-ascends, ascend-members, ascending-unique}
-use Rattle.hash_order.specs.Order.{member, every, ascends, ascend, keep}
+use Rattle.hash_order.proofs.OrderLaws.{member-none}
+use Rattle.hash_order.specs.Order.{ascends, ascend, keep}
 use Rattle.hash_refs.proofs.RefLaws.{of-list, of-further, long-found}
 use Rattle.hash_refs.specs.Internal.Refs.{refHash, refEnd, foundBy, FoundRefs, Added}
-use Rattle.rules.proofs.Cases.{split, and-false, same-truth}
-use Rattle.rules.proofs.Hash.{length-hashes-at, hashes-index}
+use Rattle.rules.proofs.Cases.{split, and-false}
 use Rattle.rules.specs.Hash.{hashesAt}
-use Rattle.rules.specs.LittleEndian.{u16At}
 use Rattle.rules.specs.Sizes.{sizes}
-use Rattle.table_index.proofs.ByteLaws.{length-u16s, entry}
-use Rattle.table_index.proofs.IndexLaws.{index-has, index-member-below}
-use Rattle.table_index.proofs.ListLaws.{map-member, member-map}
-use Rattle.table_index.specs.Index.{hashesFrom, indexed}
+use Rattle.table_index.specs.Index.{hashesFrom}
 use Rattle.table.proofs.TableLaws.{length-rows, length-rows-at, index-at-most, member-of-index, unknown-of-index}
-use Rattle.table.specs.TableBytes.{rowsAt, u16sAt}
+use Rattle.table.specs.TableBytes.{rowsAt}
 use Rattle.table.specs.Table.{Row, rows, held, indexIn}
 use Rattle.waiting.proofs.Today.{asksPlace}
 use Rattle.waiting.proofs.WaitingLaws.{length-waiting, length-waitings-at, GoodWaiting, WaitingDecoded, decoded-asks-count}
 use Rattle.waiting.specs.WaitingBytes.{waitingSize, waitingRowOf, waitingRowsOf, waitingsAt, waitingOf, asksCount, asksPlaceOf, asksCountOf, Sorted}
 use Rattle.waiting.specs.Waiting.{Waiting, waiting}
 use Rattle.waiting_asked.specs.Asking.{Request, Asks, Askable}
-use Rattle.waiting_missing.specs.Internal.Take.{takeOne, taking, UpTo, Took, TookListed, RefsFound}
+use Rattle.waiting_missing.specs.Internal.Take.{takeOne, taking, UpTo, Took, RefsFound}
 use Rattle.waiting_missing.specs.Missing.{unknown, asksFrom, missing}
 use Rattle.waiting_missing.specs.declared.missing.FoundCount.{FoundCount}
 use Rattle.waiting_missing.proofs.AskedLaws.{blank, marks-missing}
@@ -108,24 +102,6 @@ from-next f first i b =
     let e : i + 1 - first ≡ suc (i - first) = omega arith in
     let s : first + (i - first) ≡ i = omega arith in
     rw e (rw s at (from-more f first (i - first)))
-
-u16s-snoc : (s : List ℕ) (at k : ℕ) → u16sAt s at (suc k) ≡ u16sAt s at k ++ (u16At s (at + 2 * k) ∷ [])
-unfolding u16sAt
-u16s-snoc s at zero =
-    let e : at + 2 * 0 ≡ at = omega arith in
-    rw e
-u16s-snoc s at (suc k) =
-    let e : at + 2 * suc k ≡ at + 2 + 2 * k = omega arith in
-    rw e (ap (λ (l : List ℕ). u16At s at ∷ l) (u16s-snoc s (at + 2) k))
-
-u16s-last : (s : List ℕ) (k : ℕ) → u16sAt s 0 (k + 1) ≡ u16sAt s 0 k ++ (u16At s (2 * k) ∷ [])
-u16s-last s k =
-    let e : k + 1 ≡ suc k = omega arith in
-    rw e (rw zero-add at (u16s-snoc s 0 k))
-
-map-append : (f : ℕ → ℕ) (a b : List ℕ) → map f (a ++ b) ≡ map f a ++ map f b
-map-append f [] b = refl
-map-append f (x ∷ a) b = rw (map-append f a b)
 
 -- numbers taken in turn, from the first up to i
 module _ {list : List ℕ} {place entries : ℕ} {further : List ℕ} {p : ℕ → Bool} {refs : List ℕ} {count : ℕ} (first i : ℕ) where
@@ -240,95 +216,6 @@ module _ {list : List ℕ} {place entries : ℕ} {p : ℕ → Bool} {refs : List
       let same : i ≡ m = omega arith in
       rw same at x
 
--- ---- the list's hashes, in another order
-
-same-kept : (p : ℕ → Bool) (a b more : List ℕ) → ((h : ℕ) → member h a ≡ member h b) → ascend (keep p (a ++ more)) ≡ ascend (keep p (b ++ more))
-same-kept p a b more same =
-    ascending-unique (ascend (keep p (a ++ more))) (ascend (keep p (b ++ more))) (ascend-ascends (keep p (a ++ more))) (ascend-ascends (keep p (b ++ more)))
-    (λ h.
-    ascend-members h (keep p (a ++ more))
-    ∙ keep-member p (a ++ more) h
-    ∙ ap (λ (z : Bool). p h && z) (member-append h a more ∙ ap (λ (z : Bool). z || member h more) (same h) ∙ sym (member-append h b more))
-    ∙ sym (ascend-members h (keep p (b ++ more)) ∙ keep-member p (b ++ more) h))
-
-same-every : (a b l : List ℕ) → ((h : ℕ) → member h a ≡ member h b) → every (λ h. member h a) l ≡ every (λ h. member h b) l
-unfolding every
-same-every a b [] same = refl
-same-every a b (x ∷ l) same = rw (same x, same-every a b l same)
-
--- as they stand
-pub listed-few : {list : List ℕ} {place entries : ℕ} {further : List ℕ} {p : ℕ → Bool} {refs refs′ : List ℕ} {count : ℕ}
-    → Took list place entries further p (hashesFrom (refHash list place entries further) 0 (entries - 0)) refs 0 refs′ count
-    → TookListed list place entries further p refs refs′ count
-listed-few {list} {place} {entries} {further} x =
-    record {
-      hashes = hashesFrom (refHash list place entries further) 0 (entries - 0);
-      same = λ h. ap (member h) (numbers-of-list list place entries further);
-      took = x;
-    }
-
-module _ (f : ℕ → ℕ) (by : List ℕ) (entries : ℕ) (are : u16sAt by 0 entries ≡ indexed f entries) where
-  pub along-below : (k : ℕ) → k < entries → u16At by (2 * k) < entries
-  along-below k b =
-      let long : length (u16sAt by 0 entries) ≡ entries = length-u16s by 0 entries in
-      let named : member (getD (u16sAt by 0 entries) k 0) (indexed f entries) ≡ true = rw (← are) (index-member (u16sAt by 0 entries) k (omega arith)) in
-      omega (arith, index-member-below f entries (getD (u16sAt by 0 entries) k 0) named, entry by entries k b)
-
-  -- along an order
-  pub listed-along : {list : List ℕ} {place : ℕ} {further : List ℕ} {p : ℕ → Bool} {refs refs′ : List ℕ} {count : ℕ}
-      → Took list place entries further p (map (refHash list place entries further) (u16sAt by 0 entries)) refs 0 refs′ count
-      → TookListed list place entries further p refs refs′ count
-  listed-along {list} {place} {further} x =
-      let g : ℕ → ℕ = refHash list place entries further in
-      let hs : List ℕ = hashesAt list place entries in
-      let long : length hs ≡ entries = length-hashes-at list place entries in
-      let at : (i : ℕ) → i < entries → getD hs i 0 ≡ g i =
-      λ i b. hashes-index list place entries i b ∙ sym (of-list list place entries further i b)
-      in
-      record {
-        hashes = map g (u16sAt by 0 entries);
-        same = λ h.
-            same-truth (member h (map g (u16sAt by 0 entries))) (member h hs)
-            (λ m.
-            let r = member-map g (u16sAt by 0 entries) h m in
-            let b : r .0 < entries = index-member-below f entries (r .0) (sym (ap (member (r .0)) are) ∙ r .1) in
-            let is : getD hs (r .0) 0 ≡ h = at (r .0) b ∙ r .2 in
-            rw is at (index-member hs (r .0) (omega arith)))
-            (λ m.
-            let r = member-index h hs m in
-            let b : r .0 < entries = omega (arith, r .1) in
-            let is : g (r .0) ≡ h = sym (at (r .0) b) ∙ r .2 in
-            rw is at (map-member g (u16sAt by 0 entries) (r .0) (ap (member (r .0)) are ∙ index-has f entries (r .0) b)));
-        took = x;
-      }
-
--- an entry is the number of a hash of the list
-pub number-inside : (by : List ℕ) (entries number : ℕ) → ((k : ℕ) → k < entries → u16At by (2 * k) < entries) → (k : ℕ) → k < entries → number ≡ u16At by (2 * k)
-    → number < entries
-number-inside by entries number below k b e = rw e (below k b)
-
--- numbers taken in turn along an order
-module _ {list : List ℕ} {place entries : ℕ} {further : List ℕ} {p : ℕ → Bool} {refs : List ℕ} (by : List ℕ) where
-  pub along-start : FoundRefs list place entries further refs 0
-      → Took list place entries further p (map (refHash list place entries further) (u16sAt by 0 0)) refs 0 refs 0
-  unfolding u16sAt
-  along-start f = took-none f
-
-  pub along-next : (k number : ℕ) {refs′ refs″ : List ℕ} {count′ count″ : ℕ} → number ≡ u16At by (2 * k) → length refs′ ≡ length refs
-      → Took list place entries further p (map (refHash list place entries further) (u16sAt by 0 k)) refs 0 refs′ count′
-      → Took list place entries further p (refHash list place entries further number ∷ []) refs′ count′ refs″ count″
-      → Took list place entries further p (map (refHash list place entries further) (u16sAt by 0 (k + 1))) refs 0 refs″ count″
-  along-next k number read long x y =
-      let more : u16sAt by 0 (k + 1) ≡ u16sAt by 0 k ++ (number ∷ []) = rw read (u16s-last by k) in
-      rw (more, map-append (refHash list place entries further) (u16sAt by 0 k) (number ∷ [])) (took-then long x y)
-
-  pub along-end : (k : ℕ) {refs′ : List ℕ} {count′ : ℕ} → k ≤ entries → entries ≤ k
-      → Took list place entries further p (map (refHash list place entries further) (u16sAt by 0 k)) refs 0 refs′ count′
-      → Took list place entries further p (map (refHash list place entries further) (u16sAt by 0 entries)) refs 0 refs′ count′
-  along-end k b c x =
-      let same : k ≡ entries = omega arith in
-      rw same at x
-
 -- ---- from the start
 
 module _ (table : List ℕ) (n : ℕ) (waitings : List ℕ) (m : ℕ) (d : WaitingDecoded (rowsAt table 0 n) waitings m) where
@@ -357,28 +244,24 @@ module _ (table : List ℕ) (n : ℕ) (waitings : List ℕ) (m : ℕ) (d : Waiti
   pub refs-found : (list : List ℕ) (place entries : ℕ) {refs refs′ refs″ : List ℕ} {count count′ : ℕ} {marks : List Bool}
       → Asks (waitingsAt waitings 0 m) (Request.list (hashesAt list place entries)) (replicate (sizes .waitingRows) false) marks
       → length refs′ ≡ length refs
-      → TookListed list place entries waitings (unknown (rowsAt table 0 n) (waitingsAt waitings 0 m)) refs refs′ count
+      → Took list place entries waitings (unknown (rowsAt table 0 n) (waitingsAt waitings 0 m))
+      (hashesFrom (refHash list place entries waitings) 0 (entries - 0)) refs 0 refs′ count
       → length refs″ ≡ length refs′
       → Took list place entries waitings (unknown (rowsAt table 0 n) (waitingsAt waitings 0 m))
       (asksFrom 0 (waitingsAt waitings 0 m) (λ k. getD marks k false)) refs′ count refs″ count′
       → RefsFound list place entries waitings (missing (rowsAt table 0 n) (waitingOf waitings) (hashesAt list place entries)) refs″
       (record { listed = count; all = count′ })
-  refs-found list place entries {refs} {refs′} {refs″} {count} {count′} {marks} asked long listed same y =
-      let x = listed .took in
-      let own : List ℕ = listed .hashes in
+  refs-found list place entries {refs} {refs′} {refs″} {count} {count′} {marks} asked long x same y =
       let t : List Row = rowsAt table 0 n in
       let w : List Waiting = waitingsAt waitings 0 m in
       let hs : List ℕ = hashesAt list place entries in
-      let more : List ℕ = asksFrom 0 w (λ k. getD marks k false) in
-      let all : List ℕ = own ++ more in
+      let all : List ℕ = hs ++ asksFrom 0 w (λ k. getD marks k false) in
       let both : Took list place entries waitings (unknown t w) all refs 0 refs″ count′ =
-      took-then long x y
+      took-then long (rw (numbers-of-list list place entries waitings) at x) y
       in
       let is : foundBy list place entries waitings refs″ count′ ≡ taking (length refs) (unknown t w) all [] = both .is in
       let good : GoodWaiting t w = rw (d .is) at (d .good) in
-      let upTo : UpTo (length refs) (ascend (keep (unknown t w) (hs ++ more))) (taking (length refs) (unknown t w) all []) =
-      rw (same-kept (unknown t w) own hs more (listed .same)) at (taken-up-to (length refs) (unknown t w) all)
-      in
+      let upTo : UpTo (length refs) (ascend (keep (unknown t w) all)) (taking (length refs) (unknown t w) all []) = taken-up-to (length refs) (unknown t w) all in
       let whole : length refs″ ≡ length refs = same ∙ long in
       let up : UpTo (length refs″) (missing t (waitingOf waitings) hs) (foundBy list place entries waitings refs″ count′) =
       rw (d .is, whole, is) (rw (marks-missing t w good hs asked (blank (sizes .waitingRows))) at upTo)
@@ -388,18 +271,20 @@ module _ (table : List ℕ) (n : ℕ) (waitings : List ℕ) (m : ℕ) (d : Waiti
         upTo = up;
         own =
             λ b.
+            let more : List ℕ = asksFrom 0 w (λ k. getD marks k false) in
             let few : length (foundBy list place entries waitings refs′ count) ≡ count = long-found (refHash list place entries waitings) refs′ count (x .found .room) in
             let many : length (foundBy list place entries waitings refs″ count′) ≡ count′ = long-found (refHash list place entries waitings) refs″ count′ (y .found .room) in
-            let first : foundBy list place entries waitings refs′ count ≡ taking (length refs) (unknown t w) own [] = x .is in
-            let both : foundBy list place entries waitings refs″ count′ ≡ taking (length refs) (unknown t w) more (taking (length refs) (unknown t w) own []) =
-            is ∙ taking-append (length refs) (unknown t w) own more []
+            let first : foundBy list place entries waitings refs′ count ≡ taking (length refs) (unknown t w) hs [] =
+            rw (numbers-of-list list place entries waitings) at (x .is)
             in
-            let some : length (taking (length refs) (unknown t w) more (taking (length refs) (unknown t w) own [])) < length refs =
+            let both : foundBy list place entries waitings refs″ count′ ≡ taking (length refs) (unknown t w) more (taking (length refs) (unknown t w) hs []) =
+            is ∙ taking-append (length refs) (unknown t w) hs more []
+            in
+            let some : length (taking (length refs) (unknown t w) more (taking (length refs) (unknown t w) hs [])) < length refs =
             omega (arith, ap length both, many, whole)
             in
-            let told = taken-own (length refs) (unknown t w) own more some in
-            rw (← (up .all (omega (arith, many))))
-            ((rw (← both, ← first, few, many) at told) ∙ same-every own hs (foundBy list place entries waitings refs″ count′) (listed .same));
+            let own = taken-own (length refs) (unknown t w) hs more some in
+            rw (← (up .all (omega (arith, many)))) (rw (← both, ← first, few, many) at own);
       }
 
 -- ---- all of it, or as much as there is room for

@@ -1,6 +1,6 @@
 // What is missing from a list of hashes, each once, ascending.
 use crate::take::take_asked;
-use crate::take::take_listed;
+use crate::take::take_refs;
 use hash_refs::found::write_found;
 use rules::output::Write;
 use rules::passed::Passed;
@@ -57,7 +57,7 @@ pub fn find_in_order(
 {
     let mut marks = [false; WAITING_ROWS];
     ask_hashes(waiting, order, m, &mut marks, list, place, entries);
-    let listed = take_listed(
+    let listed = take_refs(
         table,
         index,
         n,
@@ -68,6 +68,9 @@ pub fn find_in_order(
         place,
         entries,
         refs,
+        0,
+        0,
+        entries,
     );
     let all = take_asked(
         table,

@@ -1,27 +1,23 @@
 // Unknown hashes taken by their numbers: those of a list, and those that the asked waiting rows ask for. The waiting rows' bytes are what follows the list.
 use hash_refs::found::add_ref;
 use hash_refs::refs::put_ref;
-use rules::little_endian::u16_at;
 use rules::sizes::HASH_SIZE;
 use table_index::look::look_up;
-use table_order::entry::INDEX_SIZE;
-use table_order::merge::build_by_rows;
 use waiting::check::asks_count;
 use waiting::find::find_waiting;
 use waiting::row::ASKS_PLACE;
 use waiting::row::WAITING_SIZE;
 ghost use mathlib.Core.Bool.{cond, false};
-ghost use mathlib.Core.List.{_∷_, [], map};
+ghost use mathlib.Core.List.{_∷_, []};
 ghost use mathlib.Core.Path.{_≡_};
 ghost use Prim.Native.Nat.{ℕ, _+_, _-_, _*_, _≤_, _<_};
 ghost use lib.ListN.{length, getD};
 ghost use Rattle.hash_refs.specs.Internal.Refs.{refHash, refEnd, FoundRefs};
-ghost use Rattle.rules.specs.LittleEndian.{u16At};
 ghost use Rattle.rules.specs.Sizes.{sizes};
-ghost use Rattle.table.specs.TableBytes.{rowsAt, u16sAt};
+ghost use Rattle.table.specs.TableBytes.{rowsAt};
 ghost use Rattle.table_index.specs.Index.{Indexed, hashesFrom};
 ghost use Rattle.waiting.specs.WaitingBytes.{waitingSize, waitingsAt, asksCount, Sorted};
-ghost use Rattle.waiting_missing.specs.Internal.Take.{Took, TookListed};
+ghost use Rattle.waiting_missing.specs.Internal.Take.{Took};
 ghost use Rattle.waiting_missing.specs.Missing.{unknown, asksFrom};
 
 // Takes the number of a hash among the found ones if the hash is unknown, and returns how many they are then.
@@ -99,107 +95,6 @@ pub fn take_refs(
         i += 1;
     }
     found
-}
-
-// So few hashes are taken as they stand, which costs less than an order of them, even where each of them moves all that were found.
-const FEW_LISTED: usize = 1024;
-
-// Takes the numbers of the list's hashes that stand one behind the other in an order.
-fn take_along(
-    table: &[u8],
-    index: &[u8],
-    n: usize,
-    waiting: &[u8],
-    order: &[u8],
-    m: usize,
-    list: &[u8],
-    place: usize,
-    entries: usize,
-    refs: &mut [u32],
-    by_hash: &[u8],
-) -> usize
-    requires { ⌜ Indexed (now table) (now index) n × Sorted (now waiting) (now order) m × FoundRefs (now list) place entries (now waiting) (now refs) 0
-        × (2 * entries ≤ length (now «by_hash»)) × ((k : ℕ) → k < entries → u16At (now «by_hash») (2 * k) < entries) ⌝ }
-    ensures { λ r. ⌜ Took (now (list .entry)) place entries (now (waiting .entry))
-        (unknown (rowsAt (now (table .entry)) 0 n) (waitingsAt (now (waiting .entry)) 0 m))
-        (map (refHash (now (list .entry)) place entries (now (waiting .entry))) (u16sAt (now («by_hash» .entry)) 0 entries))
-        (now (refs .entry)) 0 (now (refs .exit)) r ⌝ }
-{
-    let mut found = 0;
-    let mut k = 0;
-    while k < entries {
-        let number = u16_at(by_hash, 2 * k);
-        k += 1;
-        found = take_ref(
-            table,
-            index,
-            n,
-            waiting,
-            order,
-            m,
-            list,
-            place,
-            entries,
-            refs,
-            found,
-            number,
-        );
-    }
-    found
-}
-
-// Takes the numbers of the list's hashes. More than a few are taken in ascending order of the hashes, so that each goes behind those that were found, and
-// none of these has to move.
-pub fn take_listed(
-    table: &[u8],
-    index: &[u8],
-    n: usize,
-    waiting: &[u8],
-    order: &[u8],
-    m: usize,
-    list: &[u8],
-    place: usize,
-    entries: usize,
-    refs: &mut [u32],
-) -> usize
-    requires { ⌜ Indexed (now table) (now index) n × Sorted (now waiting) (now order) m × FoundRefs (now list) place entries (now waiting) (now refs) 0
-        × (entries ≤ sizes .hashes) ⌝ }
-    ensures { λ r. ⌜ TookListed (now (list .entry)) place entries (now (waiting .entry))
-        (unknown (rowsAt (now (table .entry)) 0 n) (waitingsAt (now (waiting .entry)) 0 m)) (now (refs .entry)) (now (refs .exit)) r ⌝ }
-{
-    if entries <= FEW_LISTED {
-        return take_refs(
-            table,
-            index,
-            n,
-            waiting,
-            order,
-            m,
-            list,
-            place,
-            entries,
-            refs,
-            0,
-            0,
-            entries,
-        );
-    }
-    let mut by_hash = [0u8; INDEX_SIZE];
-    let own = &list[place..place + HASH_SIZE * entries];
-    build_by_rows(own, HASH_SIZE, &mut by_hash, entries);
-    take_along(
-        table,
-        index,
-        n,
-        waiting,
-        order,
-        m,
-        list,
-        place,
-        entries,
-        refs,
-        &by_hash,
-    )
 }
 
 // How many hashes a waiting row asks for, if it is asked.

@@ -31,12 +31,6 @@ pub record Took (list : List ℕ) (place entries : ℕ) (further : List ℕ) (p 
   pub found : FoundRefs list place entries further refs′ count′
   pub is : foundBy list place entries further refs′ count′ ≡ taking (length refs) p hs (foundBy list place entries further refs count)
 
--- The list's own hashes taken, in some order of them, with nothing found before.
-pub record TookListed (list : List ℕ) (place entries : ℕ) (further : List ℕ) (p : ℕ → Bool) (refs refs′ : List ℕ) (count : ℕ) : Type 0 where
-  pub hashes : List ℕ
-  pub same : (h : ℕ) → member h hashes ≡ member h (hashesAt list place entries)
-  pub took : Took list place entries further p hashes refs 0 refs′ count
-
 -- A list found by the numbers of its hashes, as much of it as there is room for; and whether all of it stands in the list that was asked about.
 pub record RefsFound (list : List ℕ) (place entries : ℕ) (further l refs : List ℕ) (f : FoundCount) : Type 0 where
   pub found : FoundRefs list place entries further refs (f .all)

@@ -17,10 +17,10 @@ ask-hashes-requires c κs =
     let a = c .before .before .before .before .before .before in
     (askable-first _ _ _ _ (waiting-good _ _ _ (a .pre .1)) _ (a .pre .2), a .pre .3)
 
-take-listed-requires : tie.Need-take-listed-requires
-take-listed-requires c κs =
+take-refs-requires : tie.Need-take-refs-requires
+take-refs-requires c κs =
     let a = c .before .before .before .before .before .before .before .before .before in
-    (a .pre .0, a .pre .2, found-first _ _ _ _ (waiting-good _ _ _ (a .pre .1)) _ _ _ _ (a .pre .3) (a .pre .4), a .pre .4)
+    (a .pre .0, a .pre .2, found-first _ _ _ _ (waiting-good _ _ _ (a .pre .1)) _ _ _ _ (a .pre .3) (a .pre .4), omega arith, omega arith)
 
 slice-aggregate-take-asked : tie.Need-slice-aggregate-take-asked
 slice-aggregate-take-asked c =
@@ -35,7 +35,7 @@ take-asked-requires c κs =
     let d = waiting-good _ _ _ (a .pre .1) in (
       a .pre .0,
       a .pre .2,
-      t .take-listed .ensures .took .found,
+      t .take-refs .ensures .found,
       omega (arith, d .few, as-many-marks (h .ask-hashes .ensures), length-replicate (sizes .waitingRows) false),
       λ i b. decoded-asks-count _ _ _ d i b,
     )
@@ -49,7 +49,7 @@ returns c =
     let t = k .before .before .before .before .before .before in
     let h = t .before .before .before in
     let a = h .before .before .before .before .before .before .before in
-    refs-found _ _ _ _ (waiting-good _ _ _ (a .pre .1)) _ _ _ (h .ask-hashes .ensures) (t .take-listed .kept .1 .1 .1 .1 .1 .1 .1 .1 .1 .0) (t .take-listed .ensures)
+    refs-found _ _ _ _ (waiting-good _ _ _ (a .pre .1)) _ _ _ (h .ask-hashes .ensures) (t .take-refs .kept .1 .1 .1 .1 .1 .1 .1 .1 .1 .0) (t .take-refs .ensures)
     (k .take-asked .kept .1 .1 .1 .1 .1 .1 .1 .1 .1 .1 .0)
     (k .take-asked .ensures)
 
@@ -58,7 +58,7 @@ find-in-order-spec =
     tie.close
     (tie.spec
     ask-hashes-requires
-    take-listed-requires
+    take-refs-requires
     slice-aggregate-take-asked
     take-asked-requires
     same-length
