@@ -89,6 +89,7 @@ const READ: &[(&str, &str)] = &[
         "pick/any_order_accepted",
         "`returns-4` of `check::row_fits`",
     ),
+    ("pick/definition_transitive", "`check-tells` (AcceptLaws)"),
     (
         "pick/left_dependency_goes",
         "`loop-again-2` of `goes::goes_with`",
