@@ -112,6 +112,10 @@ const READ: &[(&str, &str)] = &[
         "`loop-again` of `check::numbers_good`",
     ),
     (
+        "receive_decide/shared_heads_stay",
+        "`returns` of `decide::received_session`",
+    ),
+    (
         "waiting/waiting_unasked",
         "`returns-5` of `check::waiting_good`",
     ),
