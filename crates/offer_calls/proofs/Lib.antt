@@ -1,2 +1,3 @@
 pub mod OfferTies
 pub mod OfferWordLaws
+pub mod Promises

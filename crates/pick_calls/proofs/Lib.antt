@@ -1,1 +1,2 @@
 pub mod PickTies
+pub mod Promises
