@@ -10,7 +10,7 @@ use rules::sizes::{HASH_SIZE, HASHES, HAVES};
 pub const HAVE_WORDS: usize = 7;
 
 // A filter as numbers: its entries, bits per entry and probes, and where its field stands and how long it is.
-#[derive(Drop)]
+#[derive(Clone, Copy)]
 pub struct FilterNumbers {
     pub entries: u64,
     pub bits: u64,

@@ -2,6 +2,8 @@
 // another. And a have as numbers, whose filter is one of them.
 //
 //     number of entries n, bits per entry b, probes p, then the bit field of n * b / 8 bytes, rounded up
+#![tactic(auto)]
+
 pub mod have;
 pub mod parse;
 pub mod rule;

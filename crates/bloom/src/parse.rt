@@ -17,7 +17,7 @@ pub const BITS_PER_ENTRY: u64 = 10;
 pub const NUM_PROBES: u64 = 7;
 
 // A filter that was read, and the place where it ended.
-#[derive(Drop)]
+#[derive(Clone, Copy)]
 pub enum Parsed {
     Filter { filter: FilterNumbers, next: usize },
     Refused(Refusal),
@@ -126,7 +126,7 @@ pub fn parse(bytes: &[u8], at: usize, end: usize) -> Parsed
 }
 
 // A filter that was read, the place where it ended, and how many bytes of its part stand behind that.
-#[derive(Drop)]
+#[derive(Clone, Copy)]
 pub enum CountedFilter {
     Filter {
         filter: FilterNumbers,

@@ -4,7 +4,7 @@ ghost use Rattle.bloom.specs.Filter.{pair_good};
 
 use rules::sizes::PROBES;
 
-#[derive(Drop)]
+#[derive(Clone, Copy)]
 pub struct Setting {
     pub bits: u64,
     pub probes: u64,

@@ -1,3 +1,5 @@
 // Exported calls of the crates `bloom` and `bloom_probe`.
+#![tactic(auto)]
+
 pub mod answer;
 pub mod calls;

@@ -27,7 +27,7 @@ fn set_bit(field: &mut [u8], probe: usize)
 }
 
 // Where the probes of a hash start, and by what they are stepped: its first three words, reduced by the field's bits.
-#[derive(Drop)]
+#[derive(Clone, Copy)]
 pub struct Start {
     pub x: u32,
     pub y: u32,

@@ -63,7 +63,7 @@ pub fn contains_hash(bytes: &[u8], haves: &[u64], hashes: &[u8], at: usize) -> b
 }
 
 // Whether some filter contains a hash.
-#[derive(Drop)]
+#[derive(Clone, Copy)]
 pub enum Contained {
     Yes,
     No,

@@ -13,7 +13,7 @@ pub fn step(a: u32, b: u32, m: u32) -> u32
 }
 
 // The two numbers that move from probe to probe; x is the probe.
-#[derive(Drop)]
+#[derive(Clone, Copy)]
 pub struct Probe {
     pub x: u32,
     pub y: u32,

@@ -24,7 +24,7 @@ use table_check::check::check_in_order;
 use table_order::entry::INDEX_SIZE;
 
 // What a capture counts, or its refusal.
-#[derive(Drop)]
+#[derive(Clone, Copy)]
 pub enum Counted {
     Counts(Counts),
     Refused(Refusal),

@@ -5,6 +5,8 @@
 //                        ^             contained nevertheless: f, a false yes
 //
 // All counts are whole numbers, and totals over many captures are their sums.
+#![tactic(auto)]
+
 pub mod bits;
 pub mod count;
 pub mod held;

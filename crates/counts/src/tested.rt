@@ -11,7 +11,7 @@ ghost use Rattle.table.specs.TableBytes.{rows_at, row_size};
 use bloom_probe::contains::contains_hash;
 use table::row::ROW_SIZE;
 
-#[derive(Drop)]
+#[derive(Clone, Copy)]
 pub struct Tested {
     pub rows: u64,
     pub contained: u64,

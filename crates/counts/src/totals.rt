@@ -6,7 +6,7 @@ use crate::count::Counted;
 use rules::refusal::Refusal;
 
 // What a capture counts: entries of the filter, bits of its field, bits that are set, rows tested, and those of them that it contains.
-#[derive(Drop)]
+#[derive(Clone, Copy)]
 pub struct Counts {
     pub entries: u64,
     pub field_bits: u64,

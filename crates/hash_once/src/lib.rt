@@ -14,6 +14,8 @@
 //            a b d e
 //
 // All of it is done in place, since a list of hashes is too much to have twice.
+#![tactic(auto)]
+
 pub mod count;
 pub mod insert;
 pub mod merge;

@@ -5,5 +5,7 @@
 //   found        1 2 0 4    the hashes a b c d
 //
 // What is found is counted and decided on by its numbers, four bytes each, and put into a lent buffer once all is decided.
+#![tactic(auto)]
+
 pub mod found;
 pub mod refs;

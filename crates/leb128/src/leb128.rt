@@ -12,7 +12,7 @@ const MOST_64: u64 = 18_446_744_073_709_551_615;
 pub const MOST_FILTER: u64 = 4_294_967_295;
 
 // A number that was read, and the place after it.
-#[derive(Drop)]
+#[derive(Clone, Copy)]
 pub enum Number {
     Value { value: u64, next: usize },
     Refused(Refusal),

@@ -4,11 +4,11 @@ ghost use Rattle.std.specs.Int.Bits.{bit_or};
 ghost use Rattle.std.proofs.Math.Seq.{slice};
 ghost use Rattle.message.specs.Flags.{sync_reset, read_only_flag, supports_sync_reset, flags_of, has_flag, flags_in};
 
-#[derive(Drop)]
+#[derive(Clone, Copy)]
 pub struct MessageFlags(pub u8);
 
 // The flags section of a message. No section and an empty one differ.
-#[derive(Drop)]
+#[derive(Clone, Copy)]
 pub enum Section {
     Absent,
     Present(MessageFlags),

@@ -4,5 +4,7 @@
 //             a have:  last-sync hashes | filter, prefixed        a chunk: prefixed
 //
 // The crates `message_read` and `message_write` read and write it.
+#![tactic(auto)]
+
 pub mod flags;
 pub mod version;

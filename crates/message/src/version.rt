@@ -2,7 +2,7 @@
 ghost use Rattle.std.specs.Prelude.{◌≡◌};
 ghost use Rattle.message.specs.Message.{type_of};
 
-#[derive(Drop)]
+#[derive(Clone, Copy)]
 pub enum MessageVersion {
     V1,
     V2,

@@ -16,7 +16,7 @@ use wire::parse::{
 };
 
 // A have: where its last-sync hashes stand, its filter, and the next place.
-#[derive(Drop)]
+#[derive(Clone, Copy)]
 pub enum HaveRead {
     Have {
         sync: Run,

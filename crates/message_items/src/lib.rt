@@ -2,5 +2,7 @@
 //
 // A list is walked whole first, for the next place or the refusal. Its words are put only by a second walk, once the rest of the message is known
 // to be good.
+#![tactic(auto)]
+
 pub mod chunks;
 pub mod haves;

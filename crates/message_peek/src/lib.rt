@@ -4,4 +4,6 @@
 //
 // Nothing behind the heads is looked at, so what it costs grows with the heads, and a message that is bad further on is answered too. The stage
 // that reads the heads is the one that the full read begins with; the two can't differ.
+#![tactic(auto)]
+
 pub mod peek;

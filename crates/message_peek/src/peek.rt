@@ -8,7 +8,7 @@ use rules::refusal::Refusal;
 use rules::sizes::HASH_SIZE;
 
 // A message's version, and how many heads stand at the start of the buffer that was lent for them.
-#[derive(Drop)]
+#[derive(Clone, Copy)]
 pub enum Peeked {
     Heads {
         version: MessageVersion,

@@ -12,7 +12,7 @@ use rules::sizes::HAVES;
 use wire::parse::left;
 
 // A message that was read, and how many of its bytes were ignored: behind the fields of its filters, and after its flags section.
-#[derive(Drop)]
+#[derive(Clone, Copy)]
 pub enum CountedMessage {
     Message {
         places: Places,

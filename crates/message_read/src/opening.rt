@@ -8,7 +8,7 @@ use rules::sizes::MESSAGE_SIZE;
 use wire::parse::{Listed, Run, length_prefixed_hashes};
 
 // The version, where the heads stand, and the next place.
-#[derive(Drop)]
+#[derive(Clone, Copy)]
 pub enum Opening {
     Heads {
         version: MessageVersion,

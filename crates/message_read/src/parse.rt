@@ -11,7 +11,7 @@ use rules::refusal::Refusal;
 use wire::parse::{Listed, Prefixed, Run, length_prefixed_bytes, length_prefixed_hashes};
 
 // Where the parts of a message stand, its flags, and the place after all that was read.
-#[derive(Drop)]
+#[derive(Clone, Copy)]
 pub struct Places {
     pub version: MessageVersion,
     pub heads: Run,
@@ -22,14 +22,14 @@ pub struct Places {
     pub next: usize,
 }
 
-#[derive(Drop)]
+#[derive(Clone, Copy)]
 pub enum Decoded {
     Message(Places),
     Refused(Refusal),
 }
 
 // The flags section, and the next place.
-#[derive(Drop)]
+#[derive(Clone, Copy)]
 pub enum Flagged {
     Section { flags: Section, next: usize },
     Refused(Refusal),

@@ -5,5 +5,7 @@
 //
 // It is thin: a message, a place and one read, which leaves the work to the readers on a slice and a place. A place behind the message's end has no
 // bytes, so any place may be taken.
+#![tactic(auto)]
+
 pub mod first;
 pub mod reader;

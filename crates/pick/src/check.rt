@@ -21,14 +21,14 @@ use table_graph::marks::mark_list;
 use table_index::look::look_up;
 
 // How a pick was found: it breaks no rule, or at this place it does; that of its first hash which breaks one, else how many hashes it has.
-#[derive(Drop)]
+#[derive(Clone, Copy)]
 pub enum Picked {
     Fine,
     Breaks(usize),
 }
 
 // What the check of a passed pick answers.
-#[derive(Drop)]
+#[derive(Clone, Copy)]
 pub enum PickAnswer {
     Accepted,
     Refused(Refusal),

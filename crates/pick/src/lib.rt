@@ -4,6 +4,8 @@
 //            └─── c            pick: b, d; c is too large, and with a budget of 3 only b would go
 //
 // The list is marks of rows, and so is the pick: both are one pass over the table.
+#![tactic(auto)]
+
 pub mod check;
 pub mod goes;
 pub mod pick;

@@ -1,3 +1,5 @@
 // Exported calls of the crate `pick`.
+#![tactic(auto)]
+
 pub mod answer;
 pub mod calls;

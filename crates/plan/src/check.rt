@@ -12,7 +12,7 @@ use table_check::check::check_indexed;
 use waiting::check::check_in_order;
 
 // How many rows both tables have, which are good beside a good session; or the first refusal.
-#[derive(Drop)]
+#[derive(Clone, Copy)]
 pub enum PlanChecks {
     Good { rows: usize, waiting_rows: usize },
     Refused(Refusal),

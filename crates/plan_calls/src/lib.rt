@@ -1,4 +1,6 @@
 // Exported calls of the crate `plan`. A session passes as sixteen words with its seven lists.
+#![tactic(auto)]
+
 pub mod answer;
 pub mod calls;
 pub mod plan_picked;

@@ -32,7 +32,7 @@ use session_state::session::{Session, heard_count};
 use table_graph::marks::{copy_marks, mark_list, set_marks};
 
 // What a message carries, how a pick of it was found, and how many hashes are sent with it.
-#[derive(Drop)]
+#[derive(Clone, Copy)]
 pub struct Carried {
     pub body: BodyCount,
     pub picked: Picked,

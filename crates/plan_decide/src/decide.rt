@@ -25,7 +25,7 @@ use session_state::session::Session;
 
 // The numbers of a plan: how many heads there are and hashes are asked for, whether the peer's first have is unknown, whether a have is given and the
 // entries of its filter, the body, how a pick of it was found, whether there is nothing to say, and how many hashes are sent then.
-#[derive(Drop)]
+#[derive(Clone, Copy)]
 pub struct Draft {
     pub heads: usize,
     pub need: usize,

@@ -5,7 +5,7 @@ ghost use Rattle.plan_decide.specs.Internal.Draft.{puts_for, puts_of};
 use session::plan_answer::{PlanAnswer, Stated};
 
 // How many hashes go into each list, and how many bytes the field has.
-#[derive(Drop)]
+#[derive(Clone, Copy)]
 pub struct Puts {
     pub heads: usize,
     pub need: usize,

@@ -19,7 +19,7 @@ use table_check::check::check_indexed;
 use table_graph::marks::mark_list;
 
 // How many hashes are offered, and whether they go as the document; or the first refusal.
-#[derive(Drop)]
+#[derive(Clone, Copy)]
 pub enum OfferAnswer {
     Offers { document: bool, hashes: usize },
     Refused(Refusal),

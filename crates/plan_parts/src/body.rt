@@ -16,7 +16,7 @@ use session_state::session::Heard;
 use table_graph::marks::set_marks;
 
 // How many hashes a body has, and whether they go as the document.
-#[derive(Drop)]
+#[derive(Clone, Copy)]
 pub struct BodyCount {
     pub document: bool,
     pub hashes: usize,

@@ -17,7 +17,7 @@ use waiting::find::ORDER_SIZE;
 use waiting_missing::missing::find_in_order;
 
 // What is asked for: how many heads it is looked for from, how many hashes it is, and whether each of them is one of these heads.
-#[derive(Drop)]
+#[derive(Clone, Copy)]
 pub struct Asked {
     pub heads: usize,
     pub count: usize,

@@ -2,5 +2,7 @@
 // sent merged in place.
 //
 // Each part is put all or not at all: nothing of it where none is counted, so that no answer is a case of its own.
+#![tactic(auto)]
+
 mod field;
 pub mod put;

@@ -3,4 +3,6 @@
 //   checked, read ─→ counted: what is shared, sent, said ─→ decided, on numbers alone: taken, or refused ─→ put, straight into the lists
 //
 // The host has loaded the message's changes before: the table is the one after loading, its first rows are those of before; the index is its own.
+#![tactic(auto)]
+
 pub mod receive;

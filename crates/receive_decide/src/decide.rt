@@ -12,7 +12,7 @@ use session_state::session::{Heard, Session};
 
 // The numbers of a session after a message: how many shared heads, heads sent last and hashes sent it has, how many of the message's heads become
 // the ones sent last, how many heads, needs and haves the message has, and how many bytes the haves take.
-#[derive(Drop)]
+#[derive(Clone, Copy)]
 pub struct ReceivedCounts {
     pub shared: usize,
     pub last_sent: usize,

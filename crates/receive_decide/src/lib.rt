@@ -2,5 +2,7 @@
 // made.
 //
 // Nothing that is lent is written before everything was tested, the room too.
+#![tactic(auto)]
+
 pub mod decide;
 pub mod put;

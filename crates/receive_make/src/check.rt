@@ -11,7 +11,7 @@ use table::check::Checked;
 use table_check::check::check_indexed;
 
 // How many rows the table has, which is good with its index beside a good session, and where the message's parts stand; or the first refusal.
-#[derive(Drop)]
+#[derive(Clone, Copy)]
 pub enum ReceiptChecks {
     Good { rows: usize, places: Places },
     Refused(Refusal),

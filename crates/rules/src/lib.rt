@@ -2,6 +2,8 @@
 //
 // Document 01 gives each limit and each refusal once; so does this crate. A limit stands as a constant in `sizes` and in the
 // definition `sizes` of specs/, and `limits` is proved to give the same numbers.
+#![tactic(auto)]
+
 pub mod little_endian;
 pub mod output;
 pub mod passed;

@@ -6,7 +6,7 @@ ghost use Rattle.rules.specs.Sizes.{sizes};
 use crate::refusal::Refusal;
 use crate::sizes::{HASH_SIZE, HASHES};
 
-#[derive(Drop)]
+#[derive(Clone, Copy)]
 pub enum Passed {
     // The bytes are whole hashes: their number.
     Hashes(usize),

@@ -6,5 +6,7 @@
 //     report         1: 3                  3: 5
 //
 // Rows are decided first (salvage_rules), room is tested on the numbers, and only then anything is written.
+#![tactic(auto)]
+
 pub mod put;
 pub mod salvage;

@@ -12,14 +12,14 @@ use salvage_rules::decide::decide;
 use table::row::{ROW_SIZE, row_place, row_size};
 
 // Bytes of the new table, entries of the report, and bytes of a partial last record.
-#[derive(Drop)]
+#[derive(Clone, Copy)]
 pub struct Amounts {
     pub rows: usize,
     pub report: usize,
     pub partial: usize,
 }
 
-#[derive(Drop)]
+#[derive(Clone, Copy)]
 pub enum Salvaging {
     Done(Amounts),
     // Nothing was written.

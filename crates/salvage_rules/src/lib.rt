@@ -6,5 +6,7 @@
 //
 // Rows are decided in table order, so that whatever a row depends on is decided before it. Only kept rows take a hash: the second b is kept, since the
 // first is dropped.
+#![tactic(auto)]
+
 pub mod classes;
 pub mod decide;

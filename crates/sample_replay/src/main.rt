@@ -8,6 +8,8 @@
 //     input    as many bytes
 //
 // Each input is read from its place 0 up to its end, and its answer's words are compared with the stored ones.
+#![tactic(auto)]
+
 mod little_endian;
 mod record;
 mod walk;

@@ -16,7 +16,7 @@ const ANSWER_PLACE: usize = 3;
 const INPUT_PLACE: usize = 35;
 
 // Whether the answer found is the stored one, where the kind is one that is read here.
-#[derive(Drop)]
+#[derive(Clone, Copy)]
 pub enum Verdict {
     Same,
     Different,
@@ -24,7 +24,7 @@ pub enum Verdict {
 }
 
 // What stands at a place: a record and the place after it, or none, because it is cut or its kind unknown.
-#[derive(Drop)]
+#[derive(Clone, Copy)]
 pub enum Record {
     Read {
         kind: usize,

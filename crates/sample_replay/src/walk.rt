@@ -14,7 +14,7 @@ fn one_if(b: bool) -> u64
 }
 
 // How many records of each kind there are, and how many of them agree, up to the place `end`: the sample's end, or the first bad record.
-#[derive(Drop)]
+#[derive(Clone, Copy)]
 pub struct ReplayCounts {
     pub records: [u64; KINDS],
     pub agree: [u64; KINDS],

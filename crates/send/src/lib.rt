@@ -4,5 +4,7 @@
 //             └─── c ──┘      need: c          answer: c, b, d
 //
 // What is sent is chosen as marks, one for each need and one for each row, and counted, before anything is put: no list of hashes is kept aside.
+#![tactic(auto)]
+
 pub mod chosen;
 pub mod to_send;

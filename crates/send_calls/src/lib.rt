@@ -1,2 +1,4 @@
 // Exported calls of the crate `send`.
+#![tactic(auto)]
+
 pub mod calls;

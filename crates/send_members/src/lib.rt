@@ -5,4 +5,6 @@
 //
 // Hash sets and the stack of the Rust are marks, one for each row: rows below the last-sync hashes, and members of S. A row's dependencies
 // stand before it, so one pass upward finds every member.
+#![tactic(auto)]
+
 pub mod members;

@@ -13,7 +13,7 @@ pub const LAID_HAVES: usize = HAVES + 1;
 pub const LAID_WORDS: usize = LAID_HAVES * HAVE_WORDS;
 
 // The words of the first haves, and how many haves that is.
-#[derive(Drop)]
+#[derive(Clone, Copy)]
 pub struct Laid {
     pub words: [u64; LAID_WORDS],
     pub count: usize,

@@ -5,6 +5,8 @@
 //
 // The records of a lent list are read one after the other and laid as words, in an array with room for one have more than a list may have: so a
 // list that is too long is seen to be. The selection is the one on words.
+#![tactic(auto)]
+
 pub mod laid;
 pub mod summary;
 pub mod to_send;

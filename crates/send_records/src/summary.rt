@@ -4,7 +4,7 @@ ghost use Rattle.send_records.specs.Summary.{no_have, summary_in};
 
 use bloom::have::HAVE_WORDS;
 
-#[derive(Drop)]
+#[derive(Clone, Copy)]
 pub struct HaveSummary {
     // Where the last-sync hashes stand, and how many they are.
     pub place: u64,

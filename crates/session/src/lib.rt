@@ -5,6 +5,8 @@
 //   between two calls     Kept: a session that stands in lent lists is good and read back as itself; Arms: M-105's two theorems
 //
 // The types of both answers are here; the code that plans stands in the crates plan_.. up to `plan`, the code that receives in receive_.. up to `receive`.
+#![tactic(auto)]
+
 pub mod plan_answer;
 pub mod receive_answer;
 pub mod room;

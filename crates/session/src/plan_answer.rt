@@ -7,7 +7,7 @@ use session_state::session::Session;
 
 // A message to be written: its version and flags, how many hashes its lists have, and the numbers of its have, if it has one. The have's last-sync
 // hashes stand at the start of its bytes.
-#[derive(Drop)]
+#[derive(Clone, Copy)]
 pub struct Stated {
     pub version: MessageVersion,
     pub flags: MessageFlags,
@@ -20,7 +20,7 @@ pub struct Stated {
     pub hashes: usize,
 }
 
-#[derive(Drop)]
+#[derive(Clone, Copy)]
 pub enum PlanAnswer {
     Refused(Refusal),
     // There is nothing to say.
@@ -32,7 +32,7 @@ pub enum PlanAnswer {
 }
 
 // The lengths of the buffers that are lent for what is said, and for the session's lists that change.
-#[derive(Drop)]
+#[derive(Clone, Copy)]
 pub struct Rooms {
     pub heads: usize,
     pub need: usize,

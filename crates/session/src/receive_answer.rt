@@ -2,7 +2,7 @@
 use rules::refusal::Refusal;
 use session_state::session::Session;
 
-#[derive(Drop)]
+#[derive(Clone, Copy)]
 pub enum ReceiveAnswer {
     // The session after the message.
     Took(Session),
@@ -13,7 +13,7 @@ pub enum ReceiveAnswer {
 }
 
 // The lengths of the session's lists that are lent: bytes, and words for the records of haves.
-#[derive(Drop)]
+#[derive(Clone, Copy)]
 pub struct SessionRooms {
     pub shared: usize,
     pub last_sent: usize,

@@ -33,7 +33,7 @@ pub fn encode(out: &mut [u8], shared: &[u8], count: usize) -> Write
 }
 
 // A session read from a saved state.
-#[derive(Drop)]
+#[derive(Clone, Copy)]
 pub enum SavedRead {
     Session(Session),
     Refused(Refusal),

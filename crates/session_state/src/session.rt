@@ -4,7 +4,7 @@ ghost use Rattle.session_state.specs.Value.{heard_count};
 ghost use Rattle.session_state.specs.Counts.{begun_counts, fresh_counts, fresh_read_only_counts, restored_counts, set_read_only_counts};
 
 // How many hashes or haves the peer's last message had, if there was one.
-#[derive(Drop)]
+#[derive(Clone, Copy)]
 pub enum Heard {
     Nothing,
     Count(usize),
@@ -20,7 +20,7 @@ pub fn heard_count(heard: Heard) -> usize
     }
 }
 
-#[derive(Drop)]
+#[derive(Clone, Copy)]
 pub struct Session {
     // Hashes that both peers have.
     pub shared_heads: usize,

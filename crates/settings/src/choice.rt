@@ -7,7 +7,7 @@ use bloom::setting::MOST_BITS;
 use rules::sizes::PROBES;
 
 // The bits and probes that filters are built with, and whether the station is read-only, 0 or 1. The last acts on nothing by itself.
-#[derive(Drop)]
+#[derive(Clone, Copy)]
 pub struct Choice {
     pub bits: u64,
     pub probes: u64,

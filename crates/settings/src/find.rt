@@ -9,7 +9,7 @@ use rules::refusal::Refusal;
 use table::check::Checked;
 
 // A choice, or the refusal of the list.
-#[derive(Drop)]
+#[derive(Clone, Copy)]
 pub enum SettingAnswer {
     Chosen(Choice),
     Refused(Refusal),

@@ -5,6 +5,8 @@
 //
 // Versions ascend over the whole list, whatever the station. A station is answered its last record not above a version, so what was answered for a
 // version stays, however many records follow.
+#![tactic(auto)]
+
 pub mod append;
 pub mod check;
 pub mod choice;

@@ -2,7 +2,7 @@
 use Prim.Native.Nat.{ℕ, zero, suc, ◌+◌, ◌-◌, ◌*◌, ◌/◌, ◌%◌, ◌≤◌, ◌<◌}
 use mathlib.Core.Bool.{true, false}
 use mathlib.Core.List.{List, [], ◌∷◌, ◌++◌, append_assoc}
-use mathlib.Core.Path.{◌≡◌, refl, sym, ap, ap₂, ◌∙◌}
+use mathlib.Core.Path.{◌≡◌, refl, sym, ap, ap₂, subst, ◌∙◌}
 use native.Mathlib.Nat.{zero-add, mul-div_cancel, mul-mod_left, mul-le-mul_right, le_trans, le_of_eq}
 use native.Mathlib.Omega.{arith}
 use borrow.Author.Tests.{eqb-true, eqb-false, lt-ltb, le-leb}
@@ -262,7 +262,7 @@ unfolding zeros u16s_at
 zeros_front zero x = refl
 zeros_front (suc m) x =
     let q : 2 * suc m ≡ suc (suc (2 * m)) = omega arith in
-    rw q
+    subst (λ (n : ℕ). zeros (u16s_at (replicate n 0 ++ x) 0 (suc m)) ≡ true) (sym q)
     (and_true (eqb (u16_at (0 ∷ 0 ∷ (replicate (2 * m) 0 ++ x)) 0) 0) (zeros (u16s_at (0 ∷ 0 ∷ (replicate (2 * m) 0 ++ x)) 2 m))
     (two_zeros (replicate (2 * m) 0 ++ x))
     (ap zeros (u16s_behind (0 ∷ 0 ∷ []) (replicate (2 * m) 0 ++ x) 0 m) ∙ zeros_front m x))

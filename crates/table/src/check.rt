@@ -11,7 +11,7 @@ use rules::sizes::HASH_SIZE;
 use rules::zeros::zero_bytes;
 
 // A good table's number of rows, or the refusal.
-#[derive(Drop)]
+#[derive(Clone, Copy)]
 pub enum Checked {
     Good(usize),
     Refused(Refusal),

@@ -1,7 +1,7 @@
 // Widths of change tables: how many dependencies a row has room for, and how many rows a table may have.
 use rules::sizes::{DEPENDENCIES, ROWS};
 
-#[derive(Drop)]
+#[derive(Clone, Copy)]
 pub struct Width {
     pub dependencies: usize,
     pub rows: usize,

@@ -5,5 +5,7 @@
 //
 // No hash stands twice beside an index that fits. Without one the rows are put in order first, and rows of the same hash stand side by side, the
 // later before the earlier. So no row is compared with all rows before it.
+#![tactic(auto)]
+
 pub mod check;
 pub mod repeat;

@@ -4,5 +4,7 @@
 //     wide      hash   count   numbers in use   zeros .. ..
 //
 // A row is the same bytes up to its last number in use, whatever its width; so these are copied, and zeros put behind them.
+#![tactic(auto)]
+
 pub mod convert;
 pub mod put;

@@ -4,5 +4,7 @@
 //   index     1       3       0       2
 //
 // One that fits is the table's index, so what is looked up by it is what the scan finds; one that doesn't is noticed before any row is.
+#![tactic(auto)]
+
 pub mod fit;
 pub mod look;

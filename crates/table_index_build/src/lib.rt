@@ -4,5 +4,7 @@
 //   row 3         b          index   1 3 0 2      behind as many as have a lower hash
 //
 // Either is made in memory of the call's own, and is the order of the rows by which the table is checked.
+#![tactic(auto)]
+
 pub mod build;
 pub mod extend;

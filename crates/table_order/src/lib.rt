@@ -5,5 +5,7 @@
 //   merged        1 3 0 2
 //
 // However the hashes stand, each number is looked at as many times as the records can be halved.
+#![tactic(auto)]
+
 pub mod entry;
 pub mod merge;

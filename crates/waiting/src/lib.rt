@@ -3,6 +3,8 @@
 //     waiting row    hash, count, the hashes that it asks for
 //
 // It is lent as bytes and checked before anything is read from it, as a change table is.
+#![tactic(auto)]
+
 pub mod check;
 pub mod find;
 pub mod row;

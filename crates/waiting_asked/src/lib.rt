@@ -2,4 +2,6 @@
 //
 // Two functions in a cycle, one for a change and one for the list of a change, lend each other the marks of the rows that were asked. They carry the
 // waiting rows, their order and the marks, and nothing of what is found on the way, so that a level of the cycle takes little stack.
+#![tactic(auto)]
+
 pub mod ask;

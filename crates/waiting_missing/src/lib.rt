@@ -2,5 +2,7 @@
 //
 // The waiting rows that are asked are marked first; then the unknown hashes of the list, and of all that these rows ask for, are found by their numbers,
 // and put where they are wanted once it is known how many they are.
+#![tactic(auto)]
+
 pub mod missing;
 pub mod take;

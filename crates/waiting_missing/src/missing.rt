@@ -27,7 +27,7 @@ use waiting_asked::ask::ask_hashes;
 pub const FOUND: usize = HASHES + 1;
 
 // How many hashes are missing, and how many of them stand in the list that was asked about.
-#[derive(Drop)]
+#[derive(Clone, Copy)]
 pub struct FoundCount {
     pub listed: usize,
     pub all: usize,

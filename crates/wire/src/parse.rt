@@ -7,21 +7,21 @@ use rules::refusal::Refusal;
 use rules::sizes::{HASH_SIZE, HASHES};
 
 // A prefixed string: its bytes stand from `start` up to `end`, which is the next place.
-#[derive(Drop)]
+#[derive(Clone, Copy)]
 pub enum Prefixed {
     Part { start: usize, end: usize },
     Refused(Refusal),
 }
 
 // Where items stand: the place of the first, and how many there are.
-#[derive(Drop)]
+#[derive(Clone, Copy)]
 pub struct Run {
     pub start: usize,
     pub count: usize,
 }
 
 // A list after its count, of hashes or of larger items: where they stand, and the next place.
-#[derive(Drop)]
+#[derive(Clone, Copy)]
 pub enum Listed {
     Items { run: Run, next: usize },
     Refused(Refusal),

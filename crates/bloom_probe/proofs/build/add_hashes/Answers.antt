@@ -1,0 +1,67 @@
+-- `bloom_probe::build::add_hashes` meets its contract: adding the hashes that are left to the field as it is gives what adding all of them to the
+-- field as it was gives, and the start that is held is that of the first of them. Assumes nothing.
+use Prim.Native.Nat.{ℕ, suc, ◌+◌, ◌-◌, ◌*◌, ◌≤◌, ◌<◌}
+use mathlib.Core.List.{List}
+use mathlib.Core.Path.{◌≡◌, refl, sym, ap, ◌∙◌}
+use native.Mathlib.Nat.{sub-zero}
+use native.Mathlib.Omega.{arith}
+use lib.ListN.{length}
+use Rattle.rules.specs.Hash.{hash_at, hashes_at}
+use Rattle.rules.specs.Sizes.{sizes}
+use Rattle.bloom_probe.specs.Build.{set_bits, add_hash, add_hashes}
+use Rattle.bloom_probe.specs.Probes.{probes_from}
+use Rattle.bloom_probe.proofs.FieldLaws.{length_add_hash}
+use Rattle.bloom_probe.proofs.StartLaws.{starts_below, of_start}
+use Rattle.bloom_probe.proofs.build.add_hashes.Goals as goal
+
+-- one hash more
+added_more : (p : ℕ) (field next s : List ℕ) (n i : ℕ) → i < n
+    → next ≡ add_hash p field (hash_at s (sizes.hash * i))
+    → add_hashes p next (hashes_at s (sizes.hash * (i + 1)) (n - (i + 1))) ≡ add_hashes p field (hashes_at s (sizes.hash * i) (n - i))
+unfolding add_hashes hashes_at
+added_more p field next s n i h e =
+    let left : n - i ≡ suc (n - (i + 1)) = omega arith in
+    let place : sizes.hash * (i + 1) ≡ sizes.hash * i + sizes.hash = omega arith in
+    rw (left, place, e)
+
+-- all of them
+added-all : (p : ℕ) (field s : List ℕ) (n i : ℕ) → n ≤ i → field ≡ add_hashes p field (hashes_at s (sizes.hash * i) (n - i))
+unfolding add_hashes hashes_at
+added-all p field s n i h = let left : n - i ≡ 0 = omega arith in rw left
+
+-- setting the bits from the start that is held adds the hash
+held_added : (t : goal.In-loop-i) (next : List ℕ)
+    → let a = t.args in
+    let start = t.loop-i.next in
+    next ≡ set_bits t.loop-i.field (probes_from t.count-rounds.result (8 * length a.field.now) start.x start.y start.z)
+    → next ≡ add_hash a.probes t.loop-i.field (hash_at a.hashes.now (sizes.hash * t.loop-i.i))
+held_added t next e =
+    of_start _ _ _ _ _ _ _ _
+    (λ i. (t.type_inv.hashes i).fits)
+    (omega (arith, t.requires.2, t.loop-i-test.true))
+    (ap (λ (n : ℕ). 8 * n) (sym t.loop-i.invariant.long))
+    t.count-rounds.ensures
+    (t.loop-i.invariant.starts t.loop-i-test.true)
+    e
+
+pub loop-i-init : goal.loop-i-init
+loop-i-init c = record { upto = omega arith; long = refl; starts = c.start_in-next.ensures; rest = rw sub-zero }
+
+pub set_probes-requires : goal.set_probes-requires
+set_probes-requires c =
+    let p = c.requires in
+    let b = starts_below _ _ _ _ (omega (arith, p.0, c.loop-i-test.true)) (c.loop-i.invariant.starts c.loop-i-test.true) in
+    (b.0, b.1, b.2, omega (arith, p.1), omega (arith, c.loop-i.invariant.long))
+
+pub loop-i-preserved : goal.loop-i-preserved
+loop-i-preserved c =
+    let added = held_added c _ c.set_probes.ensures in
+    record {
+      upto = omega (arith, c.loop-i-test.true);
+      long = ap length added ∙ length_add_hash _ _ _ ∙ c.loop-i.invariant.long;
+      starts = c.start_in-next-in-loop-i.ensures;
+      rest = added_more _ _ _ _ _ _ c.loop-i-test.true added ∙ c.loop-i.invariant.rest;
+    }
+
+pub returns : goal.returns
+returns c = added-all _ _ _ _ _ c.loop-i-test.false ∙ c.loop-i.invariant.rest
