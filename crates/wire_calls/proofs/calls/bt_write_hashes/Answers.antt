@@ -1,0 +1,6 @@
+-- `wire_calls::calls::bt_write_hashes` meets its contract: the words and the buffer of what the writer ensures. Assumes nothing.
+use Rattle.call_words.proofs.Answers.{answered}
+use Rattle.wire_calls.proofs.calls.bt_write_hashes.Goals as goal
+
+pub returns : goal.returns
+returns c = answered _ _ _ _ _ c.encode_hashes.ensures c.write_words.ensures
