@@ -29,21 +29,6 @@ added-all : (p : ℕ) (field s : List ℕ) (n i : ℕ) → n ≤ i → field ≡
 unfolding add_hashes hashes_at
 added-all p field s n i h = let left : n - i ≡ 0 = omega arith in rw left
 
--- setting the bits from the start that is held adds the hash
-held_added : (t : goal.In-loop-i) (next : List ℕ)
-    → let a = t.args in
-    let start = t.loop-i.next in
-    next ≡ set_bits t.loop-i.field (probes_from t.count-rounds.result (8 * length a.field.now) start.x start.y start.z)
-    → next ≡ add_hash a.probes t.loop-i.field (hash_at a.hashes.now (sizes.hash * t.loop-i.i))
-held_added t next e =
-    of_start _ _ _ _ _ _ _ _
-    (λ i. (t.type_inv.hashes i).fits)
-    (omega (arith, t.requires.2, t.loop-i-test.true))
-    (ap (λ (n : ℕ). 8 * n) (sym t.loop-i.invariant.long))
-    t.count-rounds.ensures
-    (t.loop-i.invariant.starts t.loop-i-test.true)
-    e
-
 pub loop-i-init : goal.loop-i-init
 loop-i-init c = record { upto = omega arith; long = refl; starts = c.start_in-next.ensures; rest = rw sub-zero }
 
@@ -55,7 +40,17 @@ set_probes-requires c =
 
 pub loop-i-preserved : goal.loop-i-preserved
 loop-i-preserved c =
-    let added = held_added c _ c.set_probes.ensures in
+    let added = (let it : (next : List ℕ)
+    → let a = c.args in
+    let start = c.loop-i.next in
+    next ≡ set_bits c.loop-i.field (probes_from c.count-rounds.result (8 * length a.field.now) start.x start.y start.z)
+    → next ≡ add_hash a.probes c.loop-i.field (hash_at a.hashes.now (sizes.hash * c.loop-i.i)) = λ next e. of_start _ _ _ _ _ _ _ _
+    (λ i. (c.type_inv.hashes i).fits)
+    (omega (arith, c.requires.2, c.loop-i-test.true))
+    (ap (λ (n : ℕ). 8 * n) (sym c.loop-i.invariant.long))
+    c.count-rounds.ensures
+    (c.loop-i.invariant.starts c.loop-i-test.true)
+    e in it) _ c.set_probes.ensures in
     record {
       upto = omega (arith, c.loop-i-test.true);
       long = ap length added ∙ length_add_hash _ _ _ ∙ c.loop-i.invariant.long;

@@ -13,12 +13,6 @@ use Rattle.bloom.specs.Have.{filter_with}
 use Rattle.bloom_probe.proofs.Search.{probe_clear, probe_on, probes_done, no_entries, search_starts, search_found, search_on, search_done, Probed, probed, field_long, probes_decide}
 use Rattle.bloom_probe.proofs.contains.contains_hash.Goals as goal
 
--- each probe is a remainder by the field's bits, of which there are some
-inside : (c : goal.After-field-1) (n : ℕ)
-    → let m = 8 * c.filter_in-f.result.size in n % m < m
-inside c n = let p = (let it : (let a = c.args in
-    Probed a.bytes.now c.filter_in-f.result) = probed _ _ (rw c.filter_in-f.ensures (c.requires.0.each c.next_filter.i c.next_filter-test.true)) c.if-f-eq0.false in it) in mod-lt n (omega arith)
-
 pub u32_at-first-requires : goal.u32_at-first-requires
 u32_at-first-requires c = omega (arith, c.requires.1)
 
@@ -58,6 +52,14 @@ pub slice_bounds-field-count : goal.slice_bounds-field-count
 slice_bounds-field-count c = let p = (let it : (let a = c.args in
     Probed a.bytes.now c.filter_in-f.result) = probed _ _ (rw c.filter_in-f.ensures (c.requires.0.each c.next_filter.i c.next_filter-test.true)) c.if-f-eq0.false in it) in omega arith
 
+pub slice_bounds-field-start : goal.slice_bounds-field-start
+slice_bounds-field-start c = let p = (let it : (let a = c.args in
+    Probed a.bytes.now c.filter_in-f.result) = probed _ _ (rw c.filter_in-f.ensures (c.requires.0.each c.next_filter.i c.next_filter-test.true)) c.if-f-eq0.false in it) in omega arith
+
+pub slice_bounds-field-end : goal.slice_bounds-field-end
+slice_bounds-field-end c = let p = (let it : (let a = c.args in
+    Probed a.bytes.now c.filter_in-f.result) = probed _ _ (rw c.filter_in-f.ensures (c.requires.0.each c.next_filter.i c.next_filter-test.true)) c.if-f-eq0.false in it) in omega arith
+
 pub overflow_cast-m : goal.overflow_cast-m
 overflow_cast-m c = let p = (let it : (let a = c.args in
     Probed a.bytes.now c.filter_in-f.result) = probed _ _ (rw c.filter_in-f.ensures (c.requires.0.each c.next_filter.i c.next_filter-test.true)) c.if-f-eq0.false in it) in omega arith
@@ -66,17 +68,32 @@ pub overflow_mul-m : goal.overflow_mul-m
 overflow_mul-m c = let p = (let it : (let a = c.args in
     Probed a.bytes.now c.filter_in-f.result) = probed _ _ (rw c.filter_in-f.ensures (c.requires.0.each c.next_filter.i c.next_filter-test.true)) c.if-f-eq0.false in it) in omega arith
 
+pub nonzero_rem-x : goal.nonzero_rem-x
+nonzero_rem-x c = let p = (let it : (let a = c.args in
+    Probed a.bytes.now c.filter_in-f.result) = probed _ _ (rw c.filter_in-f.ensures (c.requires.0.each c.next_filter.i c.next_filter-test.true)) c.if-f-eq0.false in it) in omega arith
+
 pub overflow_cast-x : goal.overflow_cast-x
 overflow_cast-x c =
     let p = (let it : (let a = c.args in
     Probed a.bytes.now c.filter_in-f.result) = probed _ _ (rw c.filter_in-f.ensures (c.requires.0.each c.next_filter.i c.next_filter-test.true)) c.if-f-eq0.false in it) in
-    omega (arith, inside c c.u32_at-first.result)
+    omega (
+      arith,
+      (let it : (n : ℕ)
+          → let m = 8 * c.filter_in-f.result.size in n % m < m = λ n. let p = (let it : (let a = c.args in
+          Probed a.bytes.now c.filter_in-f.result) = probed _ _ (rw c.filter_in-f.ensures (c.requires.0.each c.next_filter.i c.next_filter-test.true)) c.if-f-eq0.false in it) in mod-lt n (omega arith) in it) c.u32_at-first.result,
+    )
 
 pub clear_bit-requires : goal.clear_bit-requires
 clear_bit-requires c =
     let p = (let it : (let a = c.args in
     Probed a.bytes.now c.filter_in-f.result) = probed _ _ (rw c.filter_in-f.ensures (c.requires.0.each c.next_filter.i c.next_filter-test.true)) c.if-f-eq0.false in it) in
-    omega (arith, field_long _ _ p, inside c c.u32_at-first.result)
+    omega (
+      arith,
+      field_long _ _ p,
+      (let it : (n : ℕ)
+          → let m = 8 * c.filter_in-f.result.size in n % m < m = λ n. let p = (let it : (let a = c.args in
+          Probed a.bytes.now c.filter_in-f.result) = probed _ _ (rw c.filter_in-f.ensures (c.requires.0.each c.next_filter.i c.next_filter-test.true)) c.if-f-eq0.false in it) in mod-lt n (omega arith) in it) c.u32_at-first.result,
+    )
 
 pub next_filter-preserved-then-clear_bit : goal.next_filter-preserved-then-clear_bit
 next_filter-preserved-then-clear_bit c =
@@ -101,12 +118,24 @@ next_filter-preserved-then-clear_bit c =
           ∙ c.next_filter.invariant.rest;
     }
 
+pub nonzero_rem-y : goal.nonzero_rem-y
+nonzero_rem-y c = let p = (let it : (let a = c.args in
+    Probed a.bytes.now c.filter_in-f.result) = probed _ _ (rw c.filter_in-f.ensures (c.requires.0.each c.next_filter.i c.next_filter-test.true)) c.if-f-eq0.false in it) in omega arith
+
+pub nonzero_rem-z : goal.nonzero_rem-z
+nonzero_rem-z c = let p = (let it : (let a = c.args in
+    Probed a.bytes.now c.filter_in-f.result) = probed _ _ (rw c.filter_in-f.ensures (c.requires.0.each c.next_filter.i c.next_filter-test.true)) c.if-f-eq0.false in it) in omega arith
+
 pub loop-k-init : goal.loop-k-init
 loop-k-init c =
     let open' = sym c.clear_bit.ensures ∙ c.if-clear_bit.false in
     record {
-      xs = inside c _;
-      ys = inside c _;
+      xs = (let it : (n : ℕ)
+          → let m = 8 * c.filter_in-f.result.size in n % m < m = λ n. let p = (let it : (let a = c.args in
+          Probed a.bytes.now c.filter_in-f.result) = probed _ _ (rw c.filter_in-f.ensures (c.requires.0.each c.next_filter.i c.next_filter-test.true)) c.if-f-eq0.false in it) in mod-lt n (omega arith) in it) _;
+      ys = (let it : (n : ℕ)
+          → let m = 8 * c.filter_in-f.result.size in n % m < m = λ n. let p = (let it : (let a = c.args in
+          Probed a.bytes.now c.filter_in-f.result) = probed _ _ (rw c.filter_in-f.ensures (c.requires.0.each c.next_filter.i c.next_filter-test.true)) c.if-f-eq0.false in it) in mod-lt n (omega arith) in it) _;
       upto = omega (arith, c.count-rounds.ensures);
       rest = sym (probe_on _ _ _ _ _ _ _ (omega (arith, c.count-rounds.ensures)) open');
     }
@@ -114,21 +143,31 @@ loop-k-init c =
 pub next-probe-requires : goal.next-probe-requires
 next-probe-requires c =
     let p = (let it : (let a = c.args in
-    Probed a.bytes.now c.filter_in-f.result) = probed _ _ (rw c.filter_in-f.ensures (c.requires.0.each c.next_filter.i c.next_filter-test.true)) c.if-f-eq0.false in it) in
-    (c.loop-k.invariant.xs, c.loop-k.invariant.ys, inside c _, omega arith)
+    Probed a.bytes.now c.filter_in-f.result) = probed _ _ (rw c.filter_in-f.ensures (c.requires.0.each c.next_filter.i c.next_filter-test.true)) c.if-f-eq0.false in it) in (
+      c.loop-k.invariant.xs,
+      c.loop-k.invariant.ys,
+      (let it : (n : ℕ)
+          → let m = 8 * c.filter_in-f.result.size in n % m < m = λ n. let p = (let it : (let a = c.args in
+          Probed a.bytes.now c.filter_in-f.result) = probed _ _ (rw c.filter_in-f.ensures (c.requires.0.each c.next_filter.i c.next_filter-test.true)) c.if-f-eq0.false in it) in mod-lt n (omega arith) in it) _,
+      omega arith,
+    )
 
 pub overflow_cast-probe : goal.overflow_cast-probe
 overflow_cast-probe c =
     let p = (let it : (let a = c.args in
     Probed a.bytes.now c.filter_in-f.result) = probed _ _ (rw c.filter_in-f.ensures (c.requires.0.each c.next_filter.i c.next_filter-test.true)) c.if-f-eq0.false in it) in
-    let x : c.next-probe.result.x < 8 * c.filter_in-f.result.size = rw c.next-probe.ensures (inside c _) in
+    let x : c.next-probe.result.x < 8 * c.filter_in-f.result.size = rw c.next-probe.ensures ((let it : (n : ℕ)
+    → let m = 8 * c.filter_in-f.result.size in n % m < m = λ n. let p = (let it : (let a = c.args in
+    Probed a.bytes.now c.filter_in-f.result) = probed _ _ (rw c.filter_in-f.ensures (c.requires.0.each c.next_filter.i c.next_filter-test.true)) c.if-f-eq0.false in it) in mod-lt n (omega arith) in it) _) in
     omega arith
 
 pub clear_bit-requires-in-loop-k : goal.clear_bit-requires-in-loop-k
 clear_bit-requires-in-loop-k c =
     let p = (let it : (let a = c.args in
     Probed a.bytes.now c.filter_in-f.result) = probed _ _ (rw c.filter_in-f.ensures (c.requires.0.each c.next_filter.i c.next_filter-test.true)) c.if-f-eq0.false in it) in
-    let x : c.next-probe.result.x < 8 * c.filter_in-f.result.size = rw c.next-probe.ensures (inside c _) in
+    let x : c.next-probe.result.x < 8 * c.filter_in-f.result.size = rw c.next-probe.ensures ((let it : (n : ℕ)
+    → let m = 8 * c.filter_in-f.result.size in n % m < m = λ n. let p = (let it : (let a = c.args in
+    Probed a.bytes.now c.filter_in-f.result) = probed _ _ (rw c.filter_in-f.ensures (c.requires.0.each c.next_filter.i c.next_filter-test.true)) c.if-f-eq0.false in it) in mod-lt n (omega arith) in it) _) in
     omega (arith, field_long _ _ p)
 
 pub next_filter-preserved : goal.next_filter-preserved
@@ -167,8 +206,12 @@ pub loop-k-preserved : goal.loop-k-preserved
 loop-k-preserved c =
     let open' = sym c.clear_bit-in-loop-k.ensures ∙ c.if-clear_bit-2.false in
     record {
-      xs = rw c.next-probe.ensures (inside c _);
-      ys = rw c.next-probe.ensures (inside c _);
+      xs = rw c.next-probe.ensures ((let it : (n : ℕ)
+          → let m = 8 * c.filter_in-f.result.size in n % m < m = λ n. let p = (let it : (let a = c.args in
+          Probed a.bytes.now c.filter_in-f.result) = probed _ _ (rw c.filter_in-f.ensures (c.requires.0.each c.next_filter.i c.next_filter-test.true)) c.if-f-eq0.false in it) in mod-lt n (omega arith) in it) _);
+      ys = rw c.next-probe.ensures ((let it : (n : ℕ)
+          → let m = 8 * c.filter_in-f.result.size in n % m < m = λ n. let p = (let it : (let a = c.args in
+          Probed a.bytes.now c.filter_in-f.result) = probed _ _ (rw c.filter_in-f.ensures (c.requires.0.each c.next_filter.i c.next_filter-test.true)) c.if-f-eq0.false in it) in mod-lt n (omega arith) in it) _);
       upto = omega (arith, c.loop-k-test.true);
       rest =
           rw c.next-probe.ensures
