@@ -1,9 +1,9 @@
 -- Reading haves and chunks that were written gives them back, and ignores nothing. Items one after the other are read one after the other whatever an item is; a have and
 -- a chunk give their one-item laws, and the laws of hash lists, prefixed strings and filters do the rest.
-use Prim.Native.Nat.{ℕ, zero, suc, ◌+◌, ◌-◌, ◌*◌, ◌≤◌}
+use Prim.Native.Nat.{ℕ, suc, ◌+◌, ◌-◌, ◌*◌, ◌≤◌}
 use mathlib.Core.Bool.{true}
 use mathlib.Core.List.{List, [], ◌∷◌, ◌++◌, append_assoc, append-nil}
-use mathlib.Core.Path.{◌≡◌, refl, sym, ◌∙◌, ap}
+use mathlib.Core.Path.{◌≡◌, refl, sym, ◌∙◌, ap, subst}
 use native.Mathlib.Omega.{arith}
 use lib.ListN.{length, length-append}
 use lib.Seq.{slice, length-slice}
@@ -330,7 +330,8 @@ haves_said s (h ∷ hs) i before words long e =
     in
     let at = word before more i c.sync c.numbers long in
     let zero = first_word before more i c.sync c.numbers long in
-    rw (is, zero, at 1, at 2, at 3, at 4, at 5, at 6, c.syncs, again) (ap (λ (f : Filter). have_of_lem h.last_sync f ∷ hs) c.filter)
+    subst (λ (w : List ℕ). haves_from s (before ++ w) i (suc (length hs)) ≡ h ∷ hs) (sym is)
+    (rw (zero, at 1, at 2, at 3, at 4, at 5, at 6, c.syncs, again) (ap (λ (f : Filter). have_of_lem h.last_sync f ∷ hs) c.filter))
 
 pub haves_back : (s : List ℕ) (hs : List Have) (words : List ℕ) → length words ≡ have_words * length hs → SayAll (HaveSays s) words hs → haves_of s words ≡ hs
 unfolding haves_of

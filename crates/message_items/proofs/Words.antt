@@ -2,7 +2,7 @@
 use Prim.Native.Nat.{ℕ, zero, suc, ◌+◌, ◌-◌, ◌*◌, ◌%◌, ◌≤◌, ◌<◌, min}
 use mathlib.Core.Bool.{true}
 use mathlib.Core.List.{List, [], ◌∷◌, ◌++◌, append_assoc}
-use mathlib.Core.Path.{◌≡◌, refl, sym, ◌∙◌, ap}
+use mathlib.Core.Path.{◌≡◌, refl, sym, ◌∙◌, ap, subst}
 use native.Mathlib.Omega.{arith}
 use borrow.Author.Tests.{le-leb, eq-eqb}
 use lib.ListN.{length, get_or, length-append}
@@ -64,7 +64,8 @@ module _ (s : List ℕ) (all : Bytes s) where
       let longer : length (before ++ first) ≡ suc i * have_words = rw (length-append before first, long) (omega arith) in
       let again = records_good count (suc i) m.after (before ++ first) m.more next longer m.rest in
       let again2 = rw (append_assoc before first m.more) at again in
-      rw (← is) (rw (good, few, le-leb _ _ l.small) again2)
+      subst (λ (v : List ℕ). (haves_good_from s v i (suc count) ≡ true) × (syncs_few v i (suc count) ≡ true)) is
+      (rw (good, few, le-leb _ _ l.small) again2)
 
 pub haves_pass : (s : List ℕ) → Bytes s → (at : ℕ) (items : Run) (words : List ℕ) (next : ℕ) → haves_at s at ≡ list items words next
     → (passed_good s words ≡ true) × (passed_few words ≡ true)

@@ -1,7 +1,7 @@
 -- The tests of a session, one law for each way through them.
 use Prim.Native.Nat.{ℕ, zero, suc, ◌+◌, ◌-◌, ◌*◌, ◌≤◌, ◌<◌}
 use mathlib.Core.Bool.{Bool, true, false}
-use mathlib.Core.List.{List}
+use mathlib.Core.List.{List, ◌∷◌}
 use mathlib.Core.Path.{◌≡◌, refl}
 use native.Mathlib.Omega.{arith}
 use borrow.Author.Tests.{lt-leb, le-leb}
@@ -70,6 +70,11 @@ one_ascends s place zero h = refl
 one_ascends s place (suc zero) h = refl
 one_ascends s place (suc (suc n)) h = absurd (omega arith)
 
+-- a hash that is less than the next one leaves it to the rest
+climbed : (x y : ℕ) (ys : List ℕ) → ltb x y ≡ true → ascends (x ∷ y ∷ ys) ≡ ascends (y ∷ ys)
+unfolding ascends
+climbed x y ys e = rw e
+
 module _ (s : List ℕ) (count : ℕ) where
   -- whether the hashes from number i on ascend
   pub climbing : ℕ → Bool
@@ -90,12 +95,12 @@ module _ (s : List ℕ) (count : ℕ) where
         rw (d, next, e)
 
     pub climbing_on : i + 1 < count → ltb (hash_at s (sizes.hash * i)) (hash_at s (sizes.hash * (i + 1))) ≡ true → climbing i ≡ climbing (i + 1)
-    unfolding climbing hashes_at ascends
+    unfolding climbing hashes_at
     climbing_on l e =
         let d : count - i ≡ suc (suc (count - (i + 2))) = omega arith in
         let f : count - (i + 1) ≡ suc (count - (i + 2)) = omega arith in
         let next : sizes.hash * i + sizes.hash ≡ sizes.hash * (i + 1) = omega arith in
-        rw (d, f, next, e)
+        rw (d, f, next) (climbed _ _ _ e)
 
     pub climbing_ends : count ≤ i + 1 → climbing i ≡ true
     unfolding climbing

@@ -4,21 +4,11 @@ use Prim.Native.Nat.{ℕ, suc, ◌+◌, ◌-◌, ◌*◌, ◌≤◌}
 use mathlib.Core.List.{List, [], ◌∷◌}
 use mathlib.Core.Path.{◌≡◌, refl, sym, ◌∙◌}
 use native.Mathlib.Omega.{arith}
-use denote.Enum.Declared.{tag_of, declared}
 use lib.ListN.{length, set, length-set}
 use lib.Seq.{sets}
-use Rattle.rules.specs.declared.refusal.Refusal.{Refusal}
-use Rattle.wire.specs.declared.parse.Prefixed.{Prefixed}
-use Rattle.wire.specs.declared.parse.Prefixed.TheVariants.{Part, Refused as NoPart}
 use Rattle.wire.proofs.Item.{prefixed_inside}
-use Rattle.wire.specs.contracts.parse.Prefixed.{enum}
 use Rattle.message_items.proofs.ItemLaws.{chunk_stopped, chunk-item, putting_starts, putting_ends, putting_refused, putting_fits, putting_on}
 use Rattle.message_items.proofs.chunks.put_chunks.Goals as goal
-
--- an answer by its tag
-told_refused : (x : Prefixed) → tag_of (declared enum) x ≡ 1 → (r : Refusal) × (x ≡ NoPart r)
-told_refused (Part start end) e = absurd (omega arith)
-told_refused (NoPart r) e = (r, refl)
 
 -- two words one after the other
 two-put : (out : List ℕ) (i a b : ℕ) → set (set out i a) (i + 1) b ≡ sets out i (a ∷ b ∷ [])
@@ -91,8 +81,7 @@ bounds-out-at-in-Part c = simp length-set (omega (
 
 pub returns-in-Refused : goal.returns-in-Refused
 returns-in-Refused c =
-    let r = told_refused c.length_prefixed_bytes-chunk.result (enum_told c) in
-    absurd (putting_refused _ _ _ _ _ _ _ _ c.loop-k.invariant c.loop-k-test.true r.0 (chunk_stopped _ _ _ (sym c.length_prefixed_bytes-chunk.ensures ∙ r.1)))
+    absurd (putting_refused _ _ _ _ _ _ _ _ c.loop-k.invariant c.loop-k-test.true _ (chunk_stopped _ _ _ (sym c.length_prefixed_bytes-chunk.ensures ∙ c.in-Refused.is)))
 
 pub loop-k-preserved : goal.loop-k-preserved
 loop-k-preserved c =

@@ -8,7 +8,7 @@ use Rattle.bloom.specs.Have.{have_words}
 use Rattle.message_items.specs.Items.{have_at}
 use Rattle.message_items.specs.declared.haves.HaveRead.TheVariants.{Have}
 use Rattle.message_items.proofs.IgnoredLaws.{counting_starts, counting_ends, number_fits, ends_there, sum_fits, counting_on}
-use Rattle.message_items.proofs.ItemLaws.{told_refused, have_stopped, have_item_lem, putting_starts, putting_ends, putting_refused, putting_fits, putting_on}
+use Rattle.message_items.proofs.ItemLaws.{have_stopped, have_item_lem, putting_starts, putting_ends, putting_refused, putting_fits, putting_on}
 use Rattle.message_items.proofs.haves.put_counted.Goals as goal
 
 pub loop-k-init : goal.loop-k-init
@@ -18,7 +18,7 @@ pub overflow_add-behind : goal.overflow_add-behind
 overflow_add-behind c =
     let n = number_fits _ _ _ _ _ _ _ _ c.loop-k.invariant.counted c.loop-k-test.true _ _ _ ((let it : have_at c.args.bytes.now c.loop-k.next ≡ Have c.in-Have.sync c.in-Have.filter c.in-Have.after = sym c.parse_have-have.ensures ∙ c.in-Have.is in it)) in
     let e = ends_there _ _ _ _ _ _ _ _ c.loop-k.invariant.counted c.loop-k-test.true _ _ _ ((let it : have_at c.args.bytes.now c.loop-k.next ≡ Have c.in-Have.sync c.in-Have.filter c.in-Have.after = sym c.parse_have-have.ensures ∙ c.in-Have.is in it)) in
-    omega (arith, n, e, c.well-formed)
+    omega (arith, n, e, c.well_formed)
 
 pub overflow_sub-behind : goal.overflow_sub-behind
 overflow_sub-behind c =
@@ -26,7 +26,7 @@ overflow_sub-behind c =
 
 pub overflow_mul-k : goal.overflow_mul-k
 overflow_mul-k c =
-    omega (arith, (let it : have_words * c.loop-k.k + have_words ≤ length c.loop-k.out = putting_fits _ _ _ _ _ _ _ _ c.loop-k.invariant.put c.loop-k-test.true _ _ (have_item_lem _ _ _ _ _ ((let it : have_at c.args.bytes.now c.loop-k.next ≡ Have c.in-Have.sync c.in-Have.filter c.in-Have.after = sym c.parse_have-have.ensures ∙ c.in-Have.is in it))) refl (omega arith) in it), c.loop-k.invariant.put.long, c.well-formed)
+    omega (arith, (let it : have_words * c.loop-k.k + have_words ≤ length c.loop-k.out = putting_fits _ _ _ _ _ _ _ _ c.loop-k.invariant.put c.loop-k-test.true _ _ (have_item_lem _ _ _ _ _ ((let it : have_at c.args.bytes.now c.loop-k.next ≡ Have c.in-Have.sync c.in-Have.filter c.in-Have.after = sym c.parse_have-have.ensures ∙ c.in-Have.is in it))) refl (omega arith) in it), c.loop-k.invariant.put.long, c.well_formed)
 
 pub put_have-requires : goal.put_have-requires
 put_have-requires c = (let it : have_words * c.loop-k.k + have_words ≤ length c.loop-k.out = putting_fits _ _ _ _ _ _ _ _ c.loop-k.invariant.put c.loop-k-test.true _ _ (have_item_lem _ _ _ _ _ ((let it : have_at c.args.bytes.now c.loop-k.next ≡ Have c.in-Have.sync c.in-Have.filter c.in-Have.after = sym c.parse_have-have.ensures ∙ c.in-Have.is in it))) refl (omega arith) in it)
@@ -39,12 +39,11 @@ pub overflow_add-sum : goal.overflow_add-sum
 overflow_add-sum c =
     let n = sum_fits _ _ _ _ _ _ _ _ c.loop-k.invariant.counted c.loop-k-test.true _ _ _ ((let it : have_at c.args.bytes.now c.loop-k.next ≡ Have c.in-Have.sync c.in-Have.filter c.in-Have.after = sym c.parse_have-have.ensures ∙ c.in-Have.is in it)) in
     let e = ends_there _ _ _ _ _ _ _ _ c.loop-k.invariant.counted c.loop-k-test.true _ _ _ ((let it : have_at c.args.bytes.now c.loop-k.next ≡ Have c.in-Have.sync c.in-Have.filter c.in-Have.after = sym c.parse_have-have.ensures ∙ c.in-Have.is in it)) in
-    omega (arith, n, e, c.well-formed)
+    omega (arith, n, e, c.well_formed)
 
 pub returns-in-Refused : goal.returns-in-Refused
 returns-in-Refused c =
-    let r = told_refused c.parse_have-have.result (enum_told c) in
-    absurd (putting_refused _ _ _ _ _ _ _ _ c.loop-k.invariant.put c.loop-k-test.true r.0 (have_stopped _ _ _ (sym c.parse_have-have.ensures ∙ r.1)))
+    absurd (putting_refused _ _ _ _ _ _ _ _ c.loop-k.invariant.put c.loop-k-test.true _ (have_stopped _ _ _ (sym c.parse_have-have.ensures ∙ c.in-Refused.is)))
 
 pub loop-k-preserved : goal.loop-k-preserved
 loop-k-preserved c =

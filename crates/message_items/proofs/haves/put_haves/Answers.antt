@@ -5,7 +5,7 @@ use mathlib.Core.Path.{refl, sym, ◌∙◌}
 use native.Mathlib.Omega.{arith}
 use lib.ListN.{length}
 use Rattle.bloom.specs.Have.{have_words}
-use Rattle.message_items.proofs.ItemLaws.{told_refused, have_stopped, have_item_lem, putting_starts, putting_ends, putting_refused, putting_fits, putting_on}
+use Rattle.message_items.proofs.ItemLaws.{have_stopped, have_item_lem, putting_starts, putting_ends, putting_refused, putting_fits, putting_on}
 use Rattle.message_items.proofs.haves.put_haves.Goals as goal
 
 pub loop-k-init : goal.loop-k-init
@@ -29,8 +29,7 @@ put_have-requires c = (let it : have_words * c.loop-k.k + have_words ≤ length 
 
 pub returns-in-Refused : goal.returns-in-Refused
 returns-in-Refused c =
-    let r = told_refused c.parse_have-have.result (enum_told c) in
-    absurd (putting_refused _ _ _ _ _ _ _ _ c.loop-k.invariant c.loop-k-test.true r.0 (have_stopped _ _ _ (sym c.parse_have-have.ensures ∙ r.1)))
+    absurd (putting_refused _ _ _ _ _ _ _ _ c.loop-k.invariant c.loop-k-test.true _ (have_stopped _ _ _ (sym c.parse_have-have.ensures ∙ c.in-Refused.is)))
 
 pub loop-k-preserved : goal.loop-k-preserved
 loop-k-preserved c =

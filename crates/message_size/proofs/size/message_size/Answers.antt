@@ -6,67 +6,72 @@ use Rattle.bloom.specs.Have.{GoodHaves}
 use Rattle.rules.specs.Output.{size_of}
 use Rattle.rules.specs.declared.output.Size.TheVariants.{Bytes}
 use Rattle.message_size.proofs.SizeLaws.{most_haves}
-use Rattle.message_size.proofs.WriteLaws.{lists_output, chunks_output, sized_lists, sized_chunks, sized_past, sized_all, first_small, chunks_are, middle_small, section_small, sized_haves}
+use Rattle.message_size.proofs.WriteLaws.{
+  lists_output,
+  chunks_output,
+  sized_lists,
+  sized_chunks,
+  sized_past,
+  sized_all,
+  first_small,
+  chunks_are,
+  middle_small,
+  section_small,
+  sized_haves,
+}
 use Rattle.message_size.proofs.size.message_size.Goals as goal
 
-abbrev start : goal.In-Bytes-2 → tie.Start
-start c = c
-
-abbrev lists_of : goal.In-Bytes-rest-2 → tie.After-lists
-lists_of c = c
-
 pub overflow_add-size : goal.overflow_add-size
-overflow_add-size c = omega (arith, first_small _ _ _ _ _ (first (lists_of c)))
+overflow_add-size c =
+    let first : size_of (lists_output c.args.heads.now c.args.need.now c.args.bytes.now c.args.haves.now) ≡ Bytes c.in-Bytes.first = sym c.lists_size-lists.ensures ∙ c.in-Bytes.is in
+    omega (arith, first_small _ _ _ _ _ first)
 
 pub haves_size-requires : goal.haves_size-requires
-haves_size-requires c = (let it : (let a = (start (lists_of c)).args in GoodHaves a.bytes.now a.haves.now) = sized_haves _ _ _ _ _ _ _ _ (first (lists_of c)) ((let it : (let a = (start (lists_of c)).args in
-    size_of (chunks_output a.haves.now a.chunks.now a.lengths.now) ≡ Bytes c.in-Bytes-rest.last) = sym c.chunks_size-rest.ensures ∙ c.in-Bytes-rest.is in it)) in it)
+haves_size-requires c =
+    let first : size_of (lists_output c.args.heads.now c.args.need.now c.args.bytes.now c.args.haves.now) ≡ Bytes c.in-Bytes.first = sym c.lists_size-lists.ensures ∙ c.in-Bytes.is in
+    let last : size_of (chunks_output c.args.haves.now c.args.chunks.now c.args.lengths.now) ≡ Bytes c.in-Bytes-rest.last = sym c.chunks_size-rest.ensures ∙ c.in-Bytes-rest.is in
+    sized_haves _ _ _ _ _ _ _ _ first last
 
 pub overflow_add-size-in-Bytes-rest : goal.overflow_add-size-in-Bytes-rest
-overflow_add-size-in-Bytes-rest c = omega (
-  arith,
-  first_small _ _ _ _ _ (first (lists_of c)),
-  (let it : c.haves_size.result ≤ most_haves = middle_small _ _ _ ((let it : (let a = (start (lists_of c)).args in GoodHaves a.bytes.now a.haves.now) = sized_haves _ _ _ _ _ _ _ _ (first (lists_of c)) ((let it : (let a = (start (lists_of c)).args in
-      size_of (chunks_output a.haves.now a.chunks.now a.lengths.now) ≡ Bytes c.in-Bytes-rest.last) = sym c.chunks_size-rest.ensures ∙ c.in-Bytes-rest.is in it)) in it)) c.haves_size.ensures in it),
-)
+overflow_add-size-in-Bytes-rest c =
+    let first : size_of (lists_output c.args.heads.now c.args.need.now c.args.bytes.now c.args.haves.now) ≡ Bytes c.in-Bytes.first = sym c.lists_size-lists.ensures ∙ c.in-Bytes.is in
+    let last : size_of (chunks_output c.args.haves.now c.args.chunks.now c.args.lengths.now) ≡ Bytes c.in-Bytes-rest.last = sym c.chunks_size-rest.ensures ∙ c.in-Bytes-rest.is in
+    let good : GoodHaves c.args.bytes.now c.args.haves.now = sized_haves _ _ _ _ _ _ _ _ first last in
+    let middle : c.haves_size.result ≤ most_haves = middle_small _ _ _ good c.haves_size.ensures in
+    omega (arith, first_small _ _ _ _ _ first, middle)
 
 pub overflow_add-size-in-Bytes-rest-2 : goal.overflow_add-size-in-Bytes-rest-2
 overflow_add-size-in-Bytes-rest-2 c =
-    omega (
-      arith,
-      first_small _ _ _ _ _ (first (lists_of c)),
-      (let it : c.haves_size.result ≤ most_haves = middle_small _ _ _ ((let it : (let a = (start (lists_of c)).args in GoodHaves a.bytes.now a.haves.now) = sized_haves _ _ _ _ _ _ _ _ (first (lists_of c)) ((let it : (let a = (start (lists_of c)).args in
-          size_of (chunks_output a.haves.now a.chunks.now a.lengths.now) ≡ Bytes c.in-Bytes-rest.last) = sym c.chunks_size-rest.ensures ∙ c.in-Bytes-rest.is in it)) in it)) c.haves_size.ensures in it),
-      (chunks_are _ _ _ _ ((let it : (let a = (start (lists_of c)).args in
-          size_of (chunks_output a.haves.now a.chunks.now a.lengths.now) ≡ Bytes c.in-Bytes-rest.last) = sym c.chunks_size-rest.ensures ∙ c.in-Bytes-rest.is in it))).small,
-    )
+    let first : size_of (lists_output c.args.heads.now c.args.need.now c.args.bytes.now c.args.haves.now) ≡ Bytes c.in-Bytes.first = sym c.lists_size-lists.ensures ∙ c.in-Bytes.is in
+    let last : size_of (chunks_output c.args.haves.now c.args.chunks.now c.args.lengths.now) ≡ Bytes c.in-Bytes-rest.last = sym c.chunks_size-rest.ensures ∙ c.in-Bytes-rest.is in
+    let good : GoodHaves c.args.bytes.now c.args.haves.now = sized_haves _ _ _ _ _ _ _ _ first last in
+    let middle : c.haves_size.result ≤ most_haves = middle_small _ _ _ good c.haves_size.ensures in
+    omega (arith, first_small _ _ _ _ _ first, middle, (chunks_are _ _ _ _ last).small)
 
 pub overflow_add-size-in-Bytes-rest-3 : goal.overflow_add-size-in-Bytes-rest-3
 overflow_add-size-in-Bytes-rest-3 c =
-    omega (
-      arith,
-      first_small _ _ _ _ _ (first (lists_of c)),
-      (let it : c.haves_size.result ≤ most_haves = middle_small _ _ _ ((let it : (let a = (start (lists_of c)).args in GoodHaves a.bytes.now a.haves.now) = sized_haves _ _ _ _ _ _ _ _ (first (lists_of c)) ((let it : (let a = (start (lists_of c)).args in
-          size_of (chunks_output a.haves.now a.chunks.now a.lengths.now) ≡ Bytes c.in-Bytes-rest.last) = sym c.chunks_size-rest.ensures ∙ c.in-Bytes-rest.is in it)) in it)) c.haves_size.ensures in it),
-      (chunks_are _ _ _ _ ((let it : (let a = (start (lists_of c)).args in
-          size_of (chunks_output a.haves.now a.chunks.now a.lengths.now) ≡ Bytes c.in-Bytes-rest.last) = sym c.chunks_size-rest.ensures ∙ c.in-Bytes-rest.is in it))).small,
-      section_small _ _ c.section_size.ensures,
-    )
+    let first : size_of (lists_output c.args.heads.now c.args.need.now c.args.bytes.now c.args.haves.now) ≡ Bytes c.in-Bytes.first = sym c.lists_size-lists.ensures ∙ c.in-Bytes.is in
+    let last : size_of (chunks_output c.args.haves.now c.args.chunks.now c.args.lengths.now) ≡ Bytes c.in-Bytes-rest.last = sym c.chunks_size-rest.ensures ∙ c.in-Bytes-rest.is in
+    let good : GoodHaves c.args.bytes.now c.args.haves.now = sized_haves _ _ _ _ _ _ _ _ first last in
+    let middle : c.haves_size.result ≤ most_haves = middle_small _ _ _ good c.haves_size.ensures in
+    omega (arith, first_small _ _ _ _ _ first, middle, (chunks_are _ _ _ _ last).small, section_small _ _ c.section_size.ensures)
 
 pub returns-then-size-gt-MESSAGE_SIZE : goal.returns-then-size-gt-MESSAGE_SIZE
 returns-then-size-gt-MESSAGE_SIZE c =
-    sized_past _ _ _ _ _ _ _ _ (first (lists_of c)) _ ((let it : (let a = (start (lists_of c)).args in
-    size_of (chunks_output a.haves.now a.chunks.now a.lengths.now) ≡ Bytes c.in-Bytes-rest.last) = sym c.chunks_size-rest.ensures ∙ c.in-Bytes-rest.is in it)) _ _ c.haves_size.ensures c.section_size.ensures c.if-size-gt-MESSAGE_SIZE.true
+    let first : size_of (lists_output c.args.heads.now c.args.need.now c.args.bytes.now c.args.haves.now) ≡ Bytes c.in-Bytes.first = sym c.lists_size-lists.ensures ∙ c.in-Bytes.is in
+    let last : size_of (chunks_output c.args.haves.now c.args.chunks.now c.args.lengths.now) ≡ Bytes c.in-Bytes-rest.last = sym c.chunks_size-rest.ensures ∙ c.in-Bytes-rest.is in
+    sized_past _ _ _ _ _ _ _ _ first _ last _ _ c.haves_size.ensures c.section_size.ensures c.if-size-gt-MESSAGE_SIZE.true
 
 pub returns-else-size-gt-MESSAGE_SIZE : goal.returns-else-size-gt-MESSAGE_SIZE
 returns-else-size-gt-MESSAGE_SIZE c =
-    sized_all _ _ _ _ _ _ _ _ (first (lists_of c)) _ ((let it : (let a = (start (lists_of c)).args in
-    size_of (chunks_output a.haves.now a.chunks.now a.lengths.now) ≡ Bytes c.in-Bytes-rest.last) = sym c.chunks_size-rest.ensures ∙ c.in-Bytes-rest.is in it)) _ _ c.haves_size.ensures c.section_size.ensures c.if-size-gt-MESSAGE_SIZE.false
+    let first : size_of (lists_output c.args.heads.now c.args.need.now c.args.bytes.now c.args.haves.now) ≡ Bytes c.in-Bytes.first = sym c.lists_size-lists.ensures ∙ c.in-Bytes.is in
+    let last : size_of (chunks_output c.args.haves.now c.args.chunks.now c.args.lengths.now) ≡ Bytes c.in-Bytes-rest.last = sym c.chunks_size-rest.ensures ∙ c.in-Bytes-rest.is in
+    sized_all _ _ _ _ _ _ _ _ first _ last _ _ c.haves_size.ensures c.section_size.ensures c.if-size-gt-MESSAGE_SIZE.false
 
 pub returns-in-Refused-rest : goal.returns-in-Refused-rest
 returns-in-Refused-rest c =
-    sized_chunks _ _ _ _ _ _ _ _ ((let it : (let a = (start c).args in
-    size_of (lists_output a.heads.now a.need.now a.bytes.now a.haves.now) ≡ Bytes c.in-Bytes.first) = sym c.lists_size-lists.ensures ∙ c.in-Bytes.is in it)) _ (sym c.chunks_size-rest.ensures ∙ c.in-Refused-rest.is)
+    let first : size_of (lists_output c.args.heads.now c.args.need.now c.args.bytes.now c.args.haves.now) ≡ Bytes c.in-Bytes.first = sym c.lists_size-lists.ensures ∙ c.in-Bytes.is in
+    sized_chunks _ _ _ _ _ _ _ _ first _ (sym c.chunks_size-rest.ensures ∙ c.in-Refused-rest.is)
 
 pub returns-in-Refused : goal.returns-in-Refused
 returns-in-Refused c =

@@ -1,0 +1,6 @@
+-- `bloom_calls::calls::bt_write_filter` meets its contract: the words and the buffer of what the writer ensures. Assumes nothing.
+use Rattle.call_words.proofs.Answers.{answered}
+use Rattle.bloom_calls.proofs.calls.bt_write_filter.Goals as goal
+
+pub returns : goal.returns
+returns c = answered _ _ _ _ _ c.to_bytes.ensures c.write_words.ensures
