@@ -8,7 +8,8 @@ use Rattle.call_words.specs.Ties.{Ties}
 use Rattle.plan_offer.specs.OfferCall.{offer_of}
 use Rattle.session_check.specs.SessionGood.{lent_of}
 use Rattle.offer_calls.specs.OfferWords.{OfferAnswered}
-use Rattle.offer_calls.proofs.calls.bt_offer as of-bt-offer
+use Rattle.offer_calls.specs.contracts.calls.bt_offer as of-bt-offer
+use Rattle.offer_calls.proofs.calls.bt_offer.Reads as reads-bt-offer
 
 -- bt_offer: twelve arguments, of which it changes the list and the answer.
 abbrev pub OfferTied : (κs : Lfts (of-bt-offer.ended).signature.lifetimes) → Args (of-bt-offer.ended).signature κs → AtExit of-bt-offer.ended κs → Type 0
@@ -20,5 +21,5 @@ OfferTied κs
     table.now index.now)
     list.now list'.now answer'.now
 
-pub offer_tied : Ties of-bt-offer.ended of-bt-offer.Reads.Post OfferTied
+pub offer_tied : Ties of-bt-offer.ended reads-bt-offer.Post OfferTied
 offer_tied κs a x u p = p

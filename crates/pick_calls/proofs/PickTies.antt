@@ -8,15 +8,17 @@ use Rattle.call_words.specs.Answer.{Answered}
 use Rattle.call_words.specs.Ties.{Ties}
 use Rattle.pick.specs.PickCalls.{check_answer, pick_output}
 use Rattle.pick_calls.specs.PickWords.{pick_words}
-use Rattle.pick_calls.proofs.calls.bt_check_pick as of-bt-check-pick
-use Rattle.pick_calls.proofs.calls.bt_pick as of-bt-pick
+use Rattle.pick_calls.specs.contracts.calls.bt_check_pick as of-bt-check-pick
+use Rattle.pick_calls.proofs.calls.bt_check_pick.Reads as reads-bt-check-pick
+use Rattle.pick_calls.specs.contracts.calls.bt_pick as of-bt-pick
+use Rattle.pick_calls.proofs.calls.bt_pick.Reads as reads-bt-pick
 
 -- bt_pick: seven arguments, of which it changes the last two.
 abbrev pub PickTied : (κs : Lfts (of-bt-pick.ended).signature.lifetimes) → Args (of-bt-pick.ended).signature κs → AtExit of-bt-pick.ended κs → Type 0
 PickTied κs (table, (index, (list, (row-sizes, (budget, (out, (answer, _))))))) (_, (_, (_, (_, (_, (out', (answer', _))))))) =
     Answered (pick_output table.now index.now list.now row-sizes.now budget) out.now out'.now answer'.now
 
-pub pick_tied : Ties of-bt-pick.ended of-bt-pick.Reads.Post PickTied
+pub pick_tied : Ties of-bt-pick.ended reads-bt-pick.Post PickTied
 pick_tied κs a x u p = p
 
 -- bt_check_pick: seven arguments, of which it changes the last.
@@ -25,5 +27,5 @@ abbrev pub CheckPickTied : (κs : Lfts (of-bt-check-pick.ended).signature.lifeti
 CheckPickTied κs (table, (index, (list, (row-sizes, (budget, (pick, (answer, _))))))) (_, (_, (_, (_, (_, (_, (answer', _))))))) =
     answer'.now ≡ pick_words (check_answer table.now index.now list.now row-sizes.now budget pick.now)
 
-pub check_pick_tied : Ties of-bt-check-pick.ended of-bt-check-pick.Reads.Post CheckPickTied
+pub check_pick_tied : Ties of-bt-check-pick.ended reads-bt-check-pick.Post CheckPickTied
 check_pick_tied κs a x u p = p

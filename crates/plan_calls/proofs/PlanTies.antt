@@ -9,10 +9,14 @@ use Rattle.session_check.specs.SessionGood.{lent_of}
 use Rattle.session.specs.PlanCall.{plan_with, plan_passed, plan_settled, plan_picked_settled, buffers_of}
 use Rattle.call_words.specs.SessionWords.{session_of}
 use Rattle.plan_calls.specs.PlanWords.{PlanAnswered}
-use Rattle.plan_calls.proofs.calls.bt_plan as of-bt-plan
-use Rattle.plan_calls.proofs.plan_picked.bt_plan_picked as of-bt-plan-picked
-use Rattle.plan_calls.proofs.plan_settled.bt_plan_settled as of-bt-plan-settled
-use Rattle.plan_calls.proofs.plan_with.bt_plan_with as of-bt-plan-with
+use Rattle.plan_calls.specs.contracts.calls.bt_plan as of-bt-plan
+use Rattle.plan_calls.proofs.calls.bt_plan.Reads as reads-bt-plan
+use Rattle.plan_calls.specs.contracts.plan_picked.bt_plan_picked as of-bt-plan-picked
+use Rattle.plan_calls.proofs.plan_picked.bt_plan_picked.Reads as reads-bt-plan-picked
+use Rattle.plan_calls.specs.contracts.plan_settled.bt_plan_settled as of-bt-plan-settled
+use Rattle.plan_calls.proofs.plan_settled.bt_plan_settled.Reads as reads-bt-plan-settled
+use Rattle.plan_calls.specs.contracts.plan_with.bt_plan_with as of-bt-plan-with
+use Rattle.plan_calls.proofs.plan_with.bt_plan_with.Reads as reads-bt-plan-with
 
 -- bt_plan: sixteen arguments, of which it changes the session's words, last-sent, sent, and what stands behind the waiting table.
 abbrev pub PlanTied : (κs : Lfts (of-bt-plan.ended).signature.lifetimes) → Args (of-bt-plan.ended).signature κs → AtExit of-bt-plan.ended κs → Type 0
@@ -29,7 +33,7 @@ PlanTied κs
     (buffers_of heads'.now need'.now have'.now list'.now)
     answer'.now
 
-pub plan_tied : Ties of-bt-plan.ended of-bt-plan.Reads.Post PlanTied
+pub plan_tied : Ties of-bt-plan.ended reads-bt-plan.Post PlanTied
 plan_tied κs a x u p = p
 
 -- bt_plan_with: bits and probes come first.
@@ -47,7 +51,7 @@ PlanWithTied κs
     (buffers_of heads'.now need'.now have'.now list'.now)
     answer'.now
 
-pub plan_with_tied : Ties of-bt-plan-with.ended of-bt-plan-with.Reads.Post PlanWithTied
+pub plan_with_tied : Ties of-bt-plan-with.ended reads-bt-plan-with.Post PlanWithTied
 plan_with_tied κs a x u p = p
 
 -- bt_plan_settled: the list, the station and the version come first.
@@ -65,7 +69,7 @@ PlanSettledTied κs
     (buffers_of heads'.now need'.now have'.now list'.now)
     answer'.now
 
-pub plan_settled_tied : Ties of-bt-plan-settled.ended of-bt-plan-settled.Reads.Post PlanSettledTied
+pub plan_settled_tied : Ties of-bt-plan-settled.ended reads-bt-plan-settled.Post PlanSettledTied
 plan_settled_tied κs a x u p = p
 
 -- bt_plan_picked: the list, the station and the version come first, then the sizes, the budget and the pick.
@@ -83,5 +87,5 @@ PlanPickedTied κs
     (buffers_of heads'.now need'.now have'.now list'.now)
     answer'.now
 
-pub plan_picked_tied : Ties of-bt-plan-picked.ended of-bt-plan-picked.Reads.Post PlanPickedTied
+pub plan_picked_tied : Ties of-bt-plan-picked.ended reads-bt-plan-picked.Post PlanPickedTied
 plan_picked_tied κs a x u p = p

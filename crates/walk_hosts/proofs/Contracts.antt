@@ -6,7 +6,7 @@ use Rattle.plan_calls.proofs.PlanTies.{plan_tied, plan_with_tied, plan_settled_t
 use Rattle.receive_calls.proofs.ReceiveTies.{receive_tied}
 use Rattle.state_calls.proofs.Ties.{fresh_tied}
 use Rattle.session.proofs.SettledLaws.{passed_keeps, settled_plans, picked_plans}
-use Rattle.walk_hosts.specs.Contracts.{Contracts}
+use Rattle.walk_hosts.specs.CallContracts.{Contracts}
 
 pub contracts : Contracts
 contracts =

@@ -42,7 +42,7 @@ use Rattle.walk.specs.Round.{Part}
 use Rattle.walk.proofs.Example.{a, b, c, one, three, c_waits, part_one}
 use Rattle.walk_hosts.specs.Calls.{speaks, have_words_in, WriteMade, Hears, Both, SaidSo, GoodSettings, CallsRound, TalkOfCalls}
 use Rattle.walk_hosts.specs.Calls.{AllGranted, CallsEnd, Lends}
-use Rattle.walk_hosts.specs.Contracts.{WriteLent, ReceiveLent}
+use Rattle.walk_hosts.specs.CallContracts.{WriteLent, ReceiveLent}
 use Rattle.walk_hosts.proofs.Goes.{calls_go}
 use Rattle.walk_hosts.proofs.Talk.{calls_corollary}
 

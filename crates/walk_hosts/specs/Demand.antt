@@ -16,7 +16,7 @@ use Rattle.walk_sessions.specs.Passing.{PassedWalks}
 use Rattle.walk_sessions.specs.Talk.{Theorem2, Sessions01, SessionsPicked, Corollary}
 use Rattle.walk.specs.Walk.{Walk01Walks, Round01Rounds, Walk01New, Walk01Goes, Theorem1}
 use Rattle.walk_hosts.specs.Calls.{CallsAreSteps, CallsCorollary, CallsGo}
-use Rattle.walk_hosts.specs.Contracts.{Contracts}
+use Rattle.walk_hosts.specs.CallContracts.{Contracts}
 use Rattle.walk_hosts.specs.States.{CallsState}
 
 -- What is proved of a catch-up, each part with the sentence that it is.

@@ -1,5 +1,5 @@
 pub mod Calls
-pub mod Contracts
+pub mod CallContracts
 pub mod Demand
 pub mod Memory
 pub mod States
