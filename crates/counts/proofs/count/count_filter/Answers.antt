@@ -13,4 +13,4 @@ returns-in-Refused c = filter_refused _ _ _ (sym c.parse-parsed.ensures ∙ c.in
 
 pub returns-in-Filter : goal.returns-in-Filter
 returns-in-Filter c =
-    ap Made c.Counts-of.ensures ∙ filter_accepted _ _ _ _ (sym c.parse-parsed.ensures ∙ c.in-Filter.is)
+    ap Made c.counts_of.ensures ∙ filter_accepted _ _ _ _ (sym c.parse-parsed.ensures ∙ c.in-Filter.is)

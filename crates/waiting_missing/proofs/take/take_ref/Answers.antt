@@ -9,11 +9,11 @@ use Rattle.waiting_missing.proofs.take.take_ref.Goals as goal
 
 pub returns-then-look_up-n : goal.returns-then-look_up-n
 returns-then-look_up-n c =
-    took_not _ c.requires.2 (held_known _ _ _ _ _ _ _ c.look_up.ensures (hash_copied _ _ _ _ _ (λ c. (c.type_inv.list c).ranges) (λ c. (c.type_inv.waiting c).ranges) _ c.put_ref.ensures) c.if-look_up-n.true)
+    took_not _ c.requires.2 (held_known _ _ _ _ _ _ _ c.look_up.ensures (hash_copied _ _ _ _ _ (λ k. (c.type_inv.list k).fits) (λ k. (c.type_inv.waiting k).fits) _ c.put_ref.ensures) c.if-look_up-n.true)
 
 pub returns-then-find_waiting-m : goal.returns-then-find_waiting-m
 returns-then-find_waiting-m c =
-    took_not _ c.requires.2 (waiting_known _ _ _ _ _ _ _ c.look_up.ensures (hash_copied _ _ _ _ _ (λ c. (c.type_inv.list c).ranges) (λ c. (c.type_inv.waiting c).ranges) _ c.put_ref.ensures) _ c.find_waiting.ensures c.if-find_waiting-m.true)
+    took_not _ c.requires.2 (waiting_known _ _ _ _ _ _ _ c.look_up.ensures (hash_copied _ _ _ _ _ (λ k. (c.type_inv.list k).fits) (λ k. (c.type_inv.waiting k).fits) _ c.put_ref.ensures) _ c.find_waiting.ensures c.if-find_waiting-m.true)
 
 pub add_ref-requires : goal.add_ref-requires
 add_ref-requires c =
@@ -21,4 +21,4 @@ add_ref-requires c =
 
 pub returns : goal.returns
 returns c =
-    took_one _ (neither_unknown _ _ _ _ _ _ _ c.look_up.ensures (hash_copied _ _ _ _ _ (λ c. (c.type_inv.list c).ranges) (λ c. (c.type_inv.waiting c).ranges) _ c.put_ref.ensures) _ c.find_waiting.ensures c.if-look_up-n.false c.if-find_waiting-m.false) c.add_ref.ensures
+    took_one _ (neither_unknown _ _ _ _ _ _ _ c.look_up.ensures (hash_copied _ _ _ _ _ (λ k. (c.type_inv.list k).fits) (λ k. (c.type_inv.waiting k).fits) _ c.put_ref.ensures) _ c.find_waiting.ensures c.if-look_up-n.false c.if-find_waiting-m.false) c.add_ref.ensures
