@@ -1,0 +1,6 @@
+-- `table_calls::calls::bt_build_index` meets its contract: the words and the buffer of what the call ensures. Assumes nothing.
+use Rattle.call_words.proofs.Answers.{answered}
+use Rattle.table_calls.proofs.calls.bt_build_index.Goals as goal
+
+pub returns : goal.returns
+returns c = answered _ _ _ _ _ c.build_index.ensures c.write_words.ensures
