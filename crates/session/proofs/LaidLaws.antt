@@ -37,7 +37,7 @@ length_from : (at : ℕ) (vs : List Have) → length (laid_from at vs) ≡ have_
 unfolding laid_from
 length_from at [] = refl
 length_from at (v ∷ vs) =
-    let rest : length (laid_from (at + sizes.hash * length v.last_sync + length v.filter.field) vs) ≡ have_words * length vs = length_from _ vs in
+    let rest : length (laid_from (at + sizes.hash * length v.last_sync + length v.filter.field) vs) ≡ have_words * length vs = length_from (at + sizes.hash * length v.last_sync + length v.filter.field) vs in
     omega arith
 
 -- a record a have
