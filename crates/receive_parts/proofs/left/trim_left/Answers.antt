@@ -3,6 +3,7 @@
 use mathlib.Core.Bool.{not}
 use mathlib.Core.Path.{sym, ap, ◌∙◌}
 use native.Mathlib.Omega.{arith}
+use borrow.Author.Rules.{rules}
 use Rattle.receive_parts.specs.Internal.ReceiveParts.{held_marked}
 use Rattle.receive_parts.proofs.LeftLaws.{trimming_starts, trimming_told, trimming_passed, trimming_taken, trimming_ends}
 use Rattle.receive_parts.proofs.left.trim_left.Goals as goal
@@ -35,7 +36,7 @@ pub loop-k-preserved : goal.loop-k-preserved
 loop-k-preserved c =
     trimming_taken _ _ _ _ _ _ c.loop-k.invariant c.loop-k-test.true _
     (trimming_told _ _ _ _ _ _ c.loop-k.invariant c.loop-k-test.true (ap not (sym c.held_marked.ensures ∙ c.if-held_marked.false)))
-    (λ i. (c.type_inv.sent i).fits)
+    (λ i. search rules)
     c.requires.2
     c.move_hash.auto.list
     c.move_hash.ensures
