@@ -3,7 +3,7 @@ use Rattle.plan_parts.proofs.TestLaws.{first_fails, second_decides}
 use Rattle.plan_decide.proofs.decide.tells_reset.Goals as goal
 
 pub returns-then-not-needs_reset : goal.returns-then-not-needs_reset
-returns-then-not-needs_reset c = first_fails c.args.needs_reset c.args.supports_reset_lem c.if-not-needs_reset.true
+returns-then-not-needs_reset c = first_fails c.args.needs_reset c.args.supports_reset c.if-not-needs_reset.true
 
 pub returns : goal.returns
-returns c = second_decides c.args.needs_reset c.args.supports_reset_lem c.if-not-needs_reset.false
+returns c = second_decides c.args.needs_reset c.args.supports_reset c.if-not-needs_reset.false
