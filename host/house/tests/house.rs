@@ -471,14 +471,22 @@ fn every_public_contract_is_bound() {
     let mut bound = Vec::new();
     for path in files(&root().join("crates/one_answer/specs"), ".antt") {
         let text = read(&path);
-        let lines = text
-            .lines()
-            .filter_map(|line| line.strip_prefix("use Rattle."));
-        let lines = lines.filter_map(|line| line.split_once(".proofs."));
-        for (krate, rest) in lines {
-            let (path, name) = rest.split_once(" as ").expect("a name of its own");
+        let imports = |from: &str| -> BTreeMap<(&str, &str), &str> {
+            let lines = text
+                .lines()
+                .filter_map(|line| line.strip_prefix("use Rattle."));
+            let lines = lines.filter_map(|line| line.split_once(from));
+            let named = lines.map(|(krate, rest)| {
+                let (path, name) = rest.split_once(" as ").expect("a name of its own");
+                ((krate, path.trim_end_matches(".Reads")), name)
+            });
+            named.collect()
+        };
+        let (contracts, reads) = (imports(".specs.contracts."), imports(".proofs."));
+        for ((krate, path), name) in contracts {
+            let reads = reads.get(&(krate, path)).expect("what it says");
             // A contract that is only named is bound by nothing: its line is a field.
-            let field = format!(" : Binds {name}.ended {name}.Reads.Post");
+            let field = format!(" : Binds {name}.ended {reads}.Post");
             assert!(
                 text.lines()
                     .any(|line| line.starts_with("  pub ") && line.ends_with(&field)),
