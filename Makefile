@@ -50,9 +50,9 @@ check:
 edit:
 	@bash .ci/edit $(CRATE) $(EDIT)
 
-# docs/EDITS.md anew, from what the gate's last run left in target/.
+# docs/EDITS.md anew, from what the gate's last run left in target/, or from another output of `rt ci`: make edits LOG=FILE.
 edits: tools
-	@cd host && cargo run --offline --release --package house --bin edits
+	@cd host && cargo run --offline --release --package house --bin edits -- '$(abspath $(or $(LOG),target/gate/rt))'
 
 # The table of costs in docs/WORKING.md anew: make costs LOG=FILE, with the output of `make test`; without LOG its seconds stay.
 costs: tools

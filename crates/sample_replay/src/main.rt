@@ -14,17 +14,14 @@ mod little_endian;
 mod record;
 mod walk;
 
-ghost use Rattle.std.specs.Prelude.{◌≡◌, length};
+ghost use Rattle.std.specs.Prelude.{◌≡◌, ◌≤◌, IfOk, length};
 
+use std::io;
+use std::io::Read;
 use walk::ReplayCounts;
 
 // The most bytes of a sample: what follows them is not read.
 const MOST: usize = 131_072;
-
-// Standard input and standard output.
-const INPUT: i32 = 0;
-
-const OUTPUT: i32 = 1;
 
 // Room for the longest sample. The `ensures` gives the length, which lending the array as a slice needs.
 fn buffer() -> [u8; MOST]
@@ -33,33 +30,43 @@ fn buffer() -> [u8; MOST]
     [0; MOST]
 }
 
-fn report_kind(name: &[u8], records: u64, agree: u64) {
-    io::write_all(OUTPUT, name);
-    io::print_decimal(OUTPUT, records);
-    io::write_all(OUTPUT, b" agree ");
-    io::print_decimal(OUTPUT, agree);
-    io::write_all(OUTPUT, b"\n");
+// Reads until the buffer is full or the input ends, and answers how many bytes were put at its start.
+fn read_full(input: &mut impl Read, bytes: &mut [u8]) -> io::Result<usize>
+    ensures { IfOk result (λ n. n ≤ length bytes.new) }
+{
+    let mut done = 0;
+    while done < bytes.len() {
+        let n = input.read(&mut bytes[done..])?;
+        if n == 0 {
+            break;
+        }
+        done += n;
+    }
+    Ok(done)
+}
+
+fn report_kind(rt: &impl Print, name: &str, records: u64, agree: u64) -> io::Result<()> {
+    println!(rt; "{name} {records} agree {agree}")
 }
 
 // A line for each kind (a new one adds its own here, beside its arm in `record::replayed`), and one more where the walk stopped before the end of the `n` bytes.
-fn report(counts: ReplayCounts, n: usize) {
+fn report(rt: &impl Print, counts: ReplayCounts, n: usize) -> io::Result<()> {
     let records = counts.records;
     let agree = counts.agree;
     let end = counts.end;
-    report_kind(b"numbers ", records[1], agree[1]);
-    report_kind(b"filter numbers ", records[2], agree[2]);
-    report_kind(b"prefixed strings ", records[3], agree[3]);
-    report_kind(b"hash lists ", records[4], agree[4]);
+    report_kind(rt, "numbers", records[1], agree[1])?;
+    report_kind(rt, "filter numbers", records[2], agree[2])?;
+    report_kind(rt, "prefixed strings", records[3], agree[3])?;
+    report_kind(rt, "hash lists", records[4], agree[4])?;
     if end < n {
-        io::write_all(OUTPUT, b"bad record at ");
-        io::print_decimal(OUTPUT, end as u64);
-        io::write_all(OUTPUT, b"\n");
+        println!(rt; "bad record at {end}")?;
     }
+    Ok(())
 }
 
-fn main() {
+fn main(rt: HostRuntime) -> io::Result<()> {
     let mut bytes = buffer();
-    let n = io::read_full(INPUT, &mut bytes);
+    let n = read_full(&mut rt.reader(), &mut bytes)?;
     let counts = walk::walk(&bytes[..n]);
-    report(counts, n);
+    report(&rt, counts, n)
 }

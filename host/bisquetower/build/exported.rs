@@ -1,6 +1,7 @@
 //! The exported functions, read from where they are declared: the source of the
 //! proved crates NAME_calls. So no declaration of a call stands in host/, and none
-//! can differ from the library's.
+//! can differ from the library's: the crate bisquetower, which the archive is made
+//! of, repeats each with the same words (a test of host/house compares them).
 
 use std::fs;
 use std::path::{Path, PathBuf};
@@ -68,7 +69,7 @@ impl Parameter {
 
 const CALLS: &str = "_calls";
 const PREFIX: &str = "bt_";
-const MARK: &str = "#[no_mangle]";
+const MARK: &str = "#[unsafe(no_mangle)]";
 const START: &str = "pub extern \"C\" fn ";
 const NUMBERS: [&str; 6] = ["u8", "u16", "u32", "u64", "usize", "bool"];
 

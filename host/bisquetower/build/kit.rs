@@ -3,13 +3,12 @@
 use std::env;
 use std::path::PathBuf;
 
-/// The folder of its compiler, linker and emulator, for this machine.
+/// The folder of its compiler and linker. A kit for another processor has the emulator there too.
 pub fn tools() -> Option<PathBuf> {
-    let machine = kit()?.join("on").join(env::consts::ARCH);
-    Some(machine.join("toolchain/bin"))
+    Some(kit()?.join("toolchain/bin"))
 }
 
-/// The kit's folder, by the same two ways as `rt` finds it.
+/// The kit's folder: RATTLE_HOME names it, or it is the one that `rt` stands in.
 fn kit() -> Option<PathBuf> {
     if let Some(home) = env::var_os("RATTLE_HOME") {
         return Some(home.into());

@@ -36,7 +36,7 @@ fn the_header_declares_every_call() {
 fn every_kind_of_parameter_in_c() {
     let source = "
 // One.
-#[no_mangle]
+#[unsafe(no_mangle)]
 pub extern \"C\" fn bt_all(s: &[u8], out: &mut [u64], hash: &[u8; 32], words: &mut [u64; 4], at: usize, n: u16, on: bool)
 {
 }

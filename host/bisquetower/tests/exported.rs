@@ -11,7 +11,7 @@ use std::path::Path;
 const SOURCE: &str = "
 // Of no function.
 
-ghost use mathlib.Core.Path.{_≡_};
+ghost use Rattle.std.specs.Prelude.{◌≡◌};
 
 // Not exported under its name.
 pub extern \"C\" fn bt_unmarked(n: u64)
@@ -20,7 +20,7 @@ pub extern \"C\" fn bt_unmarked(n: u64)
 
 // First line.
 // Second line.
-#[no_mangle]
+#[unsafe(no_mangle)]
 pub extern \"C\" fn bt_all(
     s: &[u8],
     out: &mut [u8],
@@ -32,7 +32,7 @@ pub extern \"C\" fn bt_all(
     on: bool,
     answer: &mut [u64; 4],
 )
-    ensures { λ _. ⌜ true ⌝ }
+    ensures { answer.new ≡ answer.old }
 {
     *answer = all(s);
 }
@@ -79,7 +79,7 @@ fn every_kind_of_parameter() {
 #[test]
 fn other_functions_are_refused() {
     let refused = |head: &str| {
-        let source = format!("#[no_mangle]\npub extern \"C\" fn {head}\n{{\n}}\n");
+        let source = format!("#[unsafe(no_mangle)]\npub extern \"C\" fn {head}\n{{\n}}\n");
         assert!(read_source(&source).is_err(), "{head}");
     };
     refused("bt_f(n: i64)");
@@ -90,7 +90,7 @@ fn other_functions_are_refused() {
     refused("bt_f(\n    // A remark.\n    n: u64,\n)");
     refused("f(n: u64)");
     assert_eq!(
-        only("#[no_mangle]\npub extern \"C\" fn bt_f()\n{\n}\n").arguments(),
+        only("#[unsafe(no_mangle)]\npub extern \"C\" fn bt_f()\n{\n}\n").arguments(),
         0
     );
 }

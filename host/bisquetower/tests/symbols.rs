@@ -57,33 +57,33 @@ fn the_page_names_what_the_archive_asks_for() {
     assert_eq!(told(&root()), asked_for(&archive()));
 }
 
-/// Bytes of a page, and those below its stack that a function that calls none may use
-/// without taking them.
-const PAGE: usize = 4_096;
+/// Bytes of the steps in which the kit's compiler takes stack, each less than a page, and
+/// those below its stack that a function that calls none may use without taking them.
+const STEP: usize = 3_072;
 const RED_ZONE: usize = 128;
 
 /// `sub $N, %rsp`, with N in the next four bytes, and `movq $0, (%rsp)`.
 const TAKE: [u8; 3] = [0x48, 0x81, 0xec];
 const TOUCH: [u8; 8] = [0x48, 0xc7, 0x04, 0x24, 0, 0, 0, 0];
 
-/// No function takes more than a page of stack at once, and one that takes a page touches it
-/// before it goes on. So a call on too small a stack comes to the guard page below it.
+/// No function takes more than such a step of stack at once, and one that takes a step touches
+/// it before it goes on. So a call on too small a stack comes to the guard page below it.
 #[test]
 fn stack_is_taken_and_touched_page_by_page() {
     let code = std::fs::read(archive()).expect("the archive is read");
-    let mut pages = 0;
+    let mut steps = 0;
     for Function { name, code, calls } in objects::of_archive(&code) {
         for at in (0..code.len()).filter(|&at| code[at..].starts_with(&TAKE)) {
             let (number, behind) = code[at + TAKE.len()..].split_at(4);
             let bytes = u32::from_le_bytes(number.try_into().expect("four bytes")) as usize;
             let below = if calls { 0 } else { RED_ZONE };
-            if bytes == PAGE {
-                assert!(behind.starts_with(&TOUCH), "{name}: a page isn't touched");
-                pages += 1;
+            if bytes == STEP {
+                assert!(behind.starts_with(&TOUCH), "{name}: a step isn't touched");
+                steps += 1;
             } else {
-                assert!(bytes + below < PAGE, "{name}: {bytes} bytes at once");
+                assert!(bytes + below < STEP, "{name}: {bytes} bytes at once");
             }
         }
     }
-    assert!(pages > 0, "no function that takes a page is seen");
+    assert!(steps > 0, "no function that takes a step is seen");
 }

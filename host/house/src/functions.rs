@@ -15,6 +15,9 @@ pub struct Function {
     pub body: String,
     /// The whole file that it stands in.
     pub source: String,
+    /// The lines of its name and of its end there, counted from 1.
+    pub line: usize,
+    pub end: usize,
 }
 
 impl Function {
@@ -35,7 +38,7 @@ impl Function {
 pub fn of_source(krate: &str, file: &str, source: &str) -> Vec<Function> {
     let mut found = Vec::new();
     let mut lines = source.lines().enumerate();
-    while let Some((_, line)) = lines.next() {
+    while let Some((at, line)) = lines.next() {
         let text = line.trim_start();
         let indent = &line[..line.len() - text.len()];
         let public = text.starts_with("pub ");
@@ -45,10 +48,14 @@ pub fn of_source(krate: &str, file: &str, source: &str) -> Vec<Function> {
             continue;
         };
         let (open, close) = (format!("{indent}{{"), format!("{indent}}}"));
-        let mut part = |end: &str| -> String {
-            let inside = lines.by_ref().map(|(_, line)| line);
+        let mut end = at + 1;
+        let mut part = |last: &str| -> String {
+            let inside = lines.by_ref().map(|(at, line)| {
+                end = at + 1;
+                line
+            });
             inside
-                .take_while(|line| *line != end)
+                .take_while(|line| *line != last)
                 .fold(String::new(), |all, line| all + line + "\n")
         };
         let contract = match signature.ends_with('{') {
@@ -65,6 +72,8 @@ pub fn of_source(krate: &str, file: &str, source: &str) -> Vec<Function> {
             contract,
             body,
             source: source.into(),
+            line: at + 1,
+            end,
         });
     }
     found

@@ -26,13 +26,16 @@ pub fn document(name: &str) -> String {
     read(&root().join("docs").join(name))
 }
 
+/// What stands behind the name of a static library in crates.txt.
+pub const STATIC: &str = " staticlib";
+
 /// The crates of crates.txt, each above the ones before it.
 pub fn crates() -> Vec<String> {
     read(&root().join("crates.txt"))
         .lines()
         .filter(|line| !line.starts_with('#'))
         .filter_map(|line| line.split_once(':'))
-        .map(|(name, _)| name.to_string())
+        .map(|(name, _)| name.trim_end_matches(STATIC).to_string())
         .collect()
 }
 

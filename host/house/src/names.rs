@@ -32,19 +32,17 @@ pub fn names(text: &str) -> BTreeSet<&str> {
         .collect()
 }
 
-/// `use Rattle·table_graph.specs.Graph.{heads, below as under}` and the same of the own
-/// crate's specs: what is imported from definitions, of an antt file or, after
-/// `ghost`, of code.
+/// `use Rattle.table_graph.specs.Graph.{heads, below as under}`: what is imported from
+/// definitions, of an antt file or, after `ghost`, of code.
 pub fn spec_imports(text: &str) -> Imports {
     let mut imports = Imports::new();
-    for piece in text.split("use Rattle·").skip(1) {
+    for piece in text.split("use Rattle.").skip(1) {
         let Some((path, rest)) = piece.split_once(".{") else {
             continue;
         };
         let Some((list, _)) = rest.split_once('}') else {
             continue;
         };
-        let path = path.replace("·specs", "");
         let steps: Vec<&str> = path.split('.').collect();
         let (krate, file) = match steps[..] {
             [krate, "specs", file] | [krate, "specs", "Internal", file] => (krate, file),
@@ -58,16 +56,19 @@ pub fn spec_imports(text: &str) -> Imports {
     imports
 }
 
-/// `use table_graph::heads::collect_heads;` of code; `crate` is this one.
+/// `use table_graph::heads::collect_heads;` of code, or several names in braces; `crate` is
+/// this one.
 pub fn code_imports(krate: &str, text: &str) -> Imports {
-    let lines = text
-        .lines()
-        .filter_map(|line| line.strip_prefix("use ")?.strip_suffix(';'));
     let mut imports = Imports::new();
-    for line in lines {
-        if let [from, file, name] = line.split("::").collect::<Vec<_>>()[..] {
+    for piece in format!("\n{text}").split("\nuse ").skip(1) {
+        let path = piece.split(';').next().unwrap_or_default();
+        let path: String = path.split_whitespace().collect();
+        if let [from, file, list] = path.split("::").collect::<Vec<_>>()[..] {
             let from = if from == "crate" { krate } else { from };
-            imports.insert(name.into(), home(from, file, name));
+            let list = list.trim_start_matches('{').trim_end_matches('}');
+            for name in list.split(',').filter(|name| !name.is_empty()) {
+                imports.insert(name.into(), home(from, file, name));
+            }
         }
     }
     imports

@@ -3,9 +3,9 @@
 use house::citations::{of_text, stands, Citation};
 use house::edits::{self, Edit};
 use house::functions::{self, Function};
-use house::names::{home, names, Home};
+use house::names::{home, names, spec_imports, Home};
 use house::reach::House;
-use house::{costs, crates, document, files, read, root};
+use house::{costs, crates, document, files, read, root, STATIC};
 use std::collections::{BTreeMap, BTreeSet};
 use std::path::PathBuf;
 
@@ -46,6 +46,45 @@ fn no_exported_function_requires_anything() {
     for function in functions::all().iter().filter(|f| f.exported) {
         assert!(!function.requires(), "{}", function.path());
     }
+}
+
+/// The crate of the static library.
+const EXPORTS: &str = "bisquetower";
+
+/// A text as its words, whatever its layout.
+fn words(text: &str) -> String {
+    text.split_whitespace().collect::<Vec<_>>().join(" ")
+}
+
+/// The static library has an export for each function of the crates NAME_calls that is marked
+/// as exported. It repeats the function's contract word for word, in which each name means the
+/// same, and its body is the call alone.
+#[test]
+fn every_export_is_the_function_that_it_calls() {
+    let functions = functions::all();
+    let marked = functions.iter().filter(|f| f.exported);
+    let (exports, called): (Vec<&Function>, Vec<&Function>) =
+        marked.partition(|f| f.home.krate == EXPORTS);
+    for export in &exports {
+        let name = &export.home.name;
+        let mut same = called.iter().filter(|f| f.home.name == *name);
+        let function = same.next().expect("a function of that name");
+        assert!(same.next().is_none(), "{name}");
+        assert_eq!(words(&export.contract), words(&function.contract));
+        let [here, there] = [export, function].map(|f| spec_imports(&f.source));
+        for cited in names(&export.contract) {
+            assert_eq!(here.get(cited), there.get(cited), "{name}: {cited}");
+        }
+        let (_, parameters) = export.contract.split_once('(').expect("parameters");
+        let (parameters, _) = parameters.split_once(')').expect("their end");
+        let passed = parameters.split(',').filter_map(|one| one.split_once(':'));
+        let passed: Vec<&str> = passed.map(|(passed, _)| passed.trim()).collect();
+        let body: String = export.body.split_whitespace().collect();
+        let call = format!("{}({})", function.path(), passed.join(","));
+        assert_eq!(body.replace(",)", ")"), call);
+    }
+    assert_eq!(exports.len(), called.len());
+    assert!(exports.len() > 40, "{}", exports.len());
 }
 
 /// A public function that requires nothing is named as one that anyone may call, one
@@ -170,6 +209,7 @@ fn the_picture_is_drawn_from_the_list() {
     let lines = list.lines().filter(|line| !line.starts_with('#'));
     let named: BTreeMap<&str, BTreeSet<&str>> = lines
         .filter_map(|line| line.split_once(':'))
+        .map(|(krate, rest)| (krate.trim_end_matches(STATIC), rest))
         .map(|(krate, rest)| (krate, rest.split_whitespace().collect()))
         .collect();
     let page = document("ARCHITECTURE.md");
@@ -257,7 +297,11 @@ fn every_definition_is_told() {
 fn every_proof_names_its_function() {
     for krate in crates() {
         let proofs = root().join("crates").join(&krate).join("proofs");
-        for path in files(&proofs, "/Proof.antt") {
+        // A proof by hand, or what answers the goals of one, or the claims of its loops.
+        let kinds = ["Proof", "Answers", "Invariants"].iter();
+        let found = kinds.flat_map(|kind| files(&proofs, &format!("/{kind}.antt")));
+        // A page of the laws may have such a name too.
+        for path in found.filter(|path| path.parent() != Some(&proofs)) {
             let folder = path
                 .parent()
                 .and_then(|folder| folder.strip_prefix(&proofs).ok());
@@ -331,20 +375,25 @@ fn every_citation_stands() {
 }
 
 /// docs/PROOFS.md names no law without saying where it stands. A law's name is small
-/// letters and numbers with hyphens.
+/// letters and numbers with underscores, as those of functions and definitions may be too.
 #[test]
 fn every_law_of_the_list_is_cited() {
     let page = document("PROOFS.md");
     let cited: BTreeSet<String> = of_text(&page).into_iter().map(|c| c.name).collect();
-    let hyphened = |name: &&str| {
-        let plain = |c: char| c.is_ascii_lowercase() || c.is_ascii_digit() || c == '-';
-        name.contains('-') && name.chars().all(plain)
+    let house = House::read();
+    let functions = house.functions.iter().map(|f| &f.home.name[..]);
+    let definitions = house.definitions.iter().map(|d| &d.home.name[..]);
+    let others: BTreeSet<&str> = functions.chain(definitions).collect();
+    let of_a_law = |name: &&str| {
+        let plain = |c: char| c.is_ascii_lowercase() || c.is_ascii_digit() || c == '_';
+        let could_be = name.contains('_') && name.chars().all(plain);
+        could_be && (cited.contains(*name) || !others.contains(name))
     };
     let laws: Vec<&str> = page
         .split('`')
         .skip(1)
         .step_by(2)
-        .filter(hyphened)
+        .filter(of_a_law)
         .collect();
     assert!(laws.len() > 100, "{}", laws.len());
     let uncited: Vec<&&str> = laws.iter().filter(|law| !cited.contains(**law)).collect();
@@ -415,20 +464,29 @@ fn every_edit_that_is_named_exists() {
 
 /// The contract of every public function that requires nothing is shown to have one
 /// result: crates/one_answer has a line for it, or docs/LOOSE.md a reason. The program isn't
-/// called by anyone.
+/// called by anyone, and what the static library exports has the contracts of the crates
+/// NAME_calls.
 #[test]
 fn every_public_contract_is_bound() {
     let mut bound = Vec::new();
     for path in files(&root().join("crates/one_answer/specs"), ".antt") {
         let text = read(&path);
-        let lines = text
-            .lines()
-            .filter_map(|line| line.strip_prefix("use Rattle·"));
-        let lines = lines.filter_map(|line| line.split_once(".proofs."));
-        for (krate, rest) in lines {
-            let (path, name) = rest.split_once(" as ").expect("a name of its own");
+        let imports = |from: &str| -> BTreeMap<(&str, &str), &str> {
+            let lines = text
+                .lines()
+                .filter_map(|line| line.strip_prefix("use Rattle."));
+            let lines = lines.filter_map(|line| line.split_once(from));
+            let named = lines.map(|(krate, rest)| {
+                let (path, name) = rest.split_once(" as ").expect("a name of its own");
+                ((krate, path.trim_end_matches(".Reads")), name)
+            });
+            named.collect()
+        };
+        let (contracts, reads) = (imports(".specs.contracts."), imports(".proofs."));
+        for ((krate, path), name) in contracts {
+            let reads = reads.get(&(krate, path)).expect("what it says");
             // A contract that is only named is bound by nothing: its line is a field.
-            let field = format!(" : Binds {name}.ended {name}.Reads.Post");
+            let field = format!(" : Binds {name}.ended {reads}.Post");
             assert!(
                 text.lines()
                     .any(|line| line.starts_with("  pub ") && line.ends_with(&field)),
@@ -452,7 +510,8 @@ fn every_public_contract_is_bound() {
         .collect();
     let open: Vec<String> = functions
         .iter()
-        .filter(|f| f.public && !f.requires() && f.home.krate != "sample_replay")
+        .filter(|f| f.public && !f.requires())
+        .filter(|f| !["sample_replay", EXPORTS].contains(&&f.home.krate[..]))
         .filter(|f| !is_bound(f) && !told.contains(&f.path()))
         .map(Function::path)
         .collect();
