@@ -4,7 +4,8 @@ use Rattle.rules.specs.contracts.passed.passed_hashes as of-passed-hashes
 use Rattle.rules.proofs.passed.passed_hashes.Reads as reads-passed-hashes
 use Rattle.rules.specs.contracts.passed.passed_up_to as of-passed-up-to
 use Rattle.rules.proofs.passed.passed_up_to.Reads as reads-passed-up-to
-use Rattle.rules.proofs.refusal.Refusal.number as of_number
+use Rattle.rules.specs.contracts.refusal.Refusal.number as of_number
+use Rattle.rules.proofs.refusal.Refusal.number.Reads as reads_number
 use Rattle.rules.specs.contracts.refusal.Refusal.value as of-value
 use Rattle.rules.proofs.refusal.Refusal.value.Reads as reads-value
 use Rattle.rules.specs.contracts.sizes.limits as of-limits
@@ -23,7 +24,8 @@ use Rattle.wire.specs.contracts.encode.encode_bytes as of-encode-bytes
 use Rattle.wire.proofs.encode.encode_bytes.Reads as reads-encode-bytes
 use Rattle.wire.specs.contracts.encode.encode_hashes as of-encode-hashes
 use Rattle.wire.proofs.encode.encode_hashes.Reads as reads-encode-hashes
-use Rattle.wire.proofs.parse.left as of_left
+use Rattle.wire.specs.contracts.parse.left as of_left
+use Rattle.wire.proofs.parse.left.Reads as reads_left
 use Rattle.wire.specs.contracts.parse.length_prefix as of-length-prefix
 use Rattle.wire.proofs.parse.length_prefix.Reads as reads-length-prefix
 use Rattle.wire.specs.contracts.parse.length_prefixed_bytes as of-length-prefixed-bytes
@@ -64,7 +66,7 @@ pub record WireBind : Type 0 where
   -- the crate rules
   pub passed_hashes_lem : Binds of-passed-hashes.ended reads-passed-hashes.Post
   pub passed_up_to_lem : Binds of-passed-up-to.ended reads-passed-up-to.Post
-  pub number : Binds of_number.ended of_number.Reads.Post
+  pub number : Binds of_number.ended reads_number.Post
   pub value : Binds of-value.ended reads-value.Post
   pub limits : Binds of-limits.ended reads-limits.Post
   -- the crate leb128
@@ -76,7 +78,7 @@ pub record WireBind : Type 0 where
   -- the crate wire
   pub encode_bytes : Binds of-encode-bytes.ended reads-encode-bytes.Post
   pub encode_hashes : Binds of-encode-hashes.ended reads-encode-hashes.Post
-  pub left : Binds of_left.ended of_left.Reads.Post
+  pub left : Binds of_left.ended reads_left.Post
   pub length_prefix : Binds of-length-prefix.ended reads-length-prefix.Post
   pub length_prefixed_bytes : Binds of-length-prefixed-bytes.ended reads-length-prefixed-bytes.Post
   pub length_prefixed_hashes : Binds of-length-prefixed-hashes.ended reads-length-prefixed-hashes.Post
