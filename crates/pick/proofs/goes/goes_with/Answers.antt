@@ -2,6 +2,7 @@
 -- own, so it has a mark. Assumes nothing.
 use Prim.Native.Nat.{◌<◌}
 use mathlib.Core.Path.{sym, ◌∙◌}
+use borrow.Author.Rules.{rules}
 use native.Mathlib.Omega.{arith}
 use Rattle.table.proofs.GoodLaws.{good_down}
 use Rattle.table_graph.proofs.MarkLaws.{number_member}
@@ -57,7 +58,7 @@ loop-j-preserved c =
       rest =
           sym
           (go_picked _ _ _ _ _ c.dep_count-count.ensures _ _ c.loop-j-test.true c.dep-k.ensures c.if-not-listed-k.false
-          c.if-not-picks-k.false)
+          (search rules))
           ∙ c.loop-j.invariant.rest;
     }
 

@@ -1,5 +1,6 @@
 -- `waiting_missing::take::take_ref` meets its contract: the look-ups say whether the hash is unknown, and only then it is taken (FoundLaws). Assumes nothing.
 use Prim.Native.Nat.{ℕ}
+use borrow.Author.Rules.{rules}
 use native.Mathlib.Omega.{arith}
 use lib.ListN.{length-replicate}
 use Rattle.rules.specs.Sizes.{sizes}
@@ -21,4 +22,4 @@ add_ref-requires c =
 
 pub returns : goal.returns
 returns c =
-    took_one _ (neither_unknown _ _ _ _ _ _ _ c.look_up.ensures (hash_copied _ _ _ _ _ (λ k. (c.type_inv.list k).fits) (λ k. (c.type_inv.waiting k).fits) _ c.put_ref.ensures) _ c.find_waiting.ensures c.if-look_up-n.false c.if-find_waiting-m.false) c.add_ref.ensures
+    took_one _ (neither_unknown _ _ _ _ _ _ _ c.look_up.ensures (hash_copied _ _ _ _ _ (λ k. (c.type_inv.list k).fits) (λ k. (c.type_inv.waiting k).fits) _ c.put_ref.ensures) _ c.find_waiting.ensures c.if-look_up-n.false (search rules)) c.add_ref.ensures
