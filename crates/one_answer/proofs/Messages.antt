@@ -11,7 +11,7 @@ messages_bind =
       contains = λ κs a x y u v p q. (once p q, refl);
       wants_reset = λ κs a x y u v p q. (once p q, refl);
       read_only = λ κs a x y u v p q. (once p q, refl);
-      supports_reset_lem = λ κs a x y u v p q. (once p q, refl);
+      supports_reset = λ κs a x y u v p q. (once p q, refl);
       set = λ κs a x y u v p q. (once p q, refl);
       version_encode = λ κs a x y u v p q. (once p q, refl);
       parse_chunks = λ κs a x y u v p q. (once p q, refl);
@@ -25,5 +25,5 @@ messages_bind =
       message_size = λ κs a x y u v p q. (once (p V1) (q V1), refl);
       encode = λ κs a x y u v p q. (once p.answer q.answer, joined (once p.content q.content) refl);
       reader_hashes_at = λ κs a x y u v p q. (once p q, refl);
-      first_list_lem = λ κs a x y u v p q. (once p q, refl);
+      first_list = λ κs a x y u v p q. (once p q, refl);
     }

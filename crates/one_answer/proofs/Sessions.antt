@@ -12,12 +12,12 @@ sessions_bind =
       new = λ κs a x y u v p q. (once p q, refl);
       new_read_only = λ κs a x y u v p q. (once p q, refl);
       restored = λ κs a x y u v p q. (once p q, refl);
-      set_read_only_lem = λ κs a x y u v p q. (once p q, refl);
-      haves_good_lem = λ κs a x y u v p q. (once p q, refl);
-      session_good_lem = λ κs a x y u v p q. (once p q, refl);
-      list_good_lem = λ κs a x y u v p q. (once p q, refl);
-      heard_good_lem = λ κs a x y u v p q. (once p q, refl);
-      sent_good_lem = λ κs a x y u v p q. (once p q, refl);
+      set_read_only = λ κs a x y u v p q. (once p q, refl);
+      haves_good = λ κs a x y u v p q. (once p q, refl);
+      session_good = λ κs a x y u v p q. (once p q, refl);
+      list_good = λ κs a x y u v p q. (once p q, refl);
+      heard_good = λ κs a x y u v p q. (once p q, refl);
+      sent_good = λ κs a x y u v p q. (once p q, refl);
       saved_encode = λ κs a x y u v p q. (once p.answer q.answer, joined (once p.content q.content) refl);
       saved_parse = λ κs a x y u v p q. (once p q, refl);
       saved_decode = λ κs a x y u v p q. (once p.answer q.answer, skip (joined (once p.content q.content) refl));
@@ -47,9 +47,9 @@ sessions_bind =
                 (joined (ap (λ (l : Lent). l.bytes) same)
                 (joined (ap (λ (l : Lent). l.sent) same) refl)))))))))))),
           );
-      heard_count_lem = λ κs a x y u v p q. (once p q, refl);
+      heard_count = λ κs a x y u v p q. (once p q, refl);
       heard_none = λ κs a x y u v p q. (once (p []) (q []), refl);
-      nothing_goes_lem = λ κs a x y u v p q. (once p q, refl);
+      nothing_goes = λ κs a x y u v p q. (once p q, refl);
       is_silent = λ κs a x y u v p q. (once p q, refl);
       puts_of = λ κs a x y u v p q. (once p q, refl);
       take_flags = λ κs a x y u v p q. (once p q, refl);
@@ -57,5 +57,5 @@ sessions_bind =
       check_receive = λ κs a x y u v p q. (once p q, refl);
       loads_changes = λ κs a x y u v p q. (once p q, refl);
       load_failed = λ κs a x y u v p q. (once p q, refl);
-      kept_hashes_lem = λ κs a x y u v p q. (once p q, refl);
+      kept_hashes = λ κs a x y u v p q. (once p q, refl);
     }

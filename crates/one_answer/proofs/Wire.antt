@@ -6,8 +6,8 @@ use Rattle.one_answer.proofs.Once.{once, joined}
 pub wire_bind : WireBind
 wire_bind =
     record {
-      passed_hashes_lem = λ κs a x y u v p q. (once p q, refl);
-      passed_up_to_lem = λ κs a x y u v p q. (once p q, refl);
+      passed_hashes = λ κs a x y u v p q. (once p q, refl);
+      passed_up_to = λ κs a x y u v p q. (once p q, refl);
       number = λ κs a x y u v p q. (once p q, refl);
       value = λ κs a x y u v p q. (once p q, refl);
       limits = λ κs a x y u v p q. (once p q, refl);
@@ -23,13 +23,13 @@ wire_bind =
       length_prefixed_bytes = λ κs a x y u v p q. (once p q, refl);
       length_prefixed_hashes = λ κs a x y u v p q. (once p q, refl);
       inside = λ κs a x y u v p q. (once p q, refl);
-      passed_good_lem = λ κs a x y u v p q. (once p q, refl);
-      passed_few_lem = λ κs a x y u v p q. (once p q, refl);
+      passed_good = λ κs a x y u v p q. (once p q, refl);
+      passed_few = λ κs a x y u v p q. (once p q, refl);
       parse = λ κs a x y u v p q. (once p q, refl);
       parse_counted = λ κs a x y u v p q. (once p q, refl);
-      filter_rules_lem = λ κs a x y u v p q. (once p q, refl);
+      filter_rules = λ κs a x y u v p q. (once p q, refl);
       build_rules = λ κs a x y u v p q. (once p q, refl);
-      pair_good_lem = λ κs a x y u v p q. (once p q, refl);
+      pair_good = λ κs a x y u v p q. (once p q, refl);
       filter_size = λ κs a x y u v p q. (once p q, refl);
       to_bytes = λ κs a x y u v p q. (once p.answer q.answer, joined (once p.content q.content) refl);
       clear = λ κs a x y u v p q. (refl, joined (once p q) refl);

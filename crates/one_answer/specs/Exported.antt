@@ -156,10 +156,10 @@ use Rattle.message_calls.proofs.message_words.peeked_words.Reads as reads-peeked
 -- The exported calls, and the functions that turn answers into words.
 pub record ExportedBind : Type 0 where
   -- the crate call_words
-  pub refusal_words_lem : Binds of-refusal-words.ended reads-refusal-words.Post
-  pub write_words_lem : Binds of-write-words.ended reads-write-words.Post
-  pub session_words_lem : Binds of-session-words.ended reads-session-words.Post
-  pub session_of_lem : Binds of-session-of.ended reads-session-of.Post
+  pub refusal_words : Binds of-refusal-words.ended reads-refusal-words.Post
+  pub write_words : Binds of-write-words.ended reads-write-words.Post
+  pub session_words : Binds of-session-words.ended reads-session-words.Post
+  pub session_of : Binds of-session-of.ended reads-session-of.Post
   -- the crate wire_calls
   pub bt_read_number : Binds of-bt-read-number.ended reads-bt-read-number.Post
   pub bt_read_filter_number : Binds of-bt-read-filter-number.ended reads-bt-read-filter-number.Post
@@ -169,16 +169,16 @@ pub record ExportedBind : Type 0 where
   pub bt_write_prefixed : Binds of-bt-write-prefixed.ended reads-bt-write-prefixed.Post
   pub bt_write_hashes : Binds of-bt-write-hashes.ended reads-bt-write-hashes.Post
   pub bt_limits : Binds of-bt-limits.ended reads-bt-limits.Post
-  pub number_words_lem : Binds of-number-words.ended reads-number-words.Post
-  pub prefixed_words_lem : Binds of-prefixed-words.ended reads-prefixed-words.Post
-  pub hash_list_words_lem : Binds of-hash-list-words.ended reads-hash-list-words.Post
+  pub number_words : Binds of-number-words.ended reads-number-words.Post
+  pub prefixed_words : Binds of-prefixed-words.ended reads-prefixed-words.Post
+  pub hash_list_words : Binds of-hash-list-words.ended reads-hash-list-words.Post
   -- the crate bloom_calls
   pub bt_read_filter : Binds of-bt-read-filter.ended reads-bt-read-filter.Post
   pub bt_write_filter : Binds of-bt-write-filter.ended reads-bt-write-filter.Post
   pub bt_build_filter : Binds of-bt-build-filter.ended reads-bt-build-filter.Post
   pub bt_filters_contain : Binds of-bt-filters-contain.ended reads-bt-filters-contain.Post
-  pub filter_words_lem : Binds of-filter-words.ended reads-filter-words.Post
-  pub contained_words_lem : Binds of-contained-words.ended reads-contained-words.Post
+  pub filter_words : Binds of-filter-words.ended reads-filter-words.Post
+  pub contained_words : Binds of-contained-words.ended reads-contained-words.Post
   -- the crate table_calls
   pub bt_check_table : Binds of-bt-check-table.ended reads-bt-check-table.Post
   pub bt_check_tables : Binds of-bt-check-tables.ended reads-bt-check-tables.Post
@@ -189,26 +189,26 @@ pub record ExportedBind : Type 0 where
   pub bt_heads : Binds of-bt-heads.ended reads-bt-heads.Post
   pub bt_beyond : Binds of-bt-beyond.ended reads-bt-beyond.Post
   pub bt_missing : Binds of-bt-missing.ended reads-bt-missing.Post
-  pub checked_words_lem : Binds of-checked-words.ended reads-checked-words.Post
+  pub checked_words : Binds of-checked-words.ended reads-checked-words.Post
   -- the crate settings_calls
   pub bt_check_settings : Binds of-bt-check-settings.ended reads-bt-check-settings.Post
   pub bt_setting_at : Binds of-bt-setting-at.ended reads-bt-setting-at.Post
   pub bt_append_setting : Binds of-bt-append-setting.ended reads-bt-append-setting.Post
-  pub setting_words_lem : Binds of-setting-words.ended reads-setting-words.Post
+  pub setting_words : Binds of-setting-words.ended reads-setting-words.Post
   -- the crate counts_calls
   pub bt_count_capture : Binds of-bt-count-capture.ended reads-bt-count-capture.Post
   pub bt_add_counts : Binds of-bt-add-counts.ended reads-bt-add-counts.Post
   pub counted_words : Binds of-counted-words.ended reads-counted-words.Post
-  pub added_words_lem : Binds of-added-words.ended reads-added-words.Post
-  pub totals_of_lem : Binds of-totals-of.ended reads-totals-of.Post
-  pub totals_after_lem : Binds of-totals-after.ended reads-totals-after.Post
+  pub added_words : Binds of-added-words.ended reads-added-words.Post
+  pub totals_of : Binds of-totals-of.ended reads-totals-of.Post
+  pub totals_after : Binds of-totals-after.ended reads-totals-after.Post
   -- the crate salvage_calls
   pub bt_salvage : Binds of-bt-salvage.ended reads-bt-salvage.Post
-  pub salvage_words_lem : Binds of-salvage-words.ended reads-salvage-words.Post
+  pub salvage_words : Binds of-salvage-words.ended reads-salvage-words.Post
   -- the crate pick_calls
   pub bt_pick : Binds of-bt-pick.ended reads-bt-pick.Post
   pub bt_check_pick : Binds of-bt-check-pick.ended reads-bt-check-pick.Post
-  pub pick_words_lem : Binds of-pick-words.ended reads-pick-words.Post
+  pub pick_words : Binds of-pick-words.ended reads-pick-words.Post
   -- the crate state_calls
   pub bt_fresh : Binds of-bt-fresh.ended reads-bt-fresh.Post
   pub bt_fresh_read_only : Binds of-bt-fresh-read-only.ended reads-bt-fresh-read-only.Post
@@ -216,31 +216,31 @@ pub record ExportedBind : Type 0 where
   pub bt_check_session : Binds of-bt-check-session.ended reads-bt-check-session.Post
   pub bt_write_state : Binds of-bt-write-state.ended reads-bt-write-state.Post
   pub bt_read_state : Binds of-bt-read-state.ended reads-bt-read-state.Post
-  pub good_words_lem : Binds of-good-words.ended reads-good-words.Post
-  pub saved_words_lem : Binds of-saved-words.ended reads-saved-words.Post
-  pub saved_session_lem : Binds of-saved-session.ended reads-saved-session.Post
+  pub good_words : Binds of-good-words.ended reads-good-words.Post
+  pub saved_words : Binds of-saved-words.ended reads-saved-words.Post
+  pub saved_session : Binds of-saved-session.ended reads-saved-session.Post
   -- the crates plan_calls and receive_calls
   pub bt_plan : Binds of-bt-plan.ended reads-bt-plan.Post
   pub bt_plan_with : Binds of-bt-plan-with.ended reads-bt-plan-with.Post
   pub bt_plan_settled : Binds of-bt-plan-settled.ended reads-bt-plan-settled.Post
   pub bt_plan_picked : Binds of-bt-plan-picked.ended reads-bt-plan-picked.Post
   pub bt_receive : Binds of-bt-receive.ended reads-bt-receive.Post
-  pub planned_words_lem : Binds of-planned-words.ended reads-planned-words.Post
-  pub planned_session_lem : Binds of-planned-session.ended reads-planned-session.Post
-  pub received_words_lem : Binds of-received-words.ended reads-received-words.Post
-  pub received_session_lem : Binds of-received-session.ended reads-received-session.Post
+  pub planned_words : Binds of-planned-words.ended reads-planned-words.Post
+  pub planned_session : Binds of-planned-session.ended reads-planned-session.Post
+  pub received_words : Binds of-received-words.ended reads-received-words.Post
+  pub received_session : Binds of-received-session.ended reads-received-session.Post
   -- the crate send_calls
   pub bt_hashes_to_send : Binds of-bt-hashes-to-send.ended reads-bt-hashes-to-send.Post
   -- the crate offer_calls
   pub bt_offer : Binds of-bt-offer.ended reads-bt-offer.Post
-  pub offer_words_lem : Binds of-offer-words.ended reads-offer-words.Post
+  pub offer_words : Binds of-offer-words.ended reads-offer-words.Post
   -- the crate message_calls
   pub bt_read_message : Binds of-bt-read-message.ended reads-bt-read-message.Post
   pub bt_peek_heads : Binds of-bt-peek-heads.ended reads-bt-peek-heads.Post
   pub bt_write_message : Binds of-bt-write-message.ended reads-bt-write-message.Post
-  pub version_word_lem : Binds of-version-word.ended reads-version-word.Post
+  pub version_word : Binds of-version-word.ended reads-version-word.Post
   pub version_of : Binds of-version-of.ended reads-version-of.Post
-  pub section_word_lem : Binds of-section-word.ended reads-section-word.Post
-  pub section_of_lem : Binds of-section-of.ended reads-section-of.Post
-  pub decoded_words_lem : Binds of-decoded-words.ended reads-decoded-words.Post
-  pub peeked_words_lem : Binds of-peeked-words.ended reads-peeked-words.Post
+  pub section_word : Binds of-section-word.ended reads-section-word.Post
+  pub section_of : Binds of-section-of.ended reads-section-of.Post
+  pub decoded_words : Binds of-decoded-words.ended reads-decoded-words.Post
+  pub peeked_words : Binds of-peeked-words.ended reads-peeked-words.Post

@@ -46,7 +46,7 @@ pub record MessagesBind : Type 0 where
   pub contains : Binds of-contains.ended reads-contains.Post
   pub wants_reset : Binds of-wants-reset.ended reads-wants-reset.Post
   pub read_only : Binds of-read-only.ended reads-read-only.Post
-  pub supports_reset_lem : Binds of-supports-reset.ended reads-supports-reset.Post
+  pub supports_reset : Binds of-supports-reset.ended reads-supports-reset.Post
   pub set : Binds of-set.ended reads-set.Post
   pub version_encode : Binds of-version-encode.ended reads-version-encode.Post
   -- the crate message_items
@@ -66,4 +66,4 @@ pub record MessagesBind : Type 0 where
   pub encode : Binds of-encode.ended reads-encode.Post
   -- the crate message_reader
   pub reader_hashes_at : Binds of-reader-hashes-at.ended reads-reader-hashes-at.Post
-  pub first_list_lem : Binds of-first-list.ended reads-first-list.Post
+  pub first_list : Binds of-first-list.ended reads-first-list.Post

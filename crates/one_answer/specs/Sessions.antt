@@ -59,14 +59,14 @@ pub record SessionsBind : Type 0 where
   pub new : Binds of-new.ended reads-new.Post
   pub new_read_only : Binds of-new-read-only.ended reads-new-read-only.Post
   pub restored : Binds of-restored.ended reads-restored.Post
-  pub set_read_only_lem : Binds of-set-read-only.ended reads-set-read-only.Post
-  pub heard_count_lem : Binds of-heard-count.ended reads-heard-count.Post
+  pub set_read_only : Binds of-set-read-only.ended reads-set-read-only.Post
+  pub heard_count : Binds of-heard-count.ended reads-heard-count.Post
   -- the crate session_check
-  pub haves_good_lem : Binds of-haves-good.ended reads-haves-good.Post
-  pub session_good_lem : Binds of-session-good.ended reads-session-good.Post
-  pub list_good_lem : Binds of-list-good.ended reads-list-good.Post
-  pub heard_good_lem : Binds of-heard-good.ended reads-heard-good.Post
-  pub sent_good_lem : Binds of-sent-good.ended reads-sent-good.Post
+  pub haves_good : Binds of-haves-good.ended reads-haves-good.Post
+  pub session_good : Binds of-session-good.ended reads-session-good.Post
+  pub list_good : Binds of-list-good.ended reads-list-good.Post
+  pub heard_good : Binds of-heard-good.ended reads-heard-good.Post
+  pub sent_good : Binds of-sent-good.ended reads-sent-good.Post
   -- the crate session_saved
   pub saved_encode : Binds of-saved-encode.ended reads-saved-encode.Post
   pub saved_parse : Binds of-saved-parse.ended reads-saved-parse.Post
@@ -81,7 +81,7 @@ pub record SessionsBind : Type 0 where
   pub heard_none : Binds of-heard-none.ended reads-heard-none.Post
   pub is_silent : Binds of-is-silent.ended reads-is-silent.Post
   -- the crate plan_count
-  pub nothing_goes_lem : Binds of-nothing-goes.ended reads-nothing-goes.Post
+  pub nothing_goes : Binds of-nothing-goes.ended reads-nothing-goes.Post
   -- the crate plan_decide
   pub puts_of : Binds of-puts-of.ended reads-puts-of.Post
   -- the crate receive_parts
@@ -92,4 +92,4 @@ pub record SessionsBind : Type 0 where
   pub check_receive : Binds of-check-receive.ended reads-check-receive.Post
   pub loads_changes : Binds of-loads-changes.ended reads-loads-changes.Post
   pub load_failed : Binds of-load-failed.ended reads-load-failed.Post
-  pub kept_hashes_lem : Binds of-kept-hashes.ended reads-kept-hashes.Post
+  pub kept_hashes : Binds of-kept-hashes.ended reads-kept-hashes.Post

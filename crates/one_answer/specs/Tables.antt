@@ -55,7 +55,7 @@ pub record TablesBind : Type 0 where
   pub extend_index : Binds of-extend-index.ended reads-extend-index.Post
   -- the crate table_convert
   pub widen_rows : Binds of-widen-rows.ended reads-widen-rows.Post
-  pub narrow_rows_lem : Binds of-narrow-rows.ended reads-narrow-rows.Post
+  pub narrow_rows : Binds of-narrow-rows.ended reads-narrow-rows.Post
   -- the crate waiting
   pub check_tables : Binds of-check-tables.ended reads-check-tables.Post
   -- the crate table_graph
@@ -66,12 +66,12 @@ pub record TablesBind : Type 0 where
   -- the crate send
   pub get_hashes_to_send : Binds of-get-hashes-to-send.ended reads-get-hashes-to-send.Post
   -- the crate send_records
-  pub summary_in_lem : Binds of-summary-in.ended reads-summary-in.Post
+  pub summary_in : Binds of-summary-in.ended reads-summary-in.Post
   -- the crate settings
-  pub crate_choice_lem : Binds of-crate-choice.ended reads-crate-choice.Post
+  pub crate_choice : Binds of-crate-choice.ended reads-crate-choice.Post
   pub allowed : Binds of-allowed.ended reads-allowed.Post
   pub check_settings : Binds of-check-settings.ended reads-check-settings.Post
-  pub setting_at_lem : Binds of-setting-at.ended reads-setting-at.Post
+  pub setting_at : Binds of-setting-at.ended reads-setting-at.Post
   pub append_setting : Binds of-append-setting.ended reads-append-setting.Post
   -- the crate counts
   pub count_capture : Binds of-count-capture.ended reads-count-capture.Post

@@ -64,8 +64,8 @@ use Rattle.bloom_probe.proofs.probes.count.Reads as reads-count
 -- Rules, numbers, strings and lists, and filters.
 pub record WireBind : Type 0 where
   -- the crate rules
-  pub passed_hashes_lem : Binds of-passed-hashes.ended reads-passed-hashes.Post
-  pub passed_up_to_lem : Binds of-passed-up-to.ended reads-passed-up-to.Post
+  pub passed_hashes : Binds of-passed-hashes.ended reads-passed-hashes.Post
+  pub passed_up_to : Binds of-passed-up-to.ended reads-passed-up-to.Post
   pub number : Binds of_number.ended reads_number.Post
   pub value : Binds of-value.ended reads-value.Post
   pub limits : Binds of-limits.ended reads-limits.Post
@@ -84,13 +84,13 @@ pub record WireBind : Type 0 where
   pub length_prefixed_hashes : Binds of-length-prefixed-hashes.ended reads-length-prefixed-hashes.Post
   -- the crate bloom
   pub inside : Binds of-inside.ended reads-inside.Post
-  pub passed_good_lem : Binds of-passed-good.ended reads-passed-good.Post
-  pub passed_few_lem : Binds of-passed-few.ended reads-passed-few.Post
+  pub passed_good : Binds of-passed-good.ended reads-passed-good.Post
+  pub passed_few : Binds of-passed-few.ended reads-passed-few.Post
   pub parse : Binds of-parse.ended reads-parse.Post
   pub parse_counted : Binds of-parse-counted.ended reads-parse-counted.Post
-  pub filter_rules_lem : Binds of-filter-rules.ended reads-filter-rules.Post
+  pub filter_rules : Binds of-filter-rules.ended reads-filter-rules.Post
   pub build_rules : Binds of-build-rules.ended reads-build-rules.Post
-  pub pair_good_lem : Binds of-pair-good.ended reads-pair-good.Post
+  pub pair_good : Binds of-pair-good.ended reads-pair-good.Post
   pub filter_size : Binds of-filter-size.ended reads-filter-size.Post
   pub to_bytes : Binds of-to-bytes.ended reads-to-bytes.Post
   -- the crate bloom_probe
