@@ -4,7 +4,7 @@ ghost use Rattle.wire.specs.Item.{hash_list_at};
 
 use wire::parse::{Listed, length_prefixed_hashes};
 
-#[derive(Drop)]
+#[derive(Clone, Copy)]
 pub struct Reader<'a> {
     pub message: &'a [u8],
     pub at: usize,
