@@ -26,6 +26,8 @@ pub enum OfferAnswer {
 }
 
 // What is offered once the session and the table are checked. The body is chosen as marks and counted, and put only where there is room for all of it.
+// Its arrays aren't to stand on the stack while the table is checked, as they would inside its caller.
+#[inline(never)]
 fn offer_checked(
     session: Session,
     table: &[u8],

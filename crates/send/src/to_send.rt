@@ -17,7 +17,9 @@ use rules::sizes::{HASH_SIZE, HASHES, ROWS};
 use table::check::Checked;
 use table_check::check::check_indexed;
 
-// The hashes to send for a table, haves and a need list that have been checked. No hash was sent before.
+// The hashes to send for a table, haves and a need list that have been checked. No hash was sent before. Its arrays aren't to stand on the stack while the
+// table is checked, as they would inside its caller.
+#[inline(never)]
 pub fn put_to_send(
     table: &[u8],
     index: &[u8],

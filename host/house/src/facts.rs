@@ -60,6 +60,22 @@ fn named(function: &Function) -> String {
     format!("{home}::{}", function.home.name)
 }
 
+/// The functions of a file that call each other under the name of that cycle.
+fn of_cycle(krate: &str, module: &str, cycle: &str) -> String {
+    let path = root().join("crates").join(krate).join("src");
+    let text = read(&path.join(format!("{module}.rt")));
+    let mark = format!("#[cycle({cycle})]");
+    let lines: Vec<&str> = text.lines().collect();
+    let marked = |f: &Function| {
+        let above = lines[..f.line - 1].iter().rev();
+        let mut above = above.take_while(|line| line.trim_start().starts_with("#["));
+        above.any(|line| line.trim() == mark)
+    };
+    let functions = of_source(krate, module, &text).into_iter();
+    let names = functions.filter(marked).map(|f| f.home.name);
+    names.collect::<Vec<_>>().join(", ")
+}
+
 impl Fact {
     /// In words: a fact of a function, by its proof or its source, or a law.
     pub fn told(&self, krate: &str) -> Option<String> {
@@ -67,13 +83,17 @@ impl Fact {
         let steps: Vec<&str> = file.split('/').collect();
         match steps[..] {
             ["proofs", .., module, function, "Answers.antt" | "Invariants.antt" | "Proof.antt"] => {
+                let function = match function.strip_prefix('+') {
+                    Some(cycle) => of_cycle(krate, module, cycle),
+                    None => function.to_string(),
+                };
                 Some(format!("`{name}` of `{module}::{function}`"))
             }
             // A function at the root of its crate.
             ["proofs", function, "Answers.antt" | "Invariants.antt" | "Proof.antt"] => {
                 Some(format!("`{name}` of `main::{function}`"))
             }
-            ["proofs", file] => Some(format!("`{name}` ({})", file.trim_end_matches(".antt"))),
+            ["proofs", .., file] => Some(format!("`{name}` ({})", file.trim_end_matches(".antt"))),
             ["src", source] => {
                 let text = read(&root().join("crates").join(krate).join(file));
                 let functions = of_source(krate, source.trim_end_matches(".rt"), &text);
