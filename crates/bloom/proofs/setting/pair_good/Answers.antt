@@ -8,7 +8,7 @@ pub returns-then-bits-eq0 : goal.returns-then-bits-eq0
 returns-then-bits-eq0 c = sym (pair_none _ _ c.if-bits-eq0.true)
 
 pub returns-then-bits-gt-MOST_BITS : goal.returns-then-bits-gt-MOST_BITS
-returns-then-bits-gt-MOST_BITS c = sym (pair_many _ _ (omega (arith, c.if-bits-eq0.false)) c.if-bits-gt-MOST_BITS.true)
+returns-then-bits-gt-MOST_BITS c = sym (pair_many _ _ (omega (arith, c)) c.if-bits-gt-MOST_BITS.true)
 
 pub returns : goal.returns
-returns c = sym (pair_by_probes _ _ (omega (arith, c.if-bits-eq0.false)) c.if-bits-gt-MOST_BITS.false)
+returns c = sym (pair_by_probes _ _ (omega (arith, c)) c.if-bits-gt-MOST_BITS.false)

@@ -1,6 +1,7 @@
 -- `message_read::decode::decode` meets its contract: the message was read whole before anything is written, so the words are as many as its counts say,
 -- and putting them can't be refused. Assumes nothing.
 use mathlib.Core.Path.{sym, ◌∙◌}
+use borrow.Author.Rules.{rules}
 use native.Mathlib.Omega.{arith}
 use Rattle.message_read.proofs.ReadLaws.{decode_refused, few_haves_lem, few_chunks_lem, haves_short, chunks_short, haves_read, chunks_read, decoded}
 use Rattle.message_read.proofs.decode.decode.Goals as goal
@@ -19,12 +20,12 @@ overflow_mul-chunk_words c =
 
 pub returns-then-chunks-chunk_words : goal.returns-then-chunks-chunk_words
 returns-then-chunks-chunk_words c =
-    chunks_short _ _ (sym c.parse-read.ensures ∙ c.in-Message.is) _ _ _ c.if-haves-have_words.false c.if-chunks-chunk_words.true
+    chunks_short _ _ (sym c.parse-read.ensures ∙ c.in-Message.is) _ _ _ (search rules) c.if-chunks-chunk_words.true
 
 pub put_counted-sum-requires : goal.put_counted-sum-requires
 put_counted-sum-requires c =
     let is = sym c.parse-read.ensures ∙ c.in-Message.is in
-    (haves_read _ _ is _ c.if-haves-have_words.false, omega (arith, few_haves_lem _ _ is, c))
+    (haves_read _ _ is _ (search rules), omega (arith, few_haves_lem _ _ is, c))
 
 pub put_chunks-requires : goal.put_chunks-requires
 put_chunks-requires c =
@@ -32,7 +33,7 @@ put_chunks-requires c =
 
 pub returns-else-chunks-chunk_words : goal.returns-else-chunks-chunk_words
 returns-else-chunks-chunk_words c =
-    decoded _ _ (sym c.parse-read.ensures ∙ c.in-Message.is) _ _ _ c.if-haves-have_words.false c.if-chunks-chunk_words.false _ _ _ _ _
+    decoded _ _ (sym c.parse-read.ensures ∙ c.in-Message.is) _ _ _ (search rules) c.if-chunks-chunk_words.false _ _ _ _ _
     c.put_counted-sum.ensures
     c.put_chunks.ensures
     c.behind_section-behind.ensures

@@ -1,5 +1,6 @@
 -- `pick::check::row_fits` meets its contract: its tests are the definition's. Assumes nothing.
 use native.Mathlib.Omega.{arith}
+use borrow.Author.Rules.{rules}
 use borrow.Author.Tests.{lt-leb, le-leb}
 use Rattle.table.proofs.GoodLaws.{good_part}
 use Rattle.pick.proofs.GoesLaws.{fits_past, fits_unlisted, fits_early, fits_with}
@@ -21,4 +22,4 @@ goes_with-requires c =
 
 pub returns : goal.returns
 returns c =
-    fits_with _ _ _ _ _ _ c.if-n-row.false c.if-not-listed-row.false (le-leb _ _ c.if-row-from.false) _ c.goes_with.ensures
+    fits_with _ _ _ _ _ _ c.if-n-row.false c.if-not-listed-row.false (le-leb _ _ (search rules)) _ c.goes_with.ensures

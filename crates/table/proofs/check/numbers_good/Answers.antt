@@ -1,6 +1,7 @@
 -- `table::check::numbers_good` meets its contract: the numbers from the j-th on climb from `least` as all of them do from 0, until one doesn't
 -- or none is left. Assumes nothing.
 use mathlib.Core.Path.{sym, ◌∙◌}
+use borrow.Author.Rules.{rules}
 use native.Mathlib.Omega.{arith}
 use Rattle.table.proofs.RowLaws.{climb_starts, climb_low, climb_high, climb_on, climb_ends}
 use Rattle.table.proofs.check.numbers_good.Goals as goal
@@ -14,7 +15,7 @@ returns-then-k-least c =
 
 pub returns-then-i-k : goal.returns-then-i-k
 returns-then-i-k c =
-    sym (climb_high _ _ _ _ _ _ _ c.loop-j-test.true c.dep_of-k.ensures c.if-k-least.false c.if-i-k.true)
+    sym (climb_high _ _ _ _ _ _ _ c.loop-j-test.true c.dep_of-k.ensures (search rules) c.if-i-k.true)
     ∙ c.loop-j.invariant.rest
 
 pub loop-j-preserved : goal.loop-j-preserved
@@ -22,7 +23,7 @@ loop-j-preserved c =
     record {
       upto = omega (arith, c.loop-j-test.true);
       rest =
-          sym (climb_on _ _ _ _ _ _ _ c.loop-j-test.true c.dep_of-k.ensures c.if-k-least.false c.if-i-k.false)
+          sym (climb_on _ _ _ _ _ _ _ c.loop-j-test.true c.dep_of-k.ensures (search rules) c.if-i-k.false)
           ∙ c.loop-j.invariant.rest;
     }
 

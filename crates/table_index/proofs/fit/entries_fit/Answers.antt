@@ -1,5 +1,6 @@
 -- `table_index::fit::entries_fit` meets its contract: what the entries from the i-th on say behind the last one is what all of them say, until one
 -- doesn't fit or none is left. Assumes nothing.
+use borrow.Author.Rules.{rules}
 use mathlib.Core.Path.{sym, ◌∙◌}
 use Rattle.table_index.proofs.FitLaws.{chain_none, chain_high, chain_starts, chain_past, chain_falls, chain_on, chain_ends}
 use native.Mathlib.Omega.{arith}
@@ -37,7 +38,7 @@ loop-i-preserved c =
       rest =
           sym
           (chain_on _ _ _ _ _ _ v.low c.loop-i-test.true c.u16_at-r.ensures c.if-n-r.false
-          (sym c.hash_before.ensures ∙ c.if-not-hash_before.false))
+          (search rules))
           ∙ v.rest;
     }
 
