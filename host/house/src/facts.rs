@@ -60,7 +60,8 @@ fn named(function: &Function) -> String {
     format!("{home}::{}", function.home.name)
 }
 
-/// The functions of a file that call each other under the name of that cycle.
+/// The functions of a file that call each other under the name of that cycle, or the one that
+/// calls itself.
 fn of_cycle(krate: &str, module: &str, cycle: &str) -> String {
     let path = root().join("crates").join(krate).join("src");
     let text = read(&path.join(format!("{module}.rt")));
@@ -72,8 +73,11 @@ fn of_cycle(krate: &str, module: &str, cycle: &str) -> String {
         above.any(|line| line.trim() == mark)
     };
     let functions = of_source(krate, module, &text).into_iter();
-    let names = functions.filter(marked).map(|f| f.home.name);
-    names.collect::<Vec<_>>().join(", ")
+    let names: Vec<String> = functions.filter(marked).map(|f| f.home.name).collect();
+    match names.is_empty() {
+        true => cycle.to_string(),
+        false => names.join(", "),
+    }
 }
 
 impl Fact {
