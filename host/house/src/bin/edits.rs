@@ -14,10 +14,47 @@ Each is a wrong program, or a wrong definition, of the same shape as what stands
 
 /// Edits of which the first error isn't the false fact: the fact, as it was read in what the
 /// prover said.
-const READ: &[(&str, &str)] = &[(
-    "sample_replay/all_agree",
-    "`loop-at-preserved` of `walk::walk`",
-)];
+const READ: &[(&str, &str)] = &[
+    ("bloom/have_hashes", "`returns` of `have::have_good`"),
+    (
+        "message/flags_low_byte",
+        "`loop-i-preserved` of `MessageFlags::parse_bytes`",
+    ),
+    ("pick/definition_transitive", "`check_tells` (AcceptLaws)"),
+    (
+        "plan_count/unpicked_sent",
+        "`returns` of `carried::pick_list`",
+    ),
+    (
+        "receive_make/rows_before_beyond",
+        "`returns-in-Refused-parse` of `check::check_receive`",
+    ),
+    (
+        "sample_replay/all_agree",
+        "`loop-at-preserved` of `walk::walk`",
+    ),
+    (
+        "table/table_count",
+        "`numbers_good-requires` of `check::row_sound`",
+    ),
+    (
+        "table/table_not_ascending",
+        "`loop-j-preserved` of `check::numbers_good`",
+    ),
+    (
+        "table/table_own_row",
+        "`loop-j-preserved` of `check::numbers_good`",
+    ),
+    (
+        "waiting/waiting_unasked",
+        "`returns` of `check::waiting_good`",
+    ),
+    (
+        "waiting_missing/missing_no_room_to_tell",
+        "`returns-else-found-gt-HASHES` of `missing::missing_from`",
+    ),
+    ("walk_hosts/fresh_never", "`zeroed_fresh` (Zeroed)"),
+];
 
 /// What no longer holds: as it was read, or the first error that the log has of the edit.
 fn told(log: &str, krate: &str, name: &str) -> Option<String> {
