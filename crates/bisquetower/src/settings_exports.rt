@@ -1,13 +1,12 @@
 // The exported calls of the crate `settings_calls`.
 ghost use Rattle.std.specs.Prelude.{◌≡◌};
-ghost use Rattle.call_words.specs.Answer.{Answered};
+ghost use Rattle.call_words.specs.Answer.{Answered, write_words};
 ghost use Rattle.settings.specs.Settings.{settings_checked, setting_for, appended};
 ghost use Rattle.settings_calls.specs.SettingWords.{setting_words};
-ghost use Rattle.table_calls.specs.TableWords.{checked_words};
 
 #[unsafe(no_mangle)]
 pub extern "C" fn bt_check_settings(settings: &[u8], answer: &mut [u64; 4])
-    ensures { answer.new ≡ checked_words (settings_checked settings.now) }
+    ensures { answer.new ≡ write_words (settings_checked settings.now) }
 {
     settings_calls::calls::bt_check_settings(settings, answer)
 }

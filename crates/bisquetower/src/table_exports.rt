@@ -1,7 +1,6 @@
 // The exported calls of the crate `table_calls`.
 ghost use Rattle.std.specs.Prelude.{◌≡◌};
-ghost use Rattle.call_words.specs.Answer.{Answered};
-ghost use Rattle.table_calls.specs.TableWords.{checked_words};
+ghost use Rattle.call_words.specs.Answer.{Answered, write_words};
 ghost use Rattle.table.specs.TableBytes.{table_checked};
 ghost use Rattle.table_index_build.specs.Indexing.{built_output, extended_output};
 ghost use Rattle.table_convert.specs.Rows.{widened, narrowed};
@@ -11,14 +10,14 @@ ghost use Rattle.waiting_missing.specs.MissingCalls.{missing_output};
 
 #[unsafe(no_mangle)]
 pub extern "C" fn bt_check_table(table: &[u8], answer: &mut [u64; 4])
-    ensures { answer.new ≡ checked_words (table_checked table.now) }
+    ensures { answer.new ≡ write_words (table_checked table.now) }
 {
     table_calls::calls::bt_check_table(table, answer)
 }
 
 #[unsafe(no_mangle)]
 pub extern "C" fn bt_check_tables(table: &[u8], index: &[u8], waiting: &[u8], answer: &mut [u64; 4])
-    ensures { answer.new ≡ checked_words (tables_checked table.now index.now waiting.now) }
+    ensures { answer.new ≡ write_words (tables_checked table.now index.now waiting.now) }
 {
     table_calls::calls::bt_check_tables(table, index, waiting, answer)
 }

@@ -13,12 +13,10 @@ use Rattle.rules.specs.Hash.{Bytes}
 use Rattle.rules.specs.Sizes.{sizes}
 use Rattle.rules.specs.declared.refusal.Refusal.{Refusal}
 use Rattle.rules.specs.declared.refusal.Refusal.TheVariants.{Cut, PastSize, NoBits}
-use Rattle.rules.proofs.Cases.{split}
+use Rattle.rules.proofs.Cases.{read_same, split}
 use Rattle.rules.proofs.Hash.{slice_append, slice_parts}
 use Rattle.wire.specs.Item.{left_at, after_number}
 use Rattle.leb128.specs.Number.{shortest, number_at, most_filter, Put}
-use Rattle.leb128.specs.declared.leb128.Number.{Number}
-use Rattle.leb128.specs.declared.leb128.Number.TheVariants.{Value, Refused as NoValue}
 use Rattle.wire.proofs.Item.{left_is}
 use Rattle.leb128.proofs.Meaning.{EndsInside, number_inside, number_most, number_written, written_number}
 use Rattle.leb128.proofs.Number.{slice_past, put_joined}
@@ -27,8 +25,8 @@ use Rattle.bloom.specs.Have.{numbers_of, filter_with}
 use Rattle.bloom.specs.FilterMeans.{FilterMeans}
 use Rattle.bloom.specs.FilterRead.{field_at, numbers_at, filter_at}
 use Rattle.bloom.specs.declared.have.FilterNumbers.{FilterNumbers}
-use Rattle.bloom.specs.declared.parse.Parsed.TheVariants.{Filter as Read, Refused}
 use Rattle.bloom.proofs.Rules.{capacity_none, ruled, rules, rules_none, full_of}
+use Rattle.std.specs.Prelude.{Result, Ok, Err}
 
 no_elements : (l : List ℕ) → length l ≡ 0 → l ≡ []
 no_elements [] e = refl
@@ -43,55 +41,55 @@ slice_parted s a b e h l =
 -- ---- the cases of reading
 
 module _ (s : List ℕ) (at end n b p place : ℕ) where
-  pub field_none : n ≡ 0 → field_at s at end n b p place ≡ Read (numbers_of 0 b p place 0) place
+  pub field_none : n ≡ 0 → field_at s at end n b p place ≡ Ok (numbers_of 0 b p place 0, place)
   unfolding field_at
   field_none h = rw (eq-eqb _ _ h)
 
   module _ (some : n ≡ 0 → ⊥) where
-    pub field_no_bits : b ≡ 0 → field_at s at end n b p place ≡ Refused (NoBits at)
+    pub field_no_bits : b ≡ 0 → field_at s at end n b p place ≡ Err (NoBits at)
     unfolding field_at
     field_no_bits h = rw (ne_eqb _ _ some, eq-eqb _ _ h)
 
     module _ (bits : b ≡ 0 → ⊥) where
-      pub field_probes : sizes.probes < p → field_at s at end n b p place ≡ Refused (PastSize at)
+      pub field_probes : sizes.probes < p → field_at s at end n b p place ≡ Err (PastSize at)
       unfolding field_at
       field_probes h = rw (ne_eqb _ _ some, ne_eqb _ _ bits, lt-ltb _ _ h)
 
       module _ (few : p ≤ sizes.probes) where
-        pub field_large : sizes.field < field_size n b → field_at s at end n b p place ≡ Refused (PastSize at)
+        pub field_large : sizes.field < field_size n b → field_at s at end n b p place ≡ Err (PastSize at)
         unfolding field_at
         field_large h = rw (ne_eqb _ _ some, ne_eqb _ _ bits, le-ltb _ _ few, lt-ltb _ _ h)
 
         module _ (small : field_size n b ≤ sizes.field) where
-          pub field_cut : left_at s place end < field_size n b → field_at s at end n b p place ≡ Refused (Cut place)
+          pub field_cut : left_at s place end < field_size n b → field_at s at end n b p place ≡ Err (Cut place)
           unfolding field_at
           field_cut h = rw (ne_eqb _ _ some, ne_eqb _ _ bits, le-ltb _ _ few, le-ltb _ _ small, lt-ltb _ _ h)
 
           pub field_read : field_size n b ≤ left_at s place end
-              → field_at s at end n b p place ≡ Read (numbers_of n b p place (field_size n b)) (place + field_size n b)
+              → field_at s at end n b p place ≡ Ok (numbers_of n b p place (field_size n b), place + field_size n b)
           unfolding field_at
           field_read h = rw (ne_eqb _ _ some, ne_eqb _ _ bits, le-ltb _ _ few, le-ltb _ _ small, le-ltb _ _ h)
 
 module _ (s : List ℕ) (at end : ℕ) where
-  pub numbers_first : (r : Refusal) → number_at most_filter s at end ≡ NoValue r → numbers_at s at end ≡ Refused r
+  pub numbers_first : (r : Refusal) → number_at most_filter s at end ≡ Err r → numbers_at s at end ≡ Err r
   unfolding numbers_at after_number
   numbers_first r e = rw e
 
-  module _ (n i : ℕ) (first : number_at most_filter s at end ≡ Value n i) where
-    pub numbers_second : (r : Refusal) → number_at most_filter s i end ≡ NoValue r → numbers_at s at end ≡ Refused r
+  module _ (n i : ℕ) (first : number_at most_filter s at end ≡ Ok (n, i)) where
+    pub numbers_second : (r : Refusal) → number_at most_filter s i end ≡ Err r → numbers_at s at end ≡ Err r
     unfolding numbers_at after_number
     numbers_second r e = rw (first, e)
 
-    module _ (b j : ℕ) (second : number_at most_filter s i end ≡ Value b j) where
-      pub numbers_third : (r : Refusal) → number_at most_filter s j end ≡ NoValue r → numbers_at s at end ≡ Refused r
+    module _ (b j : ℕ) (second : number_at most_filter s i end ≡ Ok (b, j)) where
+      pub numbers_third : (r : Refusal) → number_at most_filter s j end ≡ Err r → numbers_at s at end ≡ Err r
       unfolding numbers_at after_number
       numbers_third r e = rw (first, second, e)
 
-      pub numbers_read : (p place : ℕ) → number_at most_filter s j end ≡ Value p place → numbers_at s at end ≡ field_at s at end n b p place
+      pub numbers_read : (p place : ℕ) → number_at most_filter s j end ≡ Ok (p, place) → numbers_at s at end ≡ field_at s at end n b p place
       unfolding numbers_at after_number
       numbers_read p place e = rw (first, second, e)
 
-  pub filter_default : left_at s at end ≡ 0 → filter_at s at end ≡ Read (numbers_of 0 default_bits default_probes at 0) at
+  pub filter_default : left_at s at end ≡ 0 → filter_at s at end ≡ Ok (numbers_of 0 default_bits default_probes at 0, at)
   unfolding filter_at
   filter_default h = rw (eq-eqb _ _ h)
 
@@ -110,18 +108,18 @@ record FieldRead (s : List ℕ) (end n b p place : ℕ) (f : FilterNumbers) (nex
   few_probes : 0 < n → p ≤ sizes.probes
   small : field_size n b ≤ sizes.field
 
-never : {A : Type 0} (r : Refusal) (f : FilterNumbers) (next : ℕ) → Refused r ≡ Read f next → A
+never : {A : Type 0} (r : Refusal) (f : FilterNumbers) (next : ℕ) → ◌≡◌ {A = Result (FilterNumbers × ℕ) Refusal} (Err r) (Ok (f, next)) → A
 never r f next e = absurd (let z : ◌≡◌ {A = ℕ} 0 1 = cc in omega arith)
 
-field_apart : (s : List ℕ) (at end n b p place : ℕ) (f : FilterNumbers) (next : ℕ) → field_at s at end n b p place ≡ Read f next
+field_apart : (s : List ℕ) (at end n b p place : ℕ) (f : FilterNumbers) (next : ℕ) → field_at s at end n b p place ≡ Ok (f, next)
     → FieldRead s end n b p place f next
 field_apart s at end n b p place f next e =
     split (eqb n 0)
     (λ t0.
     let none : n ≡ 0 = eqb-true _ _ t0 in
-    let q : Read (numbers_of 0 b p place 0) place ≡ Read f next = sym (field_none s at end n b p place none) ∙ e in
-    let same : numbers_of 0 b p place 0 ≡ f = cc in
-    let x : place ≡ next = cc in
+    let q = read_same (sym (field_none s at end n b p place none) ∙ e) in
+    let same : numbers_of 0 b p place 0 ≡ f = q.0 in
+    let x : place ≡ next = q.1 in
     let c : field_size n b ≡ 0 = rw none (capacity_none b) in
     record {
       is = ap₂ (λ (k l : ℕ). numbers_of k b p place l) none c ∙ same;
@@ -149,12 +147,10 @@ field_apart s at end n b p place f next e =
     (λ t4. never _ _ _ (sym (field_cut s at end n b p place some bits few small (ltb-true _ _ t4)) ∙ e))
     (λ t4.
     let fits = ltb-false _ _ t4 in
-    let q : Read (numbers_of n b p place (field_size n b)) (place + field_size n b) ≡ Read f next =
-    sym (field_read s at end n b p place some bits few small fits) ∙ e
-    in
-    let x : place + field_size n b ≡ next = cc in
+    let q = read_same (sym (field_read s at end n b p place some bits few small fits) ∙ e) in
+    let x : place + field_size n b ≡ next = q.1 in
     record {
-      is = cc;
+      is = q.0;
       whole = omega arith;
       there = fits;
       some_bits = λ h. omega arith;
@@ -166,9 +162,9 @@ field_apart s at end n b p place f next e =
 record NumbersRead (s : List ℕ) (at end n b p place : ℕ) : Type 0 where
   i : ℕ
   j : ℕ
-  first : number_at most_filter s at end ≡ Value n i
-  second : number_at most_filter s i end ≡ Value b j
-  third : number_at most_filter s j end ≡ Value p place
+  first : number_at most_filter s at end ≡ Ok (n, i)
+  second : number_at most_filter s i end ≡ Ok (b, j)
+  third : number_at most_filter s j end ≡ Ok (p, place)
 
 -- Both, of a filter.
 record FilterRead (s : List ℕ) (at end : ℕ) (f : FilterNumbers) (next : ℕ) : Type 0 where
@@ -177,15 +173,15 @@ record FilterRead (s : List ℕ) (at end : ℕ) (f : FilterNumbers) (next : ℕ)
   sized : f.size ≡ field_size f.entries f.bits
 
 module _ (s : List ℕ) (at end : ℕ) (f : FilterNumbers) (next : ℕ) where
-  numbers_apart : numbers_at s at end ≡ Read f next → FilterRead s at end f next
+  numbers_apart : numbers_at s at end ≡ Ok (f, next) → FilterRead s at end f next
   numbers_apart e = one (number_at most_filter s at end) refl
     where
       three : (n i b j : ℕ)
-          → number_at most_filter s at end ≡ Value n i
-          → number_at most_filter s i end ≡ Value b j
-          → (x : Number) → number_at most_filter s j end ≡ x
+          → number_at most_filter s at end ≡ Ok (n, i)
+          → number_at most_filter s i end ≡ Ok (b, j)
+          → (x : Result (ℕ × ℕ) Refusal) → number_at most_filter s j end ≡ x
           → FilterRead s at end f next
-      three n i b j k g (Value p place) h =
+      three n i b j k g (Ok (p, place)) h =
           let r = field_apart s at end n b p place f next (sym (numbers_read s at end n i k b j g p place h) ∙ e) in
           let en : n ≡ f.entries = ap (λ (x : FilterNumbers). x.entries) r.is in
           let eb : b ≡ f.bits = ap (λ (x : FilterNumbers). x.bits) r.is in
@@ -197,18 +193,18 @@ module _ (s : List ℕ) (at end : ℕ) (f : FilterNumbers) (next : ℕ) where
             field = rw (en, eb, ep, ef) at r;
             sized = sym (rw (en, eb) at es);
           }
-      three n i b j k g (NoValue r) h = never _ _ _ (sym (numbers_third s at end n i k b j g r h) ∙ e)
+      three n i b j k g (Err r) h = never _ _ _ (sym (numbers_third s at end n i k b j g r h) ∙ e)
 
-      two : (n i : ℕ) → number_at most_filter s at end ≡ Value n i → (x : Number) → number_at most_filter s i end ≡ x → FilterRead s at end f next
-      two n i k (Value b j) g = three n i b j k g (number_at most_filter s j end) refl
-      two n i k (NoValue r) g = never _ _ _ (sym (numbers_second s at end n i k r g) ∙ e)
+      two : (n i : ℕ) → number_at most_filter s at end ≡ Ok (n, i) → (x : Result (ℕ × ℕ) Refusal) → number_at most_filter s i end ≡ x → FilterRead s at end f next
+      two n i k (Ok (b, j)) g = three n i b j k g (number_at most_filter s j end) refl
+      two n i k (Err r) g = never _ _ _ (sym (numbers_second s at end n i k r g) ∙ e)
 
-      one : (x : Number) → number_at most_filter s at end ≡ x → FilterRead s at end f next
-      one (Value n i) k = two n i k (number_at most_filter s i end) refl
-      one (NoValue r) k = never _ _ _ (sym (numbers_first s at end r k) ∙ e)
+      one : (x : Result (ℕ × ℕ) Refusal) → number_at most_filter s at end ≡ x → FilterRead s at end f next
+      one (Ok (n, i)) k = two n i k (number_at most_filter s i end) refl
+      one (Err r) k = never _ _ _ (sym (numbers_first s at end r k) ∙ e)
 
   -- A filter read from no bytes is the default; any other is three numbers and a field.
-  filter_apart : {A : Type 0} → filter_at s at end ≡ Read f next
+  filter_apart : {A : Type 0} → filter_at s at end ≡ Ok (f, next)
       → (left_at s at end ≡ 0 → numbers_of 0 default_bits default_probes at 0 ≡ f → at ≡ next → A)
       → (0 < left_at s at end → FilterRead s at end f next → A)
       → A
@@ -216,10 +212,8 @@ module _ (s : List ℕ) (at end : ℕ) (f : FilterNumbers) (next : ℕ) where
       split (eqb (left_at s at end) 0)
       (λ t.
       let none = eqb-true _ _ t in
-      let q : Read (numbers_of 0 default_bits default_probes at 0) at ≡ Read f next = sym (filter_default s at end none) ∙ e in
-      let same : numbers_of 0 default_bits default_probes at 0 ≡ f = cc in
-      let x : at ≡ next = cc in
-      default none same x)
+      let q = read_same (sym (filter_default s at end none) ∙ e) in
+      default none q.0 q.1)
       (λ t.
       let some = eqb-false _ _ t in
       numbers (omega arith) (numbers_apart (sym (filter_numbers_lem s at end some) ∙ e)))
@@ -235,7 +229,7 @@ pub record FilterInside (s : List ℕ) (at end : ℕ) (f : FilterNumbers) (next 
   pub read : 0 < left_at s at end → EndsInside s at end next
   pub filled : 0 < f.size → EndsInside s at end next
 
-module _ (s : List ℕ) (at end : ℕ) (f : FilterNumbers) (next : ℕ) (e : filter_at s at end ≡ Read f next) where
+module _ (s : List ℕ) (at end : ℕ) (f : FilterNumbers) (next : ℕ) (e : filter_at s at end ≡ Ok (f, next)) where
   pub filter_inside : FilterInside s at end f next
   filter_inside =
       filter_apart s at end f next e
@@ -337,7 +331,7 @@ module _ (n b p : ℕ) (field : List ℕ) where
 
 -- A number that was written is read, and what follows it stands after it.
 number_off : (s body rest : List ℕ) (at end n : ℕ) → n ≤ most_filter → slice at end s ≡ (shortest n ++ body) ++ rest
-    → (number_at most_filter s at end ≡ Value n (at + length (shortest n))) × (slice (at + length (shortest n)) end s ≡ body ++ rest)
+    → (number_at most_filter s at end ≡ Ok (n, at + length (shortest n))) × (slice (at + length (shortest n)) end s ≡ body ++ rest)
 number_off s body rest at end n small same =
     let first : slice at end s ≡ shortest n ++ (body ++ rest) = same ∙ append_assoc (shortest n) body rest in
     let number = number_written most_filter s at end n (body ++ rest) small first in
@@ -350,7 +344,7 @@ pub filter_written : (s rest : List ℕ) (at end : ℕ) (f : Filter)
     → slice at end s ≡ filter_bytes f ++ rest
     → let place = at + length (shortest f.entries) + length (shortest f.bits) + length (shortest f.probes) in
     let next = place + length f.field in
-    (filter_at s at end ≡ Read (numbers_of f.entries f.bits f.probes place (length f.field)) next) × (slice place next s ≡ f.field)
+    (filter_at s at end ≡ Ok (numbers_of f.entries f.bits f.probes place (length f.field), next)) × (slice place next s ≡ f.field)
 unfolding left_at
 filter_written s rest at end f keeps entries same =
     let n = f.entries in
@@ -380,7 +374,7 @@ filter_written s rest at end f keeps entries same =
     in
     (read ∙ last, (slice_parts (length field) place end s field rest room refl three.1).0)
 
-pub default_written : (s : List ℕ) (at end : ℕ) → slice at end s ≡ [] → filter_at s at end ≡ Read (numbers_of 0 default_bits default_probes at 0) at
+pub default_written : (s : List ℕ) (at end : ℕ) → slice at end s ≡ [] → filter_at s at end ≡ Ok (numbers_of 0 default_bits default_probes at 0, at)
 unfolding left_at
 default_written s at end e = filter_default s at end (ap length e)
 

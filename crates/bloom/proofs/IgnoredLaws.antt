@@ -14,24 +14,22 @@ use Rattle.bloom.specs.Filter.{Filter, filter_rules, filter_bytes}
 use Rattle.bloom.specs.FilterIgnored.{ignored_at, counted_at, as_parsed}
 use Rattle.bloom.specs.FilterRead.{filter_at, after_filter}
 use Rattle.bloom.specs.declared.have.FilterNumbers.{FilterNumbers}
-use Rattle.bloom.specs.declared.parse.CountedFilter.TheVariants.{Filter as Count, Refused as NotCounted}
-use Rattle.bloom.specs.declared.parse.Parsed.{Parsed}
-use Rattle.bloom.specs.declared.parse.Parsed.TheVariants.{Filter as Read, Refused}
 use Rattle.bloom.proofs.Filters.{filter_default, filter_inside, filter_written, bytes_length}
+use Rattle.std.specs.Prelude.{Result, Ok, Err}
 
 -- ---- one law for each case
 
 module _ (s : List ℕ) (at end : ℕ) where
-  pub ignored_left : (f : FilterNumbers) (next : ℕ) → filter_at s at end ≡ Read f next → ignored_at s at end ≡ left_at s next end
+  pub ignored_left : (f : FilterNumbers) (next : ℕ) → filter_at s at end ≡ Ok (f, next) → ignored_at s at end ≡ left_at s next end
   unfolding ignored_at after_filter
   ignored_left f next e = rw e
 
-  pub counted_read : (f : FilterNumbers) (next ignored : ℕ) → filter_at s at end ≡ Read f next → ignored ≡ left_at s next end
-      → Count f next ignored ≡ counted_at s at end
+  pub counted_read : (f : FilterNumbers) (next ignored : ℕ) → filter_at s at end ≡ Ok (f, next) → ignored ≡ left_at s next end
+      → Ok (f, next, ignored) ≡ counted_at s at end
   unfolding counted_at after_filter
   counted_read f next ignored e q = rw (e, q, ignored_left f next e)
 
-  pub counted_refused : (r : Refusal) → filter_at s at end ≡ Refused r → NotCounted r ≡ counted_at s at end
+  pub counted_refused : (r : Refusal) → filter_at s at end ≡ Err r → Err r ≡ counted_at s at end
   unfolding counted_at after_filter
   counted_refused r e = rw e
 
@@ -41,9 +39,9 @@ module _ (s : List ℕ) (at end : ℕ) where
   unfolding counted_at as_parsed after_filter
   filter_forgotten = go (filter_at s at end) refl
     where
-      go : (x : Parsed) → filter_at s at end ≡ x → as_parsed (counted_at s at end) ≡ filter_at s at end
-      go (Read f next) e = rw e
-      go (Refused r) e = rw e
+      go : (x : Result (FilterNumbers × ℕ) Refusal) → filter_at s at end ≡ x → as_parsed (counted_at s at end) ≡ filter_at s at end
+      go (Ok (f, next)) e = rw e
+      go (Err r) e = rw e
 
   -- ---- what stands there
 
@@ -52,7 +50,7 @@ module _ (s : List ℕ) (at end : ℕ) where
   ignored_none e = ignored_left _ _ (filter_default s at end e) ∙ e
 
   -- The field and what is ignored behind it go up to the part's end.
-  pub ignored_stands : (f : FilterNumbers) (next : ℕ) → filter_at s at end ≡ Read f next → at ≤ end → end ≤ length s
+  pub ignored_stands : (f : FilterNumbers) (next : ℕ) → filter_at s at end ≡ Ok (f, next) → at ≤ end → end ≤ length s
       → f.place + f.size + ignored_at s at end ≡ end
   ignored_stands f next e h l =
       let w = filter_inside s at end f next e in

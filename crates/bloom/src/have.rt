@@ -101,12 +101,10 @@ pub fn passed_good(bytes: &[u8], haves: &[u64]) -> bool
         return false;
     }
     let total = at_most(haves.len() / HAVE_WORDS);
-    let mut i = 0;
-    while i < total {
+    for i in 0..total {
         if !have_good(bytes, haves, i) {
             return false;
         }
-        i += 1;
     }
     true
 }
@@ -119,12 +117,10 @@ pub fn passed_few(haves: &[u64]) -> bool
     if HAVES < total {
         return false;
     }
-    let mut i = 0;
-    while i < total {
+    for i in 0..total {
         if HASHES < sync_count(haves, i) {
             return false;
         }
-        i += 1;
     }
     true
 }

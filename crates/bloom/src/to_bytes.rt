@@ -6,7 +6,6 @@ ghost use Rattle.leb128.specs.Number.{Put};
 
 use crate::rule::filter_rules;
 use leb128::leb128::{put_unsigned, unsigned_size};
-use rules::output::Write;
 use rules::put::copy_into;
 use rules::refusal::Refusal;
 
@@ -43,16 +42,22 @@ pub fn put_filter(
 }
 
 // Writes a filter: 10 where its numbers and field break the filter rules.
-pub fn to_bytes(out: &mut [u8], entries: u64, bits: u64, probes: u64, field: &[u8]) -> Write
+pub fn to_bytes(
+    out: &mut [u8],
+    entries: u64,
+    bits: u64,
+    probes: u64,
+    field: &[u8],
+) -> Result<usize, Refusal>
     ensures { Written (filter_output (filter_of4 entries bits probes field.now)) out.old out.new result }
 {
     if !filter_rules(entries, bits, probes, field.len() as u64) {
-        return Write::Refused(Refusal::BadNumbers);
+        return Err(Refusal::BadNumbers);
     }
     let size = filter_size(entries, bits, probes, field);
     if out.len() < size {
-        return Write::Refused(Refusal::NoRoom(size));
+        return Err(Refusal::NoRoom(size));
     }
     put_filter(out, 0, entries, bits, probes, field);
-    Write::Wrote(size)
+    Ok(size)
 }

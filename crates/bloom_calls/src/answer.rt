@@ -2,19 +2,15 @@
 ghost use Rattle.std.specs.Prelude.{◌≡◌};
 ghost use Rattle.bloom_calls.specs.BloomWords.{filter_words, contained_words};
 
-use bloom::parse::CountedFilter;
-use bloom_probe::contains::Contained;
+use bloom::have::FilterNumbers;
 use call_words::answer::refusal_words;
+use rules::refusal::Refusal;
 
-pub fn filter_words(f: CountedFilter) -> [u64; 8]
+pub fn filter_words(f: Result<(FilterNumbers, usize, usize), Refusal>) -> [u64; 8]
     ensures { result ≡ filter_words f }
 {
     match f {
-        CountedFilter::Filter {
-            filter,
-            next,
-            ignored,
-        } => [
+        Ok((filter, next, ignored)) => [
             0,
             filter.entries,
             filter.bits,
@@ -24,16 +20,16 @@ pub fn filter_words(f: CountedFilter) -> [u64; 8]
             next as u64,
             ignored as u64,
         ],
-        CountedFilter::Refused(r) => [r.number(), r.value(), 0, 0, 0, 0, 0, 0],
+        Err(r) => [r.number(), r.value(), 0, 0, 0, 0, 0, 0],
     }
 }
 
-pub fn contained_words(k: Contained) -> [u64; 4]
+pub fn contained_words(k: Result<bool, Refusal>) -> [u64; 4]
     ensures { result ≡ contained_words k }
 {
     match k {
-        Contained::Yes => [0, 1, 0, 0],
-        Contained::No => [0, 0, 0, 0],
-        Contained::Refused(r) => refusal_words(r),
+        Ok(true) => [0, 1, 0, 0],
+        Ok(false) => [0, 0, 0, 0],
+        Err(r) => refusal_words(r),
     }
 }

@@ -18,8 +18,6 @@ use Rattle.rules.specs.Hash.{hashes_at}
 use Rattle.rules.specs.Output.{bytes, refuse, Written}
 use Rattle.rules.specs.Passed.{passed_hashes}
 use Rattle.rules.specs.Sizes.{sizes}
-use Rattle.rules.specs.declared.output.Write.TheVariants.{Wrote}
-use Rattle.rules.specs.declared.passed.Passed.TheVariants.{Hashes, Refused}
 use Rattle.rules.specs.declared.refusal.Refusal.{Refusal}
 use Rattle.rules.specs.declared.refusal.Refusal.TheVariants.{BadNumbers}
 use Rattle.leb128.specs.Number.{most_filter}
@@ -27,6 +25,7 @@ use Rattle.bloom_probe.specs.Build.{add_hashes, filter_of, build_output}
 use Rattle.bloom.specs.Filter.{field_size, filter_rules}
 use Rattle.bloom_probe.proofs.FieldLaws.{length_add_hashes}
 use Rattle.bloom.proofs.Rules.{capacity_covers, capacity_none, ruled}
+use Rattle.std.specs.Prelude.{Ok, Err}
 
 -- ---- the filter rules
 
@@ -58,18 +57,18 @@ module _ (b p : ℕ) (s : List ℕ) where
   unfolding build_output
   bad_numbers e = rw e
 
-  pub no_list_lem : (r : Refusal) → rules ≡ true → passed_hashes s ≡ Refused r → build_output b p s ≡ refuse r
+  pub no_list_lem : (r : Refusal) → rules ≡ true → passed_hashes s ≡ Err r → build_output b p s ≡ refuse r
   unfolding build_output
   no_list_lem r e q = rw e (after_refused _ _ _ r q)
 
   -- the hashes of a list that is accepted are as many as the whole hashes that the rules were asked for
-  entries_are : (n : ℕ) → passed_hashes s ≡ Hashes n → entries ≡ n
+  entries_are : (n : ℕ) → passed_hashes s ≡ Ok n → entries ≡ n
   entries_are n q = omega (arith, (passed_is s n q).whole)
 
-  pub list_rules : (n : ℕ) → rules ≡ true → passed_hashes s ≡ Hashes n → filter_rules n b p (field_size n b) ≡ true
+  pub list_rules : (n : ℕ) → rules ≡ true → passed_hashes s ≡ Ok n → filter_rules n b p (field_size n b) ≡ true
   list_rules n e q = rw (entries_are n q) at e
 
-  pub whole_list : (n : ℕ) → rules ≡ true → passed_hashes s ≡ Hashes n → build_output b p s ≡ bytes (filter_of b p (hashes_at s 0 n)).field
+  pub whole_list : (n : ℕ) → rules ≡ true → passed_hashes s ≡ Ok n → build_output b p s ≡ bytes (filter_of b p (hashes_at s 0 n)).field
   unfolding build_output
   whole_list n e q = rw e (after_hashes _ _ _ n q)
 
@@ -81,7 +80,7 @@ module _ (b p : ℕ) (s : List ℕ) (n : ℕ) where
   -- A field filled at the start of the buffer is the filter's, and the rest of the buffer stays.
   pub built : (field out : List ℕ) (size : ℕ) → size ≡ field_size n b → size ≤ length field
       → out ≡ add_hashes p (replicate (length (take size field)) 0) (hashes_at s 0 n)
-      → Written (bytes (filter_of b p (hashes_at s 0 n)).field) field (out ++ drop size field) (Wrote size)
+      → Written (bytes (filter_of b p (hashes_at s 0 n)).field) field (out ++ drop size field) (Ok size)
   unfolding filter_of
   built field out size e h q =
       let l : List ℕ = (filter_of b p (hashes_at s 0 n)).field in

@@ -12,7 +12,6 @@ use Rattle.bloom.specs.Filter.{Filter, field_size, filter_rules}
 use Rattle.bloom.specs.Have.{have_count, numbers_in, filter_with, GoodFilters}
 use Rattle.bloom.specs.FilterRead.{filter_at}
 use Rattle.bloom.specs.declared.have.FilterNumbers.{FilterNumbers}
-use Rattle.bloom.specs.declared.parse.Parsed.TheVariants.{Filter as Read}
 use Rattle.bloom.proofs.Filters.{filter_inside, filter_ruled}
 use Rattle.bloom.proofs.Rules.{ruled}
 use Rattle.bloom_probe.specs.Build.{filter_of}
@@ -20,6 +19,7 @@ use Rattle.bloom_probe.specs.Inside.{Inside}
 use Rattle.bloom_probe.proofs.FieldLaws.{length_add_hashes}
 use Rattle.bloom_probe.proofs.ProbeLaws.{probes_below}
 use Rattle.bloom_probe.proofs.Search.{Probed, probed}
+use Rattle.std.specs.Prelude.{Ok}
 
 -- A field that isn't empty.
 field_inside : (f : Filter) → 0 < length f.field → Inside f
@@ -49,7 +49,7 @@ pub passed_inside : (s haves : List ℕ) → GoodFilters s haves → (i : ℕ) �
 passed_inside s haves good i h some = numbers_inside s (numbers_in haves i) (probed s (numbers_in haves i) (good.each i h) (λ e. omega arith))
 
 -- A filter that was read.
-pub read_inside : (s : List ℕ) (at end : ℕ) (f : FilterNumbers) (next : ℕ) → Bytes s → filter_at s at end ≡ Read f next → 0 < f.entries
+pub read_inside : (s : List ℕ) (at end : ℕ) (f : FilterNumbers) (next : ℕ) → Bytes s → filter_at s at end ≡ Ok (f, next) → 0 < f.entries
     → Inside (filter_with s f)
 read_inside s at end f next bytes e some =
     let full = (ruled f.entries f.bits f.probes f.size (filter_ruled s at end f next e bytes)).full some in

@@ -1,13 +1,12 @@
 -- Whether filters contain a hash. 01, "Probes", and Refusal numbers for filters that are passed as numbers.
-use Rattle.std.specs.Prelude.{ℕ, ◌*◌, Bool, true, false, cond, not, ◌||◌, ◌&&◌, List, [], ◌∷◌, ltb, eqb, length}
+use Rattle.std.specs.Prelude.{ℕ, ◌*◌, Bool, true, false, cond, not, ◌||◌, ◌&&◌, List, [], ◌∷◌, ltb, eqb, length, Result, Ok, Err}
 use Rattle.rules.specs.Hash.{hash_at}
 use Rattle.rules.specs.Sizes.{sizes}
 use Rattle.rules.specs.declared.refusal.Refusal.TheVariants.{Cut, PastSize, BadNumbers}
 use Rattle.bloom.specs.Filter.{Filter}
 use Rattle.bloom.specs.Have.{filters_of, passed_good, passed_few}
 use Rattle.bloom_probe.specs.Probes.{probes_of, bit_at}
-use Rattle.bloom_probe.specs.declared.contains.Contained.{Contained}
-use Rattle.bloom_probe.specs.declared.contains.Contained.TheVariants.{Yes, No, Refused}
+use Rattle.rules.specs.declared.refusal.Refusal.{Refusal}
 
 -- A bit that is clear. Every probe of a filter that 01 accepts is a bit of its field (`probes-inside`, kept Arms).
 unfoldable pub clear_at : List ℕ → ℕ → Bool
@@ -29,14 +28,14 @@ any_contains (f ∷ fs) h = contains f h || any_contains fs h
 
 -- Whether some filter of the haves contains a hash that is lent as bytes: 10 and 4 for the haves, then 4 or 1 for a hash of
 -- another length.
-unfoldable pub contained_in : List ℕ → List ℕ → List ℕ → Contained
+unfoldable pub contained_in : List ℕ → List ℕ → List ℕ → Result Bool Refusal
 contained_in s haves hash =
     cond (not (passed_good s haves))
-    (Refused BadNumbers)
+    (Err BadNumbers)
     (cond (not (passed_few haves))
-    (Refused (PastSize 0))
+    (Err (PastSize 0))
     (cond (ltb sizes.hash (length hash))
-    (Refused (PastSize 0))
+    (Err (PastSize 0))
     (cond (ltb (length hash) sizes.hash)
-    (Refused (Cut 0))
-    (cond (any_contains (filters_of s haves) (hash_at hash 0)) Yes No))))
+    (Err (Cut 0))
+    (cond (any_contains (filters_of s haves) (hash_at hash 0)) (Ok true) (Ok false)))))

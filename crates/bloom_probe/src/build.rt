@@ -11,8 +11,7 @@ ghost use Rattle.rules.specs.Sizes.{sizes};
 use crate::probes::{Probe, count};
 use bloom::rule::{bits_capacity, build_rules};
 use rules::little_endian::u32_at;
-use rules::output::Write;
-use rules::passed::{Passed, passed_hashes};
+use rules::passed::passed_hashes;
 use rules::refusal::Refusal;
 use rules::sizes::HASH_SIZE;
 
@@ -66,11 +65,9 @@ pub fn set_probes(field: &mut [u8], rounds: u64, start: Start, m: u32)
         x: start.x,
         y: start.y,
     };
-    let mut k: u64 = 0;
-    while k < rounds {
+    for _ in 0..rounds {
         set_bit(field, probe.x as usize);
         probe = probe.next(z, m);
-        k += 1;
     }
 }
 
@@ -78,11 +75,7 @@ pub fn set_probes(field: &mut [u8], rounds: u64, start: Start, m: u32)
 pub fn clear(field: &mut [u8])
     ensures { field.new ≡ replicate (length field.old) 0 }
 {
-    let mut i = 0;
-    while i < field.len() {
-        field[i] = 0;
-        i += 1;
-    }
+    field.fill(0);
 }
 
 // Adds every hash of a list that is lent as bytes. The start of a hash is reduced before the bits of the one before it are set, so that the
@@ -94,11 +87,9 @@ fn add_hashes(field: &mut [u8], probes: u64, hashes: &[u8], n: usize)
     let m = 8 * field.len() as u32;
     let rounds = count(probes);
     let mut next = start_in(hashes, 0, n, m);
-    let mut i = 0;
-    while i < n {
+    for i in 0..n {
         let start = next;
-        i += 1;
-        next = start_in(hashes, i, n, m);
+        next = start_in(hashes, i + 1, n, m);
         set_probes(field, rounds, start, m);
     }
 }
@@ -113,28 +104,37 @@ fn fill(field: &mut [u8], probes: u64, hashes: &[u8], n: usize)
 }
 
 // Builds the field of a filter over the first n hashes of a list, at the start of the buffer that is lent for it.
-fn build(field: &mut [u8], bits: u64, probes: u64, hashes: &[u8], n: usize) -> Write
+fn build(
+    field: &mut [u8],
+    bits: u64,
+    probes: u64,
+    hashes: &[u8],
+    n: usize,
+) -> Result<usize, Refusal>
     requires { (filter_rules n bits probes (field_size n bits) ≡ true) × (sizes.hash * n ≤ length hashes.now) }
     ensures { Written (Output.bytes (filter_of bits probes (hashes_at hashes.now 0 n)).field) field.old field.new result }
 {
     let size = bits_capacity(n as u64, bits) as usize;
     if field.len() < size {
-        return Write::Refused(Refusal::NoRoom(size));
+        return Err(Refusal::NoRoom(size));
     }
     fill(&mut field[..size], probes, hashes, n);
-    Write::Wrote(size)
+    Ok(size)
 }
 
 // Builds the field of a filter over the hashes of a list. The filter has as many entries as the list has hashes.
-pub fn from_hashes(field: &mut [u8], bits: u64, probes: u64, hashes: &[u8]) -> Write
+pub fn from_hashes(
+    field: &mut [u8],
+    bits: u64,
+    probes: u64,
+    hashes: &[u8],
+) -> Result<usize, Refusal>
     ensures { Written (build_output bits probes hashes.now) field.old field.new result }
 {
     let entries = hashes.len() / HASH_SIZE;
     if !build_rules(entries as u64, bits, probes) {
-        return Write::Refused(Refusal::BadNumbers);
+        return Err(Refusal::BadNumbers);
     }
-    match passed_hashes(hashes) {
-        Passed::Refused(refusal) => Write::Refused(refusal),
-        Passed::Hashes(n) => build(field, bits, probes, hashes, n),
-    }
+    let n = passed_hashes(hashes)?;
+    build(field, bits, probes, hashes, n)
 }

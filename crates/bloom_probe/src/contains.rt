@@ -30,10 +30,8 @@ pub fn contains_hash(bytes: &[u8], haves: &[u64], hashes: &[u8], at: usize) -> b
     let second = u32_at(hashes, at + 4);
     let third = u32_at(hashes, at + 8);
     let total = haves.len() / HAVE_WORDS;
-    let mut i = 0;
-    'next_filter: while i < total {
+    'next_filter: for i in 0..total {
         let f = filter_in(haves, i);
-        i += 1;
         if f.entries == 0 {
             continue 'next_filter;
         }
@@ -49,45 +47,35 @@ pub fn contains_hash(bytes: &[u8], haves: &[u64], hashes: &[u8], at: usize) -> b
         let z = third % m;
         let mut probe = Probe { x, y };
         let rounds = count(f.probes);
-        let mut k: u64 = 1;
-        while k < rounds {
+        for _ in 1..rounds {
             probe = probe.next(z, m);
             if clear_bit(field, probe.x as usize) {
                 continue 'next_filter;
             }
-            k += 1;
         }
         return true;
     }
     false
 }
 
-// Whether some filter contains a hash.
-#[derive(Clone, Copy)]
-pub enum Contained {
-    Yes,
-    No,
-    Refused(Refusal),
-}
-
 // Whether some filter of the haves contains the hash that is lent.
-pub fn filters_contain(bytes: &[u8], haves: &[u64], hash: &[u8]) -> Contained
+pub fn filters_contain(bytes: &[u8], haves: &[u64], hash: &[u8]) -> Result<bool, Refusal>
     ensures { result ≡ contained_in bytes.now haves.now hash.now }
 {
     if !passed_good(bytes, haves) {
-        return Contained::Refused(Refusal::BadNumbers);
+        return Err(Refusal::BadNumbers);
     }
     if !passed_few(haves) {
-        return Contained::Refused(Refusal::PastSize(0));
+        return Err(Refusal::PastSize(0));
     }
     if HASH_SIZE < hash.len() {
-        return Contained::Refused(Refusal::PastSize(0));
+        return Err(Refusal::PastSize(0));
     }
     if hash.len() < HASH_SIZE {
-        return Contained::Refused(Refusal::Cut(0));
+        return Err(Refusal::Cut(0));
     }
     if contains_hash(bytes, haves, hash, 0) {
-        return Contained::Yes;
+        return Ok(true);
     }
-    Contained::No
+    Ok(false)
 }

@@ -3,10 +3,11 @@ use Prim.Native.Nat.{ℕ}
 use mathlib.Core.List.{List}
 use mathlib.Core.Path.{◌≡◌, sym, ap, ◌∙◌}
 use Rattle.rules.specs.Output.{Output, Written}
-use Rattle.rules.specs.declared.output.Write.{Write}
 use Rattle.call_words.specs.Answer.{write_words, Answered}
+use Rattle.std.specs.Prelude.{Result}
+use Rattle.rules.specs.declared.refusal.Refusal.{Refusal}
 
-pub answered : (o : Output) (before after : List ℕ) (r : Write) (words : List ℕ) → Written o before after r → words ≡ write_words r
+pub answered : (o : Output) (before after : List ℕ) (r : Result ℕ Refusal) (words : List ℕ) → Written o before after r → words ≡ write_words r
     → Answered o before after words
 answered o before after r words w e = record { answer = e ∙ ap write_words w.answer; content = w.content }
 

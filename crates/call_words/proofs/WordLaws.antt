@@ -6,19 +6,18 @@ use mathlib.Core.Path.{◌≡◌, refl, sym, ap, ◌∙◌}
 use borrow.Author.Tests.{eq-eqb, ne_eqb}
 use mir.Val.{bool_byte}
 use Rattle.session_state.specs.Value.{heard_count}
-use Rattle.session_state.specs.declared.session.Heard.{Heard}
-use Rattle.session_state.specs.declared.session.Heard.TheVariants.{Nothing, Count}
 use Rattle.session_state.specs.declared.session.Session.{Session}
 use Rattle.call_words.specs.SessionWords.{flag_word, flag_of, heard_present, heard_of, session_words, session_of}
+use Rattle.std.specs.Prelude.{Option, Some, None}
 
 -- ---- what may be absent
 
 module _ (present count : ℕ) where
-  pub heard_absent : present ≡ 0 → Nothing ≡ heard_of present count
+  pub heard_absent : present ≡ 0 → None ≡ heard_of present count
   unfolding heard_of
   heard_absent e = rw (eq-eqb present 0 e)
 
-  pub heard_there : (present ≡ 0 → ⊥) → Count count ≡ heard_of present count
+  pub heard_there : (present ≡ 0 → ⊥) → Some count ≡ heard_of present count
   unfolding heard_of
   heard_there h = rw (ne_eqb present 0 h)
 
@@ -48,10 +47,10 @@ flag_back : (b : Bool) → flag_of (flag_word b) ≡ b
 flag_back true = refl
 flag_back false = refl
 
-heard_back : (h : Heard) → heard_of (heard_present h) (heard_count h) ≡ h
+heard_back : (h : Option ℕ) → heard_of (heard_present h) (heard_count h) ≡ h
 unfolding heard_of
-heard_back Nothing = refl
-heard_back (Count n) = refl
+heard_back None = refl
+heard_back (Some n) = refl
 
 -- The words of a session are that session's.
 pub words_back : (s : Session) → session_of (session_words s) ≡ s

@@ -1,19 +1,17 @@
 -- The words of an answer, as exported calls write them: 0 and what was found, or the refusal's number and value.
-use Rattle.std.specs.Prelude.{ℕ, List, [], ◌∷◌, ◌≡◌, length}
+use Rattle.std.specs.Prelude.{ℕ, List, [], ◌∷◌, ◌≡◌, length, Result, Ok, Err}
 use Rattle.rules.specs.Output.{Output, answer_of, content_of}
 use Rattle.rules.specs.Refusal.{number_of, value_of}
 use Rattle.rules.specs.declared.refusal.Refusal.{Refusal}
-use Rattle.rules.specs.declared.output.Write.{Write}
-use Rattle.rules.specs.declared.output.Write.TheVariants.{Wrote, Refused as NotWritten}
 
 -- A refusal: its number, its value and zeros.
 abbrev pub refusal_words : Refusal → List ℕ
 refusal_words r = number_of r ∷ value_of r ∷ 0 ∷ 0 ∷ []
 
--- What a writing call answers: 0 and the bytes written, or the refusal.
-abbrev pub write_words : Write → List ℕ
-write_words (Wrote size) = 0 ∷ size ∷ 0 ∷ 0 ∷ []
-write_words (NotWritten r) = refusal_words r
+-- What a call answers that writes or checks: 0 and how many bytes it wrote, or how many rows or records it found good; or the refusal.
+abbrev pub write_words : Result ℕ Refusal → List ℕ
+write_words (Ok count) = 0 ∷ count ∷ 0 ∷ 0 ∷ []
+write_words (Err r) = refusal_words r
 
 -- A writing call: its words, and the buffer at exit.
 pub record Answered (o : Output) (before after words : List ℕ) : Type 0 where

@@ -1,9 +1,7 @@
 -- A session as the sixteen words that exported calls are lent: shared heads, last-sent heads; their heads, need and have, each with whether
 -- it is there and how many it has; sent hashes; then the flags, in-flight, have-responded, V2, reset, read-only, peer read-only, needs-reset.
-use Rattle.std.specs.Prelude.{ℕ, Bool, true, false, not, cond, List, [], ◌∷◌, eqb, get_or}
+use Rattle.std.specs.Prelude.{ℕ, Bool, true, false, not, cond, List, [], ◌∷◌, eqb, get_or, Option, Some, None}
 use Rattle.session_state.specs.Value.{heard_count}
-use Rattle.session_state.specs.declared.session.Heard.{Heard}
-use Rattle.session_state.specs.declared.session.Heard.TheVariants.{Nothing, Count}
 use Rattle.session_state.specs.declared.session.Session.{Session}
 
 -- A flag is written as 1 or 0; a word other than 0 is yes.
@@ -16,13 +14,13 @@ abbrev pub flag_of : ℕ → Bool
 flag_of w = not (eqb w 0)
 
 -- What may be absent: the count of an absent list is written as 0 and ignored.
-abbrev pub heard_present : Heard → ℕ
-heard_present Nothing = 0
-heard_present (Count n) = 1
+abbrev pub heard_present : Option ℕ → ℕ
+heard_present None = 0
+heard_present (Some n) = 1
 
 -- What two words say that was heard.
-unfoldable pub heard_of : ℕ → ℕ → Heard
-heard_of present count = cond (eqb present 0) Nothing (Count count)
+unfoldable pub heard_of : ℕ → ℕ → Option ℕ
+heard_of present count = cond (eqb present 0) None (Some count)
 
 -- A session's sixteen words.
 abbrev pub session_words : Session → List ℕ

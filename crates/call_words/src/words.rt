@@ -2,25 +2,22 @@
 ghost use Rattle.std.specs.Prelude.{◌≡◌};
 ghost use Rattle.call_words.specs.SessionWords.{heard_present, heard_of, session_words, session_of};
 
-use session_state::session::{Heard, Session, heard_count};
+use session_state::session::{Session, heard_count};
 
 // 1 for a list that is there.
-fn heard_present(heard: Heard) -> u64
+fn heard_present(heard: Option<usize>) -> u64
     ensures { result ≡ heard_present heard }
 {
-    match heard {
-        Heard::Nothing => 0,
-        Heard::Count(_) => 1,
-    }
+    u64::from(heard.is_some())
 }
 
-fn heard_of(present: u64, count: u64) -> Heard
+fn heard_of(present: u64, count: u64) -> Option<usize>
     ensures { result ≡ heard_of present count }
 {
     if present == 0 {
-        return Heard::Nothing;
+        return None;
     }
-    Heard::Count(count as usize)
+    Some(count as usize)
 }
 
 pub fn session_words(session: Session) -> [u64; 16]

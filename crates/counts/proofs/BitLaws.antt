@@ -2,16 +2,16 @@
 use Prim.Native.Nat.{ℕ, zero, suc, ◌+◌, ◌-◌, ◌*◌, ◌/◌, ◌%◌, ◌^◌, ◌≤◌, ◌<◌}
 use mathlib.Core.List.{List, [], ◌∷◌, ◌++◌}
 use mathlib.Core.Path.{◌≡◌, refl, sym, ap, ◌∙◌}
-use native.Mathlib.Nat.{div-div-eq-div-mul, mod-lt, pow-succ', pow-le-pow_right}
+use native.Mathlib.Nat.{zero-add, div-div-eq-div-mul, mod-lt, pow-succ', pow-le-pow_right}
 use native.Mathlib.Omega.{arith}
 use lib.Count.{ones, ones_step, ones_cat}
-use lib.ListN.{length, get_or}
+use lib.ListN.{length, get_or, take, drop, length-drop}
 use lib.Pow.{pow-add}
-use lib.Seq.{slice, slice_empty, length-slice, take-length}
+use lib.Seq.{slice, length-take-le, take_all, take-length}
 use Rattle.bloom_probe.specs.Probes.{bit_at}
 use Rattle.hash_order.proofs.Words.{last_byte}
 use Rattle.hash_order.specs.Internal.Word.{word_size, word_at}
-use Rattle.rules.proofs.Hash.{bytes_tail, bytes_slice, big_endian_below, slice_append}
+use Rattle.rules.proofs.Hash.{bytes_tail, bytes_take, bytes_drop, bytes_slice, big_endian_below, take_drop, slice_append}
 use Rattle.rules.specs.Hash.{Bytes, big_endian}
 use Rattle.counts.specs.Captures.{bits_below, bits_set}
 
@@ -150,34 +150,35 @@ all_bytes (x ∷ l) = up_to_first (length l) x l ∙ ap (λ (y : ℕ). ones x + 
 
 -- ---- the rest, a byte at a time
 
-pub rest_none : (field : List ℕ) (at : ℕ) → 0 ≡ big_endian (slice at at field)
-unfolding big_endian
-rest_none field at = sym (ap big_endian (slice_empty at field))
+-- The bytes from a place on.
+abbrev rest_of : List ℕ → ℕ → List ℕ
+rest_of field at = take (length field - at) (drop at field)
 
-pub rest_starts : (at : ℕ) → 0 < 256 ^ (at - at)
-rest_starts at = let e : at - at ≡ 0 = omega arith in rw e (omega arith)
+module _ (field : List ℕ) (f : Bytes field) (at : ℕ) (inside : at ≤ length field) (few : length field < at + word_size) where
+  rest_long : length (rest_of field at) ≡ length field - at
+  rest_long = length-take-le (length field - at) (drop at field) (omega (arith, length-drop at field))
 
--- seven bytes at most
-pub rest_small : (at i word : ℕ) → word < 256 ^ (i - at) → i < at + 8 → word < 72057594037927936
-rest_small at i word below few =
-    let most : 256 ^ (i - at) ≤ 256 ^ 7 = pow-le-pow_right (omega arith) (let few : i - at ≤ 7 = omega arith in few) in
-    omega (arith, below, most)
+  -- seven bytes at most
+  pub rest_small : (i word : ℕ) → word ≡ big_endian (take i (rest_of field at)) → i < length (rest_of field at) → word < 72057594037927936
+  rest_small i word is h =
+      let long : length (take i (rest_of field at)) ≡ i = length-take-le i (rest_of field at) (omega arith) in
+      let bytes = bytes_take i (rest_of field at) (bytes_take (length field - at) (drop at field) (bytes_drop at field f)) in
+      let below : big_endian (take i (rest_of field at)) < 256 ^ i = rw long at (big_endian_below (take i (rest_of field at)) bytes) in
+      let most : 256 ^ i ≤ 256 ^ 7 = pow-le-pow_right (omega arith) (let z : i ≤ 7 = omega (arith, rest_long) in z) in
+      omega (arith, is, below, most)
 
-pub rest_below : (field : List ℕ) (at i word : ℕ) → Bytes field → word ≡ big_endian (slice at i field) → i ≤ length field → word < 256 ^ (i - at)
-rest_below field at i word f is inside =
-    let long : length (slice at i field) ≡ i - at = length-slice at i field inside in
-    rw (is, ← long) (big_endian_below (slice at i field) (bytes_slice field at i f))
+  pub rest_byte : (i : ℕ) → get_or (rest_of field at) i 0 < 256
+  rest_byte i = bytes_take (length field - at) (drop at field) (bytes_drop at field f) i
 
-pub rest_next : (field : List ℕ) (at i word : ℕ) → word ≡ big_endian (slice at i field) → at ≤ i → i < length field
-    → word * 256 + get_or field i 0 ≡ big_endian (slice at (i + 1) field)
-rest_next field at i word is least inside =
-    let k : at + (i - at) ≡ i = omega arith in
-    let e : at + (i - at + 1) ≡ i + 1 = omega arith in
-    rw is (sym (rw (e, k) at (last_byte field at (i - at) (omega arith))))
+  pub rest_next : (i word : ℕ) → word ≡ big_endian (take i (rest_of field at)) → i < length (rest_of field at)
+      → word * 256 + get_or (rest_of field at) i 0 ≡ big_endian (take (i + 1) (rest_of field at))
+  rest_next i word is h = rw is (sym (rw (zero-add (i + 1), zero-add i) at (last_byte (rest_of field at) 0 i (omega arith))))
 
-pub rest_ends : (field : List ℕ) (at i word : ℕ) → word ≡ big_endian (slice at i field) → i ≤ length field → length field ≤ i
-    → word ≡ big_endian (slice at (length field) field)
-rest_ends field at i word is upto all = let e : i ≡ length field = omega arith in rw e at is
+  pub rest_ends : (i word : ℕ) → word ≡ big_endian (take i (rest_of field at)) → length (rest_of field at) ≤ i
+      → word ≡ big_endian (slice at (length field) field)
+  rest_ends i word is h =
+      let e : at + (length field - at) ≡ length field = omega arith in
+      is ∙ ap big_endian (take_all i (rest_of field at) h) ∙ ap big_endian (rw e at (take_drop (length field - at) at field))
 
 -- ---- a field
 
@@ -190,7 +191,7 @@ module _ (field : List ℕ) (f : Bytes field) where
   set_starts = let z : byte_ones (slice 0 (length field) field) ≡ bits_set field = ap byte_ones (take-length field) ∙ sym (field_ones field f) in omega arith
 
   -- a word, and what is behind it
-  pub set_word : (at : ℕ) → at + word_size ≤ length field
+  set_word : (at : ℕ) → at + word_size ≤ length field
       → byte_ones (slice at (length field) field) ≡ ones (word_at field at) + byte_ones (slice (at + word_size) (length field) field)
   unfolding word_at
   set_word at h =
@@ -199,8 +200,24 @@ module _ (field : List ℕ) (f : Bytes field) where
       ∙ ap (λ (n : ℕ). n + byte_ones (slice (at + word_size) (length field) field)) (sym (number_ones _ (bytes_slice field at (at + word_size) f)))
 
   -- the rest as one word
-  pub set_rest : (at : ℕ) → byte_ones (slice at (length field) field) ≡ ones (big_endian (slice at (length field) field))
+  set_rest : (at : ℕ) → byte_ones (slice at (length field) field) ≡ ones (big_endian (slice at (length field) field))
   set_rest at = sym (number_ones _ (bytes_slice field at (length field) f))
+
+  -- word i is counted, and then the rest
+  pub set_next : (i set n : ℕ) → n ≡ ones (word_at field (i * word_size)) → i < length field / word_size
+      → set + byte_ones (slice (i * word_size) (length field) field) ≡ bits_set field
+      → set + n + byte_ones (slice ((i + 1) * word_size) (length field) field) ≡ bits_set field
+  set_next i set n e b w =
+      let next : i * word_size + word_size ≡ (i + 1) * word_size = omega arith in
+      let word = rw next at (set_word (i * word_size) (omega arith)) in
+      omega (arith, word, e, w)
+
+  pub set_ends : (i set n : ℕ) → n ≡ ones (big_endian (slice (length field / word_size * word_size) (length field) field)) → i ≡ length field / word_size
+      → set + byte_ones (slice (i * word_size) (length field) field) ≡ bits_set field
+      → set + n ≡ bits_set field
+  set_ends i set n e all w =
+      let left = rw all at w in
+      omega (arith, left, e, set_rest (length field / word_size * word_size))
 
 -- ---- no more are set than there are
 

@@ -15,7 +15,6 @@ use Rattle.bloom.specs.Filter.{filter_rules, field_size}
 use Rattle.bloom.specs.FilterRead.{filter_at, after_filter}
 use Rattle.bloom.specs.Have.{filters_from, filters_of, filter_good, filter_with, GoodFilters}
 use Rattle.bloom.specs.declared.have.FilterNumbers.{FilterNumbers}
-use Rattle.bloom.specs.declared.parse.Parsed.TheVariants.{Filter as Read, Refused as NotRead}
 use Rattle.bloom_probe.specs.Contains.{contains, any_contains}
 use Rattle.hash_order.proofs.KeepLaws.{keep_same}
 use Rattle.hash_order.specs.Order.{keep}
@@ -28,7 +27,6 @@ use Rattle.table.proofs.GoodLaws.{accepted_rows}
 use Rattle.table.proofs.TableLaws.{length_rows, length_rows_at, hash_of_row, table_good}
 use Rattle.table.specs.Table.{Row, rows, held, hash_of}
 use Rattle.table.specs.TableBytes.{rows_at, table_checked}
-use Rattle.table.specs.declared.check.Checked.TheVariants.{Good, Refused as BadTable}
 use Rattle.table_check.specs.Internal.Repeats.{RowOrder}
 use Rattle.table_graph.specs.Internal.Marks.{Marks}
 use Rattle.table_index.proofs.IndexLaws.{index_same}
@@ -36,14 +34,14 @@ use Rattle.table_index.proofs.LookLaws.{good_fits}
 use Rattle.table_index.specs.Index.{Indexed, indexed, index_of, record_hash}
 use Rattle.counts.specs.Captures.{bits_set, outside, capture_counts, with_table, capture_counted}
 use Rattle.counts.specs.Internal.Walked.{tested_of, TestedBy, alone_words}
-use Rattle.counts.specs.declared.count.Counted.{Counted}
-use Rattle.counts.specs.declared.count.Counted.TheVariants.{Counts as Made, Refused}
 use Rattle.counts.specs.declared.tested.Tested.{Tested}
+use Rattle.std.specs.Prelude.{Result, Ok, Err}
+use Rattle.counts.specs.declared.totals.Counts.{Counts}
 
 -- ---- tables
 
 -- the order that a good table was checked by is its index
-pub order_indexed : (s x : List ℕ) (n : ℕ) → table_checked s ≡ Good n → RowOrder sizes.dependencies s x n → Indexed s x n
+pub order_indexed : (s x : List ℕ) (n : ℕ) → table_checked s ≡ Ok n → RowOrder sizes.dependencies s x n → Indexed s x n
 unfolding index_of
 order_indexed s x n e o =
     let good = accepted_rows s n e in
@@ -53,19 +51,19 @@ order_indexed s x n e o =
     in
     record { rows = good; entries = o.entries; fit = rw (o.order, ← same) (good_fits (rows_at s 0 n) good.good) }
 
-module _ (s : List ℕ) (k : List Row → Counted) where
-  pub table_refused : (r : Refusal) → table_checked s ≡ BadTable r → Refused r ≡ with_table s k
+module _ (s : List ℕ) (k : List Row → Result Counts Refusal) where
+  pub table_refused : (r : Refusal) → table_checked s ≡ Err r → Err r ≡ with_table s k
   unfolding with_table
   table_refused r e = rw e
 
-  pub table_accepted : (n : ℕ) → table_checked s ≡ Good n → k (rows_at s 0 n) ≡ with_table s k
+  pub table_accepted : (n : ℕ) → table_checked s ≡ Ok n → k (rows_at s 0 n) ≡ with_table s k
   unfolding with_table
   table_accepted n e = rw (e, (table_good s n e).is)
 
 -- ---- the filter
 
 module _ (s : List ℕ) (f : FilterNumbers) where
-  pub read_good : (next : ℕ) → Bytes s → filter_at s 0 (length s) ≡ Read f next → filter_good s f ≡ true
+  pub read_good : (next : ℕ) → Bytes s → filter_at s 0 (length s) ≡ Ok (f, next) → filter_good s f ≡ true
   unfolding filter_good
   read_good next all e =
       let k = filter_inside s 0 (length s) f next e in
@@ -113,28 +111,28 @@ module _ (s : List ℕ) (f : FilterNumbers) where
       or_none true = refl
       or_none false = refl
 
-pub filter_refused : (s : List ℕ) (k : FilterNumbers → ℕ → Counted) (r : Refusal) → filter_at s 0 (length s) ≡ NotRead r
-    → Refused r ≡ after_filter (filter_at s 0 (length s)) Refused k
+pub filter_refused : (s : List ℕ) (k : FilterNumbers → ℕ → Result Counts Refusal) (r : Refusal) → filter_at s 0 (length s) ≡ Err r
+    → Err r ≡ after_filter (filter_at s 0 (length s)) Err k
 unfolding after_filter
 filter_refused s k r e = rw e
 
-pub filter_accepted : (s : List ℕ) (k : FilterNumbers → ℕ → Counted) (f : FilterNumbers) (next : ℕ) → filter_at s 0 (length s) ≡ Read f next
-    → k f next ≡ after_filter (filter_at s 0 (length s)) Refused k
+pub filter_accepted : (s : List ℕ) (k : FilterNumbers → ℕ → Result Counts Refusal) (f : FilterNumbers) (next : ℕ) → filter_at s 0 (length s) ≡ Ok (f, next)
+    → k f next ≡ after_filter (filter_at s 0 (length s)) Err k
 unfolding after_filter
 filter_accepted s k f next e = rw e
 
 -- ---- a capture
 
 module _ (s l f : List ℕ) where
-  pub capture_refused : (r : Refusal) → table_checked s ≡ BadTable r → Refused r ≡ capture_counted s l f
+  pub capture_refused : (r : Refusal) → table_checked s ≡ Err r → Err r ≡ capture_counted s l f
   unfolding capture_counted
   capture_refused r e = table_refused s _ r e
 
-  pub capture_accepted : (n : ℕ) → table_checked s ≡ Good n
-      → with_table l (λ b. after_filter (filter_at f 0 (length f)) Refused (λ g next. Made (capture_counts (rows_at s 0 n) b (filter_with f g))))
+  pub capture_accepted : (n : ℕ) → table_checked s ≡ Ok n
+      → with_table l (λ b. after_filter (filter_at f 0 (length f)) Err (λ g next. Ok (capture_counts (rows_at s 0 n) b (filter_with f g))))
       ≡ capture_counted s l f
   unfolding capture_counted
-  capture_accepted n e = table_accepted s (λ a. with_table l (λ b. after_filter (filter_at f 0 (length f)) Refused (λ g next. Made (capture_counts a b (filter_with f g))))) n e
+  capture_accepted n e = table_accepted s (λ a. with_table l (λ b. after_filter (filter_at f 0 (length f)) Err (λ g next. Ok (capture_counts a b (filter_with f g))))) n e
 
 -- ---- the counts
 

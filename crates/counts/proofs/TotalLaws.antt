@@ -17,9 +17,9 @@ use Rattle.table.specs.Table.{Row, rows, held}
 use Rattle.counts.proofs.BitLaws.{set_most}
 use Rattle.counts.specs.Captures.{outside, capture_counts}
 use Rattle.counts.specs.Totals.{nothing, sum, most_total, passes, added_to, Capture, captured, line_for, line_of, totals_with, lines_from, totals_from, sum_of, Reordered, same, swap, behind, again, sum_over, M108}
-use Rattle.counts.specs.declared.count.Counted.{Counted}
-use Rattle.counts.specs.declared.count.Counted.TheVariants.{Counts as Made, Refused}
 use Rattle.counts.specs.declared.totals.Counts.{Counts}
+use Rattle.std.specs.Prelude.{Result, Ok, Err}
+use Rattle.rules.specs.declared.refusal.Refusal.{Refusal}
 
 -- ---- the test of a sum
 
@@ -53,12 +53,12 @@ module _ (t a : Counts) where
         unfolding passes sum
         past_fifth e = rw (p, q, r, e)
 
-  pub added_past : passes (sum t a) ≡ true → Refused PastTotal ≡ added_to t a
+  pub added_past : passes (sum t a) ≡ true → Err PastTotal ≡ added_to t a
   unfolding added_to
   added_past e = rw e
 
   pub made : passes (sum t a) ≡ false
-      → Made (record {
+      → Ok (record {
         entries = t.entries + a.entries;
         field_bits = t.field_bits + a.field_bits;
         set_bits = t.set_bits + a.set_bits;
@@ -139,10 +139,10 @@ sum_swap a b c = made_same _ _ _ _ _ _ _ _ _ _ (omega arith) (omega arith) (omeg
 
 -- ---- lines and totals
 
-added_sum : (t : Counts) (l : Counted) (ls : List Counted) → sum (totals_with t l) (sum_of ls) ≡ sum t (sum_of (l ∷ ls))
+added_sum : (t : Counts) (l : Result Counts Refusal) (ls : List (Result Counts Refusal)) → sum (totals_with t l) (sum_of ls) ≡ sum t (sum_of (l ∷ ls))
 unfolding totals_with sum_of
-added_sum t (Made a) ls = sum_assoc t a (sum_of ls)
-added_sum t (Refused r) ls = refl
+added_sum t (Ok a) ls = sum_assoc t a (sum_of ls)
+added_sum t (Err r) ls = refl
 
 pub sums_from : (t : Counts) (cs : List Capture) → totals_from t cs ≡ sum t (sum_of (lines_from t cs))
 unfolding totals_from lines_from sum_of
@@ -155,10 +155,10 @@ unfolding lines_from
 lines_long t [] = refl
 lines_long t (c ∷ cs) = ap suc (lines_long (totals_with t (line_of t c)) cs)
 
-line_within : (t : Counts) (l : Counted) → passes t ≡ false → passes (totals_with t (line_for t l)) ≡ false
+line_within : (t : Counts) (l : Result Counts Refusal) → passes t ≡ false → passes (totals_with t (line_for t l)) ≡ false
 unfolding line_for totals_with
-line_within t (Refused r) e = e
-line_within t (Made a) e = split (passes (sum t a)) (λ x. rw x e) (λ x. rw x x)
+line_within t (Err r) e = e
+line_within t (Ok a) e = split (passes (sum t a)) (λ x. rw x e) (λ x. rw x x)
 
 pub totals_within : (t : Counts) (cs : List Capture) → passes t ≡ false → passes (totals_from t cs) ≡ false
 unfolding totals_from
@@ -181,11 +181,11 @@ part_within t a b e =
       contained = omega (arith, w.contained);
     })
 
-good_step : (t : Counts) (l : Counted) (ls : List Counted) → passes (sum t (sum_of (l ∷ ls))) ≡ false
+good_step : (t : Counts) (l : Result Counts Refusal) (ls : List (Result Counts Refusal)) → passes (sum t (sum_of (l ∷ ls))) ≡ false
     → sum (totals_with t (line_for t l)) (sum_of ls) ≡ sum t (sum_of (l ∷ ls))
 unfolding line_for totals_with sum_of
-good_step t (Refused r) ls e = refl
-good_step t (Made a) ls e = rw (part_within t a (sum_of ls) e) (sum_assoc t a (sum_of ls))
+good_step t (Err r) ls e = refl
+good_step t (Ok a) ls e = rw (part_within t a (sum_of ls) e) (sum_assoc t a (sum_of ls))
 
 pub good_sums : (t : Counts) (cs : List Capture) → passes (sum t (sum_over cs)) ≡ false → totals_from t cs ≡ sum t (sum_over cs)
 unfolding totals_from sum_of
@@ -199,16 +199,16 @@ unfolding sum_of
 reordered_sums same = refl
 reordered_sums (swap {a} {b} {cs}) = swapped (captured a) (captured b) (map captured cs)
   where
-    swapped : (x y : Counted) (ls : List Counted) → sum_of (x ∷ y ∷ ls) ≡ sum_of (y ∷ x ∷ ls)
-    swapped (Made x) (Made y) ls = sum_swap x y (sum_of ls)
-    swapped (Made x) (Refused r) ls = refl
-    swapped (Refused r) (Made y) ls = refl
-    swapped (Refused r) (Refused q) ls = refl
+    swapped : (x y : Result Counts Refusal) (ls : List (Result Counts Refusal)) → sum_of (x ∷ y ∷ ls) ≡ sum_of (y ∷ x ∷ ls)
+    swapped (Ok x) (Ok y) ls = sum_swap x y (sum_of ls)
+    swapped (Ok x) (Err r) ls = refl
+    swapped (Err r) (Ok y) ls = refl
+    swapped (Err r) (Err q) ls = refl
 reordered_sums (behind {a} {cs} {ds} r) = behind_same (captured a) (map captured cs) (map captured ds) (reordered_sums r)
   where
-    behind_same : (x : Counted) (ls ks : List Counted) → sum_of ls ≡ sum_of ks → sum_of (x ∷ ls) ≡ sum_of (x ∷ ks)
-    behind_same (Made x) ls ks e = ap (sum x) e
-    behind_same (Refused q) ls ks e = e
+    behind_same : (x : Result Counts Refusal) (ls ks : List (Result Counts Refusal)) → sum_of ls ≡ sum_of ks → sum_of (x ∷ ls) ≡ sum_of (x ∷ ks)
+    behind_same (Ok x) ls ks e = ap (sum x) e
+    behind_same (Err q) ls ks e = e
 reordered_sums (again p q) = reordered_sums p ∙ reordered_sums q
 
 -- ---- all of it

@@ -1,6 +1,6 @@
 -- The counts of a capture: a filter as it was heard, with a change table of its sender and one of its listener. 02, M-108: exact whole numbers, and the
 -- refusals of tables and filters.
-use Rattle.std.specs.Prelude.{ℕ, zero, suc, ◌+◌, ◌*◌, not, List, length}
+use Rattle.std.specs.Prelude.{ℕ, zero, suc, ◌+◌, ◌*◌, not, List, length, Result, Ok, Err}
 use Rattle.bloom.specs.Filter.{Filter}
 use Rattle.bloom.specs.FilterRead.{filter_at, after_filter}
 use Rattle.bloom.specs.Have.{filter_with}
@@ -9,11 +9,8 @@ use Rattle.bloom_probe.specs.Probes.{bit_at}
 use Rattle.hash_order.specs.Order.{keep}
 use Rattle.table.specs.Table.{Row, rows, held}
 use Rattle.table.specs.TableBytes.{table_of, table_checked}
-use Rattle.table.specs.declared.check.Checked.{Checked}
-use Rattle.table.specs.declared.check.Checked.TheVariants.{Good, Refused as BadTable}
-use Rattle.counts.specs.declared.count.Counted.{Counted}
-use Rattle.counts.specs.declared.count.Counted.TheVariants.{Counts as Made, Refused}
 use Rattle.counts.specs.declared.totals.Counts.{Counts}
+use Rattle.rules.specs.declared.refusal.Refusal.{Refusal}
 
 -- The first k bits of a field, summed.
 unfoldable pub bits_below : ℕ → List ℕ → ℕ
@@ -40,17 +37,17 @@ capture_counts sender listener f =
     }
 
 -- What follows a table that is good, or its refusal passed on: 4, then 6.
-unfoldable pub with_table : List ℕ → (List Row → Counted) → Counted
+unfoldable pub with_table : List ℕ → (List Row → Result Counts Refusal) → Result Counts Refusal
 with_table s k = after (table_checked s)
   where
-    after : Checked → Counted
-    after (Good n) = k (table_of s)
-    after (BadTable r) = Refused r
+    after : Result ℕ Refusal → Result Counts Refusal
+    after (Ok n) = k (table_of s)
+    after (Err r) = Err r
 
 -- The counts of a capture: the sender's table comes first, then the listener's, then the filter, whose place is counted from its own first byte.
-unfoldable pub capture_counted : List ℕ → List ℕ → List ℕ → Counted
+unfoldable pub capture_counted : List ℕ → List ℕ → List ℕ → Result Counts Refusal
 capture_counted sender listener filter =
     with_table sender
     (λ a.
     with_table listener
-    (λ b. after_filter (filter_at filter 0 (length filter)) Refused (λ f next. Made (capture_counts a b (filter_with filter f)))))
+    (λ b. after_filter (filter_at filter 0 (length filter)) Err (λ f next. Ok (capture_counts a b (filter_with filter f)))))

@@ -1,6 +1,6 @@
 -- Totals over captures. 02, M-108: the sums over the inputs; a bad capture gets a line with its refusal and adds to no total; 16, last for a capture, where a
 -- total would pass 64 bits.
-use Rattle.std.specs.Prelude.{ℕ, ◌+◌, ◌≤◌, ◌<◌, Bool, true, false, cond, ◌||◌, List, [], ◌∷◌, map, ◌≡◌, ltb, length}
+use Rattle.std.specs.Prelude.{ℕ, ◌+◌, ◌≤◌, ◌<◌, Bool, true, false, cond, ◌||◌, List, [], ◌∷◌, map, ◌≡◌, ltb, length, Result, Ok, Err}
 use Rattle.bloom.specs.Filter.{Filter}
 use Rattle.bloom_probe.specs.Build.{filter_of}
 use Rattle.bloom_probe.specs.Contains.{contains}
@@ -8,9 +8,8 @@ use Rattle.hash_order.specs.Order.{member}
 use Rattle.rules.specs.declared.refusal.Refusal.TheVariants.{PastTotal}
 use Rattle.table.specs.Table.{Row, held}
 use Rattle.counts.specs.Captures.{outside, capture_counts, capture_counted}
-use Rattle.counts.specs.declared.count.Counted.{Counted}
-use Rattle.counts.specs.declared.count.Counted.TheVariants.{Counts as Made, Refused}
 use Rattle.counts.specs.declared.totals.Counts.{Counts}
+use Rattle.rules.specs.declared.refusal.Refusal.{Refusal}
 
 -- No capture: nothing counted.
 abbrev pub nothing : Counts
@@ -39,8 +38,8 @@ passes a =
     || (ltb most_total a.set_bits || (ltb most_total a.tested || ltb most_total a.contained)))
 
 -- Totals with a capture's counts added: 16 where one would pass.
-unfoldable pub added_to : Counts → Counts → Counted
-added_to totals a = cond (passes (sum totals a)) (Refused PastTotal) (Made (sum totals a))
+unfoldable pub added_to : Counts → Counts → Result Counts Refusal
+added_to totals a = cond (passes (sum totals a)) (Err PastTotal) (Ok (sum totals a))
 
 -- ---- captures one after the other
 
@@ -51,25 +50,25 @@ pub record Capture : Type 0 where
   pub filter : List ℕ
 
 -- The counts of a capture or its refusal.
-abbrev pub captured : Capture → Counted
+abbrev pub captured : Capture → Result Counts Refusal
 captured c = capture_counted c.sender c.listener c.filter
 
 -- What counts give where there are totals already: they themselves, or 16.
-unfoldable pub line_for : Counts → Counted → Counted
-line_for totals (Made a) = cond (passes (sum totals a)) (Refused PastTotal) (Made a)
-line_for totals (Refused r) = Refused r
+unfoldable pub line_for : Counts → Result Counts Refusal → Result Counts Refusal
+line_for totals (Ok a) = cond (passes (sum totals a)) (Err PastTotal) (Ok a)
+line_for totals (Err r) = Err r
 
 -- A capture's line.
-abbrev pub line_of : Counts → Capture → Counted
+abbrev pub line_of : Counts → Capture → Result Counts Refusal
 line_of totals c = line_for totals (captured c)
 
 -- The totals behind a line. A refusal adds nothing.
-unfoldable pub totals_with : Counts → Counted → Counts
-totals_with totals (Made a) = sum totals a
-totals_with totals (Refused r) = totals
+unfoldable pub totals_with : Counts → Result Counts Refusal → Counts
+totals_with totals (Ok a) = sum totals a
+totals_with totals (Err r) = totals
 
 -- The lines of captures in their order.
-unfoldable pub lines_from : Counts → List Capture → List Counted
+unfoldable pub lines_from : Counts → List Capture → List (Result Counts Refusal)
 lines_from totals [] = []
 lines_from totals (c ∷ cs) = line_of totals c ∷ lines_from (totals_with totals (line_of totals c)) cs
 
@@ -79,10 +78,10 @@ totals_from totals [] = totals
 totals_from totals (c ∷ cs) = totals_from (totals_with totals (line_of totals c)) cs
 
 -- The sums of what lines say.
-unfoldable pub sum_of : List Counted → Counts
+unfoldable pub sum_of : List (Result Counts Refusal) → Counts
 sum_of [] = nothing
-sum_of (Made a ∷ ls) = sum a (sum_of ls)
-sum_of (Refused r ∷ ls) = sum_of ls
+sum_of (Ok a ∷ ls) = sum a (sum_of ls)
+sum_of (Err r ∷ ls) = sum_of ls
 
 -- The same captures in another order: two neighbours exchanged, again and again.
 pub data Reordered : List Capture → List Capture → Type 0 where

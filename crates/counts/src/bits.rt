@@ -15,10 +15,8 @@ fn rest_at(field: &[u8], at: usize) -> u64
     ensures { result ≡ big_endian (slice at (length field.now) field.now) }
 {
     let mut word: u64 = 0;
-    let mut i = at;
-    while i < field.len() {
-        word = word * 256 + field[i] as u64;
-        i += 1;
+    for byte in &field[at..] {
+        word = word * 256 + *byte as u64;
     }
     word
 }
@@ -35,11 +33,10 @@ pub fn set_bits(field: &[u8]) -> u64
     requires { length field.now ≤ sizes.field }
     ensures { result ≡ bits_set field.now }
 {
+    let words = field.len() / WORD_SIZE;
     let mut set: u64 = 0;
-    let mut at = 0;
-    while WORD_SIZE <= field.len() - at {
-        set += ones_in(word_at(field, at));
-        at += WORD_SIZE;
+    for i in 0..words {
+        set += ones_in(word_at(field, i * WORD_SIZE));
     }
-    set + ones_in(rest_at(field, at))
+    set + ones_in(rest_at(field, words * WORD_SIZE))
 }

@@ -1,11 +1,10 @@
 // The counts of a capture.
-ghost use Rattle.std.specs.Prelude.{true, ◌≡◌, length};
+ghost use Rattle.std.specs.Prelude.{true, ◌≡◌, length, Ok, Err};
 ghost use Rattle.bloom.specs.FilterRead.{filter_at, after_filter};
 ghost use Rattle.bloom.specs.Have.{filter_good, filter_with};
 ghost use Rattle.bloom_probe.specs.Contains.{contains};
 ghost use Rattle.counts.specs.Captures.{with_table, capture_counts, capture_counted};
 ghost use Rattle.counts.specs.Internal.Walked.{tested_of};
-ghost use Rattle.counts.specs.declared.count.Counted.TheVariants.{Counts as Made, Refused};
 ghost use Rattle.table.specs.Table.{held, rows};
 ghost use Rattle.table.specs.TableBytes.{rows_at};
 ghost use Rattle.table_index.specs.Index.{Indexed};
@@ -15,20 +14,12 @@ use crate::held::mark_held;
 use crate::tested::{Tested, test_rows};
 use crate::totals::Counts;
 use bloom::have::FilterNumbers;
-use bloom::parse::{Parsed, parse};
+use bloom::parse::parse;
 use rules::refusal::Refusal;
 use rules::sizes::ROWS;
-use table::check::Checked;
 use table::width::WIDE;
 use table_check::check::check_in_order;
 use table_order::entry::INDEX_SIZE;
-
-// What a capture counts, or its refusal.
-#[derive(Clone, Copy)]
-pub enum Counted {
-    Counts(Counts),
-    Refused(Refusal),
-}
 
 // The listener's rows outside the sender's table, by a filter that stands in `bytes`.
 fn test_outside(
@@ -94,25 +85,13 @@ fn count_filter(
     index: &[u8],
     n: usize,
     filter: &[u8],
-) -> Counted
+) -> Result<Counts, Refusal>
     requires { Indexed sender.now sender_index.now m × Indexed listener.now index.now n }
-    ensures { result ≡ after_filter (filter_at filter.now 0 (length filter.now)) Refused
-        (λ f next. Made (capture_counts (rows_at sender.now 0 m) (rows_at listener.now 0 n) (filter_with filter.now f))) }
+    ensures { result ≡ after_filter (filter_at filter.now 0 (length filter.now)) Err
+        (λ f next. Ok (capture_counts (rows_at sender.now 0 m) (rows_at listener.now 0 n) (filter_with filter.now f))) }
 {
-    let parsed = parse(filter, 0, filter.len());
-    match parsed {
-        Parsed::Refused(r) => Counted::Refused(r),
-        Parsed::Filter { filter: f, .. } => Counted::Counts(counts_of(
-            sender,
-            sender_index,
-            m,
-            listener,
-            index,
-            n,
-            filter,
-            f,
-        )),
-    }
+    let (f, _) = parse(filter, 0, filter.len())?;
+    Ok(counts_of(sender, sender_index, m, listener, index, n, filter, f))
 }
 
 // The counts beside a good sender's table, whose m rows have an index: the listener's table is checked.
@@ -122,28 +101,22 @@ fn count_heard(
     m: usize,
     listener: &[u8],
     filter: &[u8],
-) -> Counted
+) -> Result<Counts, Refusal>
     requires { Indexed sender.now sender_index.now m }
     ensures { result ≡ with_table listener.now
-        (λ b. after_filter (filter_at filter.now 0 (length filter.now)) Refused
-        (λ f next. Made (capture_counts (rows_at sender.now 0 m) b (filter_with filter.now f)))) }
+        (λ b. after_filter (filter_at filter.now 0 (length filter.now)) Err
+        (λ f next. Ok (capture_counts (rows_at sender.now 0 m) b (filter_with filter.now f)))) }
 {
     let mut index = [0u8; INDEX_SIZE];
-    let checked = check_in_order(WIDE, listener, &mut index);
-    match checked {
-        Checked::Refused(r) => Counted::Refused(r),
-        Checked::Good(n) => count_filter(sender, sender_index, m, listener, &index, n, filter),
-    }
+    let n = check_in_order(WIDE, listener, &mut index)?;
+    count_filter(sender, sender_index, m, listener, &index, n, filter)
 }
 
 // Counts a capture. Both tables are put in order here, so that no index is asked of whoever kept them.
-pub fn count_capture(sender: &[u8], listener: &[u8], filter: &[u8]) -> Counted
+pub fn count_capture(sender: &[u8], listener: &[u8], filter: &[u8]) -> Result<Counts, Refusal>
     ensures { result ≡ capture_counted sender.now listener.now filter.now }
 {
     let mut index = [0u8; INDEX_SIZE];
-    let checked = check_in_order(WIDE, sender, &mut index);
-    match checked {
-        Checked::Refused(r) => Counted::Refused(r),
-        Checked::Good(m) => count_heard(sender, &index, m, listener, filter),
-    }
+    let m = check_in_order(WIDE, sender, &mut index)?;
+    count_heard(sender, &index, m, listener, filter)
 }

@@ -19,15 +19,13 @@ fn place_from(table: &[u8], index: &[u8], n: usize, from: usize, bytes: &[u8], a
         × (from ≤ place_of (hash_at bytes.now at) (hashes_along table.now index.now n)) }
     ensures { result ≡ place_of (hash_at bytes.now at) (hashes_along table.now index.now n) }
 {
-    let mut k = from;
-    while k < n {
+    for k in from..n {
         let row = u16_at(index, 2 * k);
         if !hash_before(table, row * ROW_SIZE, bytes, at) {
             return k;
         }
-        k += 1;
     }
-    k
+    n
 }
 
 // Whether a table holds the hash at a place, whose place along its index is k.
@@ -58,11 +56,9 @@ pub fn mark_held(
         (λ i. held (rows_at sender.now 0 m) (hash_of (rows_at listener.now 0 n) i)) }
 {
     let mut k = 0;
-    let mut i = 0;
-    while i < n {
+    for i in 0..n {
         let row = u16_at(index, 2 * i);
         k = place_from(sender, sender_index, m, k, listener, row * ROW_SIZE);
         marks[row] = held_at(sender, sender_index, m, k, listener, row * ROW_SIZE);
-        i += 1;
     }
 }

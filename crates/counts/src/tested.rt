@@ -53,10 +53,8 @@ pub fn test_rows(table: &[u8], n: usize, marks: &[bool], bytes: &[u8], haves: &[
         rows: 0,
         contained: 0,
     };
-    let mut i = 0;
-    while i < n {
+    for i in 0..n {
         tested = tested_next(tested, marks[i], bytes, haves, table, i * ROW_SIZE);
-        i += 1;
     }
     tested
 }

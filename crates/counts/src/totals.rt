@@ -2,7 +2,6 @@
 ghost use Rattle.std.specs.Prelude.{◌≡◌, ◌+◌, ltb};
 ghost use Rattle.counts.specs.Totals.{most_total, passes, sum, added_to};
 
-use crate::count::Counted;
 use rules::refusal::Refusal;
 
 // What a capture counts: entries of the filter, bits of its field, bits that are set, rows tested, and those of them that it contains.
@@ -45,13 +44,13 @@ fn sum_passes(totals: Counts, counts: Counts) -> bool
 }
 
 // Totals with a capture's counts added.
-pub fn add_counts(totals: Counts, counts: Counts) -> Counted
+pub fn add_counts(totals: Counts, counts: Counts) -> Result<Counts, Refusal>
     ensures { result ≡ added_to totals counts }
 {
     if sum_passes(totals, counts) {
-        return Counted::Refused(Refusal::PastTotal);
+        return Err(Refusal::PastTotal);
     }
-    Counted::Counts(Counts {
+    Ok(Counts {
         entries: totals.entries + counts.entries,
         field_bits: totals.field_bits + counts.field_bits,
         set_bits: totals.set_bits + counts.set_bits,

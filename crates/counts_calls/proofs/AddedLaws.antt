@@ -3,11 +3,12 @@ use Prim.Native.Nat.{ℕ}
 use mathlib.Core.List.{List}
 use mathlib.Core.Path.{◌≡◌, ap, ◌∙◌}
 use Rattle.counts.specs.Totals.{added_to}
-use Rattle.counts.specs.declared.count.Counted.{Counted}
 use Rattle.counts.specs.declared.totals.Counts.{Counts}
 use Rattle.counts_calls.specs.CountWords.{added_words, totals_of, totals_after, CountsAdded}
+use Rattle.std.specs.Prelude.{Result}
+use Rattle.rules.specs.declared.refusal.Refusal.{Refusal}
 
-pub counts_added : (before after words : List ℕ) (t counts : Counts) (r : Counted) → t ≡ totals_of before → r ≡ added_to t counts → after ≡ totals_after before r
+pub counts_added : (before after words : List ℕ) (t counts : Counts) (r : Result Counts Refusal) → t ≡ totals_of before → r ≡ added_to t counts → after ≡ totals_after before r
     → words ≡ added_words r
     → CountsAdded before counts after words
 counts_added before after words t counts r e f g h =

@@ -1,21 +1,20 @@
 -- The words of counts and totals, as exported calls are lent them and write them.
-use Rattle.std.specs.Prelude.{ℕ, List, [], ◌∷◌, ◌≡◌, get_or}
+use Rattle.std.specs.Prelude.{ℕ, List, [], ◌∷◌, ◌≡◌, get_or, Result, Ok, Err}
 use Rattle.call_words.specs.Answer.{refusal_words}
 use Rattle.counts.specs.Totals.{added_to}
-use Rattle.counts.specs.declared.count.Counted.{Counted}
-use Rattle.counts.specs.declared.count.Counted.TheVariants.{Counts as Made, Refused}
 use Rattle.counts.specs.declared.totals.Counts.{Counts}
 use Rattle.rules.specs.Refusal.{number_of, value_of}
+use Rattle.rules.specs.declared.refusal.Refusal.{Refusal}
 
 -- The counts of a capture behind 0, and two zeros; or the refusal.
-abbrev pub counted_words : Counted → List ℕ
-counted_words (Made a) = 0 ∷ a.entries ∷ a.field_bits ∷ a.set_bits ∷ a.tested ∷ a.contained ∷ 0 ∷ 0 ∷ []
-counted_words (Refused r) = number_of r ∷ value_of r ∷ 0 ∷ 0 ∷ 0 ∷ 0 ∷ 0 ∷ 0 ∷ []
+abbrev pub counted_words : Result Counts Refusal → List ℕ
+counted_words (Ok a) = 0 ∷ a.entries ∷ a.field_bits ∷ a.set_bits ∷ a.tested ∷ a.contained ∷ 0 ∷ 0 ∷ []
+counted_words (Err r) = number_of r ∷ value_of r ∷ 0 ∷ 0 ∷ 0 ∷ 0 ∷ 0 ∷ 0 ∷ []
 
 -- Of totals nothing is answered but that they were added to; or the refusal.
-abbrev pub added_words : Counted → List ℕ
-added_words (Made a) = 0 ∷ 0 ∷ 0 ∷ 0 ∷ []
-added_words (Refused r) = refusal_words r
+abbrev pub added_words : Result Counts Refusal → List ℕ
+added_words (Ok a) = 0 ∷ 0 ∷ 0 ∷ 0 ∷ []
+added_words (Err r) = refusal_words r
 
 -- The totals that five words are.
 abbrev pub totals_of : List ℕ → Counts
@@ -29,9 +28,9 @@ totals_of w =
     }
 
 -- The words of totals behind an answer: after a refusal those of before.
-abbrev pub totals_after : List ℕ → Counted → List ℕ
-totals_after before (Made a) = a.entries ∷ a.field_bits ∷ a.set_bits ∷ a.tested ∷ a.contained ∷ []
-totals_after before (Refused r) = before
+abbrev pub totals_after : List ℕ → Result Counts Refusal → List ℕ
+totals_after before (Ok a) = a.entries ∷ a.field_bits ∷ a.set_bits ∷ a.tested ∷ a.contained ∷ []
+totals_after before (Err r) = before
 
 -- Counts added to totals that are lent: the totals at exit, and the answer.
 pub record CountsAdded (before : List ℕ) (counts : Counts) (after words : List ℕ) : Type 0 where

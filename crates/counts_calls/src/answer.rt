@@ -3,14 +3,14 @@ ghost use Rattle.std.specs.Prelude.{◌≡◌};
 ghost use Rattle.counts_calls.specs.CountWords.{counted_words, added_words, totals_of, totals_after};
 
 use call_words::answer::refusal_words;
-use counts::count::Counted;
 use counts::totals::Counts;
+use rules::refusal::Refusal;
 
-pub fn counted_words(counted: Counted) -> [u64; 8]
+pub fn counted_words(counted: Result<Counts, Refusal>) -> [u64; 8]
     ensures { result ≡ counted_words counted }
 {
     match counted {
-        Counted::Counts(counts) => [
+        Ok(counts) => [
             0,
             counts.entries,
             counts.field_bits,
@@ -20,16 +20,16 @@ pub fn counted_words(counted: Counted) -> [u64; 8]
             0,
             0,
         ],
-        Counted::Refused(r) => [r.number(), r.value(), 0, 0, 0, 0, 0, 0],
+        Err(r) => [r.number(), r.value(), 0, 0, 0, 0, 0, 0],
     }
 }
 
-pub fn added_words(added: Counted) -> [u64; 4]
+pub fn added_words(added: Result<Counts, Refusal>) -> [u64; 4]
     ensures { result ≡ added_words added }
 {
     match added {
-        Counted::Counts(_) => [0, 0, 0, 0],
-        Counted::Refused(r) => refusal_words(r),
+        Ok(_) => [0, 0, 0, 0],
+        Err(r) => refusal_words(r),
     }
 }
 
@@ -47,17 +47,17 @@ pub fn totals_of(words: [u64; 5]) -> Counts
 }
 
 // The words of totals behind an answer: after a refusal those of before.
-pub fn totals_after(words: [u64; 5], added: Counted) -> [u64; 5]
+pub fn totals_after(words: [u64; 5], added: Result<Counts, Refusal>) -> [u64; 5]
     ensures { result ≡ totals_after words added }
 {
     match added {
-        Counted::Counts(counts) => [
+        Ok(counts) => [
             counts.entries,
             counts.field_bits,
             counts.set_bits,
             counts.tested,
             counts.contained,
         ],
-        Counted::Refused(_) => words,
+        Err(_) => words,
     }
 }

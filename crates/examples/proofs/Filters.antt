@@ -11,10 +11,8 @@ use Rattle.bloom.proofs.Filters.{filter_numbers_lem, numbers_read, field_no_bits
 use Rattle.bloom.specs.Filter.{filter_of4, filter_bytes, filter_rules, field_size, default_bits, default_probes}
 use Rattle.bloom.specs.Have.{numbers_of, filter_with}
 use Rattle.bloom.specs.FilterRead.{field_at, filter_at}
-use Rattle.bloom.specs.declared.parse.Parsed.TheVariants.{Filter as Found, Refused}
 use Rattle.leb128.proofs.Number.{find_end}
-use Rattle.leb128.specs.Number.{shortest, sevens, most_filter, find, answer_at, number_at}
-use Rattle.leb128.specs.declared.leb128.Number.TheVariants.{Value}
+use Rattle.leb128.specs.Number.{shortest, sevens, most_filter, answer_at, number_at}
 use Rattle.bloom_probe.specs.Build.{set_bit, set_bits, add_hash, add_hashes, filter_of}
 use Rattle.bloom_probe.specs.Contains.{clear_at, none_clear, contains}
 use Rattle.bloom_probe.specs.Probes.{probes_from, probes_of, bit_at}
@@ -23,6 +21,7 @@ use Rattle.rules.specs.LittleEndian.{u32_at}
 use Rattle.rules.specs.declared.refusal.Refusal.TheVariants.{PastSize, NoBits}
 use Rattle.wire.specs.Item.{left_at}
 use Rattle.examples.specs.Examples.{Words, RefusedWith, ReadAs}
+use Rattle.std.specs.Prelude.{Ok}
 
 -- ---- probes
 
@@ -59,7 +58,7 @@ one_probe m h = refl
 
 -- a byte below 80 that a part begins with is a number, and the next one begins behind it
 number_first : (s rest : List ℕ) (at end n : ℕ) → n < 128 → slice at end s ≡ n ∷ rest
-    → (number_at most_filter s at end ≡ Value n (at + 1)) × (slice (at + 1) end s ≡ rest)
+    → (number_at most_filter s at end ≡ Ok (n, at + 1)) × (slice (at + 1) end s ≡ rest)
 unfolding number_at answer_at
 number_first s rest at end n h e =
     (rw (e, find_end 0 most_filter n rest (omega arith) (omega arith) h), sym (drop-drop 1 at (take end s)) ∙ ap (drop 1) e)
@@ -100,6 +99,6 @@ most_probes s at end x y e =
     let written = filter_written s [] at end (filter_of4 1 10 64 (x ∷ y ∷ [])) refl (omega arith) e in
     record {
       numbers = numbers_of 1 10 64 (at + 1 + 1 + 1) 2;
-      is = written.0 ∙ ap (Found (numbers_of 1 10 64 (at + 1 + 1 + 1) 2)) (omega arith);
+      is = written.0 ∙ ap (λ (next : ℕ). Ok (numbers_of 1 10 64 (at + 1 + 1 + 1) 2, next)) (omega arith);
       says = rw written.1;
     }

@@ -12,44 +12,28 @@ use Rattle.message_items.specs.Items.{after_item, have_item, chunk_item, many_at
 use Rattle.hash_lists.specs.Lists.{same}
 use Rattle.message.specs.Flags.{flags_of, add_flags, flags_in, section_bytes}
 use Rattle.message.specs.Message.{joined, counted, have_bytes, message_bytes}
-use Rattle.message.specs.declared.flags.Section.TheVariants.{Absent, Present}
-use Rattle.message.specs.declared.flags.Section.{Section}
 use Rattle.message.specs.declared.version.MessageVersion.TheVariants.{V1}
 use Rattle.waiting_missing.specs.Missing.{asks_from, missing}
 use Rattle.leb128.specs.Number.{shortest, sevens, go_on, find, answer_at, number_at}
 use Rattle.hash_order.specs.Order.{keep, every, ascend}
 use Rattle.bloom_probe.specs.Build.{add_hashes, filter_of}
 use Rattle.rules.specs.Hash.{hashes_at, hashes_bytes}
-use Rattle.session.specs.Plan.{
-  need_of,
-  have_of,
-  haves_for,
-  unknown_sync,
-  list_of,
-  body_heard,
-  body_of,
-  silence,
-  sent_after,
-  heads_for,
-  flags_for,
-  version_for,
-  plan_of,
-  planned,
-  plan_body,
-}
+use Rattle.session.specs.Plan.{need_of, have_of, haves_for, unknown_sync, list_of, body_heard, body_of, silence, sent_after, heads_for, flags_for, version_for, plan_of, planned, plan_body}
 use Rattle.session_state.specs.Session.{fresh, fresh_read_only, set_read_only}
 use Rattle.table.specs.Table.{rows_from, rows_where}
 use Rattle.wire.specs.Item.{run, left_at, after_number, after_part, after_listed, count_at, prefixed_at, hash_list_at, prefixed_bytes, hash_list_bytes}
 use Rattle.examples.specs.Examples.{Reads, Writes, empty_message}
 use Rattle.session.specs.Written.{list_chunks, chunks_for, message_for}
+use Rattle.std.specs.Prelude.{Option, Some, None}
+use Rattle.message.specs.declared.flags.MessageFlags.{MessageFlags}
 
 -- where the parts of a message of nothing but flags stand, up to `next`
-abbrev empty_places : Section → ℕ → Places
+abbrev empty_places : Option MessageFlags → ℕ → Places
 empty_places flags next = record { version = V1; heads = run 2 0; need = run 3 0; haves = run 4 0; chunks = run 5 0; flags = flags; next = next }
 
-pub reads : Reads (0x42 ∷ 0x00 ∷ 0x00 ∷ 0x00 ∷ 0x00 ∷ []) (empty_message Absent)
-    × Reads (0x42 ∷ 0x00 ∷ 0x00 ∷ 0x00 ∷ 0x00 ∷ 0x00 ∷ []) (empty_message (Present (flags_of 0)))
-    × Reads (0x42 ∷ 0x00 ∷ 0x00 ∷ 0x00 ∷ 0x00 ∷ 0x02 ∷ 0x02 ∷ 0x84 ∷ []) (empty_message (Present (flags_of 4)))
+pub reads : Reads (0x42 ∷ 0x00 ∷ 0x00 ∷ 0x00 ∷ 0x00 ∷ []) (empty_message None)
+    × Reads (0x42 ∷ 0x00 ∷ 0x00 ∷ 0x00 ∷ 0x00 ∷ 0x00 ∷ []) (empty_message (Some (flags_of 0)))
+    × Reads (0x42 ∷ 0x00 ∷ 0x00 ∷ 0x00 ∷ 0x00 ∷ 0x02 ∷ 0x02 ∷ 0x84 ∷ []) (empty_message (Some (flags_of 4)))
 unfolding
     left_at
     after_number
@@ -87,13 +71,13 @@ unfolding
     haves_from
     haves_of
 reads = (
-  record { places = empty_places Absent 5; have_words = []; chunk_words = []; found = refl; says = refl },
-  record { places = empty_places (Present (flags_of 0)) 6; have_words = []; chunk_words = []; found = refl; says = refl },
-  record { places = empty_places (Present (flags_of 4)) 8; have_words = []; chunk_words = []; found = refl; says = refl },
+  record { places = empty_places None 5; have_words = []; chunk_words = []; found = refl; says = refl },
+  record { places = empty_places (Some (flags_of 0)) 6; have_words = []; chunk_words = []; found = refl; says = refl },
+  record { places = empty_places (Some (flags_of 4)) 8; have_words = []; chunk_words = []; found = refl; says = refl },
 )
 
-pub written : (message_bytes (empty_message Absent) ≡ 0x42 ∷ 0x00 ∷ 0x00 ∷ 0x00 ∷ 0x00 ∷ [])
-    × (message_bytes (empty_message (Present (flags_of 4))) ≡ 0x42 ∷ 0x00 ∷ 0x00 ∷ 0x00 ∷ 0x00 ∷ 0x02 ∷ 0x02 ∷ 0x84 ∷ [])
+pub written : (message_bytes (empty_message None) ≡ 0x42 ∷ 0x00 ∷ 0x00 ∷ 0x00 ∷ 0x00 ∷ [])
+    × (message_bytes (empty_message (Some (flags_of 4))) ≡ 0x42 ∷ 0x00 ∷ 0x00 ∷ 0x00 ∷ 0x00 ∷ 0x02 ∷ 0x02 ∷ 0x84 ∷ [])
 unfolding message_bytes hash_list_bytes hashes_bytes counted joined section_bytes shortest sevens
 written = (refl, refl)
 

@@ -17,7 +17,7 @@ use Rattle.hash_order.specs.Reach.{some_below, reach_in, reach}
 use Rattle.bloom_probe.specs.Contains.{any_contains}
 use Rattle.rules.proofs.Cases.{split, either, true_false}
 use Rattle.send.specs.ToSend.{to_send}
-use Rattle.table.specs.Table.{Row, rows, hash_of, deps_of, held, rows_from, rows_where}
+use Rattle.table.specs.Table.{rows, hash_of, deps_of, held, rows_from, rows_where}
 use Rattle.walk.proofs.Example.{only}
 use Rattle.examples.specs.Examples.{four, OnlyMissed}
 

@@ -1,21 +1,17 @@
 -- 01, Bytes and rows to hold it to: its twelve examples, P1 to P12, in one statement, over the definitions that the contracts cite. Where 01 names a part of
 -- a hash, a table or a filter, the rest is any. Byte values are hexadecimal, as in 01.
-use Rattle.std.specs.Prelude.{ℕ, ◌+◌, ◌%◌, true, false, List, [], ◌∷◌, ◌≡◌}
+use Rattle.std.specs.Prelude.{ℕ, ◌+◌, ◌%◌, true, false, List, [], ◌∷◌, ◌≡◌, Result, Ok, Err, Option, Some, None}
 use Rattle.std.proofs.Math.Seq.{slice}
 use Rattle.bloom.specs.Filter.{filter_of4, filter_bytes, default_bits, default_probes}
 use Rattle.bloom.specs.Have.{Have, filter_with}
 use Rattle.bloom.specs.FilterRead.{filter_at}
 use Rattle.bloom.specs.declared.have.FilterNumbers.{FilterNumbers}
-use Rattle.bloom.specs.declared.parse.Parsed.TheVariants.{Filter as Found, Refused}
-use Rattle.bloom.specs.declared.parse.Parsed.{Parsed}
 use Rattle.message_read.specs.MessageRead.{read, message_at, message_in}
 use Rattle.message_read.specs.declared.parse.Places.{Places}
 use Rattle.table_graph.specs.Graph.{beyond, heads}
 use Rattle.send_members.specs.Internal.Members.{last_syncs, filters}
 use Rattle.message.specs.Flags.{flags_of}
 use Rattle.message.specs.Message.{Message, message_bytes}
-use Rattle.message.specs.declared.flags.Section.TheVariants.{Absent, Present}
-use Rattle.message.specs.declared.flags.Section.{Section}
 use Rattle.message.specs.declared.version.MessageVersion.TheVariants.{V1}
 use Rattle.hash_order.specs.Order.{Once}
 use Rattle.bloom_probe.specs.Build.{filter_of}
@@ -30,6 +26,7 @@ use Rattle.session.specs.Plan.{Plan, Planned, plan}
 use Rattle.session_state.specs.Session.{State, fresh, fresh_read_only, set_read_only}
 use Rattle.table.specs.Table.{Row}
 use Rattle.session.specs.Written.{Host, message_for}
+use Rattle.message.specs.declared.flags.MessageFlags.{MessageFlags}
 
 -- P1 to P3, reading: bytes are read as a message.
 pub record Reads (s : List ℕ) (m : Message) : Type 0 where
@@ -40,7 +37,7 @@ pub record Reads (s : List ℕ) (m : Message) : Type 0 where
   pub says : message_in s places have_words chunk_words ≡ m
 
 -- A message with nothing but its flags.
-abbrev pub empty_message : Section → Message
+abbrev pub empty_message : Option MessageFlags → Message
 empty_message flags = record { version = V1; heads = []; need = []; haves = []; chunks = []; flags = flags }
 
 -- P4 and P5: over an empty table, where nothing waits, a message is planned, not a reset, and with whatever the host lends it is written as these bytes.
@@ -57,16 +54,16 @@ pub record Words (h x y z : ℕ) : Type 0 where
   pub third : u32_at (hash_bytes h) 8 ≡ z
 
 -- P8 and P9: reading a filter is refused, by 01's number and value.
-pub record RefusedWith (p : Parsed) (number value : ℕ) : Type 0 where
+pub record RefusedWith (p : Result (FilterNumbers × ℕ) Refusal) (number value : ℕ) : Type 0 where
   pub refusal : Refusal
-  pub is : p ≡ Refused refusal
+  pub is : p ≡ Err refusal
   pub numbered : number_of refusal ≡ number
   pub returned : value_of refusal ≡ value
 
 -- P9: a filter is read, up to `next`.
 pub record ReadAs (s : List ℕ) (at end next entries bits probes : ℕ) (field : List ℕ) : Type 0 where
   pub numbers : FilterNumbers
-  pub is : filter_at s at end ≡ Found numbers next
+  pub is : filter_at s at end ≡ Ok (numbers, next)
   pub says : filter_with s numbers ≡ filter_of4 entries bits probes field
 
 -- P11 and P12: rows a; b on a; c on a; d on b and c.
@@ -96,13 +93,13 @@ pub record Met : Type 0 where
 -- The list, a name a point.
 pub record Examples : Type 0 where
   -- no flags section; a message without one is written so too
-  pub p1 : Reads (0x42 ∷ 0x00 ∷ 0x00 ∷ 0x00 ∷ 0x00 ∷ []) (empty_message Absent)
-      × (message_bytes (empty_message Absent) ≡ 0x42 ∷ 0x00 ∷ 0x00 ∷ 0x00 ∷ 0x00 ∷ [])
+  pub p1 : Reads (0x42 ∷ 0x00 ∷ 0x00 ∷ 0x00 ∷ 0x00 ∷ []) (empty_message None)
+      × (message_bytes (empty_message None) ≡ 0x42 ∷ 0x00 ∷ 0x00 ∷ 0x00 ∷ 0x00 ∷ [])
   -- an empty flags section, which says no flag
-  pub p2 : Reads (0x42 ∷ 0x00 ∷ 0x00 ∷ 0x00 ∷ 0x00 ∷ 0x00 ∷ []) (empty_message (Present (flags_of 0)))
+  pub p2 : Reads (0x42 ∷ 0x00 ∷ 0x00 ∷ 0x00 ∷ 0x00 ∷ 0x00 ∷ []) (empty_message (Some (flags_of 0)))
   -- flags 4, read and written
-  pub p3 : Reads (0x42 ∷ 0x00 ∷ 0x00 ∷ 0x00 ∷ 0x00 ∷ 0x02 ∷ 0x02 ∷ 0x84 ∷ []) (empty_message (Present (flags_of 4)))
-      × (message_bytes (empty_message (Present (flags_of 4))) ≡ 0x42 ∷ 0x00 ∷ 0x00 ∷ 0x00 ∷ 0x00 ∷ 0x02 ∷ 0x02 ∷ 0x84 ∷ [])
+  pub p3 : Reads (0x42 ∷ 0x00 ∷ 0x00 ∷ 0x00 ∷ 0x00 ∷ 0x02 ∷ 0x02 ∷ 0x84 ∷ []) (empty_message (Some (flags_of 4)))
+      × (message_bytes (empty_message (Some (flags_of 4))) ≡ 0x42 ∷ 0x00 ∷ 0x00 ∷ 0x00 ∷ 0x00 ∷ 0x02 ∷ 0x02 ∷ 0x84 ∷ [])
   pub p4 : Writes fresh (0x42 ∷ 0x00 ∷ 0x00 ∷ 0x01 ∷ 0x00 ∷ 0x00 ∷ 0x00 ∷ 0x02 ∷ 0x02 ∷ 0x84 ∷ [])
   -- read-only from the start, and switched on
   pub p5 : Writes fresh_read_only (0x42 ∷ 0x00 ∷ 0x00 ∷ 0x01 ∷ 0x00 ∷ 0x00 ∷ 0x00 ∷ 0x02 ∷ 0x02 ∷ 0x86 ∷ [])

@@ -16,12 +16,10 @@ pub fn is_in(bytes: &[u8], at: usize, list: &[u8], place: usize, count: usize) -
     requires { (at + sizes.hash ≤ length bytes.now) × (place + sizes.hash * count ≤ length list.now) }
     ensures { result ≡ member (hash_at bytes.now at) (hashes_at list.now place count) }
 {
-    let mut k = 0;
-    while k < count {
+    for k in 0..count {
         if same_hash(bytes, at, list, place + HASH_SIZE * k) {
             return true;
         }
-        k += 1;
     }
     false
 }
@@ -38,13 +36,11 @@ pub fn all_held(
     requires { Indexed table.now index.now n × (place + sizes.hash * count ≤ length bytes.now) }
     ensures { result ≡ every (held (rows_at table.now 0 n)) (hashes_at bytes.now place count) }
 {
-    let mut k = 0;
-    while k < count {
+    for k in 0..count {
         let at = place + HASH_SIZE * k;
         if n <= look_up(table, index, n, bytes, at) {
             return false;
         }
-        k += 1;
     }
     true
 }

@@ -20,7 +20,7 @@ use Rattle.table_index.proofs.IndexLaws.{index_rises, index_has, index_member_be
 use Rattle.table_index.proofs.ListLaws.{map_member, member_map, rises_tail, rises_first}
 use Rattle.table_index.specs.Index.{indexed, rises, record_hash}
 use Rattle.hash_once.proofs.ApartLaws.{ascend_alike}
-use Rattle.hash_once.specs.Internal.Count.{HashOrder}
+use Rattle.hash_once.specs.Internal.Count.{HashOrder, named_again}
 
 -- ---- along a list
 
@@ -119,14 +119,17 @@ module _ (list order : List ℕ) (count : ℕ) (o : HashOrder list order count) 
       let same : ascend (map f (indexed f count)) ≡ ascend (hashes_at list 0 count) = ascend_alike (map f (indexed f count)) (hashes_at list 0 count) hashes_same in
       rw (start, all, o.are) (omega (arith, once_and_again f (indexed f count) (index_rises f count), index_length f count, ap length same))
 
-  module _ (k : ℕ) (b : k + 1 < count) (r : Bool)
-      (e : r ≡ eqb (record_hash list sizes.hash (u16_at order (2 * k))) (record_hash list sizes.hash (u16_at order (2 * (k + 1))))) where
+module _ (list order : List ℕ) (count : ℕ) where
+  module _ (k : ℕ) (b : k < count) (r : Bool) (e : r ≡ named_again list order count k) where
     turn : again_from list order count k ≡ cond r (suc (again_from list order count (k + 1))) (again_from list order count (k + 1))
-    unfolding again_from repeats
+    unfolding again_from repeats named_again
     turn =
-        let here = u16s_next order count k (u16_at order (2 * k)) (omega arith) refl in
-        let next = u16s_next order count (k + 1) (u16_at order (2 * (k + 1))) b refl in
-        rw (here, next, e)
+        let here = u16s_next order count k (u16_at order (2 * k)) b refl in
+        split (ltb (k + 1) count)
+        (λ t.
+        let next = u16s_next order count (k + 1) (u16_at order (2 * (k + 1))) (ltb-true (k + 1) count t) refl in
+        rw (here, next, e, t))
+        (λ t. rw (here, u16s_none order count (k + 1) (ltb-false (k + 1) count t), e, t))
 
     pub counting_again : (total once : ℕ) → r ≡ true → once ≡ total + again_from list order count k → once ≡ total + again_from list order count (k + 1) + 1
     counting_again total once q so = let t : again_from list order count k ≡ suc (again_from list order count (k + 1)) = rw q at turn in omega arith
@@ -134,14 +137,9 @@ module _ (list order : List ℕ) (count : ℕ) (o : HashOrder list order count) 
     pub counting_other : (total once : ℕ) → r ≡ false → once ≡ total + again_from list order count k → once ≡ total + again_from list order count (k + 1)
     counting_other total once q so = let t : again_from list order count k ≡ again_from list order count (k + 1) = rw q at turn in omega arith
 
-  none_again : (k : ℕ) → count ≤ k + 1 → again_from list order count k ≡ 0
+  none_again : (k : ℕ) → count ≤ k → again_from list order count k ≡ 0
   unfolding again_from repeats
-  none_again k b =
-      split (ltb k count)
-      (λ e.
-      let here = u16s_next order count k (u16_at order (2 * k)) (ltb-true k count e) refl in
-      rw (here, u16s_none order count (k + 1) b))
-      (λ e. rw (u16s_none order count k (ltb-false k count e)))
+  none_again k b = rw (u16s_none order count k b)
 
-  pub counting_ends : (k once total : ℕ) → count ≤ k + 1 → once ≡ total + again_from list order count k → once ≡ total
+  pub counting_ends : (k once total : ℕ) → count ≤ k → once ≡ total + again_from list order count k → once ≡ total
   counting_ends k once total b so = omega (arith, none_again k b)

@@ -32,14 +32,10 @@ fn count_along(list: &[u8], order: &[u8], count: usize) -> usize
     ensures { result ≡ length (ascend (hashes_at list.now 0 count)) }
 {
     let mut once = count;
-    let mut k = 0;
-    while k + 1 < count {
-        let i = k;
-        k += 1;
-        if !same_next(list, order, count, i) {
-            continue;
+    for k in 0..count {
+        if named_again(list, order, count, k) {
+            once -= 1;
         }
-        once -= 1;
     }
     once
 }
@@ -88,10 +84,8 @@ fn join_along(list: &[u8], order: &[u8], count: usize, sent: &[u8], before: usiz
     ensures { result ≡ length (ascend (hashes_at list.now 0 count ++ hashes_at sent.now 0 before)) }
 {
     let mut joined = before;
-    let mut k = 0;
-    while k < count {
+    for k in 0..count {
         joined += added_by(list, order, count, k, sent, before);
-        k += 1;
     }
     joined
 }

@@ -12,7 +12,7 @@ use lib.Dec.{eqb}
 use lib.ListN.{length, get_or, take}
 use Rattle.rules.specs.Hash.{IsHash, AreHashes}
 use Rattle.hash_order.specs.Order.{member, keep, every, often, Once, ascends}
-use Rattle.rules.proofs.Cases.{split, both, other, true_false, or_left, and_true}
+use Rattle.rules.proofs.Cases.{split, both, true_false, or_left, and_true}
 use Rattle.hash_order.proofs.OrderLaws.{member_here, member_there, member_behind, member_none, member_index, index_member, ascends_tail, ascends_first, ascends_cons}
 
 -- ---- members

@@ -11,11 +11,11 @@ use lib.ListN.{length, length-append, length-take, length-drop}
 use lib.Seq.{slice}
 use Rattle.rules.proofs.ByteLaws.{bytes_none, bytes_cons}
 use Rattle.rules.specs.Hash.{Bytes}
-use Rattle.rules.proofs.Cases.{split}
+use Rattle.rules.proofs.Cases.{split, read_same}
 use Rattle.rules.proofs.Hash.{bytes_head, bytes_tail, bytes_slice, slice_parts}
 use Rattle.leb128.specs.Number.{shortest, Found, ends, cut, bad, Means, good, short, hopeless, go_on, find, answer_at, number_at}
-use Rattle.leb128.specs.declared.leb128.Number.TheVariants.{Value}
 use Rattle.leb128.proofs.Number.{shortest_one, shortest_more, find_low, find_high, find_end, find_more}
+use Rattle.std.specs.Prelude.{Ok}
 
 -- ---- the shortest form, byte by byte
 
@@ -231,18 +231,18 @@ pub record EndsInside (s : List ℕ) (at end next : ℕ) : Type 0 where
   pub there : next ≤ length s
 
 module _ (most : ℕ) (s : List ℕ) (at end n : ℕ) where
-  pub number_written : (rest : List ℕ) → n ≤ most → slice at end s ≡ shortest n ++ rest → number_at most s at end ≡ Value n (at + length (shortest n))
+  pub number_written : (rest : List ℕ) → n ≤ most → slice at end s ≡ shortest n ++ rest → number_at most s at end ≡ Ok (n, at + length (shortest n))
   unfolding number_at answer_at
   number_written rest h same = rw (good_found most (slice at end s) n rest h same)
 
-  module _ (next : ℕ) (read : number_at most s at end ≡ Value n next) where
+  module _ (next : ℕ) (read : number_at most s at end ≡ Ok (n, next)) where
     number_found : (size : ℕ) × (find 0 most (slice at end s) ≡ ends n size) × (next ≡ at + size)
     unfolding number_at answer_at
     number_found = go (find 0 most (slice at end s)) refl read
       where
-        go : (f : Found) → find 0 most (slice at end s) ≡ f → answer_at at f ≡ Value n next
+        go : (f : Found) → find 0 most (slice at end s) ≡ f → answer_at at f ≡ Ok (n, next)
             → (size : ℕ) × (find 0 most (slice at end s) ≡ ends n size) × (next ≡ at + size)
-        go (ends m size) e r = (size, cc, cc)
+        go (ends m size) e r = let q = read_same r in (size, cc (q.0), sym q.1)
         go cut e r = absurd (let z : ◌≡◌ {A = ℕ} 0 1 = cc in omega arith)
         go bad e r = absurd (let z : ◌≡◌ {A = ℕ} 0 1 = cc in omega arith)
 
@@ -252,7 +252,7 @@ module _ (most : ℕ) (s : List ℕ) (at end n : ℕ) where
         let l = simp (length-drop, length-take) at w.1 in
         omega (arith, number_found.2)
 
-  module _ (next : ℕ) (all : Bytes s) (read : number_at most s at end ≡ Value n next) where
+  module _ (next : ℕ) (all : Bytes s) (read : number_at most s at end ≡ Ok (n, next)) where
     number_shows : Shows 0 most (slice at end s) (ends n (number_found next read).0)
     number_shows = rw (number_found next read).1 at (shown (slice at end s) 0 most (bytes_slice s at end all) (omega arith) (omega arith))
 

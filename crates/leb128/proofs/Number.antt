@@ -1,9 +1,8 @@
 -- Laws of numbers: how the shortest form goes on, and how `find` goes from one byte to the next.
 use Prim.Native.Nat.{ℕ, zero, suc, ◌+◌, ◌-◌, ◌*◌, ◌/◌, ◌%◌, ◌^◌, ◌≤◌, ◌<◌, min, suc-le-suc}
-use mathlib.Core.Bool.{true, false}
 use mathlib.Core.List.{List, [], ◌∷◌, ◌++◌}
 use mathlib.Core.Path.{◌≡◌, refl, sym, ◌∙◌, ap, ap₂}
-use native.Mathlib.Nat.{mul-add-div_right, div-lt_iff_lt-mul, pow-suc, mul-add-div, le-div_iff_mul-le, div-div-eq-div-mul, mul_comm, mul_assoc, add-mul}
+use native.Mathlib.Nat.{mul-add-div_right, div-lt_iff_lt-mul, pow-suc, le-div_iff_mul-le, div-div-eq-div-mul, mul_comm, mul_assoc, add-mul}
 use native.Mathlib.Numerals.{add-one}
 use native.Mathlib.Omega.{arith}
 use borrow.Author.Tests.{lt-ltb, le-ltb, ltb-true, ltb-false}
@@ -15,8 +14,8 @@ use Rattle.rules.proofs.Cases.{split}
 use Rattle.rules.proofs.Outputs.{sets_append}
 use Rattle.rules.specs.declared.refusal.Refusal.TheVariants.{Cut, BadNumber}
 use Rattle.leb128.specs.Number.{sevens, shortest, Found, ends, cut, bad, go_on, find, answer_at, number_at, Put}
-use Rattle.leb128.specs.declared.leb128.Number.{Number}
-use Rattle.leb128.specs.declared.leb128.Number.TheVariants.{Value, Refused}
+use Rattle.std.specs.Prelude.{Result, Ok, Err}
+use Rattle.rules.specs.declared.refusal.Refusal.{Refusal}
 
 -- ---- the shortest form
 
@@ -138,7 +137,7 @@ unfolding number_at
 number_within most s at end stop e = ap (λ (l : List ℕ). answer_at at (find 0 most (drop at l))) (take_within s end stop e)
 
 -- what is being read, in the loop's state
-pub reading : ℕ → List ℕ → ℕ → ℕ → ℕ → ℕ → ℕ → ℕ → Number
+pub reading : ℕ → List ℕ → ℕ → ℕ → ℕ → ℕ → ℕ → ℕ → Result (ℕ × ℕ) Refusal
 reading most s at end i least value scale =
     answer_at at (onward value scale (i - at) (find least ((most - value) / scale) (slice i end s)))
 
@@ -150,30 +149,30 @@ reading_starts most s at end =
     rw (e, d, onward_start)
 
 module _ (most : ℕ) (s : List ℕ) (at end i least value scale : ℕ) where
-  pub reading_cut : end ≤ i → reading most s at end i least value scale ≡ Refused (Cut at)
+  pub reading_cut : end ≤ i → reading most s at end i least value scale ≡ Err (Cut at)
   unfolding reading answer_at onward find
   reading_cut h = rw (slice_past s i end h)
 
   module _ (here : i < end) (inside : end ≤ length s) where
-    pub reading_low : get_or s i 0 < least → reading most s at end i least value scale ≡ Refused (BadNumber at)
+    pub reading_low : get_or s i 0 < least → reading most s at end i least value scale ≡ Err (BadNumber at)
     unfolding reading answer_at onward
     reading_low l = rw (slice_next s i end here inside, find_low least ((most - value) / scale) (get_or s i 0) (slice (i + 1) end s) l)
 
     pub reading_high : least ≤ get_or s i 0 → (most - value) / scale < get_or s i 0
-        → reading most s at end i least value scale ≡ Refused (BadNumber at)
+        → reading most s at end i least value scale ≡ Err (BadNumber at)
     unfolding reading answer_at onward
     reading_high l m =
         rw (slice_next s i end here inside, find_high least ((most - value) / scale) (get_or s i 0) (slice (i + 1) end s) l m)
 
     module _ (after : at ≤ i) (l : least ≤ get_or s i 0) (m : get_or s i 0 ≤ (most - value) / scale) where
-      pub reading_ends : get_or s i 0 < 128 → reading most s at end i least value scale ≡ Value (value + get_or s i 0 * scale) (i + 1)
+      pub reading_ends : get_or s i 0 < 128 → reading most s at end i least value scale ≡ Ok (value + get_or s i 0 * scale, i + 1)
       unfolding reading answer_at onward
       reading_ends e =
           rw (
             slice_next s i end here inside,
             find_end least ((most - value) / scale) (get_or s i 0) (slice (i + 1) end s) l m e,
           )
-          (ap (Value (value + get_or s i 0 * scale)) (omega arith))
+          (ap (λ (e : ℕ). Ok (value + get_or s i 0 * scale, e)) (omega arith))
 
       pub reading_more : 0 < scale → value + (get_or s i 0 - 128) * scale ≤ most → 128 ≤ get_or s i 0
           → reading most s at end i least value scale

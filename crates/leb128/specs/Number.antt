@@ -1,11 +1,10 @@
 -- Numbers. 01, Wire: LEB128 in its shortest form; Refusal numbers, 1 and 3: a number is refused with 3 as soon as nothing that may follow can mend it, and
 -- with 1 where the end cuts one that could still be good.
-use Rattle.std.specs.Prelude.{ℕ, zero, suc, ◌+◌, ◌-◌, ◌*◌, ◌/◌, ◌%◌, ◌^◌, ◌≤◌, cond, ◌||◌, List, [], ◌∷◌, ◌++◌, ◌≡◌, ltb, length}
+use Rattle.std.specs.Prelude.{ℕ, zero, suc, ◌+◌, ◌-◌, ◌*◌, ◌/◌, ◌%◌, ◌^◌, ◌≤◌, cond, ◌||◌, List, [], ◌∷◌, ◌++◌, ◌≡◌, ltb, length, Result, Ok, Err}
 use Rattle.std.proofs.Math.Seq.{slice}
 use Rattle.std.proofs.lemmas.List.Edits.{sets}
 use Rattle.rules.specs.declared.refusal.Refusal.TheVariants.{Cut, BadNumber}
-use Rattle.leb128.specs.declared.leb128.Number.{Number}
-use Rattle.leb128.specs.declared.leb128.Number.TheVariants.{Value, Refused}
+use Rattle.rules.specs.declared.refusal.Refusal.{Refusal}
 
 -- Refusal 3: the largest number of 64 bits.
 abbrev pub most64 : ℕ
@@ -54,13 +53,13 @@ find least most (b ∷ bs) =
     (cond (ltb b 128) (ends b 1) (go_on (b - 128) (find 1 ((most - (b - 128)) / 128) bs)))
 
 -- Refusals 1 and 3 return the place where the number starts.
-unfoldable pub answer_at : ℕ → Found → Number
-answer_at at (ends n size) = Value n (at + size)
-answer_at at cut = Refused (Cut at)
-answer_at at bad = Refused (BadNumber at)
+unfoldable pub answer_at : ℕ → Found → Result (ℕ × ℕ) Refusal
+answer_at at (ends n size) = Ok (n, at + size)
+answer_at at cut = Err (Cut at)
+answer_at at bad = Err (BadNumber at)
 
 -- The number up to `most` at a place of s, in the part that goes up to `end`.
-unfoldable pub number_at : ℕ → List ℕ → ℕ → ℕ → Number
+unfoldable pub number_at : ℕ → List ℕ → ℕ → ℕ → Result (ℕ × ℕ) Refusal
 number_at most s at end = answer_at at (find 0 most (slice at end s))
 
 -- Bytes put at a place of a buffer: they stand there, the rest is as it was, and `next` is the place after them.

@@ -1,10 +1,8 @@
 -- Flags. 01, Wire, Flags: a byte below 80 hexadecimal says nothing, any other sets its low seven bits; a section that says nothing is still a section. It
 -- is written as its length 02, then 02, which older peers read as version 2, and the flags with bit 80 set.
-use Rattle.std.specs.Prelude.{ℕ, ◌+◌, ◌-◌, ◌%◌, Bool, cond, not, List, [], ◌∷◌, ltb, eqb}
+use Rattle.std.specs.Prelude.{ℕ, ◌+◌, ◌-◌, ◌%◌, Bool, cond, not, List, [], ◌∷◌, ltb, eqb, Option, Some, None}
 use Rattle.std.specs.Int.Bits.{bit_or, bit_and}
 use Rattle.message.specs.declared.flags.MessageFlags.{MessageFlags}
-use Rattle.message.specs.declared.flags.Section.{Section}
-use Rattle.message.specs.declared.flags.Section.TheVariants.{Absent, Present}
 
 -- 01, Wire, Flags: three bits have a meaning. The receiver is to forget what it sent.
 abbrev pub sync_reset : ℕ
@@ -36,6 +34,6 @@ unfoldable pub flags_in : List ℕ → ℕ
 flags_in bs = add_flags 0 bs
 
 -- A section as bytes. 80 + f is or as well: the byte has bit 80 whatever f is.
-unfoldable pub section_bytes : Section → List ℕ
-section_bytes Absent = []
-section_bytes (Present f) = 0x02 ∷ 0x02 ∷ (0x80 + f.0 % 0x80) ∷ []
+unfoldable pub section_bytes : Option MessageFlags → List ℕ
+section_bytes None = []
+section_bytes (Some f) = 0x02 ∷ 0x02 ∷ (0x80 + f.0 % 0x80) ∷ []

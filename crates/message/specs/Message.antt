@@ -1,13 +1,13 @@
 -- Messages as values and as bytes. 01, Wire, Message: a first byte for the version, heads, need, haves, chunks, and the flags section where there is one.
-use Rattle.std.specs.Prelude.{ℕ, ◌+◌, List, [], ◌∷◌, ◌++◌, length}
+use Rattle.std.specs.Prelude.{ℕ, ◌+◌, List, [], ◌∷◌, ◌++◌, length, Option}
 use Rattle.bloom.specs.Filter.{filter_bytes}
 use Rattle.bloom.specs.Have.{Have}
 use Rattle.wire.specs.Item.{prefixed_bytes, hash_list_bytes}
 use Rattle.leb128.specs.Number.{shortest}
 use Rattle.message.specs.Flags.{section_bytes}
-use Rattle.message.specs.declared.flags.Section.{Section}
 use Rattle.message.specs.declared.version.MessageVersion.{MessageVersion}
 use Rattle.message.specs.declared.version.MessageVersion.TheVariants.{V1, V2}
+use Rattle.message.specs.declared.flags.MessageFlags.{MessageFlags}
 
 -- A message: version, heads, need, haves, chunks and the flags section.
 pub record Message : Type 0 where
@@ -17,7 +17,7 @@ pub record Message : Type 0 where
   pub haves : List Have
   -- each as its bytes
   pub chunks : List (List ℕ)
-  pub flags : Section
+  pub flags : Option MessageFlags
 
 -- The first byte.
 abbrev pub type_of : MessageVersion → ℕ

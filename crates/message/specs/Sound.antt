@@ -1,13 +1,12 @@
 -- Messages that can be written, and which of them reading gives back. 01, Sizes, and the last rule of Wire: each filter has an entry or is the default,
 -- and flags leave bit 80 alone.
-use Rattle.std.specs.Prelude.{ℕ, ◌≤◌, ◌<◌, true, List, [], ◌∷◌, ◌≡◌, length}
+use Rattle.std.specs.Prelude.{ℕ, ◌≤◌, ◌<◌, true, List, [], ◌∷◌, ◌≡◌, length, Option, Some, None}
 use Rattle.bloom.specs.Filter.{Filter, filter_of4, filter_rules, default_bits, default_probes}
 use Rattle.bloom.specs.Have.{Have}
 use Rattle.rules.specs.Hash.{AreHashes}
 use Rattle.rules.specs.Sizes.{sizes}
 use Rattle.message.specs.Message.{Message, message_bytes}
-use Rattle.message.specs.declared.flags.Section.{Section}
-use Rattle.message.specs.declared.flags.Section.TheVariants.{Absent, Present}
+use Rattle.message.specs.declared.flags.MessageFlags.{MessageFlags}
 
 -- Each element has a property.
 unfoldable pub Each : {A : Type 0} → (A → Type 0) → List A → Type 0
@@ -44,9 +43,9 @@ abbrev pub HaveReadsBack : Have → Type 0
 HaveReadsBack h = FilterReadsBack h.filter
 
 -- The second: flags below 80, if there are any. A byte of flags has seven bits for them.
-abbrev pub FlagsReadBack : Section → Type 0
-FlagsReadBack Absent = Unit {0}
-FlagsReadBack (Present f) = f.0 < 0x80
+abbrev pub FlagsReadBack : Option MessageFlags → Type 0
+FlagsReadBack None = Unit {0}
+FlagsReadBack (Some f) = f.0 < 0x80
 
 -- Both conditions of reading back, of a whole message.
 pub record ReadsBack (m : Message) : Type 0 where

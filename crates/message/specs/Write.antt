@@ -1,6 +1,6 @@
 -- A message as it is written. 01, Wire, Message, and the order of refusals: 10 for the haves, then the passed lists' 4, the chunks' bytes, and 4 for the
 -- message that would result; 7 comes last (`Written`). A list that isn't whole hashes, and chunks that run past the lent bytes, are cut: 1.
-use Rattle.std.specs.Prelude.{ℕ, ◌+◌, ◌-◌, ◌/◌, cond, not, List, [], ◌∷◌, ltb, length}
+use Rattle.std.specs.Prelude.{ℕ, ◌+◌, ◌-◌, ◌/◌, cond, not, List, [], ◌∷◌, ltb, length, Option}
 use Rattle.std.proofs.Math.Seq.{slice}
 use Rattle.bloom.specs.Have.{haves_of, passed_good, passed_few}
 use Rattle.rules.specs.Hash.{hashes_at}
@@ -9,8 +9,8 @@ use Rattle.rules.specs.Passed.{passed_hashes, after_passed}
 use Rattle.rules.specs.Sizes.{sizes}
 use Rattle.rules.specs.declared.refusal.Refusal.TheVariants.{Cut, PastSize, BadNumbers}
 use Rattle.message.specs.Message.{Message, message_bytes}
-use Rattle.message.specs.declared.flags.Section.{Section}
 use Rattle.message.specs.declared.version.MessageVersion.{MessageVersion}
+use Rattle.message.specs.declared.flags.MessageFlags.{MessageFlags}
 
 -- What is passed: hash lists as bytes, haves as records over bytes, chunks as bytes one after the other and their lengths.
 pub record Parts : Type 0 where
@@ -21,10 +21,10 @@ pub record Parts : Type 0 where
   pub haves : List ℕ
   pub chunks : List ℕ
   pub lengths : List ℕ
-  pub flags : Section
+  pub flags : Option MessageFlags
 
 -- The parts, in the order in which a call is lent them.
-abbrev pub parts_of : MessageVersion → List ℕ → List ℕ → List ℕ → List ℕ → List ℕ → List ℕ → Section → Parts
+abbrev pub parts_of : MessageVersion → List ℕ → List ℕ → List ℕ → List ℕ → List ℕ → List ℕ → Option MessageFlags → Parts
 parts_of version heads need bytes haves chunks lengths flags =
     record {
       version = version;

@@ -7,13 +7,6 @@ ghost use Rattle.message.specs.Flags.{sync_reset, read_only_flag, supports_sync_
 #[derive(Clone, Copy)]
 pub struct MessageFlags(pub u8);
 
-// The flags section of a message. No section and an empty one differ.
-#[derive(Clone, Copy)]
-pub enum Section {
-    Absent,
-    Present(MessageFlags),
-}
-
 impl MessageFlags {
     // The receiver is to forget what it sent.
     pub const SYNC_RESET: u8 = 1;
@@ -67,15 +60,10 @@ impl MessageFlags {
         ensures { result ≡ flags_of (flags_in (slice start end bytes.now)) }
     {
         let mut flags = MessageFlags::new();
-        let mut i = start;
-        while i < end {
-            let byte = bytes[i];
-            i += 1;
-            if byte < BITFIELD_MARKER {
-                continue;
+        for byte in &bytes[start..end] {
+            if *byte >= BITFIELD_MARKER {
+                flags = flags.set(*byte - BITFIELD_MARKER);
             }
-            let more = flags.set(byte - BITFIELD_MARKER);
-            flags = more;
         }
         flags
     }

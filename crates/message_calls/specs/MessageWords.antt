@@ -1,19 +1,16 @@
 -- A message as words, as exported calls pass it: its version, the places and counts of its parts, its flags.
-use Rattle.std.specs.Prelude.{ℕ, cond, List, [], ◌∷◌, ◌≡◌, ltb, eqb, length}
+use Rattle.std.specs.Prelude.{ℕ, cond, List, [], ◌∷◌, ◌≡◌, ltb, eqb, length, Result, Ok, Err, Option, Some, None}
 use Rattle.call_words.specs.Answer.{refusal_words}
 use Rattle.message_read.specs.MessageIgnored.{counted_of, ignored_into}
 use Rattle.message_read.specs.MessageRead.{opening_at, read_with, haves_into, chunks_into}
-use Rattle.message_read.specs.declared.decode.CountedMessage.{CountedMessage}
-use Rattle.message_read.specs.declared.decode.CountedMessage.TheVariants.{Message, Refused}
 use Rattle.message.specs.Flags.{flags_of}
-use Rattle.message.specs.declared.flags.Section.{Section}
-use Rattle.message.specs.declared.flags.Section.TheVariants.{Absent, Present}
 use Rattle.message.specs.declared.version.MessageVersion.{MessageVersion}
 use Rattle.message.specs.declared.version.MessageVersion.TheVariants.{V1, V2}
 use Rattle.message_peek.specs.Peek.{peeked_at, heads_into}
-use Rattle.message_peek.specs.declared.peek.Peeked.{Peeked}
-use Rattle.message_peek.specs.declared.peek.Peeked.TheVariants.{Heads, Refused as NotPeeked}
 use Rattle.rules.specs.Refusal.{number_of, value_of}
+use Rattle.rules.specs.declared.refusal.Refusal.{Refusal}
+use Rattle.message.specs.declared.flags.MessageFlags.{MessageFlags}
+use Rattle.message_read.specs.declared.parse.Places.{Places}
 
 -- 1 or 2; any other number than 2 is version 1.
 abbrev pub version_word : MessageVersion → ℕ
@@ -25,17 +22,17 @@ unfoldable pub version_of : ℕ → MessageVersion
 version_of n = cond (eqb n 2) V2 V1
 
 -- The flags' number, or 256 without a section; any greater number says the same.
-abbrev pub section_word : Section → ℕ
-section_word Absent = 256
-section_word (Present f) = f.0
+abbrev pub section_word : Option MessageFlags → ℕ
+section_word None = 256
+section_word (Some f) = f.0
 
 -- The section that a word is.
-unfoldable pub section_of : ℕ → Section
-section_of n = cond (ltb n 256) (Present (flags_of n)) Absent
+unfoldable pub section_of : ℕ → Option MessageFlags
+section_of n = cond (ltb n 256) (Some (flags_of n)) None
 
 -- The places, then both numbers of ignored bytes: behind the filters' fields, and after the flags section.
-abbrev pub decoded_words : CountedMessage → List ℕ
-decoded_words (Message p ignored behind) =
+abbrev pub decoded_words : Result (Places × ℕ × ℕ) Refusal → List ℕ
+decoded_words (Ok (p, ignored, behind)) =
     0
     ∷ version_word p.version
     ∷ p.heads.start
@@ -51,7 +48,7 @@ decoded_words (Message p ignored behind) =
     ∷ ignored
     ∷ behind
     ∷ []
-decoded_words (Refused r) = number_of r ∷ value_of r ∷ 0 ∷ 0 ∷ 0 ∷ 0 ∷ 0 ∷ 0 ∷ 0 ∷ 0 ∷ 0 ∷ 0 ∷ 0 ∷ 0 ∷ []
+decoded_words (Err r) = number_of r ∷ value_of r ∷ 0 ∷ 0 ∷ 0 ∷ 0 ∷ 0 ∷ 0 ∷ 0 ∷ 0 ∷ 0 ∷ 0 ∷ 0 ∷ 0 ∷ []
 
 -- Reading a message: its words, and the lent lists at exit.
 pub record MessageAnswered (s haves₀ haves₁ chunks₀ chunks₁ ignored₀ ignored₁ words : List ℕ) : Type 0 where
@@ -61,9 +58,9 @@ pub record MessageAnswered (s haves₀ haves₁ chunks₀ chunks₁ ignored₀ i
   pub ignored : ignored₁ ≡ ignored_into s (read_with s haves₀ chunks₀) ignored₀
 
 -- The version and the number of heads.
-abbrev pub peeked_words : Peeked → List ℕ
-peeked_words (Heads version count) = 0 ∷ version_word version ∷ count ∷ 0 ∷ []
-peeked_words (NotPeeked r) = refusal_words r
+abbrev pub peeked_words : Result (MessageVersion × ℕ) Refusal → List ℕ
+peeked_words (Ok (version, count)) = 0 ∷ version_word version ∷ count ∷ 0 ∷ []
+peeked_words (Err r) = refusal_words r
 
 -- Reading a message's heads alone: its words, and the lent buffer at exit.
 pub record PeekAnswered (s before after words : List ℕ) : Type 0 where

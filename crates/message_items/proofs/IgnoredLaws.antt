@@ -16,8 +16,8 @@ use Rattle.wire.specs.declared.parse.Run.{Run}
 use Rattle.wire.proofs.Item.{prefixed_inside, hash_list_inside}
 use Rattle.message_items.specs.ItemsIgnored.{have_ignored, ignored_from}
 use Rattle.message_items.specs.Items.{item, after_item, have_at, have_word_list, have_item, many_at}
-use Rattle.message_items.specs.declared.haves.HaveRead.TheVariants.{Have}
 use Rattle.message_items.proofs.ItemLaws.{have_item_lem, have_behind, many_behind, none_behind}
+use Rattle.std.specs.Prelude.{Ok}
 
 -- ---- what stands there
 
@@ -50,7 +50,7 @@ module _ (s : List ℕ) (at : ℕ) where
         there = q.there;
       }
 
-  pub have_stands : (sync : Run) (f : FilterNumbers) (next : ℕ) → have_at s at ≡ Have sync f next → IgnoredStands s at f next
+  pub have_stands : (sync : Run) (f : FilterNumbers) (next : ℕ) → have_at s at ≡ Ok (sync, f, next) → IgnoredStands s at f next
   have_stands sync f next e = words_stand sync f next (have_item_lem s at sync f next e)
 
 -- ---- one after the other
@@ -102,11 +102,6 @@ module _ (s : List ℕ) (ignored₀ : List ℕ) (count start : ℕ) where
     pub same : sets ignored k (ignored_from s (count - k) next) ≡ sets ignored₀ 0 (ignored_from s count start)
     pub rest : sum + total (ignored_from s (count - k) next) ≡ total (ignored_from s count start)
 
-  pub counting_starts : Counting ignored₀ 0 start 0
-  counting_starts =
-      let e : count - 0 ≡ count = omega arith in
-      record { long = refl; most = omega arith; same = rw e; rest = rw e (omega arith) }
-
   module _ (ignored : List ℕ) (sum next k : ℕ) (p : Counting ignored sum next k) where
     pub counting_ends : count ≤ k → (ignored ≡ sets ignored₀ 0 (ignored_from s count start)) × (sum ≡ total (ignored_from s count start))
     unfolding ignored_from total
@@ -117,7 +112,7 @@ module _ (s : List ℕ) (ignored₀ : List ℕ) (count start : ℕ) where
         let z : sum + total (ignored_from s 0 next) ≡ sum = omega arith in
         (a, sym z ∙ b)
 
-    module _ (here : k < count) (sync : Run) (f : FilterNumbers) (after : ℕ) (is : have_at s next ≡ Have sync f after) where
+    module _ (here : k < count) (sync : Run) (f : FilterNumbers) (after : ℕ) (is : have_at s next ≡ Ok (sync, f, after)) where
       stands : IgnoredStands s next f after
       stands = have_stands s next sync f after is
 

@@ -6,97 +6,59 @@ use mathlib.Core.Path.{◌≡◌, refl, sym, ◌∙◌, ap}
 use native.Mathlib.Nat.{mul-suc}
 use native.Mathlib.Numerals.{add-one}
 use native.Mathlib.Omega.{arith}
-use denote.Enum.Declared.{tag_of, declared}
 use lib.ListN.{length, length-append}
 use lib.Seq.{sets, length-sets}
 use Rattle.bloom.specs.FilterRead.{filter_at, after_filter}
 use Rattle.bloom.specs.Have.{have_words}
 use Rattle.bloom.specs.declared.have.FilterNumbers.{FilterNumbers}
-use Rattle.bloom.specs.declared.parse.Parsed.{Parsed}
-use Rattle.bloom.specs.declared.parse.Parsed.TheVariants.{Filter, Refused as NoFilter}
 use Rattle.rules.specs.Sizes.{sizes}
 use Rattle.rules.specs.declared.refusal.Refusal.{Refusal}
+use Rattle.rules.proofs.Cases.{read_same}
 use Rattle.rules.proofs.Outputs.{sets_append}
 use Rattle.wire.specs.Item.{run, after_number, after_part, after_listed, count_at, prefixed_at, hash_list_at}
 use Rattle.wire.proofs.Item.{count_inside, prefixed_inside}
-use Rattle.leb128.specs.declared.leb128.Number.{Number}
-use Rattle.leb128.specs.declared.leb128.Number.TheVariants.{Value, Refused as NoCount}
-use Rattle.wire.specs.declared.parse.Listed.{Listed}
-use Rattle.wire.specs.declared.parse.Listed.TheVariants.{Items, Refused as NotListed}
-use Rattle.wire.specs.declared.parse.Prefixed.{Prefixed}
-use Rattle.wire.specs.declared.parse.Prefixed.TheVariants.{Part, Refused as NoPart}
 use Rattle.wire.specs.declared.parse.Run.{Run}
-use Rattle.message_items.specs.Items.{
-  have_at,
-  have_word_list,
-  Item,
-  item,
-  stopped,
-  after_item,
-  have_words_of,
-  have_item,
-  chunk_words,
-  chunk_item,
-  many_at,
-  ItemList,
-  list,
-  no_list,
-  after_list,
-  list_from,
-  list_at,
-  haves_at,
-  chunks_at,
-  listed_of,
-  words_of,
-  AllRead,
-}
-use Rattle.message_items.specs.declared.haves.HaveRead.{HaveRead}
-use Rattle.message_items.specs.declared.haves.HaveRead.TheVariants.{Have, Refused as NoHave}
-use Rattle.message_items.specs.contracts.haves.HaveRead.{enum}
+use Rattle.message_items.specs.Items.{have_at, have_word_list, Item, item, stopped, after_item, have_words_of, have_item, chunk_words, chunk_item, many_at, ItemList, list, no_list, after_list, list_from, list_at, haves_at, chunks_at, listed_of, words_of, AllRead}
+use Rattle.std.specs.Prelude.{Result, Ok, Err}
 
 -- ---- one have
 
 module _ (s : List ℕ) (at : ℕ) where
-  pub have_no_list : (r : Refusal) → hash_list_at s at (length s) ≡ NotListed r → have_at s at ≡ NoHave r
+  pub have_no_list : (r : Refusal) → hash_list_at s at (length s) ≡ Err r → have_at s at ≡ Err r
   unfolding have_at after_listed
   have_no_list r e = rw e
 
-  module _ (sync : Run) (i : ℕ) (syncs : hash_list_at s at (length s) ≡ Items sync i) where
-    pub have_no_part : (r : Refusal) → prefixed_at s i (length s) ≡ NoPart r → have_at s at ≡ NoHave r
+  module _ (sync : Run) (i : ℕ) (syncs : hash_list_at s at (length s) ≡ Ok (sync, i)) where
+    pub have_no_part : (r : Refusal) → prefixed_at s i (length s) ≡ Err r → have_at s at ≡ Err r
     unfolding have_at after_listed after_part
     have_no_part r e = rw (syncs, e)
 
-    module _ (from end : ℕ) (part : prefixed_at s i (length s) ≡ Part from end) where
-      pub have_no_filter : (r : Refusal) → filter_at s from end ≡ NoFilter r → have_at s at ≡ NoHave r
+    module _ (from end : ℕ) (part : prefixed_at s i (length s) ≡ Ok (from, end)) where
+      pub have_no_filter : (r : Refusal) → filter_at s from end ≡ Err r → have_at s at ≡ Err r
       unfolding have_at after_listed after_part after_filter
       have_no_filter r e = rw (syncs, part, e)
 
-      pub have_read : (f : FilterNumbers) (next : ℕ) → filter_at s from end ≡ Filter f next → have_at s at ≡ Have sync f end
+      pub have_read : (f : FilterNumbers) (next : ℕ) → filter_at s from end ≡ Ok (f, next) → have_at s at ≡ Ok (sync, f, end)
       unfolding have_at after_listed after_part after_filter
       have_read f next e = rw (syncs, part, e)
 
-  pub have_stopped : (r : Refusal) → have_at s at ≡ NoHave r → have_item s at ≡ stopped r
+  pub have_stopped : (r : Refusal) → have_at s at ≡ Err r → have_item s at ≡ stopped r
   unfolding have_item have_words_of
   have_stopped r e = rw e
 
-  pub have_item_lem : (sync : Run) (f : FilterNumbers) (next : ℕ) → have_at s at ≡ Have sync f next → have_item s at ≡ item (have_word_list sync f) next
+  pub have_item_lem : (sync : Run) (f : FilterNumbers) (next : ℕ) → have_at s at ≡ Ok (sync, f, next) → have_item s at ≡ item (have_word_list sync f) next
   unfolding have_item have_words_of
   have_item_lem sync f next e = rw e
 
   -- ---- one chunk
 
-  pub chunk_stopped : (r : Refusal) → prefixed_at s at (length s) ≡ NoPart r → chunk_item s at ≡ stopped r
+  pub chunk_stopped : (r : Refusal) → prefixed_at s at (length s) ≡ Err r → chunk_item s at ≡ stopped r
   unfolding chunk_item after_part
   chunk_stopped r e = rw e
 
-  pub chunk-item : (start end : ℕ) → prefixed_at s at (length s) ≡ Part start end → chunk_item s at ≡ item (start ∷ (end - start) ∷ []) end
+  pub chunk-item : (start end : ℕ) → prefixed_at s at (length s) ≡ Ok (start, end) → chunk_item s at ≡ item (start ∷ (end - start) ∷ []) end
   unfolding chunk_item after_part
   chunk-item start end e = rw e
-
--- an answer by its tag
-pub told_refused : (x : HaveRead) → tag_of (declared enum) x ≡ 1 → (r : Refusal) × (x ≡ NoHave r)
-told_refused (Have sync f next) e = absurd (omega arith)
-told_refused (NoHave r) e = (r, refl)
 
 -- ---- items one after the other
 
@@ -123,7 +85,7 @@ module _ (one : ℕ → Item) (left next : ℕ) where
 -- ---- passing over them
 
 -- what a list is told to be while `left` of its items are still to come
-unfoldable pub passing : (ℕ → Item) → ℕ → ℕ → ℕ → ℕ → Listed
+unfoldable pub passing : (ℕ → Item) → ℕ → ℕ → ℕ → ℕ → Result (Run × ℕ) Refusal
 passing one start count left next = listed_of (list_from (run start count) (many_at one left next))
 
 module _ (one : ℕ → Item) (start count : ℕ) where
@@ -131,12 +93,12 @@ module _ (one : ℕ → Item) (start count : ℕ) where
   unfolding passing
   passing_starts = let e : count - 0 ≡ count = omega arith in rw e
 
-  pub passing_ends : (k next : ℕ) → count ≤ k → passing one start count (count - k) next ≡ Items (run start count) next
+  pub passing_ends : (k next : ℕ) → count ≤ k → passing one start count (count - k) next ≡ Ok (run start count, next)
   unfolding passing listed_of list_from many_at after_item after_list
   passing_ends k next h = let e : count - k ≡ 0 = omega arith in rw e
 
   module _ (k next : ℕ) (here : k < count) where
-    pub passing_stops : (r : Refusal) → one next ≡ stopped r → passing one start count (count - k) next ≡ NotListed r
+    pub passing_stops : (r : Refusal) → one next ≡ stopped r → passing one start count (count - k) next ≡ Err r
     unfolding passing listed_of list_from after_item after_list
     passing_stops r e =
         let d : count - k ≡ suc (count - (k + 1)) = omega arith in
@@ -192,13 +154,6 @@ module _ (one : ℕ → Item) (size : ℕ) (out₀ : List ℕ) (count start : �
     pub left : AllRead (many_at one (count - k) next) (length out - size * k)
     pub same : sets out (size * k) (words_of (many_at one (count - k) next)) ≡ sets out₀ 0 (words_of (many_at one count start))
 
-  pub putting_starts : AllRead (many_at one count start) (length out₀) → Putting out₀ start 0
-  putting_starts all =
-      let e : count - 0 ≡ count = omega arith in
-      let z : size * 0 ≡ 0 = omega arith in
-      let d : length out₀ - 0 ≡ length out₀ = omega arith in
-      record { upto = omega arith; long = refl; left = rw (e, z, d) all; same = rw (e, z) }
-
   module _ (out : List ℕ) (next k : ℕ) (p : Putting out next k) where
     pub putting_ends : count ≤ k → out ≡ sets out₀ 0 (words_of (many_at one count start))
     unfolding many_at words_of after_item
@@ -246,30 +201,30 @@ module _ (one : ℕ → Item) (size : ℕ) (out₀ : List ℕ) (count start : �
 -- ---- a count and its items
 
 module _ (limit : ℕ) (one : ℕ → Item) (s : List ℕ) (at : ℕ) where
-  pub list_refused : (r : Refusal) → count_at limit s at (length s) ≡ NoCount r → list_at limit one s at ≡ no_list r
+  pub list_refused : (r : Refusal) → count_at limit s at (length s) ≡ Err r → list_at limit one s at ≡ no_list r
   unfolding list_at after_number
   list_refused r e = rw e
 
-  pub list_read : (count start : ℕ) → count_at limit s at (length s) ≡ Value count start
+  pub list_read : (count start : ℕ) → count_at limit s at (length s) ≡ Ok (count, start)
       → list_at limit one s at ≡ list_from (run start count) (many_at one count start)
   unfolding list_at after_number
   list_read count start e = rw e
 
 module _ (s : List ℕ) (at : ℕ) where
-  pub haves_refused : (r : Refusal) → count_at sizes.haves s at (length s) ≡ NoCount r → listed_of (haves_at s at) ≡ NotListed r
+  pub haves_refused : (r : Refusal) → count_at sizes.haves s at (length s) ≡ Err r → listed_of (haves_at s at) ≡ Err r
   unfolding haves_at listed_of after_list
   haves_refused r e = rw (list_refused sizes.haves (have_item s) s at r e)
 
-  pub haves_listed : (count start : ℕ) → count_at sizes.haves s at (length s) ≡ Value count start
+  pub haves_listed : (count start : ℕ) → count_at sizes.haves s at (length s) ≡ Ok (count, start)
       → listed_of (haves_at s at) ≡ listed_of (list_from (run start count) (many_at (have_item s) count start))
   unfolding haves_at
   haves_listed count start e = rw (list_read sizes.haves (have_item s) s at count start e)
 
-  pub chunks_refused : (r : Refusal) → count_at sizes.chunks s at (length s) ≡ NoCount r → listed_of (chunks_at s at) ≡ NotListed r
+  pub chunks_refused : (r : Refusal) → count_at sizes.chunks s at (length s) ≡ Err r → listed_of (chunks_at s at) ≡ Err r
   unfolding chunks_at listed_of after_list
   chunks_refused r e = rw (list_refused sizes.chunks (chunk_item s) s at r e)
 
-  pub chunks_listed : (count start : ℕ) → count_at sizes.chunks s at (length s) ≡ Value count start
+  pub chunks_listed : (count start : ℕ) → count_at sizes.chunks s at (length s) ≡ Ok (count, start)
       → listed_of (chunks_at s at) ≡ listed_of (list_from (run start count) (many_at (chunk_item s) count start))
   unfolding chunks_at
   chunks_listed count start e = rw (list_read sizes.chunks (chunk_item s) s at count start e)
@@ -330,17 +285,17 @@ module _ (s : List ℕ) (at : ℕ) (words : List ℕ) (next : ℕ) where
     pub from : ℕ
     pub numbers : FilterNumbers
     pub past : ℕ
-    pub syncs : hash_list_at s at (length s) ≡ Items sync i
-    pub part : prefixed_at s i (length s) ≡ Part from next
-    pub filter : filter_at s from next ≡ Filter numbers past
+    pub syncs : hash_list_at s at (length s) ≡ Ok (sync, i)
+    pub part : prefixed_at s i (length s) ≡ Ok (from, next)
+    pub filter : filter_at s from next ≡ Ok (numbers, past)
     pub are : words ≡ have_word_list sync numbers
 
   pub have_behind : have_item s at ≡ item words next → HaveBehind
   have_behind e = syncs (hash_list_at s at (length s)) refl
     where
-      filter : (sync : Run) (i from end : ℕ) → hash_list_at s at (length s) ≡ Items sync i → prefixed_at s i (length s) ≡ Part from end
-          → (x : Parsed) → filter_at s from end ≡ x → HaveBehind
-      filter sync i from end f g (Filter numbers past) h =
+      filter : (sync : Run) (i from end : ℕ) → hash_list_at s at (length s) ≡ Ok (sync, i) → prefixed_at s i (length s) ≡ Ok (from, end)
+          → (x : Result (FilterNumbers × ℕ) Refusal) → filter_at s from end ≡ x → HaveBehind
+      filter sync i from end f g (Ok (numbers, past)) h =
           let read = have_item_lem s at sync numbers end (have_read s at sync i f from end g numbers past h) in
           let same : item (have_word_list sync numbers) end ≡ item words next = sym read ∙ e in
           let l : end ≡ next = cc in
@@ -355,32 +310,32 @@ module _ (s : List ℕ) (at : ℕ) (words : List ℕ) (next : ℕ) where
             filter = rw l at h;
             are = cc;
           }
-      filter sync i from end f g (NoFilter r) h =
+      filter sync i from end f g (Err r) h =
           not_item r words next (sym (have_stopped s at r (have_no_filter s at sync i f from end g r h)) ∙ e)
 
-      part : (sync : Run) (i : ℕ) → hash_list_at s at (length s) ≡ Items sync i → (x : Prefixed) → prefixed_at s i (length s) ≡ x → HaveBehind
-      part sync i f (Part from end) g = filter sync i from end f g (filter_at s from end) refl
-      part sync i f (NoPart r) g = not_item r words next (sym (have_stopped s at r (have_no_part s at sync i f r g)) ∙ e)
+      part : (sync : Run) (i : ℕ) → hash_list_at s at (length s) ≡ Ok (sync, i) → (x : Result (ℕ × ℕ) Refusal) → prefixed_at s i (length s) ≡ x → HaveBehind
+      part sync i f (Ok (from, end)) g = filter sync i from end f g (filter_at s from end) refl
+      part sync i f (Err r) g = not_item r words next (sym (have_stopped s at r (have_no_part s at sync i f r g)) ∙ e)
 
-      syncs : (x : Listed) → hash_list_at s at (length s) ≡ x → HaveBehind
-      syncs (Items sync i) f = part sync i f (prefixed_at s i (length s)) refl
-      syncs (NotListed r) f = not_item r words next (sym (have_stopped s at r (have_no_list s at r f)) ∙ e)
+      syncs : (x : Result (Run × ℕ) Refusal) → hash_list_at s at (length s) ≡ x → HaveBehind
+      syncs (Ok (sync, i)) f = part sync i f (prefixed_at s i (length s)) refl
+      syncs (Err r) f = not_item r words next (sym (have_stopped s at r (have_no_list s at r f)) ∙ e)
 
   pub record ChunkBehind : Type 0 where
     pub start : ℕ
-    pub part : prefixed_at s at (length s) ≡ Part start next
+    pub part : prefixed_at s at (length s) ≡ Ok (start, next)
     pub are : words ≡ start ∷ (next - start) ∷ []
 
   pub chunk_behind : chunk_item s at ≡ item words next → ChunkBehind
   chunk_behind e = part (prefixed_at s at (length s)) refl
     where
-      part : (x : Prefixed) → prefixed_at s at (length s) ≡ x → ChunkBehind
-      part (Part start end) g =
+      part : (x : Result (ℕ × ℕ) Refusal) → prefixed_at s at (length s) ≡ x → ChunkBehind
+      part (Ok (start, end)) g =
           let same : item (start ∷ (end - start) ∷ []) end ≡ item words next = sym (chunk-item s at start end g) ∙ e in
           let l : end ≡ next = cc in
           let w : start ∷ (end - start) ∷ [] ≡ words = cc in
           record { start = start; part = rw l at g; are = sym (rw l at w) }
-      part (NoPart r) g = not_item r words next (sym (chunk_stopped s at r g) ∙ e)
+      part (Err r) g = not_item r words next (sym (chunk_stopped s at r g) ∙ e)
 
 pub have_sized : (s : List ℕ) (at : ℕ) (words : List ℕ) (next : ℕ) → have_item s at ≡ item words next → length words ≡ have_words
 have_sized s at words next e = rw (have_behind s at words next e).are
@@ -401,14 +356,14 @@ chunk_below s at words next e =
 -- a list
 module _ (limit : ℕ) (one : ℕ → Item) (s : List ℕ) (at : ℕ) (items : Run) (words : List ℕ) (next : ℕ) where
   pub record ListBehind : Type 0 where
-    pub number : count_at limit s at (length s) ≡ Value items.count items.start
+    pub number : count_at limit s at (length s) ≡ Ok (items.count, items.start)
     pub each : many_at one items.count items.start ≡ item words next
 
   pub list_behind : list_at limit one s at ≡ list items words next → ListBehind
   unfolding list_from after_item
   list_behind e = number (count_at limit s at (length s)) refl
     where
-      each : (many from : ℕ) → count_at limit s at (length s) ≡ Value many from → (i : Item) → many_at one many from ≡ i → ListBehind
+      each : (many from : ℕ) → count_at limit s at (length s) ≡ Ok (many, from) → (i : Item) → many_at one many from ≡ i → ListBehind
       each many from q (item w end) d =
           let same : list (run from many) w end ≡ list items words next =
           sym (list_read limit one s at many from q ∙ ap (list_from (run from many)) d) ∙ e
@@ -422,23 +377,23 @@ module _ (limit : ℕ) (one : ℕ → Item) (s : List ℕ) (at : ℕ) (items : R
           let same : no_list r ≡ list items words next = sym (list_read limit one s at many from q ∙ ap (list_from (run from many)) d) ∙ e in
           absurd (let z : ◌≡◌ {A = ℕ} 0 1 = cc in omega arith)
 
-      number : (x : Number) → count_at limit s at (length s) ≡ x → ListBehind
-      number (Value many from) q = each many from q (many_at one many from) refl
-      number (NoCount r) q =
+      number : (x : Result (ℕ × ℕ) Refusal) → count_at limit s at (length s) ≡ x → ListBehind
+      number (Ok (many, from)) q = each many from q (many_at one many from) refl
+      number (Err r) q =
           let same : no_list r ≡ list items words next = sym (list_refused limit one s at r q) ∙ e in
           absurd (let z : ◌≡◌ {A = ℕ} 0 1 = cc in omega arith)
 
 -- ---- lists without their words
 
-pub listed_refused : (l : ItemList) (r : Refusal) → listed_of l ≡ NotListed r → l ≡ no_list r
+pub listed_refused : (l : ItemList) (r : Refusal) → listed_of l ≡ Err r → l ≡ no_list r
 unfolding listed_of after_list
 listed_refused (list items words next) r e = absurd (let z : ◌≡◌ {A = ℕ} 0 1 = cc in omega arith)
 listed_refused (no_list q) r e = cc
 
-pub listed_items : (l : ItemList) (items : Run) (next : ℕ) → listed_of l ≡ Items items next
+pub listed_items : (l : ItemList) (items : Run) (next : ℕ) → listed_of l ≡ Ok (items, next)
     → record { words : List ℕ; is : l ≡ list items words next }
 unfolding listed_of after_list
-listed_items (list items₁ words next₁) items next e = record { words = words; is = cc }
+listed_items (list items₁ words next₁) items next e = let q = read_same e in record { words = words; is = cc (q.0, q.1) }
 listed_items (no_list q) items next e = absurd (let z : ◌≡◌ {A = ℕ} 0 1 = cc in omega arith)
 
 -- ---- how many words there are

@@ -13,23 +13,20 @@ use Rattle.rules.specs.Sizes.{sizes}
 use Rattle.rules.proofs.Hash.{length_hashes_at}
 use Rattle.wire.specs.Item.{count_at, prefixed_bytes, hash_list_bytes}
 use Rattle.leb128.specs.Number.{shortest, number_at, most64}
-use Rattle.leb128.specs.declared.leb128.Number.TheVariants.{Value}
 use Rattle.wire.specs.declared.parse.Run.{Run}
-use Rattle.wire.proofs.Item.{count_checks, count_inside, prefixed_inside, written_prefixed, hash_list_inside, written_hash_list}
+use Rattle.wire.proofs.Item.{count_number, count_inside, prefixed_inside, written_prefixed, hash_list_inside, written_hash_list}
 use Rattle.leb128.proofs.Meaning.{written_number}
 use Rattle.leb128.proofs.Number.{slice_past}
 use Rattle.message_items.specs.Items.{item, have_item, chunk_item, many_at, list, haves_at, chunks_at, chunks_of}
 use Rattle.message_items.specs.ItemMeans.{HaveMeans, HavesMean}
 use Rattle.message_items.proofs.ItemLaws.{many_behind, none_behind, have_behind, chunk_behind, list_behind, many_sized, have_sized}
 use Rattle.message_items.proofs.RoundTrip.{SayAll, HaveSays, haves_back, ChunkSays, chunks_said}
+use Rattle.std.specs.Prelude.{Ok}
 
 -- a count that was read stands there in its shortest form
-written_count : (limit : ℕ) (s : List ℕ) (at end n next : ℕ) → Bytes s → count_at limit s at end ≡ Value n next → slice at next s ≡ shortest n
+written_count : (limit : ℕ) (s : List ℕ) (at end n next : ℕ) → Bytes s → count_at limit s at end ≡ Ok (n, next) → slice at next s ≡ shortest n
 written_count limit s at end n next all e =
-    let p = (count_checks limit s at end).apart (Value n next) (λ r d. let z : ◌≡◌ {A = ℕ} 0 1 = cc in omega arith) e in
-    let m : p.0 ≡ n = cc in
-    let number : number_at most64 s at end ≡ Value n next = cc in
-    written_number most64 s at end n next all number
+    written_number most64 s at end n next all (count_number limit s at end n next e).0
 
 module _ (s : List ℕ) (all : Bytes s) where
   -- ---- haves

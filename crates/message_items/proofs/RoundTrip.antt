@@ -10,7 +10,6 @@ use lib.Seq.{slice, length-slice}
 use Rattle.bloom.specs.Filter.{Filter, filter_of4, filter_rules, filter_bytes, default_bits, default_probes}
 use Rattle.bloom.specs.Have.{Have, have_words, have_count, numbers_of, filter_with, have_in, haves_from, haves_of}
 use Rattle.bloom.specs.declared.have.FilterNumbers.{FilterNumbers}
-use Rattle.bloom.specs.declared.parse.Parsed.TheVariants.{Filter as Read}
 use Rattle.bloom.specs.FilterIgnored.{ignored_at}
 use Rattle.bloom.specs.FilterRead.{filter_at}
 use Rattle.bloom.proofs.Filters.{no_bytes, filter_written, default_written}
@@ -22,8 +21,6 @@ use Rattle.rules.specs.Sizes.{sizes}
 use Rattle.rules.proofs.Hash.{slice_parts}
 use Rattle.wire.specs.Item.{run, left_at, after_part, after_listed, prefixed_at, hash_list_at, prefixed_bytes, hash_list_bytes}
 use Rattle.leb128.specs.Number.{shortest, most64}
-use Rattle.wire.specs.declared.parse.Listed.TheVariants.{Items}
-use Rattle.wire.specs.declared.parse.Prefixed.TheVariants.{Part}
 use Rattle.wire.specs.declared.parse.Run.{Run}
 use Rattle.wire.proofs.Item.{count_checks, prefixed_inside, prefixed_written, hash_list_inside, hash_list_written}
 use Rattle.leb128.proofs.Meaning.{number_inside, number_written}
@@ -33,6 +30,7 @@ use Rattle.message_items.specs.ItemsIgnored.{have_ignored, ignored_from}
 use Rattle.message_items.proofs.IgnoredLaws.{ignored_on}
 use Rattle.message_items.proofs.ItemLaws.{have_read, have_item_lem, chunk-item, many_read, many_sized, have_sized, have_below, chunk_below, list_read}
 use Rattle.message_items.proofs.Words.{first_word, word}
+use Rattle.std.specs.Prelude.{Ok}
 
 -- ---- items one after the other
 
@@ -189,7 +187,7 @@ pub record HaveSays (s : List ℕ) (words : List ℕ) (h : Have) : Type 0 where
 record FilterWritten (s : List ℕ) (from end : ℕ) (f : Filter) : Type 0 where
   numbers : FilterNumbers
   next : ℕ
-  is : filter_at s from end ≡ Read numbers next
+  is : filter_at s from end ≡ Ok (numbers, next)
   says : filter_with s numbers ≡ f
 
 filter_back : (s : List ℕ) (from end : ℕ) (f : Filter) → filter_rules f.entries f.bits f.probes (length f.field) ≡ true → FilterReadsBack f
@@ -216,9 +214,9 @@ filter_back s from end f rules (default e) same =
 
 -- a hash list, a prefixed string and the filter in it are a have
 have_joined : (s : List ℕ) (h : Have) (at : ℕ) (sync : Run) (i from end : ℕ)
-    → hash_list_at s at (length s) ≡ Items sync i
+    → hash_list_at s at (length s) ≡ Ok (sync, i)
     → hashes_at s sync.start sync.count ≡ h.last_sync
-    → prefixed_at s i (length s) ≡ Part from end
+    → prefixed_at s i (length s) ≡ Ok (from, end)
     → end ≡ at + length (have_bytes h)
     → FilterWritten s from end h.filter
     → OneWritten have_bytes (have_item s) (HaveSays s) at h

@@ -1,27 +1,23 @@
 -- Haves and chunks as they are read. 01, Wire, Message: each list is a count and as many items, and its limit is tested before the first of them. An
 -- item is read into words, places counting from the message's first byte.
-use Rattle.std.specs.Prelude.{ℕ, zero, suc, ◌+◌, ◌-◌, ◌≤◌, List, [], ◌∷◌, ◌++◌, ◌≡◌, length}
+use Rattle.std.specs.Prelude.{ℕ, zero, suc, ◌+◌, ◌-◌, ◌≤◌, List, [], ◌∷◌, ◌++◌, ◌≡◌, length, Result, Ok, Err}
 use Rattle.std.proofs.Math.Seq.{slice}
 use Rattle.bloom.specs.FilterRead.{filter_at, after_filter}
 use Rattle.bloom.specs.declared.have.FilterNumbers.{FilterNumbers}
 use Rattle.rules.specs.Sizes.{sizes}
 use Rattle.rules.specs.declared.refusal.Refusal.{Refusal}
 use Rattle.wire.specs.Item.{run, after_number, after_part, after_listed, count_at, prefixed_at, hash_list_at}
-use Rattle.wire.specs.declared.parse.Listed.{Listed}
-use Rattle.wire.specs.declared.parse.Listed.TheVariants.{Items, Refused as NotListed}
 use Rattle.wire.specs.declared.parse.Run.{Run}
-use Rattle.message_items.specs.declared.haves.HaveRead.{HaveRead}
-use Rattle.message_items.specs.declared.haves.HaveRead.TheVariants.{Have, Refused as NoHave}
 
 -- The have at a place: a hash list, a prefixed string that is there whole, and the filter inside it.
-unfoldable pub have_at : List ℕ → ℕ → HaveRead
+unfoldable pub have_at : List ℕ → ℕ → Result (Run × FilterNumbers × ℕ) Refusal
 have_at s at =
     after_listed (hash_list_at s at (length s))
-    NoHave
+    Err
     (λ sync i.
     after_part (prefixed_at s i (length s))
-    NoHave
-    (λ from end. after_filter (filter_at s from end) NoHave (λ filter ended. Have sync filter end)))
+    Err
+    (λ from end. after_filter (filter_at s from end) Err (λ filter ended. Ok (sync, filter, end))))
 
 -- An item: its words and the next place, or a refusal. Items one after the other are of the same kind.
 pub data Item : Type 0 where
@@ -38,9 +34,9 @@ abbrev pub have_word_list : Run → FilterNumbers → List ℕ
 have_word_list sync f = sync.start ∷ sync.count ∷ f.entries ∷ f.bits ∷ f.probes ∷ f.place ∷ f.size ∷ []
 
 -- A have that was read, as an item.
-unfoldable pub have_words_of : HaveRead → Item
-have_words_of (Have sync f next) = item (have_word_list sync f) next
-have_words_of (NoHave r) = stopped r
+unfoldable pub have_words_of : Result (Run × FilterNumbers × ℕ) Refusal → Item
+have_words_of (Ok (sync, f, next)) = item (have_word_list sync f) next
+have_words_of (Err r) = stopped r
 
 -- The have at a place, as an item.
 unfoldable pub have_item : List ℕ → ℕ → Item
@@ -87,8 +83,8 @@ unfoldable pub chunks_at : List ℕ → ℕ → ItemList
 chunks_at s at = list_at sizes.chunks (chunk_item s) s at
 
 -- A list of items as it was read, without the words of its items.
-unfoldable pub listed_of : ItemList → Listed
-listed_of l = after_list l NotListed (λ items words next. Items items next)
+unfoldable pub listed_of : ItemList → Result (Run × ℕ) Refusal
+listed_of l = after_list l Err (λ items words next. Ok (items, next))
 
 -- The words of items that were read.
 unfoldable pub words_of : Item → List ℕ

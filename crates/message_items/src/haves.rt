@@ -7,89 +7,38 @@ ghost use Rattle.message_items.specs.ItemsIgnored.{CountedPut};
 ghost use Rattle.message_items.specs.Items.{have_at, have_word_list, have_item, many_at, list_from, listed_of, haves_at, words_of, AllRead};
 
 use bloom::have::{FilterNumbers, HAVE_WORDS};
-use bloom::parse::Parsed;
-use leb128::leb128::Number;
 use rules::refusal::Refusal;
 use rules::sizes::HAVES;
-use wire::parse::{
-    Listed, Prefixed, Run, length_prefix, length_prefixed_bytes, length_prefixed_hashes,
-};
+use wire::parse::{Run, length_prefix, length_prefixed_bytes, length_prefixed_hashes};
 
-// A have: where its last-sync hashes stand, its filter, and the next place.
-#[derive(Clone, Copy)]
-pub enum HaveRead {
-    Have {
-        sync: Run,
-        filter: FilterNumbers,
-        next: usize,
-    },
-    Refused(Refusal),
-}
-
-// The have at a place: its hash list, then its filter string, which is there whole before the filter is looked for in it.
-pub fn parse_have(bytes: &[u8], at: usize) -> HaveRead
+// The have at a place: where its last-sync hashes stand, its filter, and the next place. Its filter string is there whole before the filter is looked for
+// in it.
+pub fn parse_have(bytes: &[u8], at: usize) -> Result<(Run, FilterNumbers, usize), Refusal>
     ensures { result ≡ have_at bytes.now at }
 {
-    let list = length_prefixed_hashes(bytes, at, bytes.len());
-    match list {
-        Listed::Items { run, next } => {
-            let part = length_prefixed_bytes(bytes, next, bytes.len());
-            match part {
-                Prefixed::Part { start, end } => {
-                    let parsed = bloom::parse::parse(bytes, start, end);
-                    match parsed {
-                        Parsed::Filter { filter, next: _ } => HaveRead::Have {
-                            sync: run,
-                            filter,
-                            next: end,
-                        },
-                        Parsed::Refused(r) => HaveRead::Refused(r),
-                    }
-                }
-                Prefixed::Refused(r) => HaveRead::Refused(r),
-            }
-        }
-        Listed::Refused(r) => HaveRead::Refused(r),
-    }
+    let (sync, next) = length_prefixed_hashes(bytes, at, bytes.len())?;
+    let (start, end) = length_prefixed_bytes(bytes, next, bytes.len())?;
+    let (filter, _) = bloom::parse::parse(bytes, start, end)?;
+    Ok((sync, filter, end))
 }
 
-// Passes over `count` haves.
-fn skip_haves(bytes: &[u8], start: usize, count: usize) -> Listed
+// Passes over `count` haves: where they stand, and the next place.
+fn skip_haves(bytes: &[u8], start: usize, count: usize) -> Result<(Run, usize), Refusal>
     ensures { result ≡ listed_of (list_from (run start count) (many_at (have_item bytes.now) count start)) }
 {
     let mut next = start;
-    let mut k = 0;
-    while k < count {
-        let have = parse_have(bytes, next);
-        match have {
-            HaveRead::Have {
-                sync: _,
-                filter: _,
-                next: after,
-            } => {
-                next = after;
-            }
-            HaveRead::Refused(r) => {
-                return Listed::Refused(r);
-            }
-        }
-        k += 1;
+    for _ in 0..count {
+        (_, _, next) = parse_have(bytes, next)?;
     }
-    Listed::Items {
-        run: Run { start, count },
-        next,
-    }
+    Ok((Run { start, count }, next))
 }
 
-// The haves at a place: their count is tested before any of them.
-pub fn parse_haves(bytes: &[u8], at: usize) -> Listed
+// The haves at a place: where they stand, and the next place. Their count is tested before any of them.
+pub fn parse_haves(bytes: &[u8], at: usize) -> Result<(Run, usize), Refusal>
     ensures { result ≡ listed_of (haves_at bytes.now at) }
 {
-    let n = length_prefix(bytes, at, bytes.len(), HAVES as u64);
-    match n {
-        Number::Value { value, next } => skip_haves(bytes, next, value as usize),
-        Number::Refused(r) => Listed::Refused(r),
-    }
+    let (count, start) = length_prefix(bytes, at, bytes.len(), HAVES as u64)?;
+    skip_haves(bytes, start, count as usize)
 }
 
 // Puts the words of a have at a place of the list.
@@ -112,24 +61,18 @@ pub fn put_haves(bytes: &[u8], start: usize, count: usize, out: &mut [u64])
     ensures { out.new ≡ sets out.old 0 (words_of (many_at (have_item bytes.now) count start)) }
 {
     let mut next = start;
-    let mut k = 0;
-    while k < count {
+    for k in 0..count {
         let have = parse_have(bytes, next);
         match have {
-            HaveRead::Have {
-                sync,
-                filter,
-                next: after,
-            } => {
+            Ok((sync, filter, after)) => {
                 put_have(out, HAVE_WORDS * k, sync, filter);
                 next = after;
             }
             // Never: the message is the one that was walked before, and that walk read every have here.
-            HaveRead::Refused(_) => {
+            Err(_) => {
                 return;
             }
         }
-        k += 1;
     }
 }
 
@@ -147,15 +90,10 @@ pub fn put_counted(
 {
     let mut next = start;
     let mut sum = 0;
-    let mut k = 0;
-    while k < count {
+    for k in 0..count {
         let have = parse_have(bytes, next);
         match have {
-            HaveRead::Have {
-                sync,
-                filter,
-                next: after,
-            } => {
+            Ok((sync, filter, after)) => {
                 // A filter's string ends with its have.
                 let behind = after - (filter.place + filter.size);
                 put_have(out, HAVE_WORDS * k, sync, filter);
@@ -164,11 +102,10 @@ pub fn put_counted(
                 next = after;
             }
             // Never, as above.
-            HaveRead::Refused(_) => {
+            Err(_) => {
                 return sum;
             }
         }
-        k += 1;
     }
     sum
 }

@@ -20,32 +20,28 @@ use Rattle.rules.proofs.Cases.{split}
 use Rattle.rules.proofs.Hash.{take_drop, length_hashes_at, hashes_are_hashes, hashes_at_bytes, hashes_there_and_back}
 use Rattle.leb128.proofs.Number.{slice_next}
 use Rattle.wire.specs.Item.{run, hash_list_at, hash_list_bytes}
-use Rattle.wire.specs.declared.parse.Listed.TheVariants.{Items}
 use Rattle.wire.specs.declared.parse.Run.{Run}
 use Rattle.wire.proofs.Item.{HashesInside, hash_list_inside, written_hash_list, hash_list_written}
 use Rattle.message_read.specs.MessageRead.{read, refused, opening_at, message_at, message_in, read_with, room_for}
-use Rattle.message_read.specs.declared.opening.Opening.{Opening}
-use Rattle.message_read.specs.declared.opening.Opening.TheVariants.{Heads as Opened, Refused as NotOpened}
 use Rattle.message_read.specs.declared.parse.Places.{Places}
 use Rattle.message_read.proofs.Messages.{opening_behind}
 use Rattle.message_read.proofs.ReadLaws.{heads_read, opening_first, opening_second, message_refused, message_behind}
 use Rattle.message_peek.specs.Peek.{peeked_of, heads_into, peeked_at, PeekedInto}
-use Rattle.message_peek.specs.declared.peek.Peeked.{Peeked}
-use Rattle.message_peek.specs.declared.peek.Peeked.TheVariants.{Heads, Refused}
+use Rattle.std.specs.Prelude.{Result, Ok, Err}
 
 -- ---- what each test leaves
 
 module _ (s before : List ℕ) where
-  pub peek_gone : (r : Refusal) → opening_at s ≡ NotOpened r → PeekedInto s before before (Refused r)
+  pub peek_gone : (r : Refusal) → opening_at s ≡ Err r → PeekedInto s before before (Err r)
   unfolding peeked_of heads_into
   peek_gone r e = record { answer = rw e; content = rw e }
 
-  module _ (version : MessageVersion) (start count next : ℕ) (is : opening_at s ≡ Opened version (run start count) next) where
+  module _ (version : MessageVersion) (start count next : ℕ) (is : opening_at s ≡ Ok (version, run start count, next)) where
     pub heads_inside : HashesInside s 1 (length s) (run start count) next
     heads_inside =
         hash_list_inside s 1 (length s) (run start count) next (opening_behind s version (run start count) next is).list
 
-    pub peek_short : length before < sizes.hash * count → PeekedInto s before before (Refused (NoRoom (sizes.hash * count)))
+    pub peek_short : length before < sizes.hash * count → PeekedInto s before before (Err (NoRoom (sizes.hash * count)))
     unfolding peeked_of heads_into
     peek_short h = record { answer = rw (is, lt-ltb _ _ h); content = rw (is, lt-ltb _ _ h) }
 
@@ -58,33 +54,33 @@ module _ (s before : List ℕ) where
     part_long = rw (part_is, length-slice start next s heads_inside.there) (omega (arith, heads_inside.whole))
 
     pub peek_heads : (after : List ℕ) → sizes.hash * count ≤ length before → after ≡ sets before 0 (take (next - start) (drop start s))
-        → PeekedInto s before after (Heads version count)
+        → PeekedInto s before after (Ok (version, count))
     unfolding peeked_of heads_into
     peek_heads after h q = record { answer = rw (is, le-ltb _ _ h); content = rw (is, le-ltb _ _ h, ← part_is) q }
 
 -- One answer, and one content of the buffer.
-pub peeked_once : {s before a₁ a₂ : List ℕ} {r₁ r₂ : Peeked} → PeekedInto s before a₁ r₁ → PeekedInto s before a₂ r₂ → (r₁ ≡ r₂) × (a₁ ≡ a₂)
+pub peeked_once : {s before a₁ a₂ : List ℕ} {r₁ r₂ : Result (MessageVersion × ℕ) Refusal} → PeekedInto s before a₁ r₁ → PeekedInto s before a₂ r₂ → (r₁ ≡ r₂) × (a₁ ≡ a₂)
 peeked_once w v = (w.answer ∙ sym v.answer, w.content ∙ sym v.content)
 
 -- ---- beside the full read
 
 -- the heads of a message that was opened, copied to the start of a buffer with room for them
-copied : (s before after : List ℕ) (version : MessageVersion) (heads : Run) (next : ℕ) (r : Peeked) → opening_at s ≡ Opened version heads next
+copied : (s before after : List ℕ) (version : MessageVersion) (heads : Run) (next : ℕ) (r : Result (MessageVersion × ℕ) Refusal) → opening_at s ≡ Ok (version, heads, next)
     → sizes.hash * heads.count ≤ length before
     → PeekedInto s before after r
-    → (r ≡ Heads version heads.count) × (after ≡ sets before 0 (slice heads.start next s))
+    → (r ≡ Ok (version, heads.count)) × (after ≡ sets before 0 (slice heads.start next s))
 unfolding peeked_of heads_into
 copied s before after version heads next r is h p = (rw (is, le-ltb _ _ h) at p.answer, rw (is, le-ltb _ _ h) at p.content)
 
 -- The answer is a message's version and heads: the heads stand at the buffer's start, and what stands behind them is as it was.
-pub record PeekAgrees (m : Message) (before after : List ℕ) (r : Peeked) : Type 0 where
-  pub answer : r ≡ Heads m.version (length m.heads)
+pub record PeekAgrees (m : Message) (before after : List ℕ) (r : Result (MessageVersion × ℕ) Refusal) : Type 0 where
+  pub answer : r ≡ Ok (m.version, length m.heads)
   pub heads : hashes_at after 0 (length m.heads) ≡ m.heads
   pub rest : drop (sizes.hash * length m.heads) after ≡ drop (sizes.hash * length m.heads) before
 
 -- Whenever the full read accepts, this answer, given room, is its version and heads.
 pub peek_agrees : (s : List ℕ) → Bytes s → (p : Places) (haves chunks : List ℕ) → message_at s ≡ read p haves chunks
-    → (before after : List ℕ) (r : Peeked)
+    → (before after : List ℕ) (r : Result (MessageVersion × ℕ) Refusal)
     → sizes.hash * p.heads.count ≤ length before
     → PeekedInto s before after r
     → PeekAgrees (message_in s p haves chunks) before after r
@@ -115,7 +111,7 @@ peek_agrees s all p haves chunks e before after r room q =
     in
     let same : 0 + length part ≡ sizes.hash * length hs = omega arith in
     record {
-      answer = got.0 ∙ ap (Heads p.version) (sym many);
+      answer = got.0 ∙ ap (λ (k : ℕ). Ok (p.version, k)) (sym many);
       heads = hashes_there_and_back after 0 hs (hashes_are_hashes s start count all) there;
       rest = behind ∙ ap (λ (k : ℕ). drop k before) same;
     }
@@ -125,39 +121,39 @@ pub record Refuses (s : List ℕ) (r : Refusal) : Type 0 where
   pub message : message_at s ≡ refused r
   pub call : (haves chunks : List ℕ) → read_with s haves chunks ≡ refused r
 
-pub peek_refuses : (s : List ℕ) (room : ℕ) (r : Refusal) → peeked_at s room ≡ Refused r → ((n : ℕ) → r ≡ NoRoom n → ⊥) → Refuses s r
+pub peek_refuses : (s : List ℕ) (room : ℕ) (r : Refusal) → peeked_at s room ≡ Err r → ((n : ℕ) → r ≡ NoRoom n → ⊥) → Refuses s r
 unfolding peeked_of room_for
 peek_refuses s room r e other = go (opening_at s) refl
   where
-    go : (x : Opening) → opening_at s ≡ x → Refuses s r
-    go (NotOpened q) is =
-        let same : Refused q ≡ Refused r = rw is at e in
+    go : (x : Result (MessageVersion × Run × ℕ) Refusal) → opening_at s ≡ x → Refuses s r
+    go (Err q) is =
+        let same : ◌≡◌ {A = Result (MessageVersion × ℕ) Refusal} (Err q) (Err r) = rw is at e in
         let w : message_at s ≡ refused r = message_refused s q is ∙ ap refused cc in
         record { message = w; call = λ haves chunks. rw w }
-    go (Opened version heads next) is =
+    go (Ok (version, heads, next)) is =
         split (ltb room (sizes.hash * heads.count))
         (λ t.
-        let same : Refused (NoRoom (sizes.hash * heads.count)) ≡ Refused r = rw (is, t) at e in
+        let same : ◌≡◌ {A = Result (MessageVersion × ℕ) Refusal} (Err (NoRoom (sizes.hash * heads.count))) (Err r) = rw (is, t) at e in
         absurd (other (sizes.hash * heads.count) cc))
         (λ t.
-        let same : Heads version heads.count ≡ Refused r = rw (is, t) at e in
+        let same : ◌≡◌ {A = Result (MessageVersion × ℕ) Refusal} (Ok (version, heads.count)) (Err r) = rw (is, t) at e in
         absurd (let z : ◌≡◌ {A = ℕ} 0 1 = cc in omega arith))
 
 -- ---- no byte behind the heads
 
 -- a first byte and heads, in a message within its size, open it
 opens : (t : List ℕ) (version : MessageVersion) (heads : Run) (next : ℕ) → length t ≤ sizes.message → 0 < length t → get_or t 0 0 ≡ type_of version
-    → hash_list_at t 1 (length t) ≡ Items heads next
-    → opening_at t ≡ Opened version heads next
+    → hash_list_at t 1 (length t) ≡ Ok (heads, next)
+    → opening_at t ≡ Ok (version, heads, next)
 opens t V1 heads next small some type list = opening_first t small (omega arith) type ∙ heads_read t V1 heads next list
 opens t V2 heads next small some type list =
     opening_second t small (omega arith) (λ e. let z : ◌≡◌ {A = ℕ} 0x43 0x42 = sym type ∙ e in omega arith) type ∙ heads_read t V2 heads next list
 
 -- a message that starts as an opened one does, and is within its size, is opened alike
-opened_alike : (s t : List ℕ) → Bytes s → (version : MessageVersion) (heads : Run) (next : ℕ) → opening_at s ≡ Opened version heads next
+opened_alike : (s t : List ℕ) → Bytes s → (version : MessageVersion) (heads : Run) (next : ℕ) → opening_at s ≡ Ok (version, heads, next)
     → length t ≤ sizes.message
     → take next t ≡ take next s
-    → opening_at t ≡ Opened version heads next
+    → opening_at t ≡ Ok (version, heads, next)
 opened_alike s t all version heads next is small same =
     let o = opening_behind s version heads next is in
     let w = hash_list_inside s 1 (length s) heads next o.list in
@@ -174,7 +170,7 @@ opened_alike s t all version heads next is small same =
     in
     let are = hashes_are_hashes s heads.start heads.count all in
     let few : length hs ≤ sizes.hashes = omega (arith, length_hashes_at s heads.start heads.count, w.small) in
-    let list : hash_list_at t 1 (length t) ≡ Items heads next =
+    let list : hash_list_at t 1 (length t) ≡ Ok (heads, next) =
     (hash_list_written t hs (slice next (length t) t) 1 (length t) are few alike).0
     ∙ sym (hash_list_written s hs (slice next (length s) s) 1 (length s) are few parted).0
     ∙ o.list
@@ -187,10 +183,10 @@ opened_alike s t all version heads next is small same =
 
 -- Where s is opened with its heads up to the place `next`, any message within the total size that has the same first `next` bytes gets the same answer
 -- and leaves the same in the buffer.
-pub peek_prefix : (s t : List ℕ) → Bytes s → (version : MessageVersion) (heads : Run) (next : ℕ) → opening_at s ≡ Opened version heads next
+pub peek_prefix : (s t : List ℕ) → Bytes s → (version : MessageVersion) (heads : Run) (next : ℕ) → opening_at s ≡ Ok (version, heads, next)
     → length t ≤ sizes.message
     → take next t ≡ take next s
-    → (before a₁ a₂ : List ℕ) (r₁ r₂ : Peeked)
+    → (before a₁ a₂ : List ℕ) (r₁ r₂ : Result (MessageVersion × ℕ) Refusal)
     → PeekedInto s before a₁ r₁
     → PeekedInto t before a₂ r₂
     → (r₁ ≡ r₂) × (a₁ ≡ a₂)
@@ -198,6 +194,6 @@ unfolding peeked_of heads_into
 peek_prefix s t all version heads next is small same before a₁ a₂ r₁ r₂ p q =
     let like = opened_alike s t all version heads next is small same in
     let part : slice heads.start next t ≡ slice heads.start next s = ap (drop heads.start) same in
-    let answer : r₂ ≡ peeked_of (Opened version heads next) (length before) = rw like at q.answer in
-    let content : a₂ ≡ heads_into (Opened version heads next) s before = rw (like, part) at q.content in
+    let answer : r₂ ≡ peeked_of (Ok (version, heads, next)) (length before) = rw like at q.answer in
+    let content : a₂ ≡ heads_into (Ok (version, heads, next)) s before = rw (like, part) at q.content in
     ((rw is at p.answer) ∙ sym answer, (rw is at p.content) ∙ sym content)

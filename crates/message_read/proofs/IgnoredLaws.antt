@@ -2,17 +2,13 @@
 -- field up to its have's end; and what was read, with the bytes after the flags section, is the whole message.
 use Prim.Native.Nat.{ℕ, ◌+◌, ◌≤◌}
 use mathlib.Core.List.{List}
-use mathlib.Core.Path.{◌≡◌, refl}
+use mathlib.Core.Path.{◌≡◌, refl, ◌∙◌}
 use native.Mathlib.Omega.{arith}
-use denote.Enum.Declared.{tag_of, declared}
 use lib.ListN.{length}
 use lib.Seq.{slice}
 use Rattle.message_items.proofs.IgnoredLaws.{ignored_many, Ignores, ignored_each}
 use Rattle.message_items.proofs.ItemLaws.{haves_behind}
 use Rattle.message.specs.Flags.{flags_of, flags_in}
-use Rattle.message.specs.declared.flags.Section.{Section}
-use Rattle.message.specs.declared.flags.Section.TheVariants.{Absent, Present}
-use Rattle.message.specs.contracts.flags.Section.{enum}
 use Rattle.wire.specs.Item.{left_at}
 use Rattle.wire.proofs.Item.{left_is}
 use Rattle.message_read.specs.MessageIgnored.{ignored_of, behind_of, counted_of, as_decoded}
@@ -20,6 +16,8 @@ use Rattle.message_read.specs.MessageRead.{Reading, read, refused, message_at, d
 use Rattle.message_read.specs.declared.parse.Places.{Places}
 use Rattle.message_read.proofs.Messages.{message_words, section_apart}
 use Rattle.message_read.proofs.ReadLaws.{message_behind}
+use Rattle.std.specs.Prelude.{Option, Some, None}
+use Rattle.message.specs.declared.flags.MessageFlags.{MessageFlags}
 
 -- ---- the numbers forgotten
 
@@ -28,25 +26,23 @@ unfolding counted_of as_decoded decoded_of
 message_forgotten s (read p haves chunks) = refl
 message_forgotten s (refused r) = refl
 
--- ---- a section by its tag
+-- ---- a section, or none
 
-pub told_absent : (s : List ℕ) (x : Section) (next : ℕ) → tag_of (declared enum) x ≡ 0 → behind_of s x next ≡ 0
+pub told_absent : (s : List ℕ) (x : Option MessageFlags) (next : ℕ) → x ≡ None → behind_of s x next ≡ 0
 unfolding behind_of
-told_absent s Absent next e = refl
-told_absent s (Present f) next e = absurd (omega arith)
+told_absent s x next e = rw e
 
-pub told_present : (s : List ℕ) (x : Section) (next : ℕ) → tag_of (declared enum) x ≡ 1 → behind_of s x next ≡ left_at s next (length s)
+pub told_present : (s : List ℕ) (x : Option MessageFlags) (next : ℕ) (f : MessageFlags) → x ≡ Some f → behind_of s x next ≡ left_at s next (length s)
 unfolding behind_of
-told_present s Absent next e = absurd (omega arith)
-told_present s (Present f) next e = refl
+told_present s x next f e = rw e
 
 -- ---- what stands there
 
 -- A message that was read ends where its flags section does; behind it are the bytes that are counted, up to the message's end.
-behind_adds : (s : List ℕ) (flags : Section) (next : ℕ) → next ≤ length s → (flags ≡ Absent → next ≡ length s) → next + behind_of s flags next ≡ length s
+behind_adds : (s : List ℕ) (flags : Option MessageFlags) (next : ℕ) → next ≤ length s → (flags ≡ None → next ≡ length s) → next + behind_of s flags next ≡ length s
 unfolding behind_of
-behind_adds s Absent next h none = omega (arith, none refl)
-behind_adds s (Present f) next h none = omega (arith, left_is s next (length s))
+behind_adds s None next h none = omega (arith, none refl)
+behind_adds s (Some f) next h none = omega (arith, left_is s next (length s))
 
 pub behind_stands : (s : List ℕ) (p : Places) (haves chunks : List ℕ) → message_at s ≡ read p haves chunks
     → p.next + behind_of s p.flags p.next ≡ length s
@@ -56,10 +52,10 @@ behind_stands s p haves chunks e =
     behind_adds s p.flags p.next w.up_to
     (λ none.
     section_apart s b.at_section p.flags p.next b.section
-    (λ past q. let n : b.at_section ≡ p.next = cc in omega (arith, w.up_to))
+    (λ past q. omega (arith, q.1, w.up_to))
     (λ start end here part q.
     absurd
-    (let a : ◌≡◌ {A = Section} (Present (flags_of (flags_in (slice start end s)))) Absent = cc in
+    (let a : ◌≡◌ {A = Option MessageFlags} (Some (flags_of (flags_in (slice start end s)))) None = q.0 ∙ none in
     let z : ◌≡◌ {A = ℕ} 0 1 = cc in
     omega arith)))
 

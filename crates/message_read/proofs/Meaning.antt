@@ -12,8 +12,6 @@ use Rattle.message_items.proofs.ItemLaws.{haves_behind, chunks_behind}
 use Rattle.message_items.proofs.Meaning.{haves_mean, chunks_mean}
 use Rattle.message.specs.Flags.{flags_of, flags_in}
 use Rattle.message.specs.Message.{counted}
-use Rattle.message.specs.declared.flags.Section.{Section}
-use Rattle.message.specs.declared.flags.Section.TheVariants.{Absent, Present}
 use Rattle.rules.specs.Hash.{Bytes, hashes_at}
 use Rattle.rules.proofs.Hash.{length_hashes_at}
 use Rattle.wire.specs.Item.{prefixed_bytes, hash_list_bytes}
@@ -22,26 +20,25 @@ use Rattle.wire.proofs.Item.{prefixed_inside, written_prefixed, hash_list_inside
 use Rattle.leb128.proofs.Number.{slice_past, slice_next}
 use Rattle.message_read.specs.MessageMeans.{SectionMeans, MessageMeans}
 use Rattle.message_read.specs.MessageRead.{read, section_at, message_at, message_in}
-use Rattle.message_read.specs.declared.parse.Flagged.TheVariants.{Section as Sectioned}
 use Rattle.message_read.specs.declared.parse.Places.{Places}
 use Rattle.message_read.proofs.Messages.{opening_behind, section_apart}
 use Rattle.message_read.proofs.ReadLaws.{message_behind}
+use Rattle.std.specs.Prelude.{Ok, Option, Some, None}
+use Rattle.message.specs.declared.flags.MessageFlags.{MessageFlags}
 
-section_means : (s : List ℕ) → Bytes s → (at : ℕ) (flags : Section) (next : ℕ) → section_at s at ≡ Sectioned flags next
+section_means : (s : List ℕ) → Bytes s → (at : ℕ) (flags : Option MessageFlags) (next : ℕ) → section_at s at ≡ Ok (flags, next)
     → SectionMeans (slice at (length s) s) flags
 section_means s all at flags next e =
     section_apart s at flags next e
     (λ past q.
-    let is : Absent ≡ flags = cc in
-    subst (λ (x : Section). SectionMeans (slice at (length s) s) x) is (SectionMeans.none (slice_past s at (length s) past)))
+    subst (λ (x : Option MessageFlags). SectionMeans (slice at (length s) s) x) q.0 (SectionMeans.none (slice_past s at (length s) past)))
     (λ start end here part q.
     let i = prefixed_inside s at (length s) start end part in
     let parts : slice at (length s) s ≡ prefixed_bytes (slice start end s) ++ slice end (length s) s =
     slice_parted s at end (length s) (omega arith) i.there
     ∙ ap (λ (l : List ℕ). l ++ slice end (length s) s) (written_prefixed s at (length s) start end all part)
     in
-    let is : Present (flags_of (flags_in (slice start end s))) ≡ flags = cc in
-    subst (λ (x : Section). SectionMeans (slice at (length s) s) x) is (SectionMeans.some (slice start end s) (slice end (length s) s) parts))
+    subst (λ (x : Option MessageFlags). SectionMeans (slice at (length s) s) x) q.0 (SectionMeans.some (slice start end s) (slice end (length s) s) parts))
 
 joined : {a b c d : List ℕ} → a ≡ b → c ≡ d → a ++ c ≡ b ++ d
 joined p q = ap₂ (λ (x y : List ℕ). x ++ y) p q

@@ -14,50 +14,29 @@ use Rattle.bloom.specs.Have.{have_words, passed_good, passed_few}
 use Rattle.message.specs.Flags.{add_flags, flags_in, flags_of}
 use Rattle.message.specs.Message.{type_of}
 use Rattle.message.specs.declared.flags.MessageFlags.{MessageFlags}
-use Rattle.message.specs.declared.flags.Section.{Section}
-use Rattle.message.specs.declared.flags.Section.TheVariants.{Absent, Present}
 use Rattle.message.specs.declared.version.MessageVersion.{MessageVersion}
 use Rattle.message.specs.declared.version.MessageVersion.TheVariants.{V1, V2}
 use Rattle.rules.specs.Hash.{Bytes}
 use Rattle.rules.specs.Sizes.{sizes}
 use Rattle.rules.specs.declared.refusal.Refusal.{Refusal}
 use Rattle.rules.specs.declared.refusal.Refusal.TheVariants.{Cut, WrongType, PastSize}
-use Rattle.rules.proofs.Cases.{split}
+use Rattle.rules.proofs.Cases.{split, read_same}
 use Rattle.rules.proofs.Hash.{bytes_head, bytes_tail, bytes_slice}
 use Rattle.wire.specs.Item.{prefixed_at, hash_list_at}
-use Rattle.wire.specs.declared.parse.Listed.{Listed}
-use Rattle.wire.specs.declared.parse.Listed.TheVariants.{Items, Refused as NotListed}
-use Rattle.wire.specs.declared.parse.Prefixed.{Prefixed}
-use Rattle.wire.specs.declared.parse.Prefixed.TheVariants.{Part, Refused as NoPart}
 use Rattle.wire.specs.declared.parse.Run.{Run}
 use Rattle.wire.proofs.Item.{prefixed_inside, hash_list_inside}
 use Rattle.message_items.specs.Items.{chunk_words}
 use Rattle.message_read.specs.MessageRead.{read, refused, heads_at, opening_at, section_at, message_at}
 use Rattle.message_read.specs.MessageIgnored.{DecodedInto}
-use Rattle.message_read.specs.declared.decode.CountedMessage.{CountedMessage}
-use Rattle.message_read.specs.declared.opening.Opening.TheVariants.{Heads, Refused as NotOpened}
-use Rattle.message_read.specs.declared.parse.Flagged.TheVariants.{Section as Sectioned, Refused as NoSection}
 use Rattle.message_read.specs.declared.parse.Places.{Places}
 use Rattle.message_items.proofs.ItemLaws.{haves_behind, chunks_behind}
 use Rattle.message_items.proofs.Words.{haves_pass, chunks_inside}
-use Rattle.message_read.proofs.ReadLaws.{
-  heads_refused,
-  heads_read,
-  opening_long,
-  opening_empty,
-  opening_first,
-  opening_second,
-  opening_other,
-  section_none,
-  section_refused,
-  section_read,
-  message_refused,
-  message_behind,
-}
+use Rattle.message_read.proofs.ReadLaws.{heads_refused, heads_read, opening_long, opening_empty, opening_first, opening_second, opening_other, section_none, section_refused, section_read, message_refused, message_behind}
+use Rattle.std.specs.Prelude.{Result, Ok, Err, Option, Some, None}
 
 -- ---- one result
 
-pub decoded_once : (s haves₀ haves₁ haves₂ chunks₀ chunks₁ chunks₂ ignored₀ ignored₁ ignored₂ : List ℕ) (r₁ r₂ : CountedMessage)
+pub decoded_once : (s haves₀ haves₁ haves₂ chunks₀ chunks₁ chunks₂ ignored₀ ignored₁ ignored₂ : List ℕ) (r₁ r₂ : Result (Places × ℕ × ℕ) Refusal)
     → DecodedInto s haves₀ haves₁ chunks₀ chunks₁ ignored₀ ignored₁ r₁
     → DecodedInto s haves₀ haves₂ chunks₀ chunks₂ ignored₀ ignored₂ r₂
     → (r₁ ≡ r₂) × (haves₁ ≡ haves₂) × (chunks₁ ≡ chunks₂) × (ignored₁ ≡ ignored₂)
@@ -79,7 +58,7 @@ module _ (s : List ℕ) where
 
 -- ---- what stands behind the first stage and the last
 
-not_heads : {A : Type 0} (r : Refusal) (v : MessageVersion) (heads : Run) (next : ℕ) → NotOpened r ≡ Heads v heads next → A
+not_heads : {A : Type 0} (r : Refusal) (v : MessageVersion) (heads : Run) (next : ℕ) → ◌≡◌ {A = Result (MessageVersion × Run × ℕ) Refusal} (Err r) (Ok (v, heads, next)) → A
 not_heads r v heads next e = absurd (let z : ◌≡◌ {A = ℕ} 0 1 = cc in omega arith)
 
 module _ (s : List ℕ) (version : MessageVersion) (heads : Run) (next : ℕ) where
@@ -87,20 +66,20 @@ module _ (s : List ℕ) (version : MessageVersion) (heads : Run) (next : ℕ) wh
     pub small : length s ≤ sizes.message
     pub some : 0 < length s
     pub type : get_or s 0 0 ≡ type_of version
-    pub list : hash_list_at s 1 (length s) ≡ Items heads next
+    pub list : hash_list_at s 1 (length s) ≡ Ok (heads, next)
 
-  heads_behind : (v : MessageVersion) → heads_at s v ≡ Heads version heads next
-      → (v ≡ version) × (hash_list_at s 1 (length s) ≡ Items heads next)
+  heads_behind : (v : MessageVersion) → heads_at s v ≡ Ok (version, heads, next)
+      → (v ≡ version) × (hash_list_at s 1 (length s) ≡ Ok (heads, next))
   heads_behind v e = go (hash_list_at s 1 (length s)) refl
     where
-      go : (x : Listed) → hash_list_at s 1 (length s) ≡ x → (v ≡ version) × (hash_list_at s 1 (length s) ≡ Items heads next)
-      go (Items a b) q =
-          let same : Heads v a b ≡ Heads version heads next = sym (heads_read s v a b q) ∙ e in
-          let w : Items a b ≡ Items heads next = cc in
-          (cc, q ∙ w)
-      go (NotListed r) q = not_heads r version heads next (sym (heads_refused s v r q) ∙ e)
+      go : (x : Result (Run × ℕ) Refusal) → hash_list_at s 1 (length s) ≡ x → (v ≡ version) × (hash_list_at s 1 (length s) ≡ Ok (heads, next))
+      go (Ok (a, b)) q =
+          let z : ◌≡◌ {A = Result (MessageVersion × Run × ℕ) Refusal} (Ok (v, a, b)) (Ok (version, heads, next)) = sym (heads_read s v a b q) ∙ e in
+          let same : ◌≡◌ {A = MessageVersion × Run × ℕ} (v, a, b) (version, heads, next) = cc in
+          (ap (λ (p : MessageVersion × Run × ℕ). p.0) same, q ∙ ap (λ (p : MessageVersion × Run × ℕ). Ok (p.1, p.2)) same)
+      go (Err r) q = not_heads r version heads next (sym (heads_refused s v r q) ∙ e)
 
-  pub opening_behind : opening_at s ≡ Heads version heads next → OpeningBehind
+  pub opening_behind : opening_at s ≡ Ok (version, heads, next) → OpeningBehind
   opening_behind e =
       split (ltb sizes.message (length s))
       (λ t. not_heads _ _ _ _ (sym (opening_long s (ltb-true _ _ t)) ∙ e))
@@ -124,24 +103,24 @@ module _ (s : List ℕ) (version : MessageVersion) (heads : Run) (next : ℕ) wh
       record { small = small; some = omega arith; type = is ∙ ap type_of h.0; list = h.1 })
       (λ w. not_heads _ _ _ _ (sym (opening_other s small some other (eqb-false _ _ w)) ∙ e)))))
 
-not_sectioned : {A : Type 0} (r : Refusal) (flags : Section) (next : ℕ) → NoSection r ≡ Sectioned flags next → A
+not_sectioned : {A : Type 0} (r : Refusal) (flags : Option MessageFlags) (next : ℕ) → ◌≡◌ {A = Result (Option MessageFlags × ℕ) Refusal} (Err r) (Ok (flags, next)) → A
 not_sectioned r flags next e = absurd (let z : ◌≡◌ {A = ℕ} 0 1 = cc in omega arith)
 
 -- A section that was read: there is none and no bytes remain, or it is a prefixed string.
-pub section_apart : {A : Type 0} (s : List ℕ) (at : ℕ) (flags : Section) (next : ℕ) → section_at s at ≡ Sectioned flags next
-    → (length s ≤ at → Sectioned Absent at ≡ Sectioned flags next → A)
-    → ((start end : ℕ) → at < length s → prefixed_at s at (length s) ≡ Part start end
-    → Sectioned (Present (flags_of (flags_in (slice start end s)))) end ≡ Sectioned flags next
+pub section_apart : {A : Type 0} (s : List ℕ) (at : ℕ) (flags : Option MessageFlags) (next : ℕ) → section_at s at ≡ Ok (flags, next)
+    → (length s ≤ at → (None ≡ flags) × (at ≡ next) → A)
+    → ((start end : ℕ) → at < length s → prefixed_at s at (length s) ≡ Ok (start, end)
+    → (Some (flags_of (flags_in (slice start end s))) ≡ flags) × (end ≡ next)
     → A)
     → A
 section_apart {A} s at flags next e none some =
     split (leb (length s) at)
-    (λ t. let h = leb-true _ _ t in none h (sym (section_none s at h) ∙ e))
+    (λ t. let h = leb-true _ _ t in none h (read_same (sym (section_none s at h) ∙ e)))
     (λ t. go (leb-false _ _ t) (prefixed_at s at (length s)) refl)
   where
-    go : at < length s → (x : Prefixed) → prefixed_at s at (length s) ≡ x → A
-    go h (Part start end) q = some start end h q (sym (section_read s at h start end _ q refl) ∙ e)
-    go h (NoPart r) q = not_sectioned r flags next (sym (section_refused s at h r q) ∙ e)
+    go : at < length s → (x : Result (ℕ × ℕ) Refusal) → prefixed_at s at (length s) ≡ x → A
+    go h (Ok (start, end)) q = some start end h q (read_same (sym (section_read s at h start end _ q refl) ∙ e))
+    go h (Err r) q = not_sectioned r flags next (sym (section_refused s at h r q) ∙ e)
 
 -- ---- words and places
 
@@ -181,10 +160,8 @@ message_words s p haves chunks e =
       chunks_there = c.there;
       up_to =
           section_apart s b.at_section p.flags p.next b.section
-          (λ past q. let w : b.at_section ≡ p.next = cc in omega (arith, c.up_to))
-          (λ start end here part q.
-          let w : end ≡ p.next = cc in
-          omega (arith, prefixed_inside s b.at_section (length s) start end part));
+          (λ past q. omega (arith, q.1, c.up_to))
+          (λ start end here part q. omega (arith, q.1, prefixed_inside s b.at_section (length s) start end part));
     }
 
 -- ---- haves and chunks
@@ -216,14 +193,14 @@ added_small (b ∷ bs) f all h =
     rw t (added_small bs (bit_or f (b - 0x80)) (bytes_tail b bs all) more))
 
 pub flags_small : (s : List ℕ) → Bytes s → (p : Places) (haves chunks : List ℕ) (f : MessageFlags) → message_at s ≡ read p haves chunks
-    → p.flags ≡ Present f
+    → p.flags ≡ Some f
     → f.0 < 0x80
 unfolding flags_in
 flags_small s all p haves chunks f e is =
     let b = message_behind s p haves chunks e in
     section_apart s b.at_section p.flags p.next b.section
-    (λ past q. absurd (let a : ◌≡◌ {A = Section} Absent (Present f) = cc in let z : ◌≡◌ {A = ℕ} 0 1 = cc in omega arith))
+    (λ past q. absurd (let a : ◌≡◌ {A = Option MessageFlags} None (Some f) = q.0 ∙ is in let z : ◌≡◌ {A = ℕ} 0 1 = cc in omega arith))
     (λ start end here part q.
-    let a : ◌≡◌ {A = Section} (Present (flags_of (flags_in (slice start end s)))) (Present f) = cc in
+    let a : ◌≡◌ {A = Option MessageFlags} (Some (flags_of (flags_in (slice start end s)))) (Some f) = q.0 ∙ is in
     let w : add_flags 0 (slice start end s) ≡ f.0 = cc in
     rw (← w) (added_small (slice start end s) 0 (bytes_slice s start end all) (omega arith)))

@@ -10,83 +10,39 @@ use Rattle.bloom.specs.Have.{have_words}
 use Rattle.message.specs.Flags.{flags_of, flags_in}
 use Rattle.message.specs.Message.{type_of}
 use Rattle.message.specs.declared.flags.MessageFlags.{MessageFlags}
-use Rattle.message.specs.declared.flags.Section.{Section}
-use Rattle.message.specs.declared.flags.Section.TheVariants.{Absent, Present}
 use Rattle.message.specs.declared.version.MessageVersion.{MessageVersion}
 use Rattle.message.specs.declared.version.MessageVersion.TheVariants.{V1, V2}
 use Rattle.rules.specs.Sizes.{sizes}
 use Rattle.rules.specs.declared.refusal.Refusal.{Refusal}
 use Rattle.rules.specs.declared.refusal.Refusal.TheVariants.{Cut, WrongType, PastSize, NoRoom}
 use Rattle.wire.specs.Item.{after_part, after_listed, prefixed_at, hash_list_at}
-use Rattle.wire.specs.declared.parse.Listed.{Listed}
-use Rattle.wire.specs.declared.parse.Listed.TheVariants.{Items, Refused as NotListed}
-use Rattle.wire.specs.declared.parse.Prefixed.TheVariants.{Part, Refused as NoPart}
 use Rattle.wire.specs.declared.parse.Run.{Run}
 use Rattle.message_items.specs.ItemsIgnored.{CountedPut}
-use Rattle.message_items.specs.Items.{
-  have_item,
-  chunk_item,
-  many_at,
-  Item,
-  item,
-  after_item,
-  ItemList,
-  list,
-  no_list,
-  after_list,
-  haves_at,
-  chunks_at,
-  chunk_words,
-  listed_of,
-  words_of,
-  AllRead,
-}
-use Rattle.message_read.specs.MessageRead.{
-  Reading,
-  read,
-  refused,
-  heads_at,
-  opening_at,
-  section_at,
-  after_opening,
-  after_section,
-  lists_at,
-  need_at,
-  message_at,
-  decoded_of,
-  room_for,
-  haves_into,
-  chunks_into,
-}
+use Rattle.message_items.specs.Items.{have_item, chunk_item, many_at, Item, item, after_item, ItemList, list, no_list, after_list, haves_at, chunks_at, chunk_words, listed_of, words_of, AllRead}
+use Rattle.message_read.specs.MessageRead.{Reading, read, refused, heads_at, opening_at, section_at, after_opening, after_section, lists_at, need_at, message_at, decoded_of, room_for, haves_into, chunks_into}
 use Rattle.message_read.specs.MessageIgnored.{ignored_of, behind_of, counted_of, ignored_into, DecodedInto}
-use Rattle.message_read.specs.declared.decode.CountedMessage.{CountedMessage}
-use Rattle.message_read.specs.declared.decode.CountedMessage.TheVariants.{Message as Counts, Refused as NotCounted}
-use Rattle.message_read.specs.declared.opening.Opening.{Opening}
-use Rattle.message_read.specs.declared.opening.Opening.TheVariants.{Heads, Refused as NotOpened}
-use Rattle.message_read.specs.declared.parse.Decoded.TheVariants.{Message as Placed, Refused}
-use Rattle.message_read.specs.declared.parse.Flagged.{Flagged}
-use Rattle.message_read.specs.declared.parse.Flagged.TheVariants.{Section as Sectioned, Refused as NoSection}
 use Rattle.message_read.specs.declared.parse.Places.{Places}
 use Rattle.message_items.proofs.ItemLaws.{listed_refused, listed_items, ItemsBehind, haves_behind, chunks_behind}
+use Rattle.std.specs.Prelude.{Result, Ok, Err, Option, Some, None}
 
 -- ---- the first stage
 
 module _ (s : List ℕ) (version : MessageVersion) where
-  pub heads_refused : (r : Refusal) → hash_list_at s 1 (length s) ≡ NotListed r → heads_at s version ≡ NotOpened r
+  pub heads_refused : (r : Refusal) → hash_list_at s 1 (length s) ≡ Err r → heads_at s version ≡ Err r
   unfolding heads_at after_listed
   heads_refused r e = rw e
 
-  pub heads_read : (heads : Run) (next : ℕ) → hash_list_at s 1 (length s) ≡ Items heads next → heads_at s version ≡ Heads version heads next
+  pub heads_read : (heads : Run) (next : ℕ) → hash_list_at s 1 (length s) ≡ Ok (heads, next) → heads_at s version ≡ Ok (version, heads, next)
   unfolding heads_at after_listed
   heads_read heads next e = rw e
 
 module _ (s : List ℕ) where
-  pub opening_long : sizes.message < length s → opening_at s ≡ NotOpened (PastSize 0)
+  pub opening_long : sizes.message < length s → opening_at s ≡ Err (PastSize 0)
   unfolding opening_at
   opening_long h = rw (lt-ltb _ _ h)
 
   module _ (small : length s ≤ sizes.message) where
-    pub opening_empty : length s ≡ 0 → opening_at s ≡ NotOpened (Cut 0)
+    pub opening_empty : length s ≡ 0 → opening_at s ≡ Err (Cut 0)
     unfolding opening_at
     opening_empty e = rw (le-ltb _ _ small, eq-eqb _ _ e)
 
@@ -100,53 +56,53 @@ module _ (s : List ℕ) where
         unfolding opening_at
         opening_second e = rw (le-ltb _ _ small, ne_eqb _ _ some, ne_eqb _ _ other, eq-eqb _ _ e)
 
-        pub opening_other : (get_or s 0 0 ≡ type_of V2 → ⊥) → opening_at s ≡ NotOpened (WrongType (get_or s 0 0))
+        pub opening_other : (get_or s 0 0 ≡ type_of V2 → ⊥) → opening_at s ≡ Err (WrongType (get_or s 0 0))
         unfolding opening_at
         opening_other f = rw (le-ltb _ _ small, ne_eqb _ _ some, ne_eqb _ _ other, ne_eqb _ _ f)
 
 -- ---- the flags section
 
 module _ (s : List ℕ) (at : ℕ) where
-  pub section_none : length s ≤ at → section_at s at ≡ Sectioned Absent at
+  pub section_none : length s ≤ at → section_at s at ≡ Ok (None, at)
   unfolding section_at
   section_none h = rw (le-leb _ _ h)
 
   module _ (more : at < length s) where
-    pub section_refused : (r : Refusal) → prefixed_at s at (length s) ≡ NoPart r → section_at s at ≡ NoSection r
+    pub section_refused : (r : Refusal) → prefixed_at s at (length s) ≡ Err r → section_at s at ≡ Err r
     unfolding section_at after_part
     section_refused r e = rw (lt-leb _ _ more, e)
 
-    pub section_read : (start end : ℕ) (m : MessageFlags) → prefixed_at s at (length s) ≡ Part start end
+    pub section_read : (start end : ℕ) (m : MessageFlags) → prefixed_at s at (length s) ≡ Ok (start, end)
         → m ≡ flags_of (flags_in (slice start end s))
-        → section_at s at ≡ Sectioned (Present m) end
+        → section_at s at ≡ Ok (Some m, end)
     unfolding section_at after_part
     section_read start end m e f = rw (lt-leb _ _ more, e, f)
 
 -- ---- the stages after the first
 
 module _ (s : List ℕ) (version : MessageVersion) (heads need : Run) (at : ℕ) where
-  pub lists_no_haves : (r : Refusal) → listed_of (haves_at s at) ≡ NotListed r → decoded_of (lists_at s version heads need at) ≡ Refused r
+  pub lists_no_haves : (r : Refusal) → listed_of (haves_at s at) ≡ Err r → decoded_of (lists_at s version heads need at) ≡ Err r
   unfolding lists_at after_list decoded_of
   lists_no_haves r e = rw (listed_refused (haves_at s at) r e)
 
-  module _ (haves : Run) (i : ℕ) (have-list : listed_of (haves_at s at) ≡ Items haves i) where
-    pub lists_no_chunks : (r : Refusal) → listed_of (chunks_at s i) ≡ NotListed r → decoded_of (lists_at s version heads need at) ≡ Refused r
+  module _ (haves : Run) (i : ℕ) (have-list : listed_of (haves_at s at) ≡ Ok (haves, i)) where
+    pub lists_no_chunks : (r : Refusal) → listed_of (chunks_at s i) ≡ Err r → decoded_of (lists_at s version heads need at) ≡ Err r
     unfolding lists_at after_list decoded_of
     lists_no_chunks r e =
         let h = listed_items (haves_at s at) haves i have-list in
         rw (h.is, listed_refused (chunks_at s i) r e)
 
-    module _ (chunks : Run) (j : ℕ) (chunk-list : listed_of (chunks_at s i) ≡ Items chunks j) where
-      pub lists_no_section : (r : Refusal) → section_at s j ≡ NoSection r → decoded_of (lists_at s version heads need at) ≡ Refused r
+    module _ (chunks : Run) (j : ℕ) (chunk-list : listed_of (chunks_at s i) ≡ Ok (chunks, j)) where
+      pub lists_no_section : (r : Refusal) → section_at s j ≡ Err r → decoded_of (lists_at s version heads need at) ≡ Err r
       unfolding lists_at after_list after_section decoded_of
       lists_no_section r e =
           let h = listed_items (haves_at s at) haves i have-list in
           let c = listed_items (chunks_at s i) chunks j chunk-list in
           rw (h.is, c.is, e)
 
-      pub lists_read : (flags : Section) (next : ℕ) → section_at s j ≡ Sectioned flags next
+      pub lists_read : (flags : Option MessageFlags) (next : ℕ) → section_at s j ≡ Ok (flags, next)
           → decoded_of (lists_at s version heads need at)
-          ≡ Placed
+          ≡ Ok
           (record {
             version = version;
             heads = heads;
@@ -163,39 +119,39 @@ module _ (s : List ℕ) (version : MessageVersion) (heads need : Run) (at : ℕ)
           rw (h.is, c.is, e)
 
 module _ (s : List ℕ) (version : MessageVersion) (heads : Run) (at : ℕ) where
-  pub need_refused : (r : Refusal) → hash_list_at s at (length s) ≡ NotListed r → need_at s version heads at ≡ refused r
+  pub need_refused : (r : Refusal) → hash_list_at s at (length s) ≡ Err r → need_at s version heads at ≡ refused r
   unfolding need_at after_listed
   need_refused r e = rw e
 
-  pub need_read : (need : Run) (next : ℕ) → hash_list_at s at (length s) ≡ Items need next
+  pub need_read : (need : Run) (next : ℕ) → hash_list_at s at (length s) ≡ Ok (need, next)
       → need_at s version heads at ≡ lists_at s version heads need next
   unfolding need_at after_listed
   need_read need next e = rw e
 
   -- a refused need refuses the reading in places alone too
-  pub need_gone : (r : Refusal) → hash_list_at s at (length s) ≡ NotListed r → decoded_of (need_at s version heads at) ≡ Refused r
+  pub need_gone : (r : Refusal) → hash_list_at s at (length s) ≡ Err r → decoded_of (need_at s version heads at) ≡ Err r
   unfolding decoded_of
   need_gone r e = rw (need_refused r e)
 
-  pub need_lists : (need : Run) (next : ℕ) → hash_list_at s at (length s) ≡ Items need next
+  pub need_lists : (need : Run) (next : ℕ) → hash_list_at s at (length s) ≡ Ok (need, next)
       → decoded_of (need_at s version heads at) ≡ decoded_of (lists_at s version heads need next)
   need_lists need next e = ap decoded_of (need_read need next e)
 
 module _ (s : List ℕ) where
-  pub message_refused : (r : Refusal) → opening_at s ≡ NotOpened r → message_at s ≡ refused r
+  pub message_refused : (r : Refusal) → opening_at s ≡ Err r → message_at s ≡ refused r
   unfolding message_at after_opening
   message_refused r e = rw e
 
-  pub message_opened : (version : MessageVersion) (heads : Run) (next : ℕ) → opening_at s ≡ Heads version heads next
+  pub message_opened : (version : MessageVersion) (heads : Run) (next : ℕ) → opening_at s ≡ Ok (version, heads, next)
       → message_at s ≡ need_at s version heads next
   unfolding message_at after_opening
   message_opened version heads next e = rw e
 
-  pub message_gone : (r : Refusal) → opening_at s ≡ NotOpened r → decoded_of (message_at s) ≡ Refused r
+  pub message_gone : (r : Refusal) → opening_at s ≡ Err r → decoded_of (message_at s) ≡ Err r
   unfolding decoded_of
   message_gone r e = rw (message_refused r e)
 
-  pub message_need : (version : MessageVersion) (heads : Run) (next : ℕ) → opening_at s ≡ Heads version heads next
+  pub message_need : (version : MessageVersion) (heads : Run) (next : ℕ) → opening_at s ≡ Ok (version, heads, next)
       → decoded_of (message_at s) ≡ decoded_of (need_at s version heads next)
   message_need version heads next e = ap decoded_of (message_opened version heads next e)
 
@@ -210,11 +166,11 @@ pub record MessageBehind (s : List ℕ) (p : Places) (haves chunks : List ℕ) :
   pub at_haves : ℕ
   pub at_chunks : ℕ
   pub at_section : ℕ
-  pub opening : opening_at s ≡ Heads p.version p.heads at_need
-  pub need : hash_list_at s at_need (length s) ≡ Items p.need at_haves
+  pub opening : opening_at s ≡ Ok (p.version, p.heads, at_need)
+  pub need : hash_list_at s at_need (length s) ≡ Ok (p.need, at_haves)
   pub have_list : haves_at s at_haves ≡ list p.haves haves at_chunks
   pub chunk_list : chunks_at s at_chunks ≡ list p.chunks chunks at_section
-  pub section : section_at s at_section ≡ Sectioned p.flags p.next
+  pub section : section_at s at_section ≡ Ok (p.flags, p.next)
 
 module _ (s : List ℕ) (p : Places) (haves chunks : List ℕ) where
   same_behind : (q : Places) (hw cw : List ℕ) → read q hw cw ≡ read p haves chunks → MessageBehind s q hw cw → MessageBehind s p haves chunks
@@ -230,12 +186,12 @@ module _ (s : List ℕ) (p : Places) (haves chunks : List ℕ) where
   message_behind e = opened (opening_at s) refl
     where
       sectioned : (version : MessageVersion) (heads need hs cs : Run) (i j k l : ℕ) (hw cw : List ℕ)
-          → opening_at s ≡ Heads version heads i
-          → hash_list_at s i (length s) ≡ Items need j
+          → opening_at s ≡ Ok (version, heads, i)
+          → hash_list_at s i (length s) ≡ Ok (need, j)
           → haves_at s j ≡ list hs hw k
           → chunks_at s k ≡ list cs cw l
-          → (x : Flagged) → section_at s l ≡ x → MessageBehind s p haves chunks
-      sectioned version heads need hs cs i j k l hw cw o n h c (Sectioned flags next) f =
+          → (x : Result (Option MessageFlags × ℕ) Refusal) → section_at s l ≡ x → MessageBehind s p haves chunks
+      sectioned version heads need hs cs i j k l hw cw o n h c (Ok (flags, next)) f =
           let q : Places = record { version = version; heads = heads; need = need; haves = hs; chunks = cs; flags = flags; next = next } in
           let is : message_at s ≡ read q hw cw = rw (o, n, h, c, f) in
           same_behind q hw cw (sym is ∙ e)
@@ -250,13 +206,13 @@ module _ (s : List ℕ) (p : Places) (haves chunks : List ℕ) where
             chunk_list = c;
             section = f;
           })
-      sectioned version heads need hs cs i j k l hw cw o n h c (NoSection r) f =
+      sectioned version heads need hs cs i j k l hw cw o n h c (Err r) f =
           let is : message_at s ≡ refused r = rw (o, n, h, c, f) in
           not_read r p haves chunks (sym is ∙ e)
 
       chunked : (version : MessageVersion) (heads need hs : Run) (i j k : ℕ) (hw : List ℕ)
-          → opening_at s ≡ Heads version heads i
-          → hash_list_at s i (length s) ≡ Items need j
+          → opening_at s ≡ Ok (version, heads, i)
+          → hash_list_at s i (length s) ≡ Ok (need, j)
           → haves_at s j ≡ list hs hw k
           → (x : ItemList) → chunks_at s k ≡ x → MessageBehind s p haves chunks
       chunked version heads need hs i j k hw o n h (list cs cw l) c =
@@ -266,8 +222,8 @@ module _ (s : List ℕ) (p : Places) (haves chunks : List ℕ) where
           not_read r p haves chunks (sym is ∙ e)
 
       haved : (version : MessageVersion) (heads need : Run) (i j : ℕ)
-          → opening_at s ≡ Heads version heads i
-          → hash_list_at s i (length s) ≡ Items need j
+          → opening_at s ≡ Ok (version, heads, i)
+          → hash_list_at s i (length s) ≡ Ok (need, j)
           → (x : ItemList) → haves_at s j ≡ x → MessageBehind s p haves chunks
       haved version heads need i j o n (list hs hw k) h =
           chunked version heads need hs i j k hw o n h (chunks_at s k) refl
@@ -275,43 +231,43 @@ module _ (s : List ℕ) (p : Places) (haves chunks : List ℕ) where
           let is : message_at s ≡ refused r = rw (o, n, h) in
           not_read r p haves chunks (sym is ∙ e)
 
-      needed : (version : MessageVersion) (heads : Run) (i : ℕ) → opening_at s ≡ Heads version heads i
-          → (x : Listed) → hash_list_at s i (length s) ≡ x → MessageBehind s p haves chunks
-      needed version heads i o (Items need j) n = haved version heads need i j o n (haves_at s j) refl
-      needed version heads i o (NotListed r) n =
+      needed : (version : MessageVersion) (heads : Run) (i : ℕ) → opening_at s ≡ Ok (version, heads, i)
+          → (x : Result (Run × ℕ) Refusal) → hash_list_at s i (length s) ≡ x → MessageBehind s p haves chunks
+      needed version heads i o (Ok (need, j)) n = haved version heads need i j o n (haves_at s j) refl
+      needed version heads i o (Err r) n =
           let is : message_at s ≡ refused r = rw (o, n) in
           not_read r p haves chunks (sym is ∙ e)
 
-      opened : (x : Opening) → opening_at s ≡ x → MessageBehind s p haves chunks
-      opened (Heads version heads i) o = needed version heads i o (hash_list_at s i (length s)) refl
-      opened (NotOpened r) o =
+      opened : (x : Result (MessageVersion × Run × ℕ) Refusal) → opening_at s ≡ x → MessageBehind s p haves chunks
+      opened (Ok (version, heads, i)) o = needed version heads i o (hash_list_at s i (length s)) refl
+      opened (Err r) o =
           let is : message_at s ≡ refused r = rw o in
           not_read r p haves chunks (sym is ∙ e)
 
 -- ---- what the call leaves
 
-pub placed : (x : Reading) (p : Places) → decoded_of x ≡ Placed p → record { haves : List ℕ; chunks : List ℕ; is : x ≡ read p haves chunks }
+pub placed : (x : Reading) (p : Places) → decoded_of x ≡ Ok p → record { haves : List ℕ; chunks : List ℕ; is : x ≡ read p haves chunks }
 unfolding decoded_of
 placed (read q haves chunks) p e = record { haves = haves; chunks = chunks; is = cc }
 placed (refused r) p e = absurd (let z : ◌≡◌ {A = ℕ} 0 1 = cc in omega arith)
 
-pub not_placed : (x : Reading) (r : Refusal) → decoded_of x ≡ Refused r → x ≡ refused r
+pub not_placed : (x : Reading) (r : Refusal) → decoded_of x ≡ Err r → x ≡ refused r
 unfolding decoded_of
 not_placed (read q haves chunks) r e = absurd (let z : ◌≡◌ {A = ℕ} 0 1 = cc in omega arith)
 not_placed (refused q) r e = cc
 
 -- 7 with the words wanted
-abbrev short_of : ℕ → CountedMessage
-short_of n = NotCounted (NoRoom n)
+abbrev short_of : ℕ → Result (Places × ℕ × ℕ) Refusal
+short_of n = Err (NoRoom n)
 
-pub decode_refused : (s haves₀ chunks₀ ignored₀ : List ℕ) (r : Refusal) → decoded_of (message_at s) ≡ Refused r
-    → DecodedInto s haves₀ haves₀ chunks₀ chunks₀ ignored₀ ignored₀ (NotCounted r)
+pub decode_refused : (s haves₀ chunks₀ ignored₀ : List ℕ) (r : Refusal) → decoded_of (message_at s) ≡ Err r
+    → DecodedInto s haves₀ haves₀ chunks₀ chunks₀ ignored₀ ignored₀ (Err r)
 unfolding room_for counted_of haves_into chunks_into ignored_into
 decode_refused s haves₀ chunks₀ ignored₀ r e =
     let q = not_placed (message_at s) r e in
     record { answer = rw q; haves = rw q; chunks = rw q; ignored = rw q }
 
-module _ (s : List ℕ) (p : Places) (is : decoded_of (message_at s) ≡ Placed p) where
+module _ (s : List ℕ) (p : Places) (is : decoded_of (message_at s) ≡ Ok p) where
   words : record { haves : List ℕ; chunks : List ℕ; is : message_at s ≡ read p haves chunks }
   words = placed (message_at s) p is
 
@@ -340,7 +296,7 @@ module _ (s : List ℕ) (p : Places) (is : decoded_of (message_at s) ≡ Placed 
 
   module _ (haves₀ chunks₀ ignored₀ : List ℕ) where
     pub haves_short : length haves₀ < have_words * p.haves.count
-        → DecodedInto s haves₀ haves₀ chunks₀ chunks₀ ignored₀ ignored₀ (NotCounted (NoRoom (have_words * p.haves.count)))
+        → DecodedInto s haves₀ haves₀ chunks₀ chunks₀ ignored₀ ignored₀ (Err (NoRoom (have_words * p.haves.count)))
     unfolding room_for counted_of haves_into chunks_into ignored_into
     haves_short h =
         let l = have_words_lem.long in
@@ -355,7 +311,7 @@ module _ (s : List ℕ) (p : Places) (is : decoded_of (message_at s) ≡ Placed 
 
     module _ (room : have_words * p.haves.count ≤ length haves₀) where
       pub chunks_short : length chunks₀ < chunk_words * p.chunks.count
-          → DecodedInto s haves₀ haves₀ chunks₀ chunks₀ ignored₀ ignored₀ (NotCounted (NoRoom (chunk_words * p.chunks.count)))
+          → DecodedInto s haves₀ haves₀ chunks₀ chunks₀ ignored₀ ignored₀ (Err (NoRoom (chunk_words * p.chunks.count)))
       unfolding room_for counted_of haves_into chunks_into ignored_into
       chunks_short h =
           let l = chunk_words_lem.long in
@@ -375,7 +331,7 @@ module _ (s : List ℕ) (p : Places) (is : decoded_of (message_at s) ≡ Placed 
             → CountedPut s p.haves.start p.haves.count haves₀ haves₁ ignored₀ ignored₁ sum
             → chunks₁ ≡ sets chunks₀ 0 (words_of (many_at (chunk_item s) p.chunks.count p.chunks.start))
             → behind ≡ behind_of s p.flags p.next
-            → DecodedInto s haves₀ haves₁ chunks₀ chunks₁ ignored₀ ignored₁ (Counts p sum behind)
+            → DecodedInto s haves₀ haves₁ chunks₀ chunks₁ ignored₀ ignored₁ (Ok (p, sum, behind))
         unfolding room_for counted_of haves_into chunks_into ignored_into ignored_of words_of after_item
         decoded haves₁ chunks₁ ignored₁ sum behind a b c =
             let fits : length words.haves ≤ length haves₀ = omega (arith, have_words_lem.long) in
@@ -385,7 +341,7 @@ module _ (s : List ℕ) (p : Places) (is : decoded_of (message_at s) ≡ Placed 
             let x : haves₁ ≡ sets haves₀ 0 words.haves = rw have_words_lem.each at a.words in
             let y : chunks₁ ≡ sets chunks₀ 0 words.chunks = rw chunk_words_lem.each at b in
             record {
-              answer = rw (words.is, f, g) (ap₂ (λ (k l : ℕ). Counts p k l) a.sum c);
+              answer = rw (words.is, f, g) (ap₂ (λ (k l : ℕ). Ok (p, k, l)) a.sum c);
               haves = rw (words.is, f, g) x;
               chunks = rw (words.is, f, g) y;
               ignored = rw (words.is, f, g) a.numbers;

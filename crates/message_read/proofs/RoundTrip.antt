@@ -12,8 +12,6 @@ use Rattle.bloom.specs.Have.{Have, haves_of}
 use Rattle.message.specs.Flags.{flags_of, add_flags, flags_in, section_bytes}
 use Rattle.message.specs.Message.{Message, type_of, counted, total, have_bytes, message_bytes}
 use Rattle.message.specs.Sound.{SoundMessage, FlagsReadBack, ReadsBack}
-use Rattle.message.specs.declared.flags.Section.{Section}
-use Rattle.message.specs.declared.flags.Section.TheVariants.{Absent, Present}
 use Rattle.message.specs.declared.version.MessageVersion.{MessageVersion}
 use Rattle.message.specs.declared.version.MessageVersion.TheVariants.{V1, V2}
 use Rattle.rules.specs.Hash.{hashes_at}
@@ -27,9 +25,10 @@ use Rattle.message_items.specs.Items.{chunks_of}
 use Rattle.message_items.proofs.RoundTrip.{onward, haves_written, chunks_written}
 use Rattle.message_read.specs.MessageIgnored.{ignored_of, behind_of}
 use Rattle.message_read.specs.MessageRead.{read, heads_at, opening_at, section_at, message_at, message_in}
-use Rattle.message_read.specs.declared.parse.Flagged.TheVariants.{Section as Sectioned}
 use Rattle.message_read.specs.declared.parse.Places.{Places}
 use Rattle.message_read.proofs.ReadLaws.{MessageBehind, behind_read, heads_read, opening_first, opening_second, section_none, section_read}
+use Rattle.std.specs.Prelude.{Ok, Option, Some, None}
+use Rattle.message.specs.declared.flags.MessageFlags.{MessageFlags}
 
 -- ---- reading back
 
@@ -46,17 +45,17 @@ pub record ReadBack (s : List ℕ) (m : Message) : Type 0 where
 
 -- ---- the flags section
 
-record SectionWritten (s : List ℕ) (at : ℕ) (flags : Section) : Type 0 where
+record SectionWritten (s : List ℕ) (at : ℕ) (flags : Option MessageFlags) : Type 0 where
   next : ℕ
-  is : section_at s at ≡ Sectioned flags next
+  is : section_at s at ≡ Ok (flags, next)
   behind : behind_of s flags next ≡ 0
 
-section_written : (s : List ℕ) (at : ℕ) (flags : Section) → FlagsReadBack flags → slice at (length s) s ≡ section_bytes flags → SectionWritten s at flags
+section_written : (s : List ℕ) (at : ℕ) (flags : Option MessageFlags) → FlagsReadBack flags → slice at (length s) s ≡ section_bytes flags → SectionWritten s at flags
 unfolding section_bytes flags_in add_flags prefixed_bytes behind_of
-section_written s at Absent good same =
+section_written s at None good same =
     let l : length s - at ≡ 0 = sym (length-slice at (length s) s (omega arith)) ∙ ap length same in
     record { next = at; is = section_none s at (omega arith); behind = refl }
-section_written s at (Present f) good same =
+section_written s at (Some f) good same =
     let t : List ℕ = 0x02 ∷ (0x80 + f.0 % 0x80) ∷ [] in
     let form : slice at (length s) s ≡ prefixed_bytes t ++ [] = rw (shortest_one 2 (omega arith)) same in
     let w = prefixed_written s t [] at (length s) (omega arith) form in
@@ -81,11 +80,11 @@ opened_as : (s : List ℕ) → length s ≤ sizes.message → (length s ≡ 0 �
 opened_as s small some V1 e = opening_first s small some e
 opened_as s small some V2 e = opening_second s small some (λ q. omega (arith, e, q)) e
 
-abbrev message_of_lem : MessageVersion → List ℕ → List ℕ → List Have → List (List ℕ) → Section → Message
+abbrev message_of_lem : MessageVersion → List ℕ → List ℕ → List Have → List (List ℕ) → Option MessageFlags → Message
 message_of_lem version heads need haves chunks flags =
     record { version = version; heads = heads; need = need; haves = haves; chunks = chunks; flags = flags }
 
-same_message : (v : MessageVersion) (f : Section) (a₁ a₂ b₁ b₂ : List ℕ) (c₁ c₂ : List Have) (d₁ d₂ : List (List ℕ))
+same_message : (v : MessageVersion) (f : Option MessageFlags) (a₁ a₂ b₁ b₂ : List ℕ) (c₁ c₂ : List Have) (d₁ d₂ : List (List ℕ))
     → a₁ ≡ a₂
     → b₁ ≡ b₂
     → c₁ ≡ c₂

@@ -1,13 +1,11 @@
 -- A message as it is read. 01, Wire, Message and Flags, and Refusal numbers: the total size first, then byte by byte; what is left after the chunks is a
 -- flags section, and nothing is looked for behind it.
-use Rattle.std.specs.Prelude.{ℕ, cond, List, ltb, leb, eqb, length, get_or}
+use Rattle.std.specs.Prelude.{ℕ, cond, List, ltb, leb, eqb, length, get_or, Result, Ok, Err, Option, Some, None}
 use Rattle.std.proofs.Math.Seq.{slice}
 use Rattle.std.proofs.lemmas.List.Edits.{sets}
 use Rattle.bloom.specs.Have.{haves_of}
 use Rattle.message.specs.Flags.{flags_of, flags_in}
 use Rattle.message.specs.Message.{Message, type_of}
-use Rattle.message.specs.declared.flags.Section.{Section}
-use Rattle.message.specs.declared.flags.Section.TheVariants.{Absent, Present}
 use Rattle.message.specs.declared.version.MessageVersion.{MessageVersion}
 use Rattle.message.specs.declared.version.MessageVersion.TheVariants.{V1, V2}
 use Rattle.rules.specs.Hash.{hashes_at}
@@ -17,13 +15,8 @@ use Rattle.rules.specs.declared.refusal.Refusal.TheVariants.{Cut, WrongType, Pas
 use Rattle.wire.specs.Item.{after_part, after_listed, prefixed_at, hash_list_at}
 use Rattle.wire.specs.declared.parse.Run.{Run}
 use Rattle.message_items.specs.Items.{after_list, haves_at, chunks_at, chunks_of}
-use Rattle.message_read.specs.declared.opening.Opening.{Opening}
-use Rattle.message_read.specs.declared.opening.Opening.TheVariants.{Heads, Refused as NotOpened}
-use Rattle.message_read.specs.declared.parse.Decoded.{Decoded}
-use Rattle.message_read.specs.declared.parse.Decoded.TheVariants.{Message as Placed, Refused}
-use Rattle.message_read.specs.declared.parse.Flagged.{Flagged}
-use Rattle.message_read.specs.declared.parse.Flagged.TheVariants.{Section as Sectioned, Refused as NoSection}
 use Rattle.message_read.specs.declared.parse.Places.{Places}
+use Rattle.message.specs.declared.flags.MessageFlags.{MessageFlags}
 
 -- A message that was read: where its parts stand, and the words of its haves and of its chunks; or a refusal.
 pub data Reading : Type 0 where
@@ -31,36 +24,36 @@ pub data Reading : Type 0 where
   refused : Refusal → Reading
 
 -- The heads, which stand behind the first byte.
-unfoldable pub heads_at : List ℕ → MessageVersion → Opening
-heads_at s version = after_listed (hash_list_at s 1 (length s)) NotOpened (λ heads next. Heads version heads next)
+unfoldable pub heads_at : List ℕ → MessageVersion → Result (MessageVersion × Run × ℕ) Refusal
+heads_at s version = after_listed (hash_list_at s 1 (length s)) Err (λ heads next. Ok (version, heads, next))
 
 -- The first stage: 4 for the total size, 1 for no bytes, 2 for another first byte, then the heads.
-unfoldable pub opening_at : List ℕ → Opening
+unfoldable pub opening_at : List ℕ → Result (MessageVersion × Run × ℕ) Refusal
 opening_at s =
     cond (ltb sizes.message (length s))
-    (NotOpened (PastSize 0))
+    (Err (PastSize 0))
     (cond (eqb (length s) 0)
-    (NotOpened (Cut 0))
+    (Err (Cut 0))
     (cond (eqb (get_or s 0 0) (type_of V1))
     (heads_at s V1)
-    (cond (eqb (get_or s 0 0) (type_of V2)) (heads_at s V2) (NotOpened (WrongType (get_or s 0 0))))))
+    (cond (eqb (get_or s 0 0) (type_of V2)) (heads_at s V2) (Err (WrongType (get_or s 0 0))))))
 
 -- The flags section: absent where no bytes remain; an empty one is present.
-unfoldable pub section_at : List ℕ → ℕ → Flagged
+unfoldable pub section_at : List ℕ → ℕ → Result (Option MessageFlags × ℕ) Refusal
 section_at s at =
     cond (leb (length s) at)
-    (Sectioned Absent at)
-    (after_part (prefixed_at s at (length s)) NoSection (λ start end. Sectioned (Present (flags_of (flags_in (slice start end s)))) end))
+    (Ok (None, at))
+    (after_part (prefixed_at s at (length s)) Err (λ start end. Ok (Some (flags_of (flags_in (slice start end s))), end)))
 
 -- What follows the first stage, or its refusal passed on.
-unfoldable pub after_opening : Opening → (MessageVersion → Run → ℕ → Reading) → Reading
-after_opening (Heads version heads next) k = k version heads next
-after_opening (NotOpened r) k = refused r
+unfoldable pub after_opening : Result (MessageVersion × Run × ℕ) Refusal → (MessageVersion → Run → ℕ → Reading) → Reading
+after_opening (Ok (version, heads, next)) k = k version heads next
+after_opening (Err r) k = refused r
 
 -- What follows the flags section, or its refusal passed on.
-unfoldable pub after_section : Flagged → (Section → ℕ → Reading) → Reading
-after_section (Sectioned flags next) k = k flags next
-after_section (NoSection r) k = refused r
+unfoldable pub after_section : Result (Option MessageFlags × ℕ) Refusal → (Option MessageFlags → ℕ → Reading) → Reading
+after_section (Ok (flags, next)) k = k flags next
+after_section (Err r) k = refused r
 
 -- Haves, chunks and the flags section.
 unfoldable pub lists_at : List ℕ → MessageVersion → Run → Run → ℕ → Reading
@@ -96,9 +89,9 @@ unfoldable pub message_at : List ℕ → Reading
 message_at s = after_opening (opening_at s) (λ version heads next. need_at s version heads next)
 
 -- What reading a message gives in places alone.
-unfoldable pub decoded_of : Reading → Decoded
-decoded_of (read places haves chunks) = Placed places
-decoded_of (refused r) = Refused r
+unfoldable pub decoded_of : Reading → Result Places Refusal
+decoded_of (read places haves chunks) = Ok places
+decoded_of (refused r) = Err r
 
 -- Refusal 7, which comes last, in words: first the haves' list, then the chunks'.
 unfoldable pub room_for : Reading → ℕ → ℕ → Reading

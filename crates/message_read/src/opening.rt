@@ -5,41 +5,28 @@ ghost use Rattle.message_read.specs.MessageRead.{opening_at, heads_at};
 use message::version::{MESSAGE_TYPE_SYNC, MESSAGE_TYPE_SYNC_V2, MessageVersion};
 use rules::refusal::Refusal;
 use rules::sizes::MESSAGE_SIZE;
-use wire::parse::{Listed, Run, length_prefixed_hashes};
+use wire::parse::{Run, length_prefixed_hashes};
 
-// The version, where the heads stand, and the next place.
-#[derive(Clone, Copy)]
-pub enum Opening {
-    Heads {
-        version: MessageVersion,
-        heads: Run,
-        next: usize,
-    },
-    Refused(Refusal),
-}
-
-fn parse_heads(bytes: &[u8], version: MessageVersion) -> Opening
+// Where the heads stand behind the first byte, beside the version that it said, and the next place.
+fn parse_heads(
+    bytes: &[u8],
+    version: MessageVersion,
+) -> Result<(MessageVersion, Run, usize), Refusal>
     ensures { result ≡ heads_at bytes.now version }
 {
-    let list = length_prefixed_hashes(bytes, 1, bytes.len());
-    match list {
-        Listed::Items { run, next } => Opening::Heads {
-            version,
-            heads: run,
-            next,
-        },
-        Listed::Refused(r) => Opening::Refused(r),
-    }
+    let (heads, next) = length_prefixed_hashes(bytes, 1, bytes.len())?;
+    Ok((version, heads, next))
 }
 
-pub fn parse_opening(bytes: &[u8]) -> Opening
+// The version, where the heads stand, and the next place.
+pub fn parse_opening(bytes: &[u8]) -> Result<(MessageVersion, Run, usize), Refusal>
     ensures { result ≡ opening_at bytes.now }
 {
     if MESSAGE_SIZE < bytes.len() {
-        return Opening::Refused(Refusal::PastSize(0));
+        return Err(Refusal::PastSize(0));
     }
     if bytes.len() == 0 {
-        return Opening::Refused(Refusal::Cut(0));
+        return Err(Refusal::Cut(0));
     }
     let message_type = bytes[0];
     if message_type == MESSAGE_TYPE_SYNC {
@@ -48,5 +35,5 @@ pub fn parse_opening(bytes: &[u8]) -> Opening
     if message_type == MESSAGE_TYPE_SYNC_V2 {
         return parse_heads(bytes, MessageVersion::V2);
     }
-    Opening::Refused(Refusal::WrongType(message_type))
+    Err(Refusal::WrongType(message_type))
 }

@@ -2,7 +2,8 @@
 ghost use Rattle.std.specs.Prelude.{◌≡◌, length};
 ghost use Rattle.wire.specs.Item.{hash_list_at};
 
-use wire::parse::{Listed, length_prefixed_hashes};
+use rules::refusal::Refusal;
+use wire::parse::{Run, length_prefixed_hashes};
 
 #[derive(Clone, Copy)]
 pub struct Reader<'a> {
@@ -11,7 +12,7 @@ pub struct Reader<'a> {
 }
 
 // The work, on a slice and a place: the hash list there, which may go up to the slice's end.
-pub fn hashes_at(message: &[u8], at: usize) -> Listed
+pub fn hashes_at(message: &[u8], at: usize) -> Result<(Run, usize), Refusal>
     ensures { result ≡ hash_list_at message.now at (length message.now) }
 {
     length_prefixed_hashes(message, at, message.len())
@@ -35,7 +36,7 @@ pub fn moved<'a>(reader: Reader<'a>, at: usize) -> Reader<'a>
 }
 
 // The hash list that the reader has reached.
-pub fn hashes<'a>(reader: Reader<'a>) -> Listed
+pub fn hashes<'a>(reader: Reader<'a>) -> Result<(Run, usize), Refusal>
     ensures { result ≡ hash_list_at reader.entry.message.now reader.entry.at (length reader.entry.message.now) }
 {
     hashes_at(reader.message, reader.at)

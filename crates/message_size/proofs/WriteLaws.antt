@@ -12,47 +12,30 @@ use lib.Seq.{sets, drop-cons, drop-length}
 use Rattle.bloom.specs.Have.{haves_of, passed_good, passed_few, GoodHaves}
 use Rattle.message.specs.Flags.{section_bytes}
 use Rattle.message.specs.Message.{Message, counted, total, have_bytes, message_bytes}
-use Rattle.message.specs.declared.flags.Section.{Section}
-use Rattle.message.specs.declared.flags.Section.TheVariants.{Absent, Present}
 use Rattle.message.specs.declared.version.MessageVersion.{MessageVersion}
 use Rattle.rules.specs.Output.{Output, bytes, refuse, size_of, Written}
 use Rattle.rules.specs.Passed.{passed_hashes, after_passed}
 use Rattle.rules.specs.Sizes.{sizes}
-use Rattle.rules.specs.declared.passed.Passed.{Passed}
-use Rattle.rules.specs.declared.passed.Passed.TheVariants.{Hashes, Refused as NotPassed}
 use Rattle.rules.specs.declared.refusal.Refusal.{Refusal}
 use Rattle.rules.specs.declared.refusal.Refusal.TheVariants.{Cut, PastSize, NoRoom, BadNumbers}
-use Rattle.rules.specs.declared.output.Size.{Size}
-use Rattle.rules.specs.declared.output.Size.TheVariants.{Bytes, Refused}
-use Rattle.rules.specs.declared.output.Write.TheVariants.{Wrote, Refused as NotWritten}
 use Rattle.rules.proofs.Cases.{split}
 use Rattle.rules.proofs.Outputs.{written_bytes, no_room, refused}
 use Rattle.rules.proofs.PassedLaws.{passed_is}
 use Rattle.wire.specs.Item.{prefixed_bytes, hash_list_bytes}
 use Rattle.leb128.specs.Number.{shortest}
 use Rattle.message.specs.Write.{Parts, parts_of, hashes_of, chunks_from, message_of, test_haves, test_hashes, test_few, test_chunks, within_size, message_output}
-use Rattle.message_size.proofs.SizeLaws.{
-  most_list_lem,
-  most_haves,
-  numbers_total,
-  hash_list_long,
-  ten,
-  counted_is,
-  chunks_long,
-  chunks_bytes_lem,
-  total_next,
-  numbers_next,
-  haves_small,
-}
+use Rattle.message_size.proofs.SizeLaws.{most_list_lem, most_haves, numbers_total, hash_list_long, ten, counted_is, chunks_long, chunks_bytes_lem, total_next, numbers_next, haves_small}
+use Rattle.std.specs.Prelude.{Result, Ok, Err, Option, Some, None}
+use Rattle.message.specs.declared.flags.MessageFlags.{MessageFlags}
 
 -- ---- an output and its size
 
-pub size_refused : (o : Output) (r : Refusal) → size_of o ≡ Refused r → o ≡ refuse r
+pub size_refused : (o : Output) (r : Refusal) → size_of o ≡ Err r → o ≡ refuse r
 unfolding size_of
 size_refused (bytes l) r e = absurd (let z : ◌≡◌ {A = ℕ} 0 1 = cc in omega arith)
 size_refused (refuse q) r e = let d : q ≡ r = cc in ap refuse d
 
-pub refused_size : (o : Output) (r : Refusal) → o ≡ refuse r → Refused r ≡ size_of o
+pub refused_size : (o : Output) (r : Refusal) → o ≡ refuse r → Err r ≡ size_of o
 unfolding size_of
 refused_size o r e = rw e
 
@@ -61,7 +44,7 @@ pub record SizedBytes (o : Output) (n : ℕ) : Type 0 where
   pub is : o ≡ bytes list
   pub long : n ≡ length list
 
-pub size_bytes : (o : Output) (n : ℕ) → size_of o ≡ Bytes n → SizedBytes o n
+pub size_bytes : (o : Output) (n : ℕ) → size_of o ≡ Ok n → SizedBytes o n
 unfolding size_of
 size_bytes (bytes l) n e = let d : length l ≡ n = cc in record { list = l; is = refl; long = sym d }
 size_bytes (refuse q) n e = absurd (let z : ◌≡◌ {A = ℕ} 0 1 = cc in omega arith)
@@ -94,29 +77,29 @@ module _ (s haves : List ℕ) where
 
 module _ (s : List ℕ) where
   module _ (o : Output) where
-    hashes_stop : (r : Refusal) → passed_hashes s ≡ NotPassed r → test_hashes s o ≡ refuse r
+    hashes_stop : (r : Refusal) → passed_hashes s ≡ Err r → test_hashes s o ≡ refuse r
     unfolding test_hashes after_passed
     hashes_stop r e = rw e
 
-    hashes_pass : (n : ℕ) → passed_hashes s ≡ Hashes n → test_hashes s o ≡ o
+    hashes_pass : (n : ℕ) → passed_hashes s ≡ Ok n → test_hashes s o ≡ o
     unfolding test_hashes after_passed
     hashes_pass n e = rw e
 
-    hashes_apart : (l : List ℕ) → test_hashes s o ≡ bytes l → (passed_hashes s ≡ Hashes (length s / sizes.hash)) × (o ≡ bytes l)
+    hashes_apart : (l : List ℕ) → test_hashes s o ≡ bytes l → (passed_hashes s ≡ Ok (length s / sizes.hash)) × (o ≡ bytes l)
     hashes_apart l e = go (passed_hashes s) refl
       where
-        go : (x : Passed) → passed_hashes s ≡ x → (passed_hashes s ≡ Hashes (length s / sizes.hash)) × (o ≡ bytes l)
-        go (Hashes n) q =
+        go : (x : Result ℕ Refusal) → passed_hashes s ≡ x → (passed_hashes s ≡ Ok (length s / sizes.hash)) × (o ≡ bytes l)
+        go (Ok n) q =
             let w : n ≡ length s / sizes.hash = omega (arith, (passed_is s n q).whole) in
-            (q ∙ ap Hashes w, sym (hashes_pass n q) ∙ e)
-        go (NotPassed r) q = no_bytes_refused _ _ (sym (hashes_stop r q) ∙ e)
+            (q ∙ ap Ok w, sym (hashes_pass n q) ∙ e)
+        go (Err r) q = no_bytes_refused _ _ (sym (hashes_stop r q) ∙ e)
 
   hashes_refused : (o q : Output) (r : Refusal) → (o ≡ refuse r → q ≡ refuse r) → test_hashes s o ≡ refuse r → test_hashes s q ≡ refuse r
   hashes_refused o q r f e = go (passed_hashes s) refl
     where
-      go : (x : Passed) → passed_hashes s ≡ x → test_hashes s q ≡ refuse r
-      go (Hashes n) d = hashes_pass q n d ∙ f (sym (hashes_pass o n d) ∙ e)
-      go (NotPassed t) d = hashes_stop q t d ∙ sym (hashes_stop o t d) ∙ e
+      go : (x : Result ℕ Refusal) → passed_hashes s ≡ x → test_hashes s q ≡ refuse r
+      go (Ok n) d = hashes_pass q n d ∙ f (sym (hashes_pass o n d) ∙ e)
+      go (Err t) d = hashes_stop q t d ∙ sym (hashes_stop o t d) ∙ e
 
 module _ (haves lengths : List ℕ) where
   module _ (o : Output) where
@@ -236,17 +219,17 @@ module _ (heads need s haves : List ℕ) where
   lists_bad e = haves_bad s haves _ e
 
   module _ (good : passed_good s haves ≡ true) where
-    pub lists_heads : (r : Refusal) → passed_hashes heads ≡ NotPassed r → lists_output ≡ refuse r
+    pub lists_heads : (r : Refusal) → passed_hashes heads ≡ Err r → lists_output ≡ refuse r
     lists_heads r e = haves_pass s haves _ good ∙ hashes_stop heads _ r e
 
-    module _ (h : ℕ) (first : passed_hashes heads ≡ Hashes h) where
-      pub lists_need : (r : Refusal) → passed_hashes need ≡ NotPassed r → lists_output ≡ refuse r
+    module _ (h : ℕ) (first : passed_hashes heads ≡ Ok h) where
+      pub lists_need : (r : Refusal) → passed_hashes need ≡ Err r → lists_output ≡ refuse r
       lists_need r e = haves_pass s haves _ good ∙ hashes_pass heads _ h first ∙ hashes_stop need _ r e
 
-      pub lists_sized : (n x y : ℕ) → passed_hashes need ≡ Hashes n
+      pub lists_sized : (n x y : ℕ) → passed_hashes need ≡ Ok n
           → x ≡ length (shortest h) + sizes.hash * h
           → y ≡ length (shortest n) + sizes.hash * n
-          → Bytes (x + y) ≡ size_of lists_output
+          → Ok (x + y) ≡ size_of lists_output
       unfolding size_of
       lists_sized n x y e p q =
           let all : lists_output ≡ bytes lists_bytes =
@@ -254,16 +237,16 @@ module _ (heads need s haves : List ℕ) where
           in
           let i : length heads / sizes.hash ≡ h = omega (arith, (passed_is heads h first).whole) in
           let j : length need / sizes.hash ≡ n = omega (arith, (passed_is need n e).whole) in
-          rw (all, i, j, length-append) (ap Bytes (omega (arith, hash_list_long heads 0 h, hash_list_long need 0 n)))
+          rw (all, i, j, length-append) (ap Ok (omega (arith, hash_list_long heads 0 h, hash_list_long need 0 n)))
 
   -- what stands behind lists that are accepted
   pub record ListsAre (a : ℕ) : Type 0 where
     pub good : passed_good s haves ≡ true
-    pub first : passed_hashes heads ≡ Hashes (length heads / sizes.hash)
-    pub second : passed_hashes need ≡ Hashes (length need / sizes.hash)
+    pub first : passed_hashes heads ≡ Ok (length heads / sizes.hash)
+    pub second : passed_hashes need ≡ Ok (length need / sizes.hash)
     pub long : a ≡ length (hash_list_bytes (hashes_of heads)) + length (hash_list_bytes (hashes_of need))
 
-  pub lists_are : (a : ℕ) → size_of lists_output ≡ Bytes a → ListsAre a
+  pub lists_are : (a : ℕ) → size_of lists_output ≡ Ok a → ListsAre a
   lists_are a e =
       let b = size_bytes _ a e in
       let x = haves_apart s haves _ b.list b.is in
@@ -277,7 +260,7 @@ module _ (heads need s haves : List ℕ) where
         long = b.long ∙ ap length (sym same) ∙ length-append (hash_list_bytes (hashes_of heads)) (hash_list_bytes (hashes_of need));
       }
 
-  pub first_small : (a : ℕ) → size_of lists_output ≡ Bytes a → a ≤ most_list_lem + most_list_lem
+  pub first_small : (a : ℕ) → size_of lists_output ≡ Ok a → a ≤ most_list_lem + most_list_lem
   first_small a e =
       let b = lists_are a e in
       let h : ℕ = length heads / sizes.hash in
@@ -335,7 +318,7 @@ module _ (chunks lengths : List ℕ) where
 
   module _ (end numbers i : ℕ) (p : Cutting end numbers i) where
     module _ (here : i < length lengths) where
-      pub cutting_short : length chunks - end < get_or lengths i 0 → Refused (Cut end) ≡ size_of cut_output
+      pub cutting_short : length chunks - end < get_or lengths i 0 → Err (Cut end) ≡ size_of cut_output
       cutting_short l =
           refused_size _ _
           (sym p.rest ∙ rw (drop-cons lengths i 0 here) (chunks_cut chunks (within_size chunks_bytes) (get_or lengths i 0) end (drop (suc i) lengths) l))
@@ -374,12 +357,12 @@ module _ (chunks lengths : List ℕ) where
       unfolding test_chunks
       cut_within = sym p.rest ∙ rw none_left
 
-      pub cutting_past : sizes.message < numbers + end → Refused (PastSize 0) ≡ size_of cut_output
+      pub cutting_past : sizes.message < numbers + end → Err (PastSize 0) ≡ size_of cut_output
       cutting_past h = refused_size _ _ (cut_within ∙ within_past chunks_bytes (omega (arith, cut_long)))
 
-      pub cutting_all : numbers + end ≤ sizes.message → Bytes (numbers + end) ≡ size_of cut_output
+      pub cutting_all : numbers + end ≤ sizes.message → Ok (numbers + end) ≡ size_of cut_output
       unfolding size_of
-      cutting_all h = rw (cut_within ∙ within chunks_bytes (omega (arith, cut_long))) (ap Bytes (sym cut_long))
+      cutting_all h = rw (cut_within ∙ within chunks_bytes (omega (arith, cut_long))) (ap Ok (sym cut_long))
 
 module _ (haves chunks lengths : List ℕ) where
   -- with the tests before
@@ -393,7 +376,7 @@ module _ (haves chunks lengths : List ℕ) where
     pub chunks_many : sizes.chunks < length lengths → chunks_output ≡ refuse (PastSize 0)
     chunks_many h = few_chunks_lem haves lengths _ few h
 
-    pub chunks_sized : (x : Size) → length lengths ≤ sizes.chunks → x ≡ size_of (cut_output chunks lengths) → x ≡ size_of chunks_output
+    pub chunks_sized : (x : Result ℕ Refusal) → length lengths ≤ sizes.chunks → x ≡ size_of (cut_output chunks lengths) → x ≡ size_of chunks_output
     chunks_sized x many e = e ∙ ap size_of (sym (few_pass haves lengths _ few many))
 
   -- what stands behind chunks that are accepted
@@ -404,7 +387,7 @@ module _ (haves chunks lengths : List ℕ) where
     pub small : b ≤ sizes.message
     pub long : b ≡ length (chunks_bytes chunks lengths)
 
-  pub chunks_are : (b : ℕ) → size_of chunks_output ≡ Bytes b → ChunksAre b
+  pub chunks_are : (b : ℕ) → size_of chunks_output ≡ Ok b → ChunksAre b
   chunks_are b e =
       let l = size_bytes _ b e in
       let x = few_apart haves lengths _ l.list l.is in
@@ -440,8 +423,8 @@ module _ (p : Parts) where
   abbrev rest : Output
   rest = test_few p.haves p.lengths (test_chunks p.chunks 0 p.lengths (within_size (message_bytes (message_of p))))
 
-  module _ (good : passed_good p.bytes p.haves ≡ true) (h n : ℕ) (first : passed_hashes p.heads ≡ Hashes h)
-      (second : passed_hashes p.need ≡ Hashes n) where
+  module _ (good : passed_good p.bytes p.haves ≡ true) (h n : ℕ) (first : passed_hashes p.heads ≡ Ok h)
+      (second : passed_hashes p.need ≡ Ok n) where
     message_rest : message_output p ≡ rest
     unfolding message_output
     message_rest = haves_pass p.bytes p.haves _ good ∙ hashes_pass p.heads _ h first ∙ hashes_pass p.need _ n second
@@ -461,36 +444,36 @@ module _ (p : Parts) where
 
 -- ---- the size of a message
 
-pub sized_haves : (heads need s haves chunks lengths : List ℕ) (a b : ℕ) → size_of (lists_output heads need s haves) ≡ Bytes a
-    → size_of (chunks_output haves chunks lengths) ≡ Bytes b → GoodHaves s haves
+pub sized_haves : (heads need s haves chunks lengths : List ℕ) (a b : ℕ) → size_of (lists_output heads need s haves) ≡ Ok a
+    → size_of (chunks_output haves chunks lengths) ≡ Ok b → GoodHaves s haves
 sized_haves heads need s haves chunks lengths a b e f =
     record { good = (lists_are heads need s haves a e).good; few = (chunks_are haves chunks lengths b f).few }
 
 pub middle_small : (s haves : List ℕ) (x : ℕ) → GoodHaves s haves → x ≡ length (counted have_bytes (haves_of s haves)) → x ≤ most_haves
 middle_small s haves x g e = omega (arith, haves_small s haves g)
 
-pub section_small : (flags : Section) (y : ℕ) → y ≡ length (section_bytes flags) → y ≤ 3
+pub section_small : (flags : Option MessageFlags) (y : ℕ) → y ≡ length (section_bytes flags) → y ≤ 3
 unfolding section_bytes
-section_small Absent y e = omega arith
-section_small (Present f) y e = omega arith
+section_small None y e = omega arith
+section_small (Some f) y e = omega arith
 
-module _ (heads need s haves chunks lengths : List ℕ) (flags : Section) where
-  pub sized_lists : (r : Refusal) → size_of (lists_output heads need s haves) ≡ Refused r
-      → (v : MessageVersion) → Refused r ≡ size_of (message_output (parts_of v heads need s haves chunks lengths flags))
+module _ (heads need s haves chunks lengths : List ℕ) (flags : Option MessageFlags) where
+  pub sized_lists : (r : Refusal) → size_of (lists_output heads need s haves) ≡ Err r
+      → (v : MessageVersion) → Err r ≡ size_of (message_output (parts_of v heads need s haves chunks lengths flags))
   sized_lists r e v = refused_size _ r (message_lists (parts_of v heads need s haves chunks lengths flags) r (size_refused _ r e))
 
-  module _ (a : ℕ) (first : size_of (lists_output heads need s haves) ≡ Bytes a) where
-    pub sized_chunks : (r : Refusal) → size_of (chunks_output haves chunks lengths) ≡ Refused r
-        → (v : MessageVersion) → Refused r ≡ size_of (message_output (parts_of v heads need s haves chunks lengths flags))
+  module _ (a : ℕ) (first : size_of (lists_output heads need s haves) ≡ Ok a) where
+    pub sized_chunks : (r : Refusal) → size_of (chunks_output haves chunks lengths) ≡ Err r
+        → (v : MessageVersion) → Err r ≡ size_of (message_output (parts_of v heads need s haves chunks lengths flags))
     sized_chunks r e v =
         let l = lists_are heads need s haves a first in
         refused_size _ r
         (message_chunks (parts_of v heads need s haves chunks lengths flags) l.good _ _ l.first l.second r (size_refused _ r e))
 
-    module _ (b : ℕ) (last : size_of (chunks_output haves chunks lengths) ≡ Bytes b) where
+    module _ (b : ℕ) (last : size_of (chunks_output haves chunks lengths) ≡ Ok b) where
       module _ (x y : ℕ) (middle : x ≡ length (counted have_bytes (haves_of s haves))) (section : y ≡ length (section_bytes flags)) where
         pub sized_past : sizes.message < 1 + a + x + b + y
-            → (v : MessageVersion) → Refused (PastSize 0) ≡ size_of (message_output (parts_of v heads need s haves chunks lengths flags))
+            → (v : MessageVersion) → Err (PastSize 0) ≡ size_of (message_output (parts_of v heads need s haves chunks lengths flags))
         sized_past h v =
             let l = lists_are heads need s haves a first in
             let c = chunks_are haves chunks lengths b last in
@@ -500,7 +483,7 @@ module _ (heads need s haves chunks lengths : List ℕ) (flags : Section) where
             ∙ within_past _ (omega (arith, message_long (message_of p), l.long, c.long, middle, section)))
 
         pub sized_all : 1 + a + x + b + y ≤ sizes.message
-            → (v : MessageVersion) → Bytes (1 + a + x + b + y) ≡ size_of (message_output (parts_of v heads need s haves chunks lengths flags))
+            → (v : MessageVersion) → Ok (1 + a + x + b + y) ≡ size_of (message_output (parts_of v heads need s haves chunks lengths flags))
         unfolding size_of
         sized_all h v =
             let l = lists_are heads need s haves a first in
@@ -511,15 +494,15 @@ module _ (heads need s haves chunks lengths : List ℕ) (flags : Section) where
             message_within p l.good _ _ l.first l.second c.few c.many c.whole
             ∙ within _ (omega (arith, long, l.long, c.long, middle, section))
             in
-            rw all (ap Bytes (omega (arith, long, l.long, c.long, middle, section)))
+            rw all (ap Ok (omega (arith, long, l.long, c.long, middle, section)))
 
 -- ---- what was written
 
 -- Parts that pass every test but that of the message's size.
 pub record PartsAccepted (p : Parts) : Type 0 where
   pub haves : GoodHaves p.bytes p.haves
-  pub heads : passed_hashes p.heads ≡ Hashes (length p.heads / sizes.hash)
-  pub need : passed_hashes p.need ≡ Hashes (length p.need / sizes.hash)
+  pub heads : passed_hashes p.heads ≡ Ok (length p.heads / sizes.hash)
+  pub need : passed_hashes p.need ≡ Ok (length p.need / sizes.hash)
   pub few : length p.lengths ≤ sizes.chunks
   pub whole : total p.lengths ≤ length p.chunks
 
@@ -561,22 +544,22 @@ pub record Ready (p : Parts) (size : ℕ) : Type 0 where
   pub output : message_output p ≡ bytes (message_bytes (message_of p))
   pub long : size ≡ length (message_bytes (message_of p))
 
-pub ready : (p : Parts) (size : ℕ) → size_of (message_output p) ≡ Bytes size → Ready p size
+pub ready : (p : Parts) (size : ℕ) → size_of (message_output p) ≡ Ok size → Ready p size
 ready p size e =
     let b = size_bytes (message_output p) size e in
     let w = message_written p b.list b.is in
     record { output = b.is ∙ ap bytes w.is; long = b.long ∙ ap length w.is }
 
-module _ (p : Parts) (size : ℕ) (e : size_of (message_output p) ≡ Bytes size) (before : List ℕ) where
-  pub written_short : length before < size → Written (message_output p) before before (NotWritten (NoRoom size))
+module _ (p : Parts) (size : ℕ) (e : size_of (message_output p) ≡ Ok size) (before : List ℕ) where
+  pub written_short : length before < size → Written (message_output p) before before (Err (NoRoom size))
   written_short h = let r = ready p size e in rw r.output (no_room _ _ _ r.long h)
 
   pub written_all : (after : List ℕ) → size ≤ length before → after ≡ sets before 0 (message_bytes (message_of p))
-      → Written (message_output p) before after (Wrote size)
+      → Written (message_output p) before after (Ok size)
   written_all after h q = let r = ready p size e in rw r.output (written_bytes _ _ _ _ r.long h q)
 
-pub written_refused : (p : Parts) (r : Refusal) (before : List ℕ) → size_of (message_output p) ≡ Refused r
-    → Written (message_output p) before before (NotWritten r)
+pub written_refused : (p : Parts) (r : Refusal) (before : List ℕ) → size_of (message_output p) ≡ Err r
+    → Written (message_output p) before before (Err r)
 written_refused p r before e = rw (size_refused _ r e) (refused r before)
 
 -- ---- the order of refusals: each law has the tests that come before as its premises
@@ -587,16 +570,16 @@ module _ (p : Parts) where
   refuses_haves e = haves_bad p.bytes p.haves _ e
 
   module _ (good : passed_good p.bytes p.haves ≡ true) where
-    pub refuses_heads : (r : Refusal) → passed_hashes p.heads ≡ NotPassed r → message_output p ≡ refuse r
+    pub refuses_heads : (r : Refusal) → passed_hashes p.heads ≡ Err r → message_output p ≡ refuse r
     unfolding message_output
     refuses_heads r e = haves_pass p.bytes p.haves _ good ∙ hashes_stop p.heads _ r e
 
-    module _ (h : ℕ) (first : passed_hashes p.heads ≡ Hashes h) where
-      pub refuses_need : (r : Refusal) → passed_hashes p.need ≡ NotPassed r → message_output p ≡ refuse r
+    module _ (h : ℕ) (first : passed_hashes p.heads ≡ Ok h) where
+      pub refuses_need : (r : Refusal) → passed_hashes p.need ≡ Err r → message_output p ≡ refuse r
       unfolding message_output
       refuses_need r e = haves_pass p.bytes p.haves _ good ∙ hashes_pass p.heads _ h first ∙ hashes_stop p.need _ r e
 
-      module _ (n : ℕ) (second : passed_hashes p.need ≡ Hashes n) where
+      module _ (n : ℕ) (second : passed_hashes p.need ≡ Ok n) where
         pub refuses_many_haves : passed_few p.haves ≡ false → message_output p ≡ refuse (PastSize 0)
         refuses_many_haves e = message_rest p good h n first second ∙ few_haves_lem p.haves p.lengths _ e
 

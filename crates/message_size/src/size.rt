@@ -14,9 +14,8 @@ ghost use Rattle.leb128.specs.Number.{shortest};
 use bloom::have::{HAVE_WORDS, filter_in, passed_few, passed_good, sync_count};
 use bloom::to_bytes::filter_size;
 use leb128::leb128::unsigned_size;
-use message::flags::Section;
-use rules::output::Size;
-use rules::passed::{Passed, passed_hashes};
+use message::flags::MessageFlags;
+use rules::passed::passed_hashes;
 use rules::refusal::Refusal;
 use rules::sizes::{CHUNKS, HASH_SIZE, MESSAGE_SIZE};
 
@@ -56,84 +55,69 @@ pub fn haves_size(bytes: &[u8], haves: &[u64]) -> usize
 {
     let total = haves.len() / HAVE_WORDS;
     let mut size = unsigned_size(total as u64);
-    let mut i = 0;
-    while i < total {
+    for i in 0..total {
         size += have_size(bytes, haves, i);
-        i += 1;
     }
     size
 }
 
 // The chunks, with their count. A length is compared with what is left and never added before: lengths can be anything.
-pub fn cut_chunks(chunks: &[u8], lengths: &[u64]) -> Size
+pub fn cut_chunks(chunks: &[u8], lengths: &[u64]) -> Result<usize, Refusal>
     requires { length lengths.now ≤ sizes.chunks }
     ensures { result ≡ size_of (test_chunks chunks.now 0 lengths.now
         (within_size (counted prefixed_bytes (chunks_from chunks.now 0 lengths.now)))) }
 {
     let mut end: usize = 0;
     let mut numbers: usize = unsigned_size(lengths.len() as u64);
-    let mut i = 0;
-    while i < lengths.len() {
-        let n = lengths[i];
+    for &n in lengths {
         if ((chunks.len() - end) as u64) < n {
-            return Size::Refused(Refusal::Cut(end));
+            return Err(Refusal::Cut(end));
         }
         end += n as usize;
         numbers += unsigned_size(n);
-        i += 1;
     }
     let size = numbers + end;
     if MESSAGE_SIZE < size {
-        return Size::Refused(Refusal::PastSize(0));
+        return Err(Refusal::PastSize(0));
     }
-    Size::Bytes(size)
+    Ok(size)
 }
 
 // 10 for the haves, then heads and need.
-fn lists_size(heads: &[u8], need: &[u8], bytes: &[u8], haves: &[u64]) -> Size
+fn lists_size(heads: &[u8], need: &[u8], bytes: &[u8], haves: &[u64]) -> Result<usize, Refusal>
     ensures { result ≡ size_of (test_haves bytes.now haves.now
         (test_hashes heads.now (test_hashes need.now
         (Output.bytes (hash_list_bytes (hashes_of heads.now) ++ hash_list_bytes (hashes_of need.now)))))) }
 {
     if !passed_good(bytes, haves) {
-        return Size::Refused(Refusal::BadNumbers);
+        return Err(Refusal::BadNumbers);
     }
-    let first = passed_hashes(heads);
-    match first {
-        Passed::Hashes(heads_count) => {
-            let second = passed_hashes(need);
-            match second {
-                Passed::Hashes(need_count) => Size::Bytes(
-                    hashes_size(heads_count) + hashes_size(need_count),
-                ),
-                Passed::Refused(r) => Size::Refused(r),
-            }
-        }
-        Passed::Refused(r) => Size::Refused(r),
-    }
+    let heads_count = passed_hashes(heads)?;
+    let need_count = passed_hashes(need)?;
+    Ok(hashes_size(heads_count) + hashes_size(need_count))
 }
 
 // 4 for the haves and the number of chunks, then the chunks.
-fn chunks_size(haves: &[u64], chunks: &[u8], lengths: &[u64]) -> Size
+fn chunks_size(haves: &[u64], chunks: &[u8], lengths: &[u64]) -> Result<usize, Refusal>
     ensures { result ≡ size_of (test_few haves.now lengths.now (test_chunks chunks.now 0 lengths.now
         (within_size (counted prefixed_bytes (chunks_from chunks.now 0 lengths.now))))) }
 {
     if !passed_few(haves) {
-        return Size::Refused(Refusal::PastSize(0));
+        return Err(Refusal::PastSize(0));
     }
     if CHUNKS < lengths.len() {
-        return Size::Refused(Refusal::PastSize(0));
+        return Err(Refusal::PastSize(0));
     }
     cut_chunks(chunks, lengths)
 }
 
 // The flags section.
-fn section_size(flags: Section) -> usize
+fn section_size(flags: Option<MessageFlags>) -> usize
     ensures { result ≡ length (section_bytes flags) }
 {
     match flags {
-        Section::Absent => 0,
-        Section::Present(_) => 3,
+        None => 0,
+        Some(_) => 3,
     }
 }
 
@@ -145,26 +129,16 @@ pub fn message_size(
     haves: &[u64],
     chunks: &[u8],
     lengths: &[u64],
-    flags: Section,
-) -> Size
+    flags: Option<MessageFlags>,
+) -> Result<usize, Refusal>
     ensures { (v : MessageVersion) → result ≡ size_of (message_output (parts_of v heads.now need.now bytes.now
         haves.now chunks.now lengths.now flags)) }
 {
-    let lists = lists_size(heads, need, bytes, haves);
-    match lists {
-        Size::Bytes(first) => {
-            let rest = chunks_size(haves, chunks, lengths);
-            match rest {
-                Size::Bytes(last) => {
-                    let size = 1 + first + haves_size(bytes, haves) + last + section_size(flags);
-                    if MESSAGE_SIZE < size {
-                        return Size::Refused(Refusal::PastSize(0));
-                    }
-                    Size::Bytes(size)
-                }
-                Size::Refused(r) => Size::Refused(r),
-            }
-        }
-        Size::Refused(r) => Size::Refused(r),
+    let first = lists_size(heads, need, bytes, haves)?;
+    let last = chunks_size(haves, chunks, lengths)?;
+    let whole = 1 + first + haves_size(bytes, haves) + last + section_size(flags);
+    if MESSAGE_SIZE < whole {
+        return Err(Refusal::PastSize(0));
     }
+    Ok(whole)
 }

@@ -13,8 +13,6 @@ use Rattle.bloom.specs.declared.have.FilterNumbers.{FilterNumbers}
 use Rattle.message.specs.Flags.{section_bytes}
 use Rattle.message.specs.Message.{Message, type_of, joined, counted, have_bytes, message_bytes}
 use Rattle.message.specs.declared.flags.MessageFlags.{MessageFlags}
-use Rattle.message.specs.declared.flags.Section.{Section}
-use Rattle.message.specs.declared.flags.Section.TheVariants.{Absent, Present}
 use Rattle.rules.specs.Hash.{Bytes, hashes_at}
 use Rattle.rules.specs.Sizes.{sizes}
 use Rattle.wire.specs.Item.{prefixed_bytes, hash_list_bytes}
@@ -22,6 +20,7 @@ use Rattle.leb128.specs.Number.{shortest, Put}
 use Rattle.leb128.proofs.Number.{put_then, put_joined}
 use Rattle.message.specs.Write.{chunks_from}
 use Rattle.message_size.proofs.SizeLaws.{part_is, part_long, hash_list_is, have_is, haves_next, haves_end, haves_long, chunks_long, counted_is}
+use Rattle.std.specs.Prelude.{Option, Some, None}
 
 -- ---- one part after the other
 
@@ -36,9 +35,6 @@ pub record Putting (before out : List ℕ) (at place : ℕ) (whole rest : List �
   pub same : sets out place rest ≡ sets before at whole
   pub ends : place + length rest ≡ at + length whole
   pub long : length out ≡ length before
-
-pub putting_starts : (before : List ℕ) (at : ℕ) (whole : List ℕ) → Putting before before at at whole whole
-putting_starts before at whole = record { same = refl; ends = refl; long = refl }
 
 module _ (before out : List ℕ) (at place : ℕ) (whole : List ℕ) where
   pub putting_on : (next : List ℕ) (after : ℕ) (a b : List ℕ) → Putting before out at place whole (a ++ b) → Put out next place a after
@@ -153,19 +149,19 @@ put_have_parts s haves i f e before mid after at next end p q =
 
 -- ---- the section
 
-pub put_absent : (out : List ℕ) (at : ℕ) → Put out out at (section_bytes Absent) at
+pub put_absent : (out : List ℕ) (at : ℕ) → Put out out at (section_bytes None) at
 unfolding section_bytes
 put_absent out at = record { place = omega arith; content = refl }
 
 pub put_present : (out : List ℕ) (at : ℕ) (f : MessageFlags)
-    → Put out (set (set (set out at 2) (at + 1) 2) (at + 2) (128 + f.0 % 128)) at (section_bytes (Present f)) (at + 3)
+    → Put out (set (set (set out at 2) (at + 1) 2) (at + 2) (128 + f.0 % 128)) at (section_bytes (Some f)) (at + 3)
 unfolding section_bytes
 put_present out at f =
     let one : at + 1 ≡ suc at = omega arith in
     let two : at + 2 ≡ suc (suc at) = omega arith in
     record { place = refl; content = rw (one, two) }
 
-pub section_room : (at room : ℕ) (flags : Section) (f : MessageFlags) → flags ≡ Present f → at + length (section_bytes flags) ≤ room → at + 3 ≤ room
+pub section_room : (at room : ℕ) (flags : Option MessageFlags) (f : MessageFlags) → flags ≡ Some f → at + length (section_bytes flags) ≤ room → at + 3 ≤ room
 unfolding section_bytes
 section_room at room flags f e h = rw e at h
 

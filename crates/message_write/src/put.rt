@@ -15,7 +15,7 @@ ghost use Rattle.leb128.specs.Number.{Put};
 use bloom::have::{HAVE_WORDS, filter_in, sync_count, sync_place};
 use bloom::to_bytes::{filter_size, put_filter};
 use leb128::leb128::put_unsigned;
-use message::flags::{BITFIELD_MARKER, LEGACY_V2_BYTE, Section};
+use message::flags::{BITFIELD_MARKER, LEGACY_V2_BYTE, MessageFlags};
 use message::version::MessageVersion;
 use rules::put::copy_into;
 use rules::sizes::HASH_SIZE;
@@ -77,10 +77,8 @@ fn put_haves(out: &mut [u8], at: usize, bytes: &[u8], haves: &[u64]) -> usize
 {
     let total = haves.len() / HAVE_WORDS;
     let mut place = put_unsigned(out, at, total as u64);
-    let mut i = 0;
-    while i < total {
+    for i in 0..total {
         place = put_have(out, place, bytes, haves, i);
-        i += 1;
     }
     place
 }
@@ -103,24 +101,22 @@ fn put_chunks(out: &mut [u8], at: usize, chunks: &[u8], lengths: &[u64]) -> usiz
 {
     let mut place = put_unsigned(out, at, lengths.len() as u64);
     let mut start: usize = 0;
-    let mut i = 0;
-    while i < lengths.len() {
-        let end = start + lengths[i] as usize;
+    for &n in lengths {
+        let end = start + n as usize;
         place = put_chunk(out, place, &chunks[start..end]);
         start = end;
-        i += 1;
     }
     place
 }
 
 // The flags section.
-fn put_section(out: &mut [u8], at: usize, flags: Section) -> usize
+fn put_section(out: &mut [u8], at: usize, flags: Option<MessageFlags>) -> usize
     requires { at + length (section_bytes flags) ≤ length out.old }
     ensures { Put out.old out.new at (section_bytes flags) result }
 {
     match flags {
-        Section::Absent => at,
-        Section::Present(f) => {
+        None => at,
+        Some(f) => {
             out[at] = LEGACY_V2_BYTE;
             out[at + 1] = LEGACY_V2_BYTE;
             out[at + 2] = BITFIELD_MARKER + f.0 % BITFIELD_MARKER;
@@ -139,7 +135,7 @@ pub fn put_message(
     haves: &[u64],
     chunks: &[u8],
     lengths: &[u64],
-    flags: Section,
+    flags: Option<MessageFlags>,
 )
     requires { (message_output (parts_of version heads.now need.now bytes.now haves.now chunks.now lengths.now flags)
         ≡ Output.bytes (message_bytes (message_of (parts_of version heads.now need.now bytes.now haves.now chunks.now lengths.now flags))))

@@ -3,13 +3,13 @@ ghost use Rattle.std.specs.Prelude.{◌≡◌};
 ghost use Rattle.offer_calls.specs.OfferWords.{offer_words};
 
 use call_words::answer::refusal_words;
-use plan_offer::offer::OfferAnswer;
+use rules::refusal::Refusal;
 
-pub fn offer_words(offered: OfferAnswer) -> [u64; 4]
+pub fn offer_words(offered: Result<(bool, usize), Refusal>) -> [u64; 4]
     ensures { result ≡ offer_words offered }
 {
     match offered {
-        OfferAnswer::Offers { document, hashes } => [0, document as u64, hashes as u64, 0],
-        OfferAnswer::Refused(r) => refusal_words(r),
+        Ok((document, hashes)) => [0, document as u64, hashes as u64, 0],
+        Err(r) => refusal_words(r),
     }
 }

@@ -133,7 +133,6 @@ exported_bind =
       hash_list_words = λ κs a x y u v p q. (once p q, refl);
       filter_words = λ κs a x y u v p q. (once p q, refl);
       contained_words = λ κs a x y u v p q. (once p q, refl);
-      checked_words = λ κs a x y u v p q. (once p q, refl);
       setting_words = λ κs a x y u v p q. (once p q, refl);
       salvage_words = λ κs a x y u v p q. (once p q, refl);
       pick_words = λ κs a x y u v p q. (once p q, refl);

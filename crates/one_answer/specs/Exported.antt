@@ -60,8 +60,6 @@ use Rattle.table_calls.specs.contracts.calls.bt_beyond as of-bt-beyond
 use Rattle.table_calls.proofs.calls.bt_beyond.Reads as reads-bt-beyond
 use Rattle.table_calls.specs.contracts.calls.bt_missing as of-bt-missing
 use Rattle.table_calls.proofs.calls.bt_missing.Reads as reads-bt-missing
-use Rattle.table_calls.specs.contracts.answer.checked_words as of-checked-words
-use Rattle.table_calls.proofs.answer.checked_words.Reads as reads-checked-words
 use Rattle.settings_calls.specs.contracts.calls.bt_check_settings as of-bt-check-settings
 use Rattle.settings_calls.proofs.calls.bt_check_settings.Reads as reads-bt-check-settings
 use Rattle.settings_calls.specs.contracts.calls.bt_setting_at as of-bt-setting-at
@@ -189,7 +187,6 @@ pub record ExportedBind : Type 0 where
   pub bt_heads : Binds of-bt-heads.ended reads-bt-heads.Post
   pub bt_beyond : Binds of-bt-beyond.ended reads-bt-beyond.Post
   pub bt_missing : Binds of-bt-missing.ended reads-bt-missing.Post
-  pub checked_words : Binds of-checked-words.ended reads-checked-words.Post
   -- the crate settings_calls
   pub bt_check_settings : Binds of-bt-check-settings.ended reads-bt-check-settings.Post
   pub bt_setting_at : Binds of-bt-setting-at.ended reads-bt-setting-at.Post

@@ -9,33 +9,13 @@ use borrow.Author.Tests.{eqb-true, eq-eqb, not-true, not-false, ltb-false, le-lt
 use lib.Dec.{ltb, leb, eqb}
 use lib.ListN.{length, get_or, length-map}
 use Rattle.hash_order.proofs.KeepLaws.{every_member, every_one, once_none, once_cons}
-use Rattle.hash_order.proofs.OrderLaws.{
-  member_none,
-  member_here,
-  member_there,
-  member_index,
-  ascends_tail,
-  ascends_first,
-  ascends_cons,
-  ascends_index,
-}
+use Rattle.hash_order.proofs.OrderLaws.{member_none, member_here, member_there, member_index, ascends_tail, ascends_first, ascends_cons, ascends_index}
 use Rattle.hash_order.specs.Order.{member, every, ascends, Once}
 use Rattle.rules.proofs.Cases.{split, both, true_false, either, or_left, or_right, and_true}
 use Rattle.table.specs.Table.{Row, row_number, held, deps}
 use Rattle.table_graph.proofs.BelowLaws.{member_map, map_member}
-use Rattle.pick.specs.Picking.{
-  goes_with,
-  hash_fits,
-  first_broken,
-  size_sum,
-  pick_fits,
-  empty_allowed,
-  pick_checked,
-  Acceptable,
-  CheckTells,
-}
-use Rattle.pick.specs.declared.check.Picked.{Picked}
-use Rattle.pick.specs.declared.check.Picked.TheVariants.{Fine, Breaks}
+use Rattle.pick.specs.Picking.{goes_with, hash_fits, first_broken, size_sum, pick_fits, empty_allowed, pick_checked, Acceptable, CheckTells}
+use Rattle.std.specs.Prelude.{Result, Ok, Err}
 
 -- ---- a single hash
 
@@ -161,8 +141,8 @@ pub record Accepts (t : List Row) (list rowSizes : List ℕ) (budget : ℕ) (pic
   pub small : size_sum t rowSizes pick ≤ budget
   pub some : length pick ≡ 0 → empty_allowed t list rowSizes budget ≡ true
 
-taken : (a b c d : Bool) (x y z w : Picked) → cond a x (cond b y (cond c z (cond d w Fine))) ≡ Fine
-    → (x ≡ Fine → ⊥) → (y ≡ Fine → ⊥) → (z ≡ Fine → ⊥) → (w ≡ Fine → ⊥)
+taken : (a b c d : Bool) (x y z w : Result Unit ℕ) → cond a x (cond b y (cond c z (cond d w (Ok tt)))) ≡ Ok tt
+    → (x ≡ Ok tt → ⊥) → (y ≡ Ok tt → ⊥) → (z ≡ Ok tt → ⊥) → (w ≡ Ok tt → ⊥)
     → (a ≡ false) × (b ≡ false) × (c ≡ false) × (d ≡ false)
 taken true b c d x y z w e fx fy fz fw = absurd (fx e)
 taken false true c d x y z w e fx fy fz fw = absurd (fy e)
@@ -170,17 +150,17 @@ taken false false true d x y z w e fx fy fz fw = absurd (fz e)
 taken false false false true x y z w e fx fy fz fw = absurd (fw e)
 taken false false false false x y z w e fx fy fz fw = (refl, refl, refl, refl)
 
-not_fine : (p : ℕ) → Breaks p ≡ Fine → ⊥
-not_fine p e = true_false (is_fine (Breaks p)) (ap is_fine e) refl
+not_fine : (p : ℕ) → ◌≡◌ {A = Result Unit ℕ} (Err p) (Ok tt) → ⊥
+not_fine p e = true_false (is_fine (Err p)) (ap is_fine e) refl
   where
-    is_fine : Picked → Bool
-    is_fine Fine = true
-    is_fine (Breaks q) = false
+    is_fine : Result Unit ℕ → Bool
+    is_fine (Ok tt) = true
+    is_fine (Err q) = false
 
 unbroken : (a b : ℕ) → ltb a b ≡ false → 0 + b ≤ a
 unbroken a b e = let z = ltb-false a b e in omega arith
 
-pub accepts : (t : List Row) (list rowSizes : List ℕ) (budget : ℕ) (pick : List ℕ) → pick_checked t list rowSizes budget pick ≡ Fine
+pub accepts : (t : List Row) (list rowSizes : List ℕ) (budget : ℕ) (pick : List ℕ) → pick_checked t list rowSizes budget pick ≡ Ok tt
     → Accepts t list rowSizes budget pick
 unfolding pick_checked
 accepts t list rowSizes budget pick e =
@@ -193,7 +173,7 @@ accepts t list rowSizes budget pick e =
     }
 
 pub accepted_is : (t : List Row) (list rowSizes : List ℕ) (budget : ℕ) (pick : List ℕ) → Accepts t list rowSizes budget pick
-    → pick_checked t list rowSizes budget pick ≡ Fine
+    → pick_checked t list rowSizes budget pick ≡ Ok tt
 unfolding pick_checked
 accepted_is t list rowSizes budget pick a =
     let f = fits_unbroken t list pick 0 0 pick a.fits in
@@ -268,7 +248,7 @@ pub check_tells : CheckTells
 unfolding goes_with empty_allowed
 check_tells t list rowSizes budget pick = (tells, told)
   where
-    tells : pick_checked t list rowSizes budget pick ≡ Fine → Acceptable t list rowSizes budget pick
+    tells : pick_checked t list rowSizes budget pick ≡ Ok tt → Acceptable t list rowSizes budget pick
     tells e =
         let a = accepts t list rowSizes budget pick e in
         record {
@@ -313,7 +293,7 @@ check_tells t list rowSizes budget pick = (tells, told)
               (λ l. or_left (not (member d list)) (member d pick) (ap not l)));
         })
 
-    told : Acceptable t list rowSizes budget pick → pick_checked t list rowSizes budget pick ≡ Fine
+    told : Acceptable t list rowSizes budget pick → pick_checked t list rowSizes budget pick ≡ Ok tt
     told a =
         accepted_is t list rowSizes budget pick
         (record {

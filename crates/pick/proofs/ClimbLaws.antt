@@ -13,12 +13,12 @@ use Rattle.hash_order.proofs.OrderLaws.{member_here, member_there, member_behind
 use Rattle.hash_order.specs.Order.{member, keep, Once}
 use Rattle.pick.proofs.AcceptLaws.{AllFits, accepts, fits_listed, fits_parts}
 use Rattle.pick.specs.Picking.{pick_checked}
-use Rattle.pick.specs.declared.check.Picked.TheVariants.{Fine}
 use Rattle.rules.proofs.Cases.{split, true_false, same_truth}
 use Rattle.table.proofs.TableLaws.{index_of_member, member_of_index, length_rows}
 use Rattle.table.specs.Table.{Row, GoodTable, rows, hash_of, row_number, held, index_in}
 use Rattle.table_graph.proofs.PickLaws.{pick_keep, marks_picked}
 use Rattle.table_graph.specs.Internal.Marks.{Marks, picked}
+use Rattle.std.specs.Prelude.{Ok}
 
 -- The places of numbers in a list climb from a place on.
 pub data Climbs (l : List ℕ) : ℕ → List ℕ → Type 0 where
@@ -81,15 +81,15 @@ module _ (t : List Row) (list rowSizes : List ℕ) (budget : ℕ) (pick : List �
   climbs_of from (h ∷ hs) e = Climbs.more e.0.behind (index_of_member (rows t) h e.0.held_there) (climbs_of (suc (row_number t h)) hs e.1)
 
   -- each of its hashes is a row
-  pub accepted_held : pick_checked t list rowSizes budget pick ≡ Fine → (h : ℕ) → member h pick ≡ true → held t h ≡ true
+  pub accepted_held : pick_checked t list rowSizes budget pick ≡ Ok tt → (h : ℕ) → member h pick ≡ true → held t h ≡ true
   accepted_held e h m = (fits_parts t list pick 0 pick (accepts t list rowSizes budget pick e).fits h m).0
 
   -- and in the list
-  pub accepted_listed : pick_checked t list rowSizes budget pick ≡ Fine → (h : ℕ) → member h pick ≡ true → member h list ≡ true
+  pub accepted_listed : pick_checked t list rowSizes budget pick ≡ Ok tt → (h : ℕ) → member h pick ≡ true → member h list ≡ true
   accepted_listed e = fits_listed t list pick 0 pick (accepts t list rowSizes budget pick e).fits
 
   -- and the marked rows are the pick
-  pub accepted_rows : GoodTable t → pick_checked t list rowSizes budget pick ≡ Fine
+  pub accepted_rows : GoodTable t → pick_checked t list rowSizes budget pick ≡ Ok tt
       → (m : List Bool) → Marks (length t) m (λ i. member (hash_of t i) pick)
       → picked (rows t) m ≡ pick
   unfolding hash_of

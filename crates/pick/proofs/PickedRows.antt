@@ -7,7 +7,7 @@ use native.Mathlib.Numerals.{add-one}
 use native.Mathlib.Omega.{arith}
 use borrow.Author.Tests.{eqb-true, eqb-false, ltb-true, ltb-false}
 use lib.Dec.{ltb, eqb}
-use lib.ListN.{length, get_or, set, length-set}
+use lib.ListN.{length, get_or, set}
 use lib.Seq.{get_or-set_same, get_or-set_other, sets}
 use Rattle.hash_order.proofs.KeepLaws.{once_index}
 use Rattle.hash_order.proofs.OrderLaws.{member_none, member_here, member_append}
@@ -118,9 +118,7 @@ unfolding picked_from
 no_more t list rowSizes i c left before e = rw e
 
 -- The loop's state before row i: what was picked, as marks and counted, and what follows from here is the whole pick.
-pub record PickedSoFar (s : List ℕ) (n : ℕ) (rowSizes : List ℕ) (budget : ℕ) (listed first picks : List Bool) (left count i : ℕ) : Type 0 where
-  pub upto : i ≤ n
-  pub long : length picks ≡ length first
+pub record PickedSoFar (s : List ℕ) (n : ℕ) (rowSizes : List ℕ) (budget : ℕ) (listed picks : List Bool) (left count i : ℕ) : Type 0 where
   pub blank : (k : ℕ) → i ≤ k → k < n → get_or picks k false ≡ false
   pub many : count ≡ length (pick_up_to (rows (rows_at s 0 n)) picks i)
   pub few : count ≤ i
@@ -135,12 +133,10 @@ module _ (s : List ℕ) (n : ℕ) (rowSizes : List ℕ) (budget : ℕ) (listed :
   long_rows : length (rows t) ≡ n
   long_rows = length_rows t ∙ length_rows_at s 0 n
 
-  pub planned_starts : (first : List Bool) → Blank n first → PickedSoFar s n rowSizes budget listed first first budget 0 0
+  pub planned_starts : (first : List Bool) → Blank n first → PickedSoFar s n rowSizes budget listed first budget 0 0
   unfolding pick_up_to pick_of
   planned_starts first b =
       record {
-        upto = omega arith;
-        long = refl;
         blank = λ k h l. b.each k l;
         many = refl;
         few = omega arith;
@@ -150,8 +146,8 @@ module _ (s : List ℕ) (n : ℕ) (rowSizes : List ℕ) (budget : ℕ) (listed :
             rw (e, length_rows_at s 0 n);
       }
 
-  module _ (g : GoodRows s n) (first picks : List Bool) (left count i : ℕ)
-      (w : PickedSoFar s n rowSizes budget listed first picks left count i)
+  module _ (g : GoodRows s n) (picks : List Bool) (left count i : ℕ)
+      (w : PickedSoFar s n rowSizes budget listed picks left count i)
       (inside : i < n)
     where
       tells : (list : List ℕ) → RowMarks s n list listed
@@ -178,13 +174,11 @@ module _ (s : List ℕ) (n : ℕ) (rowSizes : List ℕ) (budget : ℕ) (listed :
           let d : n - i ≡ suc (n - (i + 1)) = omega arith in
           rw (d, e, add-one i)
 
-      pub planned_stays : row_goes s listed picks (get_or rowSizes i 0) left i ≡ false → PickedSoFar s n rowSizes budget listed first picks left count (i + 1)
+      pub planned_stays : row_goes s listed picks (get_or rowSizes i 0) left i ≡ false → PickedSoFar s n rowSizes budget listed picks left count (i + 1)
       planned_stays e =
           let same : pick_up_to (rows t) picks (i + 1) ≡ pick_up_to (rows t) picks i =
           rw (add-one i) (up_to_passed (rows t) picks i (w.blank i (omega arith) inside)) in
           record {
-            upto = omega arith;
-            long = w.long;
             blank = λ k h l. w.blank k (omega arith) l;
             many = rw same w.many;
             few = let z = w.few in omega arith;
@@ -192,7 +186,7 @@ module _ (s : List ℕ) (n : ℕ) (rowSizes : List ℕ) (budget : ℕ) (listed :
           }
 
       pub planned_takes : i < length picks → row_goes s listed picks (get_or rowSizes i 0) left i ≡ true
-          → PickedSoFar s n rowSizes budget listed first (set picks i true) (left - get_or rowSizes i 0) (count + 1) (i + 1)
+          → PickedSoFar s n rowSizes budget listed (set picks i true) (left - get_or rowSizes i 0) (count + 1) (i + 1)
       unfolding hash_of
       planned_takes room e =
           let now-set : get_or (set picks i true) i false ≡ true = get_or-set_same picks i true false room in
@@ -204,8 +198,6 @@ module _ (s : List ℕ) (n : ℕ) (rowSizes : List ℕ) (budget : ℕ) (listed :
           (λ k h. get_or-set_other picks i k true false (λ same. let z : k ≡ i = same in absurd (omega arith)))))
           in
           record {
-            upto = omega arith;
-            long = length-set picks i true ∙ w.long;
             blank =
                 λ k h l.
                 get_or-set_other picks i k true false (λ same. let z : k ≡ i = same in absurd (omega arith)) ∙ w.blank k (omega arith) l;
@@ -214,11 +206,11 @@ module _ (s : List ℕ) (n : ℕ) (rowSizes : List ℕ) (budget : ℕ) (listed :
             rest = λ list marks. rw more (sym (goes_on list (pick_up_to (rows t) picks i) (sym (tells list marks) ∙ e)) ∙ w.rest list marks);
           }
 
-  pub planned_ends : (first picks : List Bool) (left count i : ℕ) → PickedSoFar s n rowSizes budget listed first picks left count i → n ≤ i
+  pub planned_ends : (picks : List Bool) (left count i : ℕ) → PickedSoFar s n rowSizes budget listed picks left count i → i ≤ n → n ≤ i
       → (list : List ℕ) → RowMarks s n list listed
       → MarksPicked s n rowSizes budget list picks count
-  planned_ends first picks left count i w h list marks =
-      let at : i ≡ n = let z = w.upto in omega arith in
+  planned_ends picks left count i w upto h list marks =
+      let at : i ≡ n = omega arith in
       let whole : pick_up_to (rows t) picks i ≡ pick_of t list rowSizes budget =
       no_more t list rowSizes i (n - i) left (pick_up_to (rows t) picks i) (omega arith) ∙ w.rest list marks in
       record {

@@ -1,10 +1,8 @@
 -- Messages that fit the radio. 02, M-110: what a pick may be, the check that accepts it or says what breaks a rule, and the planner. The list is what is
 -- to be sent, less what was sent: it may have repeats, and needs stand first in it. A pick is in table order, each hash once.
-use Rattle.std.specs.Prelude.{ℕ, zero, suc, ◌+◌, ◌-◌, ◌≤◌, ◌<◌, Bool, true, false, cond, not, ◌&&◌, ◌||◌, List, [], ◌∷◌, ◌++◌, ◌≡◌, ltb, leb, eqb, length, get_or}
+use Rattle.std.specs.Prelude.{ℕ, zero, suc, ◌+◌, ◌-◌, ◌≤◌, ◌<◌, Bool, true, false, cond, not, ◌&&◌, ◌||◌, List, [], ◌∷◌, ◌++◌, ◌≡◌, ltb, leb, eqb, length, get_or, Result, Ok, Err}
 use Rattle.hash_order.specs.Order.{member, every}
 use Rattle.table.specs.Table.{Row, GoodTable, hash_of, row_number, held, deps}
-use Rattle.pick.specs.declared.check.Picked.{Picked}
-use Rattle.pick.specs.declared.check.Picked.TheVariants.{Fine, Breaks}
 
 -- ---- the check
 
@@ -39,17 +37,17 @@ empty_allowed t list rowSizes budget = every (λ h. not (pick_fits t list rowSiz
 
 -- What the check answers. 17: the place of the first hash that breaks a rule; then the pick's length for sizes that aren't one a row, for the sum, and for an
 -- empty pick.
-unfoldable pub pick_checked : List Row → List ℕ → List ℕ → ℕ → List ℕ → Picked
+unfoldable pub pick_checked : List Row → List ℕ → List ℕ → ℕ → List ℕ → Result Unit ℕ
 pick_checked t list rowSizes budget pick =
     cond (ltb (first_broken t list pick 0 0 pick) (length pick))
-    (Breaks (first_broken t list pick 0 0 pick))
+    (Err (first_broken t list pick 0 0 pick))
     (cond (not (eqb (length rowSizes) (length t)))
-    (Breaks (length pick))
+    (Err (length pick))
     (cond (ltb budget (size_sum t rowSizes pick))
-    (Breaks (length pick))
+    (Err (length pick))
     (cond (eqb (length pick) 0 && not (empty_allowed t list rowSizes budget))
-    (Breaks 0)
-    Fine)))
+    (Err 0)
+    (Ok tt))))
 
 -- Accepted, as 02 says it, without places.
 pub record Acceptable (t : List Row) (list rowSizes : List ℕ) (budget : ℕ) (pick : List ℕ) : Type 0 where
@@ -69,8 +67,8 @@ pub record Acceptable (t : List Row) (list rowSizes : List ℕ) (budget : ℕ) (
 -- The check accepts just these.
 abbrev pub CheckTells : Type 0
 CheckTells = (t : List Row) (list rowSizes : List ℕ) (budget : ℕ) (pick : List ℕ)
-    → (pick_checked t list rowSizes budget pick ≡ Fine → Acceptable t list rowSizes budget pick)
-    × (Acceptable t list rowSizes budget pick → pick_checked t list rowSizes budget pick ≡ Fine)
+    → (pick_checked t list rowSizes budget pick ≡ Ok tt → Acceptable t list rowSizes budget pick)
+    × (Acceptable t list rowSizes budget pick → pick_checked t list rowSizes budget pick ≡ Ok tt)
 
 -- ---- the planner: rows in table order, whatever still fits and has its listed dependencies picked
 
@@ -94,4 +92,4 @@ pick_of t list rowSizes budget = picked_from t list rowSizes 0 (length t) budget
 -- Given one size a row, it is always accepted.
 abbrev pub PlannerAccepted : Type 0
 PlannerAccepted = (t : List Row) (list rowSizes : List ℕ) (budget : ℕ) → GoodTable t → length rowSizes ≡ length t
-    → pick_checked t list rowSizes budget (pick_of t list rowSizes budget) ≡ Fine
+    → pick_checked t list rowSizes budget (pick_of t list rowSizes budget) ≡ Ok tt

@@ -2,7 +2,7 @@
 ghost use Rattle.std.specs.Prelude.{true, not, List, ◌≡◌, ℕ, ◌*◌, ◌≤◌, leb, length};
 ghost use Rattle.hash_order.specs.Order.{every};
 ghost use Rattle.pick.specs.Internal.PickMarks.{RowMarks, row_may_go, MarksChecked};
-ghost use Rattle.pick.specs.PickCalls.{pick_answered, check_answer};
+ghost use Rattle.pick.specs.PickCalls.{check_answer};
 ghost use Rattle.pick.specs.Picking.{first_broken, size_sum, empty_allowed, pick_checked};
 ghost use Rattle.rules.specs.Hash.{hashes_at};
 ghost use Rattle.rules.specs.Sizes.{sizes};
@@ -12,27 +12,12 @@ ghost use Rattle.table_graph.specs.Internal.Marks.{Blank};
 ghost use Rattle.table_index.specs.Index.{Indexed};
 
 use crate::goes::{goes_now, goes_with};
-use rules::passed::{Passed, passed_hashes, passed_up_to};
+use rules::passed::{passed_hashes, passed_up_to};
 use rules::refusal::Refusal;
 use rules::sizes::{HASH_SIZE, HASHES_TO_SEND, ROWS};
-use table::check::Checked;
 use table_check::check::check_indexed;
 use table_graph::marks::mark_list;
 use table_index::look::look_up;
-
-// How a pick was found: it breaks no rule, or at this place it does; that of its first hash which breaks one, else how many hashes it has.
-#[derive(Clone, Copy)]
-pub enum Picked {
-    Fine,
-    Breaks(usize),
-}
-
-// What the check of a passed pick answers.
-#[derive(Clone, Copy)]
-pub enum PickAnswer {
-    Accepted,
-    Refused(Refusal),
-}
 
 // Whether a row that a hash of the pick was found at breaks no rule; an unknown hash has none. `from` is the first row that it may be.
 fn row_fits(
@@ -74,14 +59,12 @@ fn first_broken(
         → result ≡ first_broken (rows_at table.now 0 n) list (hashes_at pick.now 0 count) 0 0 (hashes_at pick.now 0 count) }
 {
     let mut from = 0;
-    let mut k = 0;
-    while k < count {
+    for k in 0..count {
         let row = look_up(table, index, n, pick, HASH_SIZE * k);
         if !row_fits(table, n, row, from, listed, picks) {
             return k;
         }
         from = row + 1;
-        k += 1;
     }
     count
 }
@@ -101,14 +84,12 @@ fn sum_fits(
     ensures { result ≡ leb (size_sum (rows_at table.now 0 n) row_sizes.now (hashes_at pick.now 0 count)) budget }
 {
     let mut left = budget;
-    let mut k = 0;
-    while k < count {
+    for k in 0..count {
         let row = look_up(table, index, n, pick, HASH_SIZE * k);
         if left < row_sizes[row] {
             return false;
         }
         left -= row_sizes[row];
-        k += 1;
     }
     true
 }
@@ -126,17 +107,16 @@ fn some_goes(
     ensures { (list : List ℕ) → RowMarks table.now n list listed.now
         → result ≡ not (empty_allowed (rows_at table.now 0 n) list row_sizes.now budget) }
 {
-    let mut i = 0;
-    while i < n {
+    for i in 0..n {
         if goes_now(table, i, row_sizes[i], budget, listed, none) {
             return true;
         }
-        i += 1;
     }
     false
 }
 
-// The check of the first hashes of a pick over the marks of the rows that are listed; it leaves the marks of those that are picked.
+// The check of the first hashes of a pick over the marks of the rows that are listed; it leaves the marks of those that are picked. Where a rule is
+// broken, its place is told: that of the first hash which breaks one, else how many hashes the pick has.
 pub fn check_marked(
     table: &[u8],
     index: &[u8],
@@ -147,7 +127,7 @@ pub fn check_marked(
     count: usize,
     listed: &[bool],
     picks: &mut [bool],
-) -> Picked
+) -> Result<(), usize>
     requires { Indexed table.now index.now n × (sizes.hash * count ≤ length pick.now) × (count ≤ sizes.hashes)
         × (n ≤ length listed.now) × (n ≤ length picks.old) × Blank n picks.old }
     ensures { MarksChecked table.now n row_sizes.now budget (hashes_at pick.now 0 count)
@@ -156,24 +136,24 @@ pub fn check_marked(
     mark_list(table, index, n, pick, 0, count, picks);
     let place = first_broken(table, index, n, pick, count, listed, picks);
     if place < count {
-        return Picked::Breaks(place);
+        return Err(place);
     }
     if row_sizes.len() != n {
-        return Picked::Breaks(count);
+        return Err(count);
     }
     if !sum_fits(table, index, n, row_sizes, budget, pick, count) {
-        return Picked::Breaks(count);
+        return Err(count);
     }
     if 0 < count {
-        return Picked::Fine;
+        return Ok(());
     }
     if some_goes(table, n, row_sizes, budget, listed, picks) {
-        return Picked::Breaks(0);
+        return Err(0);
     }
-    Picked::Fine
+    Ok(())
 }
 
-// The check of a pick beside a list, where the table and both lists have been checked.
+// The check of a pick beside a list, where the table and both lists have been checked, with a broken rule's place.
 fn check_listed(
     table: &[u8],
     index: &[u8],
@@ -184,7 +164,7 @@ fn check_listed(
     budget: u64,
     pick: &[u8],
     count: usize,
-) -> Picked
+) -> Result<(), usize>
     requires { Indexed table.now index.now n × (sizes.hash * many ≤ length list.now) × (sizes.hash * count ≤ length pick.now)
         × (count ≤ sizes.hashes) }
     ensures { result ≡ pick_checked (rows_at table.now 0 n) (hashes_at list.now 0 many) row_sizes.now budget
@@ -198,17 +178,7 @@ fn check_listed(
     )
 }
 
-// How a pick was found, as an answer: 17 with its place.
-fn answer(found: Picked) -> PickAnswer
-    ensures { result ≡ pick_answered found }
-{
-    match found {
-        Picked::Fine => PickAnswer::Accepted,
-        Picked::Breaks(place) => PickAnswer::Refused(Refusal::BadPick(place)),
-    }
-}
-
-// Whether a pick of a list may go, each lent as the bytes of its hashes.
+// Whether a pick of a list may go, each lent as the bytes of its hashes; where it breaks a rule, 17 with its place.
 pub fn check_pick(
     table: &[u8],
     index: &[u8],
@@ -216,19 +186,13 @@ pub fn check_pick(
     row_sizes: &[u64],
     budget: u64,
     pick: &[u8],
-) -> PickAnswer
+) -> Result<(), Refusal>
     ensures { result ≡ check_answer table.now index.now list.now row_sizes.now budget pick.now }
 {
-    match check_indexed(table, index) {
-        Checked::Refused(r) => PickAnswer::Refused(r),
-        Checked::Good(n) => match passed_up_to(HASHES_TO_SEND, list) {
-            Passed::Refused(long) => PickAnswer::Refused(long),
-            Passed::Hashes(many) => match passed_hashes(pick) {
-                Passed::Refused(refusal) => PickAnswer::Refused(refusal),
-                Passed::Hashes(count) => answer(check_listed(
-                    table, index, n, list, many, row_sizes, budget, pick, count,
-                )),
-            },
-        },
-    }
+    let n = check_indexed(table, index)?;
+    let many = passed_up_to(HASHES_TO_SEND, list)?;
+    let count = passed_hashes(pick)?;
+    check_listed(table, index, n, list, many, row_sizes, budget, pick, count).map_err(
+        Refusal::BadPick,
+    )
 }

@@ -10,15 +10,9 @@ pub fn goes_with(table: &[u8], i: usize, listed: &[bool], picks: &[bool]) -> boo
     requires { GoodRows table.now (i + 1) × (i ≤ length listed.now) × (i ≤ length picks.now) }
     ensures { result ≡ marked_go listed.now picks.now (used_at table.now i) }
 {
-    let count = dep_count(table, i);
-    let mut j = 0;
-    while j < count {
+    for j in 0..dep_count(table, i) {
         let k = dep(table, i, j);
-        j += 1;
-        if !listed[k] {
-            continue;
-        }
-        if !picks[k] {
+        if listed[k] && !picks[k] {
             return false;
         }
     }

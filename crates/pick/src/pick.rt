@@ -11,11 +11,9 @@ ghost use Rattle.table_graph.specs.Internal.Marks.{Blank};
 ghost use Rattle.table_index.specs.Index.{Indexed};
 
 use crate::goes::goes_now;
-use rules::output::Write;
-use rules::passed::{Passed, passed_up_to};
+use rules::passed::passed_up_to;
 use rules::refusal::Refusal;
 use rules::sizes::{HASH_SIZE, HASHES_TO_SEND, ROWS};
-use table::check::Checked;
 use table_check::check::check_indexed;
 use table_graph::marked::put_marked;
 use table_graph::marks::mark_list;
@@ -35,16 +33,12 @@ fn pick_marked(
 {
     let mut left = budget;
     let mut count = 0;
-    let mut i = 0;
-    while i < n {
-        let row = i;
-        i += 1;
-        if !goes_now(table, row, row_sizes[row], left, listed, picks) {
-            continue;
+    for row in 0..n {
+        if goes_now(table, row, row_sizes[row], left, listed, picks) {
+            left -= row_sizes[row];
+            picks[row] = true;
+            count += 1;
         }
-        left -= row_sizes[row];
-        picks[row] = true;
-        count += 1;
     }
     count
 }
@@ -59,7 +53,7 @@ fn put_picked(
     row_sizes: &[u64],
     budget: u64,
     out: &mut [u8],
-) -> Write
+) -> Result<usize, Refusal>
     requires { Indexed table.now index.now n × (sizes.hash * many ≤ length list.now) × (n ≤ length row_sizes.now) }
     ensures { Written (Output.bytes (hashes_bytes (pick_of (rows_at table.now 0 n) (hashes_at list.now 0 many)
         row_sizes.now budget))) out.old out.new result }
@@ -69,10 +63,10 @@ fn put_picked(
     let mut picks = [false; ROWS];
     let size = HASH_SIZE * pick_marked(table, n, row_sizes, budget, &listed, &mut picks);
     if out.len() < size {
-        return Write::Refused(Refusal::NoRoom(size));
+        return Err(Refusal::NoRoom(size));
     }
     put_marked(table, n, &picks, out, 0);
-    Write::Wrote(size)
+    Ok(size)
 }
 
 // Writes what goes now of a list that is lent as the bytes of its hashes.
@@ -83,20 +77,14 @@ pub fn pick(
     row_sizes: &[u64],
     budget: u64,
     out: &mut [u8],
-) -> Write
+) -> Result<usize, Refusal>
     ensures { Written (pick_output table.now index.now list.now row_sizes.now budget)
         out.old out.new result }
 {
-    match check_indexed(table, index) {
-        Checked::Refused(r) => Write::Refused(r),
-        Checked::Good(n) => match passed_up_to(HASHES_TO_SEND, list) {
-            Passed::Refused(refusal) => Write::Refused(refusal),
-            Passed::Hashes(many) => {
-                if row_sizes.len() != n {
-                    return Write::Refused(Refusal::BadPick(0));
-                }
-                put_picked(table, index, n, list, many, row_sizes, budget, out)
-            }
-        },
+    let n = check_indexed(table, index)?;
+    let many = passed_up_to(HASHES_TO_SEND, list)?;
+    if row_sizes.len() != n {
+        return Err(Refusal::BadPick(0));
     }
+    put_picked(table, index, n, list, many, row_sizes, budget, out)
 }

@@ -3,13 +3,13 @@ ghost use Rattle.std.specs.Prelude.{◌≡◌};
 ghost use Rattle.pick_calls.specs.PickWords.{pick_words};
 
 use call_words::answer::refusal_words;
-use pick::check::PickAnswer;
+use rules::refusal::Refusal;
 
-pub fn pick_words(found: PickAnswer) -> [u64; 4]
+pub fn pick_words(found: Result<(), Refusal>) -> [u64; 4]
     ensures { result ≡ pick_words found }
 {
     match found {
-        PickAnswer::Accepted => [0, 0, 0, 0],
-        PickAnswer::Refused(r) => refusal_words(r),
+        Ok(()) => [0, 0, 0, 0],
+        Err(r) => refusal_words(r),
     }
 }

@@ -10,125 +10,118 @@ use Rattle.table_index.specs.Index.{Indexed, index_checked}
 use Rattle.table_index.proofs.CheckLaws.{checked_table, checked_indexed}
 use Rattle.session_check.specs.SessionGood.{session_good}
 use Rattle.session.specs.PlanCall.{Buffers, after_tables, plan_after, planned_answer, planned_roomed, put_into, planned_lists, PlanCalled}
-use Rattle.session.specs.declared.plan_answer.PlanAnswer.TheVariants as answer
 use Rattle.rules.specs.declared.refusal.Refusal.{Refusal}
 use Rattle.rules.specs.declared.refusal.Refusal.TheVariants.{BadNumbers}
+use Rattle.rules.proofs.Cases.{read_same}
 use Rattle.pick.specs.declared.radio.Radio.{Radio}
 use Rattle.plan_count.specs.Internal.PlanCount.{going_of, found_of}
 use Rattle.rules.proofs.PassedLaws.{passed_is, after_refused as passed-refused, after_hashes as passed_hashes_lem}
 use Rattle.rules.specs.Hash.{hashes_at}
 use Rattle.rules.specs.Passed.{passed_hashes}
 use Rattle.rules.specs.Sizes.{sizes}
-use Rattle.rules.specs.declared.passed.Passed.TheVariants as passed
 use Rattle.session.specs.Plan.{Planned, body_of, plan_body}
 use Rattle.session_state.specs.Session.{State}
 use Rattle.session_state.specs.Value.{Lent}
 use Rattle.session_state.specs.declared.session.Session.{Session}
 use Rattle.settings.specs.declared.choice.Choice.{Choice}
-use Rattle.settings.specs.declared.find.SettingAnswer.{SettingAnswer}
-use Rattle.settings.specs.declared.find.SettingAnswer.TheVariants.{Chosen, Refused as Unknown}
 use Rattle.table.specs.TableBytes.{rows_at, table_of}
 use Rattle.table.specs.TableCalls.{passed_on}
 use Rattle.table.specs.Table.{Row}
-use Rattle.table.specs.declared.check.Checked.{Checked as TableChecked}
-use Rattle.table.specs.declared.check.Checked.TheVariants as tables
 use Rattle.table.proofs.TableLaws.{table_good}
 use Rattle.waiting.specs.Waiting.{Waiting}
 use Rattle.waiting.specs.WaitingBytes.{waiting_checked, InOrder}
 use Rattle.waiting.specs.WaitingCalls.{tables_checked}
 use Rattle.plan.specs.Internal.PlanChecks.{beside_checked, beside_table, checked_plan, ChecksMade, plan_over}
-use Rattle.plan.specs.declared.check.PlanChecks.{PlanChecks}
-use Rattle.plan.specs.declared.check.PlanChecks.TheVariants.{Good, Refused}
+use Rattle.std.specs.Prelude.{Result, Ok, Err}
 
 -- ---- what the code finds
 
-no_good : (r : Refusal) (n m : ℕ) → Refused r ≡ Good n m → ⊥
+no_good : (r : Refusal) (n m : ℕ) → ◌≡◌ {A = Result (ℕ × ℕ) Refusal} (Err r) (Ok (n, m)) → ⊥
 no_good r n m e = let z : ◌≡◌ {A = ℕ} 0 1 = cc in omega arith
 
 module _ (s : Session) (l : Lent) (table index waiting order : List ℕ) {found : Bool} (is : found ≡ session_good s l) where
   -- a refusal leaves no order
-  refused_made : (r : Refusal) → Refused r ≡ checked_plan s l table index waiting → ChecksMade s l table index waiting order (Refused r)
+  refused_made : (r : Refusal) → Err r ≡ checked_plan s l table index waiting → ChecksMade s l table index waiting order (Err r)
   refused_made r e = record { answer = e; sorted = λ n m q. absurd (no_good r n m q) }
 
-  pub bad_session : found ≡ false → ChecksMade s l table index waiting order (Refused BadNumbers)
+  pub bad_session : found ≡ false → ChecksMade s l table index waiting order (Err BadNumbers)
   unfolding checked_plan
   bad_session e = refused_made _ (rw (sym is ∙ e))
 
-  module _ (good : found ≡ true) {rows : TableChecked} (those : rows ≡ index_checked table index) where
-    pub bad_table : (r : Refusal) → rows ≡ tables.Refused r → ChecksMade s l table index waiting order (Refused r)
+  module _ (good : found ≡ true) {rows : Result ℕ Refusal} (those : rows ≡ index_checked table index) where
+    pub bad_table : (r : Refusal) → rows ≡ Err r → ChecksMade s l table index waiting order (Err r)
     unfolding checked_plan beside_table
     bad_table r e = refused_made r (rw (sym is ∙ good, sym those ∙ e))
 
-    module _ (n : ℕ) (there : rows ≡ tables.Good n) {beside : TableChecked} (others : InOrder (rows_at table 0 n) waiting order beside) where
+    module _ (n : ℕ) (there : rows ≡ Ok n) {beside : Result ℕ Refusal} (others : InOrder (rows_at table 0 n) waiting order beside) where
       same : table_of table ≡ rows_at table 0 n
       same = (table_good table n (checked_table table index n (sym those ∙ there))).is
 
-      pub bad_waiting : (r : Refusal) → beside ≡ tables.Refused r → ChecksMade s l table index waiting order (Refused r)
+      pub bad_waiting : (r : Refusal) → beside ≡ Err r → ChecksMade s l table index waiting order (Err r)
       unfolding checked_plan beside_table beside_checked
       bad_waiting r e = refused_made r (rw (sym is ∙ good, sym those ∙ there, same, sym others.answer ∙ e))
 
-      pub both_good : (m : ℕ) → beside ≡ tables.Good m → ChecksMade s l table index waiting order (Good n m)
+      pub both_good : (m : ℕ) → beside ≡ Ok m → ChecksMade s l table index waiting order (Ok (n, m))
       unfolding checked_plan beside_table beside_checked
       both_good m e =
           record {
             answer = rw (sym is ∙ good, sym those ∙ there, same, sym others.answer ∙ e);
-            sorted = λ k j q. let that : m ≡ j = cc in rw that at (others.sorted m e);
+            sorted = λ k j q. rw (read_same q).1 at (others.sorted m e);
           }
 
 -- the rows are good and the index fits them
-pub rows_indexed : (table index : List ℕ) (n : ℕ) {rows : TableChecked} → rows ≡ index_checked table index → rows ≡ tables.Good n → Indexed table index n
+pub rows_indexed : (table index : List ℕ) (n : ℕ) {rows : Result ℕ Refusal} → rows ≡ index_checked table index → rows ≡ Ok n → Indexed table index n
 rows_indexed table index n those there = checked_indexed table index n (sym those ∙ there)
 
 -- ---- what is planned then
 
 -- a refusal is answered, and nothing is left in what is lent
-left : (l : Lent) (b : Buffers) (r : Refusal) → PlanCalled (Planned.refused r) l l b b (answer.Refused r)
+left : (l : Lent) (b : Buffers) (r : Refusal) → PlanCalled (Planned.refused r) l l b b (Err r)
 unfolding planned_answer planned_roomed put_into planned_lists
 left l b r = record { answer = refl; buffers = refl; lists = refl }
 
-no_refusal : (r : Refusal) (n m : ℕ) → Good n m ≡ Refused r → ⊥
+no_refusal : (r : Refusal) (n m : ℕ) → ◌≡◌ {A = Result (ℕ × ℕ) Refusal} (Ok (n, m)) (Err r) → ⊥
 no_refusal r n m e = let z : ◌≡◌ {A = ℕ} 0 1 = cc in omega arith
 
-beside_refused : (n : ℕ) (y : TableChecked) (r : Refusal) (p : Planned) → beside_checked n y ≡ Refused r → after_tables y p ≡ Planned.refused r
+beside_refused : (n : ℕ) (y : Result ℕ Refusal) (r : Refusal) (p : Planned) → beside_checked n y ≡ Err r → after_tables y p ≡ Planned.refused r
 unfolding beside_checked after_tables
-beside_refused n (tables.Good m) r p e = absurd (no_refusal r n m e)
-beside_refused n (tables.Refused q) r p e = let same : q ≡ r = cc in rw same
+beside_refused n (Ok m) r p e = absurd (no_refusal r n m e)
+beside_refused n (Err q) r p e = let same : q ≡ r = cc in rw same
 
-after_refused : (x : TableChecked) (t : List Row) (w : List ℕ) (r : Refusal) (p : Planned) → beside_table x t w ≡ Refused r
+after_refused : (x : Result ℕ Refusal) (t : List Row) (w : List ℕ) (r : Refusal) (p : Planned) → beside_table x t w ≡ Err r
     → after_tables (passed_on x (waiting_checked t w)) p ≡ Planned.refused r
 unfolding beside_table after_tables passed_on
-after_refused (tables.Good n) t w r p e = beside_refused n (waiting_checked t w) r p e
-after_refused (tables.Refused q) t w r p e = let same : q ≡ r = cc in rw same
+after_refused (Ok n) t w r p e = beside_refused n (waiting_checked t w) r p e
+after_refused (Err q) t w r p e = let same : q ≡ r = cc in rw same
 
-beside_good : (k n m : ℕ) (y : TableChecked) → beside_checked k y ≡ Good n m → (k ≡ n) × (y ≡ tables.Good m)
+beside_good : (k n m : ℕ) (y : Result ℕ Refusal) → beside_checked k y ≡ Ok (n, m) → (k ≡ n) × (y ≡ Ok m)
 unfolding beside_checked
-beside_good k n m (tables.Good j) e =
-    let a : k ≡ n = cc in
-    let b : j ≡ m = cc in
-    (a, rw b)
-beside_good k n m (tables.Refused r) e = absurd (no_good r n m e)
+beside_good k n m (Ok j) e =
+    let same : (k ≡ n) × (j ≡ m) = read_same e in
+    (same.0, rw same.1)
+beside_good k n m (Err r) e = absurd (no_good r n m e)
 
-after_good : (x : TableChecked) (t : List Row) (w : List ℕ) (n m : ℕ) → beside_table x t w ≡ Good n m
-    → (x ≡ tables.Good n) × (waiting_checked t w ≡ tables.Good m)
+after_good : (x : Result ℕ Refusal) (t : List Row) (w : List ℕ) (n m : ℕ) → beside_table x t w ≡ Ok (n, m)
+    → (x ≡ Ok n) × (waiting_checked t w ≡ Ok m)
 unfolding beside_table
-after_good (tables.Good k) t w n m e =
+after_good (Ok k) t w n m e =
     let b = beside_good k n m (waiting_checked t w) e in
     let same : k ≡ n = b.0 in
     (rw same, b.1)
-after_good (tables.Refused r) t w n m e = absurd (no_good r n m e)
+after_good (Err r) t w n m e = absurd (no_good r n m e)
 
-abbrev checks : Bool → List ℕ → List ℕ → List ℕ → PlanChecks
+abbrev checks : Bool → List ℕ → List ℕ → List ℕ → Result (ℕ × ℕ) Refusal
 checks good table index waiting =
-    cond (not good) (Refused BadNumbers) (beside_table (index_checked table index) (table_of table) waiting)
+    cond (not good) (Err BadNumbers) (beside_table (index_checked table index) (table_of table) waiting)
 
-good_checks : (good : Bool) (table index waiting : List ℕ) (n m : ℕ) → checks good table index waiting ≡ Good n m
-    → (good ≡ true) × ((index_checked table index ≡ tables.Good n) × (waiting_checked (table_of table) waiting ≡ tables.Good m))
+good_checks : (good : Bool) (table index waiting : List ℕ) (n m : ℕ) → checks good table index waiting ≡ Ok (n, m)
+    → (good ≡ true) × ((index_checked table index ≡ Ok n) × (waiting_checked (table_of table) waiting ≡ Ok m))
 good_checks true table index waiting n m e = (refl, after_good (index_checked table index) (table_of table) waiting n m e)
 good_checks false table index waiting n m e = absurd (no_good BadNumbers n m e)
 
-module _ (s : Session) (l : Lent) (table index waiting order : List ℕ) (n m : ℕ) {found : PlanChecks} (made : ChecksMade s l table index waiting order found)
-    (good : found ≡ Good n m) where
-  parts : (session_good s l ≡ true) × ((index_checked table index ≡ tables.Good n) × (waiting_checked (table_of table) waiting ≡ tables.Good m))
+module _ (s : Session) (l : Lent) (table index waiting order : List ℕ) (n m : ℕ) {found : Result (ℕ × ℕ) Refusal} (made : ChecksMade s l table index waiting order found)
+    (good : found ≡ Ok (n, m)) where
+  parts : (session_good s l ≡ true) × ((index_checked table index ≡ Ok n) × (waiting_checked (table_of table) waiting ≡ Ok m))
   unfolding checked_plan
   parts = good_checks (session_good s l) table index waiting n m (sym made.answer ∙ good)
 
@@ -151,21 +144,21 @@ module _ (s : Session) (l : Lent) (table index waiting order : List ℕ) (n m : 
 
   -- A refusal of the setting or of the pick comes behind theirs, and leaves the buffers.
   pub later_refused : (p : Planned) (r : Refusal) → p ≡ Planned.refused r → (b : Buffers)
-      → PlanCalled (plan_after s l table index waiting p) l l b b (answer.Refused r)
+      → PlanCalled (plan_after s l table index waiting p) l l b b (Err r)
   later_refused p r e b = rw (good_plans p, e) (left l b r)
 
 module _ (s : Session) (l : Lent) (table index waiting : List ℕ) where
   abbrev plans : Planned → Bool → Planned
   plans p good = cond (not good) (Planned.refused BadNumbers) (after_tables (tables_checked table index waiting) p)
 
-  refused_plans : (p : Planned) (good : Bool) (r : Refusal) → checks good table index waiting ≡ Refused r → plans p good ≡ Planned.refused r
+  refused_plans : (p : Planned) (good : Bool) (r : Refusal) → checks good table index waiting ≡ Err r → plans p good ≡ Planned.refused r
   unfolding tables_checked
   refused_plans p true r e = after_refused (index_checked table index) (table_of table) waiting r p e
   refused_plans p false r e = let same : BadNumbers ≡ r = cc in rw same
 
   -- A refusal passes on, and leaves the buffers.
-  pub refused_called : (p : Planned) (b : Buffers) (r : Refusal) {found : PlanChecks} → found ≡ checked_plan s l table index waiting → found ≡ Refused r
-      → PlanCalled (plan_after s l table index waiting p) l l b b (answer.Refused r)
+  pub refused_called : (p : Planned) (b : Buffers) (r : Refusal) {found : Result (ℕ × ℕ) Refusal} → found ≡ checked_plan s l table index waiting → found ≡ Err r
+      → PlanCalled (plan_after s l table index waiting p) l l b b (Err r)
   unfolding checked_plan
   refused_called p b r is e = rw (refused_plans p (session_good s l) r (sym is ∙ e)) (left l b r)
 
@@ -175,16 +168,16 @@ module _ (r : Radio) (rowSizes pick : List ℕ) (t : List Row) (w : List Waiting
   abbrev said : Choice → ℕ → Planned
   said c k = plan_body c.bits c.probes t w s (going_of r (body_of t s) (hashes_at pick 0 k)) (found_of r t (body_of t s) rowSizes (hashes_at pick 0 k))
 
-  pub list_refused : {a : SettingAnswer} (x : Refusal) → a ≡ Unknown x → plan_over a r rowSizes pick t w s ≡ Planned.refused x
+  pub list_refused : {a : Result Choice Refusal} (x : Refusal) → a ≡ Err x → plan_over a r rowSizes pick t w s ≡ Planned.refused x
   unfolding plan_over
   list_refused x e = rw e
 
-  pub pick_refused : {a : SettingAnswer} (c : Choice) → a ≡ Chosen c → (x : Refusal) → passed_hashes pick ≡ passed.Refused x
+  pub pick_refused : {a : Result Choice Refusal} (c : Choice) → a ≡ Ok c → (x : Refusal) → passed_hashes pick ≡ Err x
       → plan_over a r rowSizes pick t w s ≡ Planned.refused x
   unfolding plan_over
   pick_refused c e x f = rw e (passed-refused Planned.refused _ (passed_hashes pick) x f)
 
-  pub pick_passed : {a : SettingAnswer} (c : Choice) → a ≡ Chosen c → (k : ℕ) → passed_hashes pick ≡ passed.Hashes k
+  pub pick_passed : {a : Result Choice Refusal} (c : Choice) → a ≡ Ok c → (k : ℕ) → passed_hashes pick ≡ Ok k
       → plan_over a r rowSizes pick t w s
       ≡ plan_body c.bits c.probes t w s (going_of r (body_of t s) (hashes_at pick 0 (length pick / sizes.hash)))
       (found_of r t (body_of t s) rowSizes (hashes_at pick 0 (length pick / sizes.hash)))
@@ -193,5 +186,5 @@ module _ (r : Radio) (rowSizes pick : List ℕ) (t : List Row) (w : List Waiting
       let many : k ≡ length pick / sizes.hash = omega (arith, (passed_is pick k f).whole) in
       rw (e, passed_hashes_lem Planned.refused (said c) (passed_hashes pick) k f, many)
 
-pub pick_short : (pick : List ℕ) (k : ℕ) → passed_hashes pick ≡ passed.Hashes k → length pick ≤ sizes.hashes * sizes.hash
+pub pick_short : (pick : List ℕ) (k : ℕ) → passed_hashes pick ≡ Ok k → length pick ≤ sizes.hashes * sizes.hash
 pick_short pick k f = let p = passed_is pick k f in omega (arith, p.whole, p.few)

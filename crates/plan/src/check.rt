@@ -7,18 +7,11 @@ ghost use Rattle.plan.specs.Internal.PlanChecks.{ChecksMade};
 use rules::refusal::Refusal;
 use session_check::good::session_good;
 use session_state::session::Session;
-use table::check::Checked;
 use table_check::check::check_indexed;
 use waiting::check::check_in_order;
 
-// How many rows both tables have, which are good beside a good session; or the first refusal.
-#[derive(Clone, Copy)]
-pub enum PlanChecks {
-    Good { rows: usize, waiting_rows: usize },
-    Refused(Refusal),
-}
-
-// 10, then 4 and 6, then 12, then 4 and 9. The waiting table's check leaves the order in which its rows are looked up.
+// How many rows the change table and the waiting table have; else the refusal: 10, then 4 and 6, then 12, then 4 and 9. The waiting table's check leaves
+// the order in which its rows are looked up.
 pub fn check_plan(
     session: Session,
     shared: &[u8],
@@ -32,7 +25,7 @@ pub fn check_plan(
     index: &[u8],
     waiting: &[u8],
     order: &mut [u8],
-) -> PlanChecks
+) -> Result<(usize, usize), Refusal>
     requires { 2 * sizes.waiting_rows ≤ length order.old }
     ensures { ChecksMade session
         (lent_of shared.now last_sent.now their_heads.now their_need.now haves.now
@@ -49,16 +42,9 @@ pub fn check_plan(
         have_bytes,
         sent,
     ) {
-        return PlanChecks::Refused(Refusal::BadNumbers);
+        return Err(Refusal::BadNumbers);
     }
-    match check_indexed(table, index) {
-        Checked::Refused(r) => PlanChecks::Refused(r),
-        Checked::Good(n) => match check_in_order(table, index, n, waiting, order) {
-            Checked::Refused(r) => PlanChecks::Refused(r),
-            Checked::Good(m) => PlanChecks::Good {
-                rows: n,
-                waiting_rows: m,
-            },
-        },
-    }
+    let n = check_indexed(table, index)?;
+    let m = check_in_order(table, index, n, waiting, order)?;
+    Ok((n, m))
 }

@@ -6,20 +6,21 @@ ghost use Rattle.table.specs.TableBytes.{table_of};
 ghost use Rattle.waiting.specs.WaitingBytes.{waiting_of};
 ghost use Rattle.plan.specs.Internal.PlanChecks.{AnswerGood, plan_over};
 
-use crate::check::{PlanChecks, check_plan};
+use crate::check::check_plan;
 use bloom::setting::Setting;
 use pick::radio::Radio;
 use plan_make::make::plan_checked;
-use rules::passed::{Passed, passed_hashes};
+use rules::passed::passed_hashes;
+use rules::refusal::Refusal;
 use session::plan_answer::PlanAnswer;
 use session_state::session::Session;
-use settings::find::SettingAnswer;
+use settings::choice::Choice;
 use waiting::find::ORDER_SIZE;
 
 // What a unit says next, with the setting that was answered, and with a pick where the radio is limited. The refusals of the setting and of the pick wait
 // until the session and the tables are found good.
 pub fn generate_sync_message(
-    setting: SettingAnswer,
+    setting: Result<Choice, Refusal>,
     radio: Radio,
     row_sizes: &[u64],
     pick: &[u8],
@@ -38,7 +39,7 @@ pub fn generate_sync_message(
     need: &mut [u8],
     have: &mut [u8],
     list: &mut [u8],
-) -> PlanAnswer
+) -> Result<PlanAnswer, Refusal>
     requires { AnswerGood setting }
     ensures { PlanCalled (plan_after session
         (lent_of shared.now last_sent.old their_heads.now their_need.now haves.now
@@ -56,7 +57,7 @@ pub fn generate_sync_message(
         (buffers_of heads.new need.new have.new list.new) result }
 {
     let mut order = [0u8; ORDER_SIZE];
-    match check_plan(
+    let (rows, waiting_rows) = check_plan(
         session,
         shared,
         last_sent,
@@ -69,40 +70,34 @@ pub fn generate_sync_message(
         index,
         waiting,
         &mut order,
-    ) {
-        PlanChecks::Refused(r) => PlanAnswer::Refused(r),
-        PlanChecks::Good { rows, waiting_rows } => match setting {
-            SettingAnswer::Refused(r) => PlanAnswer::Refused(r),
-            SettingAnswer::Chosen(choice) => match passed_hashes(pick) {
-                Passed::Refused(r) => PlanAnswer::Refused(r),
-                Passed::Hashes(_) => plan_checked(
-                    Setting {
-                        bits: choice.bits,
-                        probes: choice.probes,
-                    },
-                    radio,
-                    row_sizes,
-                    pick,
-                    session,
-                    table,
-                    index,
-                    rows,
-                    waiting,
-                    &order,
-                    waiting_rows,
-                    shared,
-                    last_sent,
-                    their_heads,
-                    their_need,
-                    haves,
-                    have_bytes,
-                    sent,
-                    heads,
-                    need,
-                    have,
-                    list,
-                ),
-            },
+    )?;
+    let choice = setting?;
+    passed_hashes(pick)?;
+    plan_checked(
+        Setting {
+            bits: choice.bits,
+            probes: choice.probes,
         },
-    }
+        radio,
+        row_sizes,
+        pick,
+        session,
+        table,
+        index,
+        rows,
+        waiting,
+        &order,
+        waiting_rows,
+        shared,
+        last_sent,
+        their_heads,
+        their_need,
+        haves,
+        have_bytes,
+        sent,
+        heads,
+        need,
+        have,
+        list,
+    )
 }

@@ -10,6 +10,8 @@ use Rattle.session.specs.declared.plan_answer.Stated.{Stated}
 use Rattle.call_words.proofs.WordLaws.{flag_byte}
 use Rattle.session_state.specs.Value.{Lent}
 use Rattle.plan_calls.specs.PlanWords.{version_number, stated_words, planned_words, planned_session, PlanAnswered}
+use Rattle.std.specs.Prelude.{Result}
+use Rattle.rules.specs.declared.refusal.Refusal.{Refusal}
 
 -- the words as code puts them together
 pub stated_made : (what : ℕ) (p : Stated) (v : ℕ)
@@ -20,20 +22,20 @@ pub stated_made : (what : ℕ) (p : Stated) (v : ℕ)
 stated_made what p v e = rw (e, flag_byte p.document)
 
 module _ {p : Planned} {session₀ session₁ : List ℕ} {l l' : Lent} {before after : Buffers} {words : List ℕ} where
-  pub plan_answered : (r : PlanAnswer) → PlanCalled p l l' before after r
+  pub plan_answered : (r : Result PlanAnswer Refusal) → PlanCalled p l l' before after r
       → session₁ ≡ planned_session r session₀
       → words ≡ planned_words r
       → PlanAnswered p session₀ session₁ l l' before after words
   plan_answered r called e f =
       record {
         answer = f ∙ ap planned_words called.answer;
-        session = e ∙ ap (λ (k : PlanAnswer). planned_session k session₀) called.answer;
+        session = e ∙ ap (λ (k : Result PlanAnswer Refusal). planned_session k session₀) called.answer;
         lists = called.lists;
         buffers = called.buffers;
       }
 
 -- what is planned may be said in other words
-pub called_as : {p q : Planned} {l l' : Lent} {before after : Buffers} {r : PlanAnswer} → p ≡ q → PlanCalled p l l' before after r → PlanCalled q l l' before after r
+pub called_as : {p q : Planned} {l l' : Lent} {before after : Buffers} {r : Result PlanAnswer Refusal} → p ≡ q → PlanCalled p l l' before after r → PlanCalled q l l' before after r
 called_as e c = rw (← e) c
 
 pub plan_answered_once : {p : Planned} {session t₁ t₂ w₁ w₂ : List ℕ} {l l₁ l₂ : Lent} {before b₁ b₂ : Buffers}

@@ -1,15 +1,16 @@
 -- Planning as exported calls: their answer as words, and the session's words at exit.
-use Rattle.std.specs.Prelude.{ℕ, List, [], ◌∷◌, ◌≡◌}
+use Rattle.std.specs.Prelude.{ℕ, List, [], ◌∷◌, ◌≡◌, Result, Ok, Err}
 use Rattle.message.specs.declared.version.MessageVersion.{MessageVersion}
 use Rattle.message.specs.declared.version.MessageVersion.TheVariants.{V1, V2}
 use Rattle.session.specs.Plan.{Planned}
 use Rattle.session.specs.PlanCall.{Buffers, planned_roomed, planned_rooms, planned_answer, put_into, planned_lists}
 use Rattle.session.specs.declared.plan_answer.PlanAnswer.{PlanAnswer}
-use Rattle.session.specs.declared.plan_answer.PlanAnswer.TheVariants.{Refused, Silent, Reset, Says}
+use Rattle.session.specs.declared.plan_answer.PlanAnswer.TheVariants.{Silent, Reset, Says}
 use Rattle.session.specs.declared.plan_answer.Stated.{Stated}
 use Rattle.rules.specs.Refusal.{number_of, value_of}
 use Rattle.call_words.specs.SessionWords.{flag_word, session_words}
 use Rattle.session_state.specs.Value.{Lent}
+use Rattle.rules.specs.declared.refusal.Refusal.{Refusal}
 
 -- A version as a word.
 abbrev pub version_number : MessageVersion → ℕ
@@ -38,18 +39,18 @@ stated_words what p =
     ∷ []
 
 -- A plan as sixteen words: a refusal, silence (all 0), a reset (1) or a message (2) with its numbers.
-abbrev pub planned_words : PlanAnswer → List ℕ
-planned_words (Refused r) = number_of r ∷ value_of r ∷ 0 ∷ 0 ∷ 0 ∷ 0 ∷ 0 ∷ 0 ∷ 0 ∷ 0 ∷ 0 ∷ 0 ∷ 0 ∷ 0 ∷ 0 ∷ 0 ∷ []
-planned_words Silent = 0 ∷ 0 ∷ 0 ∷ 0 ∷ 0 ∷ 0 ∷ 0 ∷ 0 ∷ 0 ∷ 0 ∷ 0 ∷ 0 ∷ 0 ∷ 0 ∷ 0 ∷ 0 ∷ []
-planned_words (Reset p) = stated_words 1 p
-planned_words (Says p s) = stated_words 2 p
+abbrev pub planned_words : Result PlanAnswer Refusal → List ℕ
+planned_words (Err r) = number_of r ∷ value_of r ∷ 0 ∷ 0 ∷ 0 ∷ 0 ∷ 0 ∷ 0 ∷ 0 ∷ 0 ∷ 0 ∷ 0 ∷ 0 ∷ 0 ∷ 0 ∷ 0 ∷ []
+planned_words (Ok Silent) = 0 ∷ 0 ∷ 0 ∷ 0 ∷ 0 ∷ 0 ∷ 0 ∷ 0 ∷ 0 ∷ 0 ∷ 0 ∷ 0 ∷ 0 ∷ 0 ∷ 0 ∷ 0 ∷ []
+planned_words (Ok (Reset p)) = stated_words 1 p
+planned_words (Ok (Says p s)) = stated_words 2 p
 
 -- Only a message changes the session.
-abbrev pub planned_session : PlanAnswer → List ℕ → List ℕ
-planned_session (Refused r) before = before
-planned_session Silent before = before
-planned_session (Reset p) before = before
-planned_session (Says p s) before = session_words s
+abbrev pub planned_session : Result PlanAnswer Refusal → List ℕ → List ℕ
+planned_session (Err r) before = before
+planned_session (Ok Silent) before = before
+planned_session (Ok (Reset p)) before = before
+planned_session (Ok (Says p s)) before = session_words s
 
 -- What a call leaves that plans this, once there is room: its answer, the session's words and lists, and every buffer.
 pub record PlanAnswered (p : Planned) (session₀ session₁ : List ℕ) (l l' : Lent) (before after : Buffers) (words : List ℕ) : Type 0 where

@@ -4,6 +4,7 @@ ghost use Rattle.plan_calls.specs.PlanWords.{version_number, stated_words, plann
 
 use call_words::words::session_words;
 use message::version::MessageVersion;
+use rules::refusal::Refusal;
 use session::plan_answer::{PlanAnswer, Stated};
 
 fn version_number(version: MessageVersion) -> u64
@@ -42,11 +43,11 @@ fn stated_words(what: u64, p: Stated) -> [u64; 16]
     ]
 }
 
-pub fn planned_words(planned: PlanAnswer) -> [u64; 16]
+pub fn planned_words(planned: Result<PlanAnswer, Refusal>) -> [u64; 16]
     ensures { result ≡ planned_words planned }
 {
     match planned {
-        PlanAnswer::Refused(r) => [
+        Err(r) => [
             r.number(),
             r.value(),
             0,
@@ -64,20 +65,20 @@ pub fn planned_words(planned: PlanAnswer) -> [u64; 16]
             0,
             0,
         ],
-        PlanAnswer::Silent => [0, 0, 0, 0, 0, 0, 0, 0, 0, 0, 0, 0, 0, 0, 0, 0],
-        PlanAnswer::Reset(stated) => stated_words(1, stated),
-        PlanAnswer::Says { stated, session: _ } => stated_words(2, stated),
+        Ok(PlanAnswer::Silent) => [0, 0, 0, 0, 0, 0, 0, 0, 0, 0, 0, 0, 0, 0, 0, 0],
+        Ok(PlanAnswer::Reset(stated)) => stated_words(1, stated),
+        Ok(PlanAnswer::Says { stated, session: _ }) => stated_words(2, stated),
     }
 }
 
 // The session's words: only a message changes them.
-pub fn planned_session(planned: PlanAnswer, before: [u64; 16]) -> [u64; 16]
+pub fn planned_session(planned: Result<PlanAnswer, Refusal>, before: [u64; 16]) -> [u64; 16]
     ensures { result ≡ planned_session planned before }
 {
     match planned {
-        PlanAnswer::Refused(_) => before,
-        PlanAnswer::Silent => before,
-        PlanAnswer::Reset(_) => before,
-        PlanAnswer::Says { stated: _, session } => session_words(session),
+        Err(_) => before,
+        Ok(PlanAnswer::Silent) => before,
+        Ok(PlanAnswer::Reset(_)) => before,
+        Ok(PlanAnswer::Says { stated: _, session }) => session_words(session),
     }
 }

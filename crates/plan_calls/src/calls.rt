@@ -9,7 +9,6 @@ use crate::answer::{planned_session, planned_words};
 use call_words::words::session_of;
 use pick::radio::Radio;
 use settings::choice::crate_choice;
-use settings::find::SettingAnswer;
 
 // Plans what a unit says next. `session` and its seven lists, `shared` to `sent`, are lent as to bt_check_session; a message that is planned
 // changes the words, `last_sent` and `sent`, and nothing else changes any of them. `table`, `index` and `waiting` are the unit's change table, its
@@ -50,7 +49,7 @@ pub extern "C" fn bt_plan(
         answer.new }
 {
     let planned = plan::plan::generate_sync_message(
-        SettingAnswer::Chosen(crate_choice()),
+        Ok(crate_choice()),
         Radio {
             limited: false,
             budget: 0,

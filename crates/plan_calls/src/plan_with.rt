@@ -9,9 +9,7 @@ use bloom::setting::pair_good;
 use call_words::words::session_of;
 use pick::radio::Radio;
 use rules::refusal::Refusal;
-use session::plan_answer::PlanAnswer;
 use settings::choice::Choice;
-use settings::find::SettingAnswer;
 
 // Plans as bt_plan does, with a filter of `bits` bits an entry, 1 to 32, and `probes` probes, 64 at the most. Other numbers are refusal 10, before all
 // else.
@@ -50,7 +48,7 @@ pub extern "C" fn bt_plan_with(
         answer.new }
 {
     if !pair_good(bits, probes) {
-        *answer = planned_words(PlanAnswer::Refused(Refusal::BadNumbers));
+        *answer = planned_words(Err(Refusal::BadNumbers));
         return;
     }
     let choice = Choice {
@@ -59,7 +57,7 @@ pub extern "C" fn bt_plan_with(
         read_only: 0,
     };
     let planned = plan::plan::generate_sync_message(
-        SettingAnswer::Chosen(choice),
+        Ok(choice),
         Radio {
             limited: false,
             budget: 0,

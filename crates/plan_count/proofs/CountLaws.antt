@@ -28,8 +28,6 @@ use Rattle.rules.specs.Sizes.{sizes}
 use Rattle.send.proofs.SelectLaws.{less_new}
 use Rattle.send.specs.Internal.Chosen.{chosen_by, SentRows}
 use Rattle.session.proofs.PlanLaws.{body_cases, planned_held, list_few}
-use Rattle.pick.specs.declared.check.Picked.{Picked}
-use Rattle.pick.specs.declared.check.Picked.TheVariants.{Fine}
 use Rattle.session.specs.Plan.{Body, heard_as, list_of, unknown_sync, body_heard, body_of, empty, silence, sent_after, is_fine}
 use Rattle.session_state.specs.Session.{State}
 use Rattle.session_state.specs.Value.{Lent, heard_count, heard_hashes, heard_haves, state_of}
@@ -39,6 +37,8 @@ use Rattle.table.specs.TableBytes.{rows_at}
 use Rattle.table.specs.Table.{Row, rows as hashes, held}
 use Rattle.plan_count.specs.Internal.PlanCount.{BodyReady, carried_body, BodyCounted, BodyGoes, PickReady, quiet_with, PlanMarked, DraftCounted}
 use Rattle.plan_count.specs.declared.carried.Carried.{Carried}
+use Rattle.std.specs.Prelude.{Result, Ok, Err}
+use Rattle.std.specs.Result.{is_ok}
 
 -- ---- what is carried
 
@@ -99,7 +99,7 @@ module _ {table index : List ℕ} {n : ℕ} {s : Session} {their_need haves byte
         → FreshMarked t n (chosen_by t marks (hashes_at their_need 0 k) needs) (hashes_at sent 0 s.sent_hashes) fresh total
         → (their_heads : List ℕ)
         → BodyCounted t n (carried_body t s their_heads their_need haves bytes sent) (hashes_at their_need 0 (heard_count s.their_need))
-        (hashes_at sent 0 s.sent_hashes) marks needs fresh (record { body = b; picked = Fine; sent = total })
+        (hashes_at sent 0 s.sent_hashes) marks needs fresh (record { body = b; picked = Ok tt; sent = total })
     body_counted a c f their_heads =
         record {
           row_long = a;
@@ -118,6 +118,11 @@ pub quiet_is : (s : Session) (last_sent their_heads ours : List ℕ) (nothing to
     → r ≡ quiet_with s last_sent their_heads ours nothing
 unfolding quiet_with
 quiet_is s last_sent their_heads ours nothing told equal r t e q = rw (t, e) at q
+
+-- a pick that is accepted is fine
+pub ok_is_fine : (r : Result Unit ℕ) → is_ok r ≡ is_fine r
+ok_is_fine (Ok tt) = refl
+ok_is_fine (Err place) = refl
 
 -- none is an empty list
 none_empty : (n : ℕ) (l : List ℕ) → n ≡ length l → eqb n 0 ≡ empty l
@@ -177,7 +182,7 @@ module _ {table index : List ℕ} {n : ℕ} (s : Session) (l : Lent) (rows : Ind
       }
 
   module _ {headMarks haveMarks marks needs fresh : List Bool} (a : Asked) {count entries : ℕ} {k : Carried} {unknown silent nothing : Bool} {b : Body}
-      {c : Picked} (long : n ≤ length headMarks) (those : Marks n headMarks (λ i. not (needed (rows_at table 0 n) i))) (many : count ≡ marked n headMarks)
+      {c : Result Unit ℕ} (long : n ≤ length headMarks) (those : Marks n headMarks (λ i. not (needed (rows_at table 0 n) i))) (many : count ≡ marked n headMarks)
       (given : HaveCounted (rows_at table 0 n) n a.heard (hashes_at l.shared 0 s.shared_heads) haveMarks entries)
       (u : unknown ≡ unknown_sync (rows_at table 0 n) (heard_haves l.bytes l.haves s.their_have))
       (goes : BodyGoes (rows_at table 0 n) n b c (hashes_at l.their_need 0 (heard_count s.their_need)) (hashes_at l.sent 0 s.sent_hashes) marks

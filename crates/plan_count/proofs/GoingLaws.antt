@@ -1,8 +1,8 @@
 -- What goes of a body as marks and numbers: all of it, or a pick that is accepted, whose rows were not sent. Assumes nothing.
-use Prim.Native.Nat.{ℕ, ◌+◌, ◌*◌, ◌/◌, ◌≤◌, ◌<◌}
+use Prim.Native.Nat.{ℕ, ◌+◌, ◌*◌, ◌/◌, ◌≤◌}
 use mathlib.Core.Bool.{Bool, true, false, cond, not, ◌&&◌}
 use mathlib.Core.List.{List, [], ◌++◌}
-use mathlib.Core.Path.{◌≡◌, refl, sym, ap, ◌∙◌}
+use mathlib.Core.Path.{◌≡◌, refl, ◌∙◌}
 use native.Mathlib.Omega.{arith}
 use lib.ListN.{length, get_or, length-append}
 use Rattle.hash_once.proofs.ApartLaws.{beside_are, beside_many}
@@ -11,10 +11,7 @@ use Rattle.hash_order.proofs.OrderLaws.{ascend_most}
 use Rattle.hash_order.specs.Order.{member, keep, ascend, ascends}
 use Rattle.pick.proofs.ClimbLaws.{accepted_held, accepted_listed, accepted_rows}
 use Rattle.pick.specs.Picking.{pick_checked}
-use Rattle.pick.specs.declared.check.Picked.{Picked}
-use Rattle.pick.specs.declared.check.Picked.TheVariants.{Fine}
 use Rattle.pick.specs.declared.radio.Radio.{Radio}
-use Rattle.plan_parts.specs.Internal.PlanParts.{FreshMarked}
 use Rattle.rules.proofs.Cases.{split}
 use Rattle.rules.proofs.Hash.{length_hashes_at}
 use Rattle.rules.specs.Hash.{hashes_at}
@@ -25,15 +22,16 @@ use Rattle.table.proofs.TableLaws.{length_rows_at}
 use Rattle.table.specs.TableBytes.{rows_at}
 use Rattle.table.specs.Table.{Row, rows, hash_of, held}
 use Rattle.table_graph.proofs.PickLaws.{pick_none, marks_picked, marked_most}
-use Rattle.table_graph.specs.Internal.Marks.{Marks, Blank, marked, picked}
+use Rattle.table_graph.specs.Internal.Marks.{Marks, Blank, picked}
 use Rattle.table_index.specs.Index.{Indexed}
 use Rattle.plan_count.specs.Internal.PlanCount.{BodyCounted, BodyGoes, Unsent, going_of, found_of}
 use Rattle.plan_count.specs.declared.carried.Carried.{Carried}
+use Rattle.std.specs.Prelude.{Result, Ok}
 
 -- all of a body goes
 pub all_goes : {t : List Row} {n : ℕ} {b : Body} {need sent : List ℕ} {marks needs fresh : List Bool} {k : Carried}
     → BodyCounted t n b need sent marks needs fresh k
-    → BodyGoes t n b Fine need sent marks needs fresh k
+    → BodyGoes t n b (Ok tt) need sent marks needs fresh k
 all_goes c =
     record {
       row_long = c.row_long;
@@ -56,13 +54,13 @@ module _ {table index : List ℕ} {n : ℕ} (good : Indexed table index n) (list
   abbrev t : List Row
   t = rows_at table 0 n
 
-  abbrev found : Picked
+  abbrev found : Result Unit ℕ
   found = pick_checked t list rowSizes budget pick
 
   module _ (marks needs fresh : List Bool) (row_long : n ≤ length marks) (need_long : length need ≤ length needs) (fresh_long : n ≤ length fresh)
       (those : Marks n marks (λ i. member (hash_of (rows_at table 0 n) i) pick)) (none : Blank (length need) needs)
       (copied : Marks n fresh (λ i. get_or marks i false)) where
-    new_rows : found ≡ Fine → Marks n fresh (λ i. member (hash_of t i) pick && not (member (hash_of t i) sent))
+    new_rows : found ≡ Ok tt → Marks n fresh (λ i. member (hash_of t i) pick && not (member (hash_of t i) sent))
     new_rows e =
         record {
           each =
@@ -73,10 +71,10 @@ module _ {table index : List ℕ} {n : ℕ} (good : Indexed table index n) (list
               (λ m. rw m);
         }
 
-    are_rows : found ≡ Fine → picked (rows t) marks ≡ pick
+    are_rows : found ≡ Ok tt → picked (rows t) marks ≡ pick
     are_rows e = accepted_rows t list rowSizes budget pick good.rows.good e marks (rw (length_rows_at table 0 n) those)
 
-    pub pick_goes : {total count : ℕ} {r : Picked} → r ≡ pick_checked (rows_at table 0 n) list rowSizes budget pick → count ≡ length pick
+    pub pick_goes : {total count : ℕ} {r : Result Unit ℕ} → r ≡ pick_checked (rows_at table 0 n) list rowSizes budget pick → count ≡ length pick
         → total ≡ length (ascend (pick ++ sent))
         → BodyGoes (rows_at table 0 n) n (list_of pick) (pick_checked (rows_at table 0 n) list rowSizes budget pick) need sent marks needs fresh
         (record { body = record { document = false; hashes = count }; picked = r; sent = total })
@@ -114,15 +112,15 @@ first_of : {A : Type 0} (d : Bool) (x y : A) → d ≡ true → cond d x y ≡ x
 first_of d x y e = rw e
 
 module _ (r : Radio) (t : List Row) (n : ℕ) (b : Body) (rowSizes pick need sent : List ℕ) (marks needs fresh : List Bool) (k : Carried) where
-  pub goes_unlimited : r.limited ≡ false → BodyGoes t n b Fine need sent marks needs fresh k
+  pub goes_unlimited : r.limited ≡ false → BodyGoes t n b (Ok tt) need sent marks needs fresh k
       → BodyGoes t n (going_of r b pick) (found_of r t b rowSizes pick) need sent marks needs fresh k
   unfolding going_of found_of
   goes_unlimited e g = rw e g
 
-  pub goes_whole : r.limited ≡ true → b.document ≡ true → BodyGoes t n b Fine need sent marks needs fresh k
+  pub goes_whole : r.limited ≡ true → b.document ≡ true → BodyGoes t n b (Ok tt) need sent marks needs fresh k
       → BodyGoes t n (going_of r b pick) (found_of r t b rowSizes pick) need sent marks needs fresh k
   unfolding going_of found_of
-  goes_whole e f g = rw (e, first_of b.document b (list_of pick) f, first_of b.document Fine (pick_checked t b.hashes rowSizes r.budget pick) f) g
+  goes_whole e f g = rw (e, first_of b.document b (list_of pick) f, first_of b.document (Ok tt) (pick_checked t b.hashes rowSizes r.budget pick) f) g
 
   pub goes_picked : r.limited ≡ true → b.document ≡ false
       → BodyGoes t n (list_of pick) (pick_checked t b.hashes rowSizes r.budget pick) need sent marks needs fresh k
@@ -150,7 +148,7 @@ module _ (r : Radio) (t : List Row) (b : Body) (rowSizes pick : List ℕ) (short
       (λ e.
       split b.document
       (λ d.
-      let whole = rw (e, first_of b.document b (list_of pick) d, first_of b.document Fine (pick_checked t b.hashes rowSizes r.budget pick) d) at g in
+      let whole = rw (e, first_of b.document b (list_of pick) d, first_of b.document (Ok tt) (pick_checked t b.hashes rowSizes r.budget pick) d) at g in
       omega (arith, (whole.new refl).all, marked_most n fresh))
       (λ d. let picks = rw (e, d) at g in omega (arith, picks.many, ascend_most (pick ++ sent), length-append pick sent)))
       (λ e. let all = rw e at g in omega (arith, (all.new refl).all, marked_most n fresh))

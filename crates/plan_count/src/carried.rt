@@ -22,7 +22,7 @@ ghost use Rattle.plan_count.specs.Internal.PlanCount.{
 };
 
 use hash_once::count::count_joined;
-use pick::check::{Picked, check_marked};
+use pick::check::check_marked;
 use pick::radio::Radio;
 use plan_parts::body::{BodyCount, mark_body};
 use plan_parts::sent::mark_fresh;
@@ -31,11 +31,11 @@ use rules::sizes::HASH_SIZE;
 use session_state::session::{Session, heard_count};
 use table_graph::marks::{copy_marks, mark_list, set_marks};
 
-// What a message carries, how a pick of it was found, and how many hashes are sent with it.
+// What a message carries, how a pick of it was found, which is the place of 17 where it breaks a rule, and how many hashes are sent with it.
 #[derive(Clone, Copy)]
 pub struct Carried {
     pub body: BodyCount,
-    pub picked: Picked,
+    pub picked: Result<(), usize>,
     pub sent: usize,
 }
 
@@ -97,7 +97,7 @@ pub fn count_body(
     );
     Carried {
         body,
-        picked: Picked::Fine,
+        picked: Ok(()),
         sent: count,
     }
 }
@@ -192,11 +192,8 @@ pub fn pick_body(
 }
 
 // Whether nothing goes: no hash, by a pick that is accepted or without one.
-pub fn nothing_goes(picked: Picked, hashes: usize) -> bool
+pub fn nothing_goes(picked: Result<(), usize>, hashes: usize) -> bool
     ensures { result ≡ (is_fine picked && eqb hashes 0) }
 {
-    match picked {
-        Picked::Breaks(_) => false,
-        Picked::Fine => hashes == 0,
-    }
+    picked.is_ok() && hashes == 0
 }

@@ -13,14 +13,10 @@ use Rattle.message.specs.Flags.{flags_of, supports_sync_reset, read_only_flag, s
 use Rattle.message.specs.declared.flags.MessageFlags.{MessageFlags}
 use Rattle.message.specs.declared.version.MessageVersion.{MessageVersion}
 use Rattle.message.specs.declared.version.MessageVersion.TheVariants.{V1}
-use Rattle.pick.specs.declared.check.Picked.{Picked}
-use Rattle.pick.specs.declared.check.Picked.TheVariants.{Fine, Breaks}
 use Rattle.session.specs.PlanCall.{message_room, session_room}
 use Rattle.session.specs.declared.plan_answer.PlanAnswer.{PlanAnswer}
-use Rattle.session.specs.declared.plan_answer.PlanAnswer.TheVariants.{Refused, Silent, Reset, Says}
+use Rattle.session.specs.declared.plan_answer.PlanAnswer.TheVariants.{Silent, Reset, Says}
 use Rattle.session.specs.declared.plan_answer.Rooms.{Rooms}
-use Rattle.session.specs.declared.room.Room.{Room}
-use Rattle.session.specs.declared.room.Room.TheVariants.{Enough, Short}
 use Rattle.session.specs.Rooms.{if_room}
 use Rattle.session.specs.declared.plan_answer.Stated.{Stated}
 use Rattle.rules.specs.Sizes.{sizes}
@@ -33,44 +29,45 @@ use Rattle.plan_decide.specs.Internal.Draft.{SmallStated, SmallDraft, heads_coun
 use Rattle.plan_decide.specs.Internal.Draft.{puts_for, puts_of}
 use Rattle.plan_decide.specs.declared.decide.Draft.{Draft}
 use Rattle.plan_decide.specs.declared.puts.Puts.{Puts}
+use Rattle.std.specs.Prelude.{Result, Ok, Err}
 
 -- ---- room
 
 module _ (p : Stated) (r : Rooms) where
-  pub heads_short : r.heads < sizes.hash * p.heads → Short (sizes.hash * p.heads) ≡ message_room p r
+  pub heads_short : r.heads < sizes.hash * p.heads → Err (sizes.hash * p.heads) ≡ message_room p r
   unfolding message_room
   heads_short h = rw (lt-ltb _ _ h)
 
   module _ (heads : sizes.hash * p.heads ≤ r.heads) where
-    pub need_short : r.need < sizes.hash * p.need → Short (sizes.hash * p.need) ≡ message_room p r
+    pub need_short : r.need < sizes.hash * p.need → Err (sizes.hash * p.need) ≡ message_room p r
     unfolding message_room
     need_short h = rw (le-ltb _ _ heads, lt-ltb _ _ h)
 
     module _ (need : sizes.hash * p.need ≤ r.need) where
-      pub have_short : r.have < sizes.hash * p.syncs + p.filter.size → Short (sizes.hash * p.syncs + p.filter.size) ≡ message_room p r
+      pub have_short : r.have < sizes.hash * p.syncs + p.filter.size → Err (sizes.hash * p.syncs + p.filter.size) ≡ message_room p r
       unfolding message_room
       have_short h = rw (le-ltb _ _ heads, le-ltb _ _ need, lt-ltb _ _ h)
 
       module _ (have : sizes.hash * p.syncs + p.filter.size ≤ r.have) where
-        pub list_short : r.list < sizes.hash * p.hashes → Short (sizes.hash * p.hashes) ≡ message_room p r
+        pub list_short : r.list < sizes.hash * p.hashes → Err (sizes.hash * p.hashes) ≡ message_room p r
         unfolding message_room
         list_short h = rw (le-ltb _ _ heads, le-ltb _ _ need, le-ltb _ _ have, lt-ltb _ _ h)
 
-        pub message_enough : sizes.hash * p.hashes ≤ r.list → Enough ≡ message_room p r
+        pub message_enough : sizes.hash * p.hashes ≤ r.list → Ok tt ≡ message_room p r
         unfolding message_room
         message_enough h = rw (le-ltb _ _ heads, le-ltb _ _ need, le-ltb _ _ have, le-ltb _ _ h)
 
 module _ (last sent : ℕ) (r : Rooms) where
-  pub last_short : r.last_sent < sizes.hash * last → Short (sizes.hash * last) ≡ session_room last sent r
+  pub last_short : r.last_sent < sizes.hash * last → Err (sizes.hash * last) ≡ session_room last sent r
   unfolding session_room
   last_short h = rw (lt-ltb _ _ h)
 
   module _ (there : sizes.hash * last ≤ r.last_sent) where
-    pub sent_short : r.sent < sizes.hash * sent → Short (sizes.hash * sent) ≡ session_room last sent r
+    pub sent_short : r.sent < sizes.hash * sent → Err (sizes.hash * sent) ≡ session_room last sent r
     unfolding session_room
     sent_short h = rw (le-ltb _ _ there, lt-ltb _ _ h)
 
-    pub session_enough : sizes.hash * sent ≤ r.sent → Enough ≡ session_room last sent r
+    pub session_enough : sizes.hash * sent ≤ r.sent → Ok tt ≡ session_room last sent r
     unfolding session_room
     session_enough h = rw (le-ltb _ _ there, le-ltb _ _ h)
 
@@ -185,85 +182,85 @@ small_drafted s d bits probes m =
 
 -- ---- the answer
 
-module _ (heads : ℕ) (r : Rooms) (p : Stated) (x : Room) (e : p ≡ reset_stated heads) (q : x ≡ message_room p r) where
-  pub reset_short : (wanted : ℕ) → x ≡ Short wanted → Refused (NoRoom wanted) ≡ if_room Refused (message_room (reset_stated heads) r) (Reset (reset_stated heads))
+module _ (heads : ℕ) (r : Rooms) (p : Stated) (x : Result Unit ℕ) (e : p ≡ reset_stated heads) (q : x ≡ message_room p r) where
+  pub reset_short : (wanted : ℕ) → x ≡ Err wanted → Err (NoRoom wanted) ≡ if_room Err (message_room (reset_stated heads) r) (Ok (Reset (reset_stated heads)))
   unfolding if_room
-  reset_short wanted h = let k : message_room (reset_stated heads) r ≡ Short wanted = rw (← e) (sym q ∙ h) in rw k
+  reset_short wanted h = let k : message_room (reset_stated heads) r ≡ Err wanted = rw (← e) (sym q ∙ h) in rw k
 
-  pub reset_enough : x ≡ Enough → Reset p ≡ if_room Refused (message_room (reset_stated heads) r) (Reset (reset_stated heads))
+  pub reset_enough : x ≡ Ok tt → Ok (Reset p) ≡ if_room Err (message_room (reset_stated heads) r) (Ok (Reset (reset_stated heads)))
   unfolding if_room
-  reset_enough h = let k : message_room (reset_stated heads) r ≡ Enough = rw (← e) (sym q ∙ h) in rw k (ap Reset e)
+  reset_enough h = let k : message_room (reset_stated heads) r ≡ (Ok tt) = rw (← e) (sym q ∙ h) in rw k (ap (λ x. Ok (Reset x)) e)
 
 module _ (s : Session) (d : Draft) (bits probes : ℕ) (r : Rooms) where
-  module _ (p : Stated) (x : Room) (e : p ≡ drafted s d bits probes) (q : x ≡ message_room p r) where
-    room_is : (y : Room) → x ≡ y → message_room (drafted s d bits probes) r ≡ y
+  module _ (p : Stated) (x : Result Unit ℕ) (e : p ≡ drafted s d bits probes) (q : x ≡ message_room p r) where
+    room_is : (y : Result Unit ℕ) → x ≡ y → message_room (drafted s d bits probes) r ≡ y
     room_is y h = ap (λ (z : Stated). message_room z r) (sym e) ∙ sym q ∙ h
 
-    pub message_short : (wanted : ℕ) → x ≡ Short wanted → Refused (NoRoom wanted) ≡ says_with s d bits probes r
+    pub message_short : (wanted : ℕ) → x ≡ Err wanted → Err (NoRoom wanted) ≡ says_with s d bits probes r
     unfolding says_with if_room
     message_short wanted h = rw (room_is _ h)
 
-    module _ (room : x ≡ Enough) (y : Room) (z : y ≡ session_room d.heads d.sent r) where
-      pub lists_short : (wanted : ℕ) → y ≡ Short wanted → Refused (NoRoom wanted) ≡ says_with s d bits probes r
+    module _ (room : x ≡ Ok tt) (y : Result Unit ℕ) (z : y ≡ session_room d.heads d.sent r) where
+      pub lists_short : (wanted : ℕ) → y ≡ Err wanted → Err (NoRoom wanted) ≡ says_with s d bits probes r
       unfolding says_with if_room
-      lists_short wanted h = let k : session_room d.heads d.sent r ≡ Short wanted = sym z ∙ h in rw (room_is _ room, k)
+      lists_short wanted h = let k : session_room d.heads d.sent r ≡ Err wanted = sym z ∙ h in rw (room_is _ room, k)
 
-      pub all_enough : (n : Session) → y ≡ Enough → n ≡ planned_counts s d.heads d.sent → Says p n ≡ says_with s d bits probes r
+      pub all_enough : (n : Session) → y ≡ Ok tt → n ≡ planned_counts s d.heads d.sent → Ok (Says p n) ≡ says_with s d bits probes r
       unfolding says_with if_room
-      all_enough n h c = let k : session_room d.heads d.sent r ≡ Enough = sym z ∙ h in rw (room_is _ room, k, e, c)
+      all_enough n h c = let k : session_room d.heads d.sent r ≡ (Ok tt) = sym z ∙ h in rw (room_is _ room, k, e, c)
 
 -- the stages over plain tests
-abbrev staged : Bool → Bool → Bool → Bool → PlanAnswer → PlanAnswer → PlanAnswer
+abbrev staged : Bool → Bool → Bool → Bool → Result PlanAnswer Refusal → Result PlanAnswer Refusal → Result PlanAnswer Refusal
 staged many unknown silent full reset says =
-    cond many (Refused (PastSize 0)) (cond unknown reset (cond silent Silent (cond full (Refused (PastSize 0)) says)))
+    cond many (Err (PastSize 0)) (cond unknown reset (cond silent (Ok Silent) (cond full (Err (PastSize 0)) says)))
 
-module _ (many unknown silent full : Bool) (reset says : PlanAnswer) where
-  at_reset : {x : PlanAnswer} → many ≡ false → unknown ≡ true → x ≡ reset → x ≡ staged many unknown silent full reset says
+module _ (many unknown silent full : Bool) (reset says : Result PlanAnswer Refusal) where
+  at_reset : {x : Result PlanAnswer Refusal} → many ≡ false → unknown ≡ true → x ≡ reset → x ≡ staged many unknown silent full reset says
   at_reset a b e = rw (a, b) e
 
-  at_silence : many ≡ false → unknown ≡ false → silent ≡ true → Silent ≡ staged many unknown silent full reset says
+  at_silence : many ≡ false → unknown ≡ false → silent ≡ true → (Ok Silent) ≡ staged many unknown silent full reset says
   at_silence a b c = rw (a, b, c)
 
-  at_sent : many ≡ false → unknown ≡ false → silent ≡ false → full ≡ true → Refused (PastSize 0) ≡ staged many unknown silent full reset says
+  at_sent : many ≡ false → unknown ≡ false → silent ≡ false → full ≡ true → Err (PastSize 0) ≡ staged many unknown silent full reset says
   at_sent a b c d = rw (a, b, c, d)
 
-  at_message : {x : PlanAnswer} → many ≡ false → unknown ≡ false → silent ≡ false → full ≡ false → x ≡ says → x ≡ staged many unknown silent full reset says
+  at_message : {x : Result PlanAnswer Refusal} → many ≡ false → unknown ≡ false → silent ≡ false → full ≡ false → x ≡ says → x ≡ staged many unknown silent full reset says
   at_message a b c d e = rw (a, b, c, d) e
 
 -- a pick that isn't accepted, and one that is
-module _ (k : Picked) (a : PlanAnswer) where
-  pub pick_breaks : (place : ℕ) → k ≡ Breaks place → Refused (BadPick place) ≡ unless_breaks k a
+module _ (k : Result Unit ℕ) (a : Result PlanAnswer Refusal) where
+  pub pick_breaks : (place : ℕ) → k ≡ Err place → Err (BadPick place) ≡ unless_breaks k a
   unfolding unless_breaks
   pick_breaks place e = rw e
 
-  pub pick_fine : {x : PlanAnswer} → k ≡ Fine → x ≡ a → x ≡ unless_breaks k a
+  pub pick_fine : {x : Result PlanAnswer Refusal} → k ≡ Ok tt → x ≡ a → x ≡ unless_breaks k a
   unfolding unless_breaks
   pick_fine e f = rw e f
 
 module _ (s : Session) (d : Draft) (bits probes : ℕ) (r : Rooms) where
-  pub needs_many : sizes.hashes < d.need → Refused (PastSize 0) ≡ decided s d bits probes r
+  pub needs_many : sizes.hashes < d.need → Err (PastSize 0) ≡ decided s d bits probes r
   unfolding decided
   needs_many h = rw (lt-ltb _ _ h)
 
   module _ (few : d.need ≤ sizes.hashes) where
-    pub is_unknown : {x : PlanAnswer} → d.unknown ≡ true → x ≡ if_room Refused (message_room (reset_stated d.heads) r) (Reset (reset_stated d.heads))
+    pub is_unknown : {x : Result PlanAnswer Refusal} → d.unknown ≡ true → x ≡ if_room Err (message_room (reset_stated d.heads) r) (Ok (Reset (reset_stated d.heads)))
         → x ≡ decided s d bits probes r
     unfolding decided
     is_unknown u e = at_reset (ltb sizes.hashes d.need) d.unknown d.silent (ltb sizes.sent_hashes d.sent) _ _ (le-ltb _ _ few) u e
 
     module _ (known : d.unknown ≡ false) where
-      pub is_silent : d.silent ≡ true → Silent ≡ decided s d bits probes r
+      pub is_silent : d.silent ≡ true → (Ok Silent) ≡ decided s d bits probes r
       unfolding decided
       is_silent q = at_silence (ltb sizes.hashes d.need) d.unknown d.silent (ltb sizes.sent_hashes d.sent) _ _ (le-ltb _ _ few) known q
 
       module _ (loud : d.silent ≡ false) where
-        pub sent_many : sizes.sent_hashes < d.sent → Refused (PastSize 0) ≡ decided s d bits probes r
+        pub sent_many : sizes.sent_hashes < d.sent → Err (PastSize 0) ≡ decided s d bits probes r
         unfolding decided
         sent_many h =
             at_sent (ltb sizes.hashes d.need) d.unknown d.silent (ltb sizes.sent_hashes d.sent) _ _ (le-ltb _ _ few) known loud
             (lt-ltb _ _ h)
 
-        pub is_said : {x : PlanAnswer} → d.sent ≤ sizes.sent_hashes → x ≡ unless_breaks d.picked (says_with s d bits probes r) → x ≡ decided s d bits probes r
+        pub is_said : {x : Result PlanAnswer Refusal} → d.sent ≤ sizes.sent_hashes → x ≡ unless_breaks d.picked (says_with s d bits probes r) → x ≡ decided s d bits probes r
         unfolding decided
         is_said h e =
             at_message (ltb sizes.hashes d.need) d.unknown d.silent (ltb sizes.sent_hashes d.sent) _ _ (le-ltb _ _ few) known loud
@@ -271,19 +268,19 @@ module _ (s : Session) (d : Draft) (bits probes : ℕ) (r : Rooms) where
 
 -- ---- what an answer puts
 
-module _ (a : PlanAnswer) where
-  pub refused_puts : (r : Refusal) → a ≡ Refused r → no_puts ≡ puts_of a
+module _ (a : Result PlanAnswer Refusal) where
+  pub refused_puts : (r : Refusal) → a ≡ Err r → no_puts ≡ puts_of a
   unfolding puts_of
   refused_puts r e = rw e
 
-  pub silent_puts : a ≡ Silent → no_puts ≡ puts_of a
+  pub silent_puts : a ≡ Ok Silent → no_puts ≡ puts_of a
   unfolding puts_of
   silent_puts e = rw e
 
-  pub reset_puts : (p : Stated) {x : Puts} → a ≡ Reset p → x ≡ puts_for p 0 0 → x ≡ puts_of a
+  pub reset_puts : (p : Stated) {x : Puts} → a ≡ Ok (Reset p) → x ≡ puts_for p 0 0 → x ≡ puts_of a
   unfolding puts_of
   reset_puts p e q = rw e q
 
-  pub says_puts : (p : Stated) (n : Session) {x : Puts} → a ≡ Says p n → x ≡ puts_for p n.last_sent_heads n.sent_hashes → x ≡ puts_of a
+  pub says_puts : (p : Stated) (n : Session) {x : Puts} → a ≡ Ok (Says p n) → x ≡ puts_for p n.last_sent_heads n.sent_hashes → x ≡ puts_of a
   unfolding puts_of
   says_puts p n e q = rw e q

@@ -7,21 +7,19 @@ use borrow.Author.Tests.{ltb-false}
 use lib.Dec.{ltb}
 use Rattle.bloom.specs.Filter.{field_size}
 use Rattle.plan_decide.specs.Internal.Draft.{heads_count, count_if, filter_if, drafted, reset_stated, planned_counts, says_with, unless_breaks, decided, no_puts, puts_of, Fits}
-use Rattle.pick.specs.declared.check.Picked.{Picked}
-use Rattle.pick.specs.declared.check.Picked.TheVariants.{Fine, Breaks}
 use Rattle.plan_decide.specs.declared.decide.Draft.{Draft}
 use Rattle.plan_decide.specs.declared.puts.Puts.{Puts}
 use Rattle.session.specs.PlanCall.{message_room, session_room}
 use Rattle.session.specs.declared.plan_answer.PlanAnswer.{PlanAnswer}
-use Rattle.session.specs.declared.plan_answer.PlanAnswer.TheVariants.{Refused, Reset, Says}
+use Rattle.session.specs.declared.plan_answer.PlanAnswer.TheVariants.{Reset, Says}
 use Rattle.session.specs.declared.plan_answer.Rooms.{Rooms}
 use Rattle.session.specs.declared.plan_answer.Stated.{Stated}
 use Rattle.rules.specs.Sizes.{sizes}
 use Rattle.rules.proofs.Cases.{split}
 use Rattle.session.specs.Rooms.{or_short, if_room}
-use Rattle.session.specs.declared.room.Room.{Room}
-use Rattle.session.specs.declared.room.Room.TheVariants.{Enough, Short}
 use Rattle.session_state.specs.declared.session.Session.{Session}
+use Rattle.std.specs.Prelude.{Result, Ok, Err}
+use Rattle.rules.specs.declared.refusal.Refusal.{Refusal}
 
 some_shared : (b : Bool) (n : ℕ) → count_if b n ≤ n
 unfolding count_if
@@ -38,11 +36,11 @@ unfolding filter_if
 some_field true syncs entries bits probes f = (refl, refl)
 some_field false syncs entries bits probes f = absurd (f refl)
 
-not_short : (room wanted : ℕ) (rest : Room) → or_short room wanted rest ≡ Enough → (wanted ≤ room) × (rest ≡ Enough)
+not_short : (room wanted : ℕ) (rest : Result Unit ℕ) → or_short room wanted rest ≡ Ok tt → (wanted ≤ room) × (rest ≡ Ok tt)
 not_short room wanted rest e =
     split (ltb room wanted)
-    (λ t. let f : Short wanted ≡ Enough = rw t at e in absurd (let z : ◌≡◌ {A = ℕ} 0 1 = cc in omega arith))
-    (λ t. let f : rest ≡ Enough = rw t at e in (ltb-false _ _ t, f))
+    (λ t. let f : Err wanted ≡ (Ok tt) = rw t at e in absurd (let z : ◌≡◌ {A = ℕ} 0 1 = cc in omega arith))
+    (λ t. let f : rest ≡ (Ok tt) = rw t at e in (ltb-false _ _ t, f))
 
 record MessageFits (p : Stated) (r : Rooms) : Type 0 where
   heads : sizes.hash * p.heads ≤ r.heads
@@ -50,7 +48,7 @@ record MessageFits (p : Stated) (r : Rooms) : Type 0 where
   have : sizes.hash * p.syncs + p.filter.size ≤ r.have
   list : sizes.hash * p.hashes ≤ r.list
 
-message_fits : (p : Stated) (r : Rooms) → message_room p r ≡ Enough → MessageFits p r
+message_fits : (p : Stated) (r : Rooms) → message_room p r ≡ Ok tt → MessageFits p r
 unfolding message_room
 message_fits p r e =
     let a = not_short _ _ _ e in
@@ -59,7 +57,7 @@ message_fits p r e =
     let d = not_short _ _ _ c.1 in
     record { heads = a.0; need = b.0; have = c.0; list = d.0 }
 
-session_fits : (last_sent sent : ℕ) (r : Rooms) → session_room last_sent sent r ≡ Enough
+session_fits : (last_sent sent : ℕ) (r : Rooms) → session_room last_sent sent r ≡ Ok tt
     → (sizes.hash * last_sent ≤ r.last_sent) × (sizes.hash * sent ≤ r.sent)
 unfolding session_room
 session_fits last_sent sent r e =
@@ -86,19 +84,19 @@ module _ (s : Session) (d : Draft) (bits probes : ℕ) (r : Rooms) where
         sent_room = omega arith;
       }
 
-  in_room : (x : Room) (a : PlanAnswer) → (x ≡ Enough → Fits s d bits (puts_of a) r) → Fits s d bits (puts_of (if_room Refused x a)) r
+  in_room : (x : Result Unit ℕ) (a : Result PlanAnswer Refusal) → (x ≡ Ok tt → Fits s d bits (puts_of a) r) → Fits s d bits (puts_of (if_room Err x a)) r
   unfolding if_room puts_of
-  in_room Enough a f = f refl
-  in_room (Short wanted) a f = none_fit
+  in_room (Ok tt) a f = f refl
+  in_room (Err wanted) a f = none_fit
 
-  by_test : (t : Bool) (x y : PlanAnswer) → Fits s d bits (puts_of x) r → (t ≡ false → Fits s d bits (puts_of y) r) → Fits s d bits (puts_of (cond t x y)) r
+  by_test : (t : Bool) (x y : Result PlanAnswer Refusal) → Fits s d bits (puts_of x) r → (t ≡ false → Fits s d bits (puts_of y) r) → Fits s d bits (puts_of (cond t x y)) r
   by_test true x y f g = f
   by_test false x y f g = g refl
 
-  reset_fits : Fits s d bits (puts_of (if_room Refused (message_room (reset_stated d.heads) r) (Reset (reset_stated d.heads)))) r
+  reset_fits : Fits s d bits (puts_of (if_room Err (message_room (reset_stated d.heads) r) (Ok (Reset (reset_stated d.heads))))) r
   unfolding puts_of
   reset_fits =
-      in_room (message_room (reset_stated d.heads) r) (Reset (reset_stated d.heads))
+      in_room (message_room (reset_stated d.heads) r) (Ok (Reset (reset_stated d.heads)))
       (λ e.
       let f = message_fits (reset_stated d.heads) r e in
       record {
@@ -117,12 +115,12 @@ module _ (s : Session) (d : Draft) (bits probes : ℕ) (r : Rooms) where
         sent_room = omega arith;
       })
 
-  says_fits : d.need ≤ sizes.hashes → d.picked ≡ Fine → Fits s d bits (puts_of (says_with s d bits probes r)) r
+  says_fits : d.need ≤ sizes.hashes → d.picked ≡ Ok tt → Fits s d bits (puts_of (says_with s d bits probes r)) r
   unfolding says_with puts_of
   says_fits few fine =
       let p : Stated = drafted s d bits probes in
-      let said : PlanAnswer = Says p (planned_counts s d.heads d.sent) in
-      in_room (message_room p r) (if_room Refused (session_room d.heads d.sent r) said)
+      let said : Result PlanAnswer Refusal = Ok (Says p (planned_counts s d.heads d.sent)) in
+      in_room (message_room p r) (if_room Err (session_room d.heads d.sent r) said)
       (λ e.
       in_room (session_room d.heads d.sent r) said
       (λ g.
@@ -144,10 +142,10 @@ module _ (s : Session) (d : Draft) (bits probes : ℕ) (r : Rooms) where
         sent_room = h.1;
       }))
 
-  picked_fits : d.need ≤ sizes.hashes → (k : Picked) → d.picked ≡ k → Fits s d bits (puts_of (unless_breaks k (says_with s d bits probes r))) r
+  picked_fits : d.need ≤ sizes.hashes → (k : Result Unit ℕ) → d.picked ≡ k → Fits s d bits (puts_of (unless_breaks k (says_with s d bits probes r))) r
   unfolding unless_breaks puts_of
-  picked_fits few Fine e = says_fits few e
-  picked_fits few (Breaks place) e = none_fit
+  picked_fits few (Ok tt) e = says_fits few e
+  picked_fits few (Err place) e = none_fit
 
   decided_fits : Fits s d bits (puts_of (decided s d bits probes r)) r
   unfolding decided puts_of
@@ -158,6 +156,6 @@ module _ (s : Session) (d : Draft) (bits probes : ℕ) (r : Rooms) where
       (λ _. by_test d.silent _ _ none_fit (λ _. by_test (ltb sizes.sent_hashes d.sent) _ _ none_fit (λ _. picked_fits (ltb-false _ _ few) d.picked refl))))
 
 -- What an answer puts, which was decided, is what was drafted and fits.
-pub puts_fit : (s : Session) (d : Draft) (bits probes : ℕ) (r : Rooms) (a : PlanAnswer) (p : Puts) → a ≡ decided s d bits probes r → p ≡ puts_of a
+pub puts_fit : (s : Session) (d : Draft) (bits probes : ℕ) (r : Rooms) (a : Result PlanAnswer Refusal) (p : Puts) → a ≡ decided s d bits probes r → p ≡ puts_of a
     → Fits s d bits p r
 puts_fit s d bits probes r a p e q = rw (q, e) (decided_fits s d bits probes r)

@@ -11,8 +11,6 @@ use lib.Seq.{sets}
 use Rattle.session.specs.PlanCall.{syncs_of, filter_numbers, planned_answer, planned_roomed}
 use Rattle.session.specs.PlanCall.{Buffers, put_into, planned_lists}
 use Rattle.session.specs.Rooms.{if_room}
-use Rattle.session.specs.declared.room.Room.{Room}
-use Rattle.session.specs.declared.room.Room.TheVariants.{Enough, Short}
 use Rattle.session.specs.declared.plan_answer.Rooms.{Rooms}
 use Rattle.message.specs.Flags.{flags_of}
 use Rattle.message.specs.declared.version.MessageVersion.TheVariants.{V1}
@@ -26,6 +24,7 @@ use Rattle.session.specs.Plan.{Plan, Planned, list_of}
 use Rattle.session_state.specs.Value.{Lent}
 use Rattle.plan_decide.specs.Internal.Draft.{PlanParts, PutLists, put_lists, puts_of}
 use Rattle.plan_decide.specs.Internal.Draft.{unless_none, list_put, have_put, all_put}
+use Rattle.std.specs.Prelude.{Result, Ok, Err}
 
 -- ---- what is said, and what the session's lists become
 
@@ -150,10 +149,10 @@ pub silent_starts : (parts : PlanParts) → Starts Planned.silent parts
 unfolding hashes_at hashes_bytes laid_bytes unless_none
 silent_starts parts = record { heads = refl; need = refl; have = refl; list = refl; last_sent = refl; sent = refl }
 
-after_room : (x : Room) (q : Planned) (parts : PlanParts) → Starts q parts → Starts (if_room Planned.refused x q) parts
+after_room : (x : Result Unit ℕ) (q : Planned) (parts : PlanParts) → Starts q parts → Starts (if_room Planned.refused x q) parts
 unfolding if_room
-after_room Enough q parts f = f
-after_room (Short wanted) q parts f = refused_starts _ parts
+after_room (Ok tt) q parts f = f
+after_room (Err wanted) q parts f = refused_starts _ parts
 
 pub roomed_starts : (r : Rooms) (q : Planned) (parts : PlanParts) → Starts q parts → Starts (planned_roomed r q) parts
 unfolding planned_roomed

@@ -1,11 +1,11 @@
 // What is decided once everything is counted: nothing is written before all of it is known.
-ghost use Rattle.std.specs.Prelude.{cond, ◌&&◌, ◌≡◌, ◌+◌, ◌*◌, ◌≤◌};
+ghost use Rattle.std.specs.Prelude.{cond, ◌&&◌, ◌≡◌, ◌+◌, ◌*◌, ◌≤◌, Ok, Err};
 ghost use Rattle.std.specs.Int.Bits.{bit_or};
 ghost use Rattle.message.specs.Flags.{flags_of};
 ghost use Rattle.leb128.specs.Number.{most_filter};
 ghost use Rattle.session.specs.PlanCall.{message_room, session_room};
 ghost use Rattle.session.specs.Rooms.{if_room};
-ghost use Rattle.session.specs.declared.plan_answer.PlanAnswer.TheVariants.{Reset, Refused};
+ghost use Rattle.session.specs.declared.plan_answer.PlanAnswer.TheVariants.{Reset};
 ghost use Rattle.rules.specs.Sizes.{sizes};
 ghost use Rattle.session.specs.Plan.{flags_for, version_for};
 ghost use Rattle.plan_decide.specs.Internal.Draft.{SmallStated, SmallDraft, heads_count, count_if, filter_if, drafted, reset_stated, planned_counts, says_with, unless_breaks, decided};
@@ -15,12 +15,10 @@ use bloom::parse::{BITS_PER_ENTRY, NUM_PROBES};
 use bloom::rule::bits_capacity;
 use message::flags::MessageFlags;
 use message::version::MessageVersion;
-use pick::check::Picked;
 use plan_parts::body::BodyCount;
 use rules::refusal::Refusal;
 use rules::sizes::{HASH_SIZE, HASHES, SENT_HASHES};
 use session::plan_answer::{PlanAnswer, Rooms, Stated};
-use session::room::Room;
 use session_state::session::Session;
 
 // The numbers of a plan: how many heads there are and hashes are asked for, whether the peer's first have is unknown, whether a have is given and the
@@ -33,50 +31,50 @@ pub struct Draft {
     pub gives: bool,
     pub entries: usize,
     pub body: BodyCount,
-    pub picked: Picked,
+    pub picked: Result<(), usize>,
     pub silent: bool,
     pub sent: usize,
 }
 
-// Whether the message's lists have room, in wire order.
-fn message_room(p: Stated, r: Rooms) -> Room
+// Whether the message's lists have room, in wire order; else the length that the first too short one wants.
+fn message_room(p: Stated, r: Rooms) -> Result<(), usize>
     requires { SmallStated p }
     ensures { result ≡ message_room p r }
 {
     let heads = HASH_SIZE * p.heads;
     if r.heads < heads {
-        return Room::Short(heads);
+        return Err(heads);
     }
     let need = HASH_SIZE * p.need;
     if r.need < need {
-        return Room::Short(need);
+        return Err(need);
     }
     let filter = p.filter;
     let have = HASH_SIZE * p.syncs + filter.size;
     if r.have < have {
-        return Room::Short(have);
+        return Err(have);
     }
     let list = HASH_SIZE * p.hashes;
     if r.list < list {
-        return Room::Short(list);
+        return Err(list);
     }
-    Room::Enough
+    Ok(())
 }
 
-// Whether the session's lists that change have room.
-fn session_room(last_sent: usize, sent: usize, r: Rooms) -> Room
+// Whether the session's lists that change have room; else the length that the first too short one wants.
+fn session_room(last_sent: usize, sent: usize, r: Rooms) -> Result<(), usize>
     requires { (last_sent ≤ sizes.rows) × (sent ≤ sizes.sent_hashes + sizes.rows) }
     ensures { result ≡ session_room last_sent sent r }
 {
     let heads = HASH_SIZE * last_sent;
     if r.last_sent < heads {
-        return Room::Short(heads);
+        return Err(heads);
     }
     let hashes = HASH_SIZE * sent;
     if r.sent < hashes {
-        return Room::Short(hashes);
+        return Err(hashes);
     }
-    Room::Enough
+    Ok(())
 }
 
 // Flags with one more where a test says so.
@@ -224,63 +222,66 @@ fn planned_session(session: Session, last_sent: usize, sent: usize) -> Session
 }
 
 // The reset, if there is room for it.
-fn reset(heads: usize, r: Rooms) -> PlanAnswer
+fn reset(heads: usize, r: Rooms) -> Result<PlanAnswer, Refusal>
     requires { heads ≤ sizes.rows }
-    ensures { result ≡ if_room Refused (message_room (reset_stated heads) r) (Reset (reset_stated heads)) }
+    ensures { result ≡ if_room Err (message_room (reset_stated heads) r) (Ok (Reset (reset_stated heads))) }
 {
     let p = reset_stated(heads);
-    match message_room(p, r) {
-        Room::Short(wanted) => PlanAnswer::Refused(Refusal::NoRoom(wanted)),
-        Room::Enough => PlanAnswer::Reset(p),
-    }
+    message_room(p, r).map_err(Refusal::NoRoom)?;
+    Ok(PlanAnswer::Reset(p))
 }
 
 // The message, if there is room for it and for the session's lists.
-fn says(session: Session, d: Draft, bits: u64, probes: u64, r: Rooms) -> PlanAnswer
+fn says(session: Session, d: Draft, bits: u64, probes: u64, r: Rooms) -> Result<PlanAnswer, Refusal>
     requires { SmallDraft session d bits }
     ensures { result ≡ says_with session d bits probes r }
 {
     let p = stated(session, d, bits, probes);
-    match message_room(p, r) {
-        Room::Short(wanted) => PlanAnswer::Refused(Refusal::NoRoom(wanted)),
-        Room::Enough => match session_room(d.heads, d.sent, r) {
-            Room::Short(wanted) => PlanAnswer::Refused(Refusal::NoRoom(wanted)),
-            Room::Enough => PlanAnswer::Says {
-                stated: p,
-                session: planned_session(session, d.heads, d.sent),
-            },
-        },
-    }
+    message_room(p, r).map_err(Refusal::NoRoom)?;
+    session_room(d.heads, d.sent, r).map_err(Refusal::NoRoom)?;
+    Ok(PlanAnswer::Says {
+        stated: p,
+        session: planned_session(session, d.heads, d.sent),
+    })
 }
 
 // The message, if a pick that goes is accepted.
-fn says_picked(session: Session, d: Draft, bits: u64, probes: u64, r: Rooms) -> PlanAnswer
+fn says_picked(
+    session: Session,
+    d: Draft,
+    bits: u64,
+    probes: u64,
+    r: Rooms,
+) -> Result<PlanAnswer, Refusal>
     requires { SmallDraft session d bits }
     ensures { result ≡ unless_breaks d.picked (says_with session d bits probes r) }
 {
-    let picked = d.picked;
-    match picked {
-        Picked::Breaks(place) => PlanAnswer::Refused(Refusal::BadPick(place)),
-        Picked::Fine => says(session, d, bits, probes, r),
-    }
+    d.picked.map_err(Refusal::BadPick)?;
+    says(session, d, bits, probes, r)
 }
 
 // Decides: 4 for too many needs even before a reset or silence, 4 for too many sent hashes and then 17 only where something is said.
-pub fn decide(session: Session, d: Draft, bits: u64, probes: u64, r: Rooms) -> PlanAnswer
+pub fn decide(
+    session: Session,
+    d: Draft,
+    bits: u64,
+    probes: u64,
+    r: Rooms,
+) -> Result<PlanAnswer, Refusal>
     requires { SmallDraft session d bits }
     ensures { result ≡ decided session d bits probes r }
 {
     if HASHES < d.need {
-        return PlanAnswer::Refused(Refusal::PastSize(0));
+        return Err(Refusal::PastSize(0));
     }
     if d.unknown {
         return reset(d.heads, r);
     }
     if d.silent {
-        return PlanAnswer::Silent;
+        return Ok(PlanAnswer::Silent);
     }
     if SENT_HASHES < d.sent {
-        return PlanAnswer::Refused(Refusal::PastSize(0));
+        return Err(Refusal::PastSize(0));
     }
     says_picked(session, d, bits, probes, r)
 }

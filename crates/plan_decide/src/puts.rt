@@ -2,6 +2,7 @@
 ghost use Rattle.std.specs.Prelude.{◌≡◌};
 ghost use Rattle.plan_decide.specs.Internal.Draft.{puts_for, puts_of};
 
+use rules::refusal::Refusal;
 use session::plan_answer::{PlanAnswer, Stated};
 
 // How many hashes go into each list, and how many bytes the field has.
@@ -32,7 +33,7 @@ fn puts_for(p: Stated, last_sent: usize, sent: usize) -> Puts
 }
 
 // What an answer puts: nothing after a refusal and in silence.
-pub fn puts_of(planned: PlanAnswer) -> Puts
+pub fn puts_of(planned: Result<PlanAnswer, Refusal>) -> Puts
     ensures { result ≡ puts_of planned }
 {
     let none = Puts {
@@ -45,10 +46,10 @@ pub fn puts_of(planned: PlanAnswer) -> Puts
         sent: 0,
     };
     match planned {
-        PlanAnswer::Refused(_) => none,
-        PlanAnswer::Silent => none,
-        PlanAnswer::Reset(stated) => puts_for(stated, 0, 0),
-        PlanAnswer::Says { stated, session } => {
+        Err(_) => none,
+        Ok(PlanAnswer::Silent) => none,
+        Ok(PlanAnswer::Reset(stated)) => puts_for(stated, 0, 0),
+        Ok(PlanAnswer::Says { stated, session }) => {
             puts_for(stated, session.last_sent_heads, session.sent_hashes)
         }
     }

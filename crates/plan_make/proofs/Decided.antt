@@ -19,12 +19,10 @@ use Rattle.plan_parts.specs.Internal.PlanParts.{NeedCounted}
 use Rattle.plan_parts.specs.declared.need.Asked.{Asked}
 use Rattle.hash_order.specs.Order.{member, every}
 use Rattle.session.specs.PlanCall.{syncs_of, filter_numbers, stated_of, planned_answer, message_room, session_room, planned_roomed}
-use Rattle.session.specs.declared.plan_answer.PlanAnswer.TheVariants.{Refused, Reset}
+use Rattle.session.specs.declared.plan_answer.PlanAnswer.TheVariants.{Reset}
 use Rattle.session.specs.declared.plan_answer.PlanAnswer.{PlanAnswer}
 use Rattle.session.specs.declared.plan_answer.Rooms.{Rooms}
 use Rattle.session.specs.declared.plan_answer.Stated.{Stated}
-use Rattle.session.specs.declared.room.Room.{Room}
-use Rattle.session.specs.declared.room.Room.TheVariants.{Enough, Short}
 use Rattle.session.specs.Rooms.{if_room}
 use Rattle.bloom_probe.proofs.FieldLaws.{length_add_hashes}
 use Rattle.bloom_probe.specs.Build.{filter_of}
@@ -32,8 +30,6 @@ use Rattle.rules.proofs.Cases.{split}
 use Rattle.rules.proofs.Hash.{length_hashes_at}
 use Rattle.rules.specs.Sizes.{sizes}
 use Rattle.rules.specs.declared.refusal.Refusal.TheVariants.{PastSize}
-use Rattle.pick.specs.declared.check.Picked.{Picked}
-use Rattle.pick.specs.declared.check.Picked.TheVariants.{Fine, Breaks}
 use Rattle.session.specs.Plan.{Body, Planned, heard, need_of, have_of, haves_for, sent_after, heads_for, plan_of, planned, reset_of, unless_broken, plan_body}
 use Rattle.session.proofs.PlanStages.{from_sent}
 use Rattle.session_check.proofs.GoodSessions.{session_parts}
@@ -44,26 +40,28 @@ use Rattle.session_state.specs.declared.session.Session.{Session}
 use Rattle.table.specs.Table.{Row}
 use Rattle.waiting.specs.Waiting.{Waiting}
 use Rattle.plan_count.specs.Internal.PlanCount.{DraftCounted}
+use Rattle.std.specs.Prelude.{Result, Ok, Err}
+use Rattle.rules.specs.declared.refusal.Refusal.{Refusal}
 
 -- ---- counts of parts
 
 -- room is asked before the answer is counted, or after
-room_answers : (x : Room) (q : Planned) → if_room Refused x (planned_answer q) ≡ planned_answer (if_room Planned.refused x q)
+room_answers : (x : Result Unit ℕ) (q : Planned) → if_room Err x (planned_answer q) ≡ planned_answer (if_room Planned.refused x q)
 unfolding if_room planned_answer
-room_answers Enough q = refl
-room_answers (Short wanted) q = refl
+room_answers (Ok tt) q = refl
+room_answers (Err wanted) q = refl
 
 -- a test decides the same on both sides
-both_ways : (f : Planned → PlanAnswer) (b : Bool) {x y : PlanAnswer} {p q : Planned} → x ≡ f p → y ≡ f q → cond b x y ≡ f (cond b p q)
+both_ways : (f : Planned → Result PlanAnswer Refusal) (b : Bool) {x y : Result PlanAnswer Refusal} {p q : Planned} → x ≡ f p → y ≡ f q → cond b x y ≡ f (cond b p q)
 both_ways f true e g = e
 both_ways f false e g = g
 
 -- and so does a pick that isn't accepted
-broken_answers : (r : Rooms) (k : Picked) (q : Planned) {x : PlanAnswer} → x ≡ planned_answer (planned_roomed r q)
+broken_answers : (r : Rooms) (k : Result Unit ℕ) (q : Planned) {x : Result PlanAnswer Refusal} → x ≡ planned_answer (planned_roomed r q)
     → unless_breaks k x ≡ planned_answer (planned_roomed r (unless_broken k q))
 unfolding unless_breaks planned_roomed planned_answer
-broken_answers r Fine q e = e
-broken_answers r (Breaks place) q e = refl
+broken_answers r (Ok tt) q e = e
+broken_answers r (Err place) q e = refl
 
 heads_count_lem : (needs supports : Bool) (hs : List ℕ) → length (heads_for needs supports hs) ≡ heads_count needs supports (length hs)
 unfolding heads_for heads_count
@@ -97,7 +95,7 @@ counted_same b h n v s f k = rw (b, h, n, v, s, f, k)
 numbers_same : {bits probes e e' p p' z z' : ℕ} → e ≡ e' → p ≡ p' → z ≡ z' → numbers_of e bits probes p z ≡ numbers_of e' bits probes p' z'
 numbers_same e p z = rw (e, p, z)
 
-module _ (bits probes : ℕ) (t : List Row) (w : List Waiting) (s : Session) (l : Lent) (b : Body) (k : Picked) (a : Asked) (d : Draft)
+module _ (bits probes : ℕ) (t : List Row) (w : List Waiting) (s : Session) (l : Lent) (b : Body) (k : Result Unit ℕ) (a : Asked) (d : Draft)
     (m : DraftCounted t (state_of s l) b k a d)
     (f : NeedCounted (need_of t w s.read_only (heard (state_of s l).their_heads)) (state_of s l).their_heads a) where
   abbrev theirs : List ℕ
@@ -163,7 +161,7 @@ module _ (bits probes : ℕ) (t : List Row) (w : List Waiting) (s : Session) (l 
   -- ---- the stages
 
   module _ (good : session_good s l ≡ true) (r : Rooms) where
-    abbrev answer : Planned → PlanAnswer
+    abbrev answer : Planned → Result PlanAnswer Refusal
     answer q = planned_answer (planned_roomed r q)
 
     says_decided : d.need ≤ sizes.hashes → d.sent ≤ sizes.sent_hashes
@@ -172,12 +170,12 @@ module _ (bits probes : ℕ) (t : List Row) (w : List Waiting) (s : Session) (l 
     says_decided few some =
         let p = plan_of bits probes t w (state_of s l) b in
         let q : Planned = Planned.says p (planned t (state_of s l) b) in
-        let x : Room = session_room (length (heads t)) (length (sent_after (state_of s l) b)) r in
+        let x : Result Unit ℕ = session_room (length (heads t)) (length (sent_after (state_of s l) b)) r in
         rw (sym (stated_drafted few), sym (counts_planned good some), m.heads, m.sent)
-        (ap (λ (a : PlanAnswer). if_room Refused (message_room (stated_of p) r) a) (room_answers x q) ∙ room_answers (message_room (stated_of p) r) (if_room Planned.refused x q))
+        (ap (λ (a : Result PlanAnswer Refusal). if_room Err (message_room (stated_of p) r) a) (room_answers x q) ∙ room_answers (message_room (stated_of p) r) (if_room Planned.refused x q))
 
     sent_decided : d.need ≤ sizes.hashes
-        → cond (ltb sizes.sent_hashes d.sent) (Refused (PastSize 0)) (unless_breaks d.picked (says_with s d bits probes r))
+        → cond (ltb sizes.sent_hashes d.sent) (Err (PastSize 0)) (unless_breaks d.picked (says_with s d bits probes r))
         ≡ answer (from_sent bits probes t w (state_of s l) b k)
     unfolding sent_after planned_roomed planned_answer
     sent_decided few =
@@ -188,9 +186,9 @@ module _ (bits probes : ℕ) (t : List Row) (w : List Waiting) (s : Session) (l 
         (λ e.
         let some : d.sent ≤ sizes.sent_hashes = ltb-false _ _ e in
         let room : length (sent_after (state_of s l) b) ≤ sizes.sent_hashes = omega (arith, m.sent) in
-        rw (e, le-ltb _ _ room) (ap (λ (z : Picked). unless_breaks z (says_with s d bits probes r)) m.picked ∙ broken_answers r k _ (says_decided few some)))
+        rw (e, le-ltb _ _ room) (ap (λ (z : Result Unit ℕ). unless_breaks z (says_with s d bits probes r)) m.picked ∙ broken_answers r k _ (says_decided few some)))
 
-    reset_decided : if_room Refused (message_room (reset_stated d.heads) r) (Reset (reset_stated d.heads)) ≡ answer (Planned.reset (reset_of t))
+    reset_decided : if_room Err (message_room (reset_stated d.heads) r) (Ok (Reset (reset_stated d.heads))) ≡ answer (Planned.reset (reset_of t))
     unfolding planned_roomed reset_of planned_answer
     reset_decided = rw m.heads (room_answers (message_room (reset_stated (length (heads t))) r) (Planned.reset (reset_of t)))
 

@@ -20,18 +20,15 @@ use Rattle.rules.specs.declared.refusal.Refusal.TheVariants.{PastSize}
 use Rattle.rules.proofs.Cases.{split}
 use Rattle.rules.proofs.Hash.{length_hashes_at}
 use Rattle.session.specs.Laid.{laid_bytes}
-use Rattle.pick.specs.declared.check.Picked.{Picked}
-use Rattle.pick.specs.declared.check.Picked.TheVariants.{Fine, Breaks}
 use Rattle.session.specs.Plan.{Body, Planned, heard, need_of, have_of, haves_for, empty, silence, sent_after}
 use Rattle.session.specs.Plan.{heads_for, plan_of, planned, reset_of, is_fine, unless_broken, plan_body, unknown_sync}
 use Rattle.session.proofs.PlanStages.{from_sent, from_silence, from_reset}
 use Rattle.session_state.specs.Value.{Lent, state_of}
 use Rattle.session_state.specs.declared.session.Session.{Session}
-use Rattle.table.specs.Table.{Row, rows}
+use Rattle.table.specs.Table.{Row}
 use Rattle.waiting.specs.Waiting.{Waiting}
 use Rattle.bloom.specs.Filter.{SettingGood}
 use Rattle.bloom.specs.Have.{Have}
-use mathlib.Core.Option.{none}
 use Rattle.plan_parts.specs.Internal.PlanParts.{NeedCounted}
 use Rattle.plan_parts.specs.declared.need.Asked.{Asked}
 use Rattle.session.specs.PlanCall.{Buffers, buffers_of, syncs_of, filter_numbers, planned_answer, planned_roomed, planned_rooms, put_into, planned_lists, PlanCalled}
@@ -42,10 +39,12 @@ use Rattle.plan_count.specs.Internal.PlanCount.{DraftCounted}
 use Rattle.plan_make.specs.Internal.PlanMake.{plan_parts_of, Finished}
 use Rattle.plan_make.proofs.Decided.{asked_many, have_given, have_none, plan_decided}
 use Rattle.plan_decide.proofs.PutLaws.{Starts, all_said, lists_of, changed, lists_change, put_as_said, refused_starts, silent_starts, roomed_starts}
+use Rattle.std.specs.Prelude.{Result, Ok, Err}
+use Rattle.rules.specs.declared.refusal.Refusal.{Refusal}
 
 -- ---- small
 
-module _ (bits probes : ℕ) (t : List Row) (s : Session) (l : Lent) (b : Body) (k : Picked) (a : Asked) (d : Draft) (m : DraftCounted t (state_of s l) b k a d)
+module _ (bits probes : ℕ) (t : List Row) (s : Session) (l : Lent) (b : Body) (k : Result Unit ℕ) (a : Asked) (d : Draft) (m : DraftCounted t (state_of s l) b k a d)
     (less : a.count ≤ sizes.hashes + 1) where
   module _ (few : length t ≤ sizes.rows) (good : session_good s l ≡ true) (setting : SettingGood bits probes) where
     pub entries_few : d.entries ≤ sizes.rows
@@ -78,7 +77,7 @@ test_starts : (b : Bool) (p q : Planned) (parts : PlanParts) → (b ≡ true →
 test_starts true p q parts f g = f refl
 test_starts false p q parts f g = g refl
 
-module _ (bits probes : ℕ) (t : List Row) (w : List Waiting) (s : Session) (l : Lent) (b : Body) (k : Picked) (a : Asked) (d : Draft)
+module _ (bits probes : ℕ) (t : List Row) (w : List Waiting) (s : Session) (l : Lent) (b : Body) (k : Result Unit ℕ) (a : Asked) (d : Draft)
     (m : DraftCounted t (state_of s l) b k a d)
     (f : NeedCounted (need_of t w s.read_only (heard (state_of s l).their_heads)) (state_of s l).their_heads a) where
   abbrev parts : PlanParts
@@ -134,9 +133,9 @@ module _ (bits probes : ℕ) (t : List Row) (w : List Waiting) (s : Session) (l 
       (λ e. absurd (omega (arith, m.sent, ltb-true sizes.sent_hashes d.sent e)))
       (λ e. ltb-false _ _ e)
 
-  broken_starts : (c : Picked) {q : Planned} → Starts q parts → Starts (unless_broken c q) parts
-  broken_starts Fine x = x
-  broken_starts (Breaks place) x = refused_starts _ parts
+  broken_starts : (c : Result Unit ℕ) {q : Planned} → Starts q parts → Starts (unless_broken c q) parts
+  broken_starts (Ok tt) x = x
+  broken_starts (Err place) x = refused_starts _ parts
 
   sent_starts : d.need ≤ sizes.hashes → Starts (from_sent bits probes t w (state_of s l) b k) parts
   sent_starts few =
@@ -160,7 +159,7 @@ module _ (bits probes : ℕ) (t : List Row) (w : List Waiting) (s : Session) (l 
       (λ e. reset_starts (few_asked (ltb-false _ _ e)))
 
   -- So a plan that is finished is what the call promises.
-  pub plan_called : session_good s l ≡ true → (before after : Buffers) (last_sent sent : List ℕ) (r : PlanAnswer)
+  pub plan_called : session_good s l ≡ true → (before after : Buffers) (last_sent sent : List ℕ) (r : Result PlanAnswer Refusal)
       → Finished s d bits probes parts (lists_of before l) (lists_of after (changed l last_sent sent)) r
       → PlanCalled (plan_body bits probes t w (state_of s l) b k) l (changed l last_sent sent) before after r
   plan_called good before after last_sent sent r fin =

@@ -2,7 +2,7 @@
 use Prim.Native.Nat.{ℕ, ◌+◌, ◌*◌, ◌≤◌}
 use mathlib.Core.Bool.{Bool, true, false}
 use mathlib.Core.List.{List, []}
-use mathlib.Core.Option.{Option}
+use mathlib.Core.Option.{Option as Maybe}
 use mathlib.Core.Path.{◌≡◌, sym, ap, ◌∙◌}
 use native.Mathlib.Omega.{arith}
 use borrow.Author.Tests.{eqb-false, not-true}
@@ -18,8 +18,7 @@ use Rattle.plan_decide.specs.declared.decide.Draft.{Draft}
 use Rattle.plan_decide.specs.declared.puts.Puts.{Puts}
 use Rattle.plan_put.specs.Internal.PlanPut.{MessageReady, MessagePut, SessionReady, SessionPut}
 use Rattle.table_graph.proofs.MarkLaws.{blank}
-use Rattle.table_graph.proofs.PickLaws.{marked_most}
-use Rattle.table_graph.specs.Graph.{heads, beyond}
+use Rattle.table_graph.specs.Graph.{beyond}
 use Rattle.table_graph.specs.Internal.Marks.{marked, picked}
 use Rattle.table_index.specs.Index.{Indexed}
 use Rattle.session_check.proofs.GoodSessions.{list_parts, session_tests, session_parts}
@@ -36,12 +35,8 @@ use Rattle.rules.proofs.Hash.{length_hashes_at}
 use Rattle.rules.specs.Hash.{hashes_at, hashes_bytes}
 use Rattle.rules.specs.Sizes.{sizes}
 use Rattle.send.specs.Internal.Chosen.{chosen_by}
-use Rattle.pick.specs.declared.check.Picked.{Picked}
-use Rattle.pick.specs.declared.check.Picked.TheVariants.{Fine}
 use Rattle.session.specs.Plan.{Body, sent_after}
 use Rattle.session_state.specs.Value.{Lent, heard_count, state_of}
-use Rattle.session_state.specs.declared.session.Heard.{Heard}
-use Rattle.session_state.specs.declared.session.Heard.TheVariants.{Nothing, Count}
 use Rattle.session_state.specs.declared.session.Session.{Session}
 use Rattle.table.proofs.TableLaws.{length_rows_at}
 use Rattle.table.specs.TableBytes.{rows_at}
@@ -50,13 +45,15 @@ use Rattle.plan_count.specs.Internal.PlanCount.{BlankMarks, PlanMarked, DraftCou
 use Rattle.plan_make.specs.Internal.PlanMake.{plan_parts_of, Finished, AskedCalled}
 use Rattle.plan_make.proofs.MadeLaws.{entries_few, small_made, plan_called}
 use Rattle.plan_parts.proofs.HeardLaws.{heard_there}
+use Rattle.std.specs.Prelude.{Option, Result, Ok, Some, None}
+use Rattle.rules.specs.declared.refusal.Refusal.{Refusal}
 
 -- ---- marks that aren't set
 
-heard_most : (s : List ℕ) (h : Heard) → heard_good s h ≡ true → heard_count h ≤ sizes.hashes
+heard_most : (s : List ℕ) (h : Option ℕ) → heard_good s h ≡ true → heard_count h ≤ sizes.hashes
 unfolding heard_good
-heard_most s Nothing g = omega arith
-heard_most s (Count n) g = (list_parts s n g).few
+heard_most s None g = omega arith
+heard_most s (Some n) g = (list_parts s n g).few
 
 module _ {table index : List ℕ} {n : ℕ} (s : Session) (l : Lent) (rows : Indexed table index n) (good : session_good s l ≡ true) where
   pub blank_marks : BlankMarks n (heard_count s.their_need) (replicate sizes.rows false) (replicate sizes.rows false) (replicate sizes.rows false)
@@ -84,7 +81,7 @@ module _ {table index : List ℕ} {n : ℕ} (s : Session) (l : Lent) (rows : Ind
   -- ---- what was counted
 
   module _ {bits probes : ℕ} (setting : SettingGood bits probes) {headMarks haveMarks marks needs fresh : List Bool} {b : Body}
-      {k : Picked} {a : Asked} {d : Draft}
+      {k : Result Unit ℕ} {a : Asked} {d : Draft}
       (m : PlanMarked (rows_at table 0 n) n (state_of s l) b k (hashes_at l.their_need 0 (heard_count s.their_need)) headMarks haveMarks marks needs fresh d)
       (c : DraftCounted (rows_at table 0 n) (state_of s l) b k a d)
       (within : a.count ≤ sizes.hashes + 1) where
@@ -101,7 +98,7 @@ module _ {table index : List ℕ} {n : ℕ} (s : Session) (l : Lent) (rows : Ind
       head_room : (count room : ℕ) → count ≡ d.heads → sizes.hash * count ≤ room → sizes.hash * marked n headMarks ≤ room
       head_room count room e h = omega (arith, m.heads_many)
 
-      body_room : (count room : ℕ) → count ≡ d.body.hashes → d.picked ≡ Fine → sizes.hash * count ≤ room
+      body_room : (count room : ℕ) → count ≡ d.body.hashes → d.picked ≡ Ok tt → sizes.hash * count ≤ room
           → sizes.hash * length (chosen_by t marks (hashes_at l.their_need 0 (heard_count s.their_need)) needs) ≤ room
       body_room count room e fine h = omega (arith, c.hashes, ap length (m.list (sym c.picked ∙ fine)))
 
@@ -170,7 +167,7 @@ module _ {table index : List ℕ} {n : ℕ} (s : Session) (l : Lent) (rows : Ind
         chosen_is : (p.hashes ≡ 0 → ⊥) → chosen_by t marks (hashes_at l.their_need 0 j) needs ≡ b.hashes
         chosen_is some = ap (λ (z : ℕ). chosen_by t marks (hashes_at l.their_need 0 z) needs) e ∙ m.list (sym c.picked ∙ (f.list some).1)
 
-        module _ (answer : PlanAnswer) (q : p ≡ puts_of answer) where
+        module _ (answer : Result PlanAnswer Refusal) (q : p ≡ puts_of answer) where
           module _ (asks need₀ need₁ : List ℕ) (last : need₁ ≡ list_put (puts_of answer).need asks need₀) where
             abbrev before : Buffers
             before = buffers_of heads₀ need₀ have₀ list₀
@@ -213,7 +210,7 @@ module _ {table index : List ℕ} {n : ℕ} (s : Session) (l : Lent) (rows : Ind
 -- ---- what is asked for
 
 -- nothing
-pub nothing_counted : {l : List ℕ} {theirs : Option (List ℕ)} → l ≡ [] → NeedCounted l theirs (record { heads = 0; count = 0; heard = true })
+pub nothing_counted : {l : List ℕ} {theirs : Maybe (List ℕ)} → l ≡ [] → NeedCounted l theirs (record { heads = 0; count = 0; heard = true })
 unfolding every
 nothing_counted e = record { within = omega arith; all = λ few. rw e; many = λ more. absurd (omega arith); each = λ few. rw e }
 
@@ -221,7 +218,7 @@ pub nothing_put : {l : List ℕ} → l ≡ [] → (count : ℕ) (buffer : List �
 unfolding unless_none hashes_bytes
 nothing_put e count buffer = split (eqb count 0) (λ z. rw (e, z)) (λ z. rw (e, z))
 
-module _ {their_heads waiting refs l : List ℕ} {theirs : Option (List ℕ)} {a : Asked} (found : NeedFound their_heads waiting refs l theirs a) {p : Puts} (r : PlanAnswer)
+module _ {their_heads waiting refs l : List ℕ} {theirs : Maybe (List ℕ)} {a : Asked} (found : NeedFound their_heads waiting refs l theirs a) {p : Puts} (r : Result PlanAnswer Refusal)
     (q : p ≡ puts_of r) {room : ℕ}
     (fits : ((puts_of r).need ≡ 0 → ⊥) → ((puts_of r).need ≡ a.count) × ((a.count ≤ sizes.hashes) × (sizes.hash * a.count ≤ room))) where
   put_fits : (p.need ≡ 0 → ⊥) → (p.need ≡ a.count) × ((a.count ≤ sizes.hashes) × (sizes.hash * a.count ≤ room))

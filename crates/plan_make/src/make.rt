@@ -20,6 +20,7 @@ use plan_decide::decide::decide;
 use plan_decide::puts::puts_of;
 use plan_parts::need::{Asked, asks_nothing, find_need};
 use plan_put::put::{put_message, put_need, put_session};
+use rules::refusal::Refusal;
 use rules::sizes::{HASHES, ROWS};
 use session::plan_answer::{PlanAnswer, Rooms};
 use session_state::session::{Session, heard_count};
@@ -49,7 +50,7 @@ fn plan_asked(
     heads: &mut [u8],
     have: &mut [u8],
     list: &mut [u8],
-) -> PlanAnswer
+) -> Result<PlanAnswer, Refusal>
     requires { Indexed table.now index.now n
         × (session_good session (lent_of shared.now last_sent.old their_heads.now their_need.now haves.now have_bytes.now sent.old) ≡ true)
         × SettingGood setting.bits setting.probes
@@ -165,7 +166,7 @@ pub fn plan_checked(
     need: &mut [u8],
     have: &mut [u8],
     list: &mut [u8],
-) -> PlanAnswer
+) -> Result<PlanAnswer, Refusal>
     requires { PlanChecked table.now index.now n waiting.now order.now m session
         (lent_of shared.now last_sent.old their_heads.now their_need.now haves.now have_bytes.now sent.old)
         × SettingGood setting.bits setting.probes × (length pick.now ≤ sizes.hashes * sizes.hash) }

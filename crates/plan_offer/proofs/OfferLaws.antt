@@ -22,14 +22,10 @@ use Rattle.session.specs.Plan.{Body, heard_as, list_of, body_heard, body_of}
 use Rattle.session_check.proofs.GoodSessions.{list_parts}
 use Rattle.session_check.specs.SessionGood.{heard_good, lent_of, session_good}
 use Rattle.session_state.specs.Value.{Lent, heard_count, heard_hashes, heard_haves, state_of}
-use Rattle.session_state.specs.declared.session.Heard.{Heard}
-use Rattle.session_state.specs.declared.session.Heard.TheVariants.{Nothing, Count}
 use Rattle.session_state.specs.declared.session.Session.{Session}
 use Rattle.table.proofs.TableLaws.{table_good}
 use Rattle.table.specs.Table.{Row, rows}
 use Rattle.table.specs.TableBytes.{rows_at, table_of}
-use Rattle.table.specs.declared.check.Checked.{Checked}
-use Rattle.table.specs.declared.check.Checked.TheVariants.{Good, Refused as BadTable}
 use Rattle.table_graph.proofs.GraphMarks.{many_rows}
 use Rattle.table_graph.proofs.PickLaws.{pick_most}
 use Rattle.table_graph.specs.Internal.Marks.{picked}
@@ -37,12 +33,12 @@ use Rattle.table_index.proofs.CheckLaws.{checked_table}
 use Rattle.table_index.specs.Index.{index_checked}
 use Rattle.plan_offer.specs.Internal.OfferReady.{OfferReady}
 use Rattle.plan_offer.specs.OfferCall.{Offered, offered_after, offer_of, offer_answer, offer_content, OfferCalled}
-use Rattle.plan_offer.specs.declared.offer.OfferAnswer.TheVariants.{Offers, Refused}
+use Rattle.std.specs.Prelude.{Result, Ok, Err, Option, Some, None}
 
 -- ---- a refusal
 
 -- the list is left as it was
-pub none_offered : (r : Refusal) (before : List ℕ) → OfferCalled (Offered.none r) before before (Refused r)
+pub none_offered : (r : Refusal) (before : List ℕ) → OfferCalled (Offered.none r) before before (Err r)
 unfolding offer_answer offer_content
 none_offered r before = record { answer = refl; content = refl }
 
@@ -50,7 +46,7 @@ none_offered r before = record { answer = refl; content = refl }
 
 -- 7 with the bytes that its hashes have
 too_short : (b : Body) (k : ℕ) (before : List ℕ) → k ≡ length b.hashes → length before < sizes.hash * k
-    → OfferCalled (Offered.body b) before before (Refused (NoRoom (sizes.hash * k)))
+    → OfferCalled (Offered.body b) before before (Err (NoRoom (sizes.hash * k)))
 unfolding offer_answer offer_content
 too_short b k before e short =
     let h : ltb (length before) (sizes.hash * length b.hashes) ≡ true = lt-ltb (length before) (sizes.hash * length b.hashes) (omega arith) in
@@ -59,16 +55,16 @@ too_short b k before e short =
 -- or all of it
 whole : (b : Body) (d : Bool) (k : ℕ) (before after : List ℕ) → d ≡ b.document → k ≡ length b.hashes → sizes.hash * k ≤ length before
     → after ≡ sets before 0 (hashes_bytes b.hashes)
-    → OfferCalled (Offered.body b) before after (Offers d k)
+    → OfferCalled (Offered.body b) before after (Ok (d, k))
 unfolding offer_answer offer_content
 whole b d k before after is e room put =
     let h : ltb (length before) (sizes.hash * length b.hashes) ≡ false = le-ltb (length before) (sizes.hash * length b.hashes) (omega arith) in
     record { answer = rw (is, e, h); content = rw h put }
 
-pub heard_few : (s : List ℕ) (h : Heard) → heard_good s h ≡ true → heard_count h ≤ sizes.hashes
+pub heard_few : (s : List ℕ) (h : Option ℕ) → heard_good s h ≡ true → heard_count h ≤ sizes.hashes
 unfolding heard_good
-heard_few s Nothing g = omega arith
-heard_few s (Count n) g = omega (arith, (list_parts s n g).few)
+heard_few s None g = omega arith
+heard_few s (Some n) g = omega (arith, (list_parts s n g).few)
 
 module _ {table index : List ℕ} {n : ℕ} {s : Session} {their_need haves bytes sent : List ℕ} (ready : OfferReady table index n s their_need haves bytes sent) where
   abbrev asked : List ℕ
@@ -118,14 +114,14 @@ module _ {table index : List ℕ} {n : ℕ} {s : Session} {their_need haves byte
 
   pub offer_short : (before : List ℕ) → length before < sizes.hash * b.hashes → (shared last_sent their_heads : List ℕ)
       → OfferCalled (Offered.body (body_of (rows_at table 0 n) (state_of s (lent_of shared last_sent their_heads their_need haves bytes sent)))) before before
-      (Refused (NoRoom (sizes.hash * b.hashes)))
+      (Err (NoRoom (sizes.hash * b.hashes)))
   offer_short before short shared last_sent their_heads = too_short _ _ before (body_is shared last_sent their_heads).hashes.many short
 
   pub offer_put : (k : ℕ) → k ≡ heard_count s.their_need → (before after : List ℕ) → sizes.hash * b.hashes ≤ length before
       → after ≡ sets before 0 (hashes_bytes (chosen_by (rows_at table 0 n) marks (hashes_at their_need 0 k) needs))
       → (shared last_sent their_heads : List ℕ)
       → OfferCalled (Offered.body (body_of (rows_at table 0 n) (state_of s (lent_of shared last_sent their_heads their_need haves bytes sent)))) before after
-      (Offers b.document b.hashes)
+      (Ok (b.document, b.hashes))
   offer_put k e before after room put shared last_sent their_heads =
       let c = body_is shared last_sent their_heads in
       whole _ _ _ before after c.document c.hashes.many room (rw (e, c.hashes.list) at put)
@@ -137,12 +133,12 @@ module _ (s : Session) (l : Lent) (table index : List ℕ) {found : Bool} (is : 
   unfolding offer_of
   offer_bad e = rw (sym is ∙ e)
 
-  module _ (good : found ≡ true) {checked : Checked} (those : checked ≡ index_checked table index) where
-    pub offer_table : (r : Refusal) → checked ≡ BadTable r → offer_of s l table index ≡ Offered.none r
+  module _ (good : found ≡ true) {checked : Result ℕ Refusal} (those : checked ≡ index_checked table index) where
+    pub offer_table : (r : Refusal) → checked ≡ Err r → offer_of s l table index ≡ Offered.none r
     unfolding offer_of offered_after
     offer_table r e = rw (sym is ∙ good, sym those ∙ e)
 
-    pub offer_good : (n : ℕ) → checked ≡ Good n → offer_of s l table index ≡ Offered.body (body_of (rows_at table 0 n) (state_of s l))
+    pub offer_good : (n : ℕ) → checked ≡ Ok n → offer_of s l table index ≡ Offered.body (body_of (rows_at table 0 n) (state_of s l))
     unfolding offer_of offered_after
     offer_good n e =
         let same : table_of table ≡ rows_at table 0 n = (table_good table n (checked_table table index n (sym those ∙ e))).is in

@@ -14,19 +14,12 @@ use rules::sizes::{HASH_SIZE, HASHES, ROWS};
 use send::chosen::put_chosen;
 use session_check::good::session_good;
 use session_state::session::{Session, heard_count};
-use table::check::Checked;
 use table_check::check::check_indexed;
 use table_graph::marks::mark_list;
 
-// How many hashes are offered, and whether they go as the document; or the first refusal.
-#[derive(Clone, Copy)]
-pub enum OfferAnswer {
-    Offers { document: bool, hashes: usize },
-    Refused(Refusal),
-}
-
-// What is offered once the session and the table are checked. The body is chosen as marks and counted, and put only where there is room for all of it.
-// Its arrays aren't to stand on the stack while the table is checked, as they would inside its caller.
+// What is offered once the session and the table are checked: whether the body is the document, and how many hashes it has. The body is chosen as marks
+// and counted, and put only where there is room for all of it. Its arrays aren't to stand on the stack while the table is checked, as they would inside
+// its caller.
 #[inline(never)]
 fn offer_checked(
     session: Session,
@@ -38,7 +31,7 @@ fn offer_checked(
     have_bytes: &[u8],
     sent: &[u8],
     list: &mut [u8],
-) -> OfferAnswer
+) -> Result<(bool, usize), Refusal>
     requires { OfferReady table.now index.now n session their_need.now haves.now have_bytes.now sent.now }
     ensures { (shared last_sent their_heads : List ℕ) → OfferCalled
         (Offered.body (body_of (rows_at table.now 0 n) (state_of session (lent_of shared last_sent their_heads
@@ -70,7 +63,7 @@ fn offer_checked(
     );
     let size = HASH_SIZE * body.hashes;
     if list.len() < size {
-        return OfferAnswer::Refused(Refusal::NoRoom(size));
+        return Err(Refusal::NoRoom(size));
     }
     put_chosen(
         table,
@@ -82,13 +75,11 @@ fn offer_checked(
         &needs,
         list,
     );
-    OfferAnswer::Offers {
-        document: body.document,
-        hashes: body.hashes,
-    }
+    Ok((body.document, body.hashes))
 }
 
-// Writes the hashes of the body that the session asks for: 10, then 4 and 6 for the table, 12 for its index, and 7 for the list.
+// Writes the hashes of the body that the session asks for, and answers whether it is the document and how many hashes it has; else the refusal: 10, then 4
+// and 6 for the table, 12 for its index, and 7 for the list.
 pub fn offer(
     session: Session,
     table: &[u8],
@@ -101,7 +92,7 @@ pub fn offer(
     have_bytes: &[u8],
     sent: &[u8],
     list: &mut [u8],
-) -> OfferAnswer
+) -> Result<(bool, usize), Refusal>
     ensures { OfferCalled
         (offer_of session
         (lent_of shared.now last_sent.now their_heads.now their_need.now haves.now
@@ -119,12 +110,10 @@ pub fn offer(
         have_bytes,
         sent,
     ) {
-        return OfferAnswer::Refused(Refusal::BadNumbers);
+        return Err(Refusal::BadNumbers);
     }
-    match check_indexed(table, index) {
-        Checked::Refused(r) => OfferAnswer::Refused(r),
-        Checked::Good(n) => offer_checked(
-            session, table, index, n, their_need, haves, have_bytes, sent, list,
-        ),
-    }
+    let n = check_indexed(table, index)?;
+    offer_checked(
+        session, table, index, n, their_need, haves, have_bytes, sent, list,
+    )
 }

@@ -23,12 +23,11 @@ use Rattle.send.specs.ToSend.{to_send_less}
 use Rattle.send.proofs.SendCalls.{syncs_inside}
 use Rattle.session.specs.Plan.{Body, list_of, document_of, document_part, body_for, body_heard}
 use Rattle.session_state.specs.Value.{kept_haves, heard_count, heard_hashes, heard_haves}
-use Rattle.session_state.specs.declared.session.Heard.{Heard}
-use Rattle.session_state.specs.declared.session.Heard.TheVariants.{Nothing, Count}
 use Rattle.table.specs.TableBytes.{rows_at}
 use Rattle.table.specs.Table.{Row, rows}
 use Rattle.plan_parts.specs.Internal.PlanParts.{BlankBody, DocumentMarked, BodyChosen}
 use Rattle.plan_parts.specs.declared.body.BodyCount.{BodyCount}
+use Rattle.std.specs.Prelude.{Option, Some, None}
 
 -- ---- nothing and everything
 
@@ -108,36 +107,36 @@ module _ (peer_read_only : Bool) (b : Body) (t : List Row) (marks : List Bool) (
   pub peer_open : peer_read_only ≡ false → BodyChosen b t marks need needs r → BodyChosen (cond peer_read_only (list_of []) b) t marks need needs r
   peer_open e m = rw e m
 
-module _ (t : List Row) (v2 headless : Bool) (s haves : List ℕ) (have : Heard) (theirs : List ℕ) (need : Heard) (sent : List ℕ) (marks needs : List Bool)
+module _ (t : List Row) (v2 headless : Bool) (s haves : List ℕ) (have : Option ℕ) (theirs : List ℕ) (need : Option ℕ) (sent : List ℕ) (marks needs : List Bool)
     (r : BodyCount) where
   abbrev Made : Type 0
   Made =
       BodyChosen (body_heard t v2 headless (heard_haves s haves have) (heard_hashes theirs need) sent) t marks (hashes_at theirs 0 (heard_count need)) needs r
 
-  abbrev None : Type 0
-  None = BodyChosen (list_of []) t marks (hashes_at theirs 0 (heard_count need)) needs r
+  abbrev Nothing : Type 0
+  Nothing = BodyChosen (list_of []) t marks (hashes_at theirs 0 (heard_count need)) needs r
 
-  pub no_have_lem : have ≡ Nothing → None → Made
+  pub no_have_lem : have ≡ None → Nothing → Made
   unfolding body_heard heard_haves
   no_have_lem e m = rw e m
 
-  pub no_need_lem : (n : ℕ) → have ≡ Count n → need ≡ Nothing → None → Made
+  pub no_need_lem : (n : ℕ) → have ≡ Some n → need ≡ None → Nothing → Made
   unfolding body_heard heard_haves heard_hashes
   no_need_lem n e f m = rw (e, f) (rw f at m)
 
-  pub both_heard : (n k : ℕ) → have ≡ Count n → need ≡ Count k
+  pub both_heard : (n k : ℕ) → have ≡ Some n → need ≡ Some k
       → BodyChosen (body_for t v2 headless (haves_of s (kept_haves haves n)) (hashes_at theirs 0 k) sent) t marks (hashes_at theirs 0 k) needs r
       → Made
   unfolding body_heard heard_haves heard_hashes
   both_heard n k e f m = rw (e, f) m
 
 -- what is chosen from is as long as what was heard
-pub blank_heard : (n k : ℕ) (need : Heard) (marks needs : List Bool) → need ≡ Count k → BlankBody n (heard_count need) marks needs
+pub blank_heard : (n k : ℕ) (need : Option ℕ) (marks needs : List Bool) → need ≡ Some k → BlankBody n (heard_count need) marks needs
     → BlankBody n k marks needs
 blank_heard n k need marks needs e b = rw e at b
 
 -- what was heard is what can be chosen from
-module _ (s haves : List ℕ) (have : Heard) (count : ℕ) (h : have ≡ Count count) (kept : haves_good s haves have ≡ true) where
+module _ (s haves : List ℕ) (have : Option ℕ) (count : ℕ) (h : have ≡ Some count) (kept : haves_good s haves have ≡ true) where
   heard_haves_lem : HavesParts s haves count
   heard_haves_lem = haves_parts s haves count (rw h at kept)
 
@@ -147,7 +146,7 @@ module _ (s haves : List ℕ) (have : Heard) (count : ℕ) (h : have ≡ Count c
   pub heard_records : have_words * count ≤ length haves
   heard_records = heard_haves_lem.there
 
-  module _ (table index : List ℕ) (n : ℕ) (good : Indexed table index n) (theirs : List ℕ) (need : Heard) (k : ℕ) (l : need ≡ Count k)
+  module _ (table index : List ℕ) (n : ℕ) (good : Indexed table index n) (theirs : List ℕ) (need : Option ℕ) (k : ℕ) (l : need ≡ Some k)
       (asked : heard_good theirs need ≡ true) where
     pub heard_choosable : Choosable table index n s (kept_haves haves count) theirs 0 k
     heard_choosable =

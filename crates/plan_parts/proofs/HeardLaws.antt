@@ -23,32 +23,31 @@ use Rattle.rules.specs.Hash.{hashes_at}
 use Rattle.rules.specs.Sizes.{sizes}
 use Rattle.session.specs.Plan.{heard, heard_as, need_of}
 use Rattle.session_state.specs.Value.{heard_count, heard_hashes}
-use Rattle.session_state.specs.declared.session.Heard.TheVariants.{Nothing, Count}
-use Rattle.session_state.specs.declared.session.Heard.{Heard}
 use Rattle.table.specs.Table.{Row, held}
 use Rattle.waiting.specs.Waiting.{Waiting}
 use Rattle.plan_parts.specs.Internal.PlanParts.{NeedFound}
+use Rattle.std.specs.Prelude.{Option, Some, None}
 
 -- ---- all of them
 
-pub heard_there : (s : List ℕ) (h : Heard) (k : ℕ) → k ≡ heard_count h → heard_good s h ≡ true → 0 + sizes.hash * k ≤ length s
+pub heard_there : (s : List ℕ) (h : Option ℕ) (k : ℕ) → k ≡ heard_count h → heard_good s h ≡ true → 0 + sizes.hash * k ≤ length s
 unfolding heard_good
-heard_there s Nothing k e g = omega arith
-heard_there s (Count n) k e g = omega (arith, (list_parts s n g).there)
+heard_there s None k e g = omega arith
+heard_there s (Some n) k e g = omega (arith, (list_parts s n g).there)
 
-heard_few : (s : List ℕ) (h : Heard) (k : ℕ) → k ≡ heard_count h → heard_good s h ≡ true → k ≤ sizes.hashes
+heard_few : (s : List ℕ) (h : Option ℕ) (k : ℕ) → k ≡ heard_count h → heard_good s h ≡ true → k ≤ sizes.hashes
 unfolding heard_good
-heard_few s Nothing k e g = omega arith
-heard_few s (Count n) k e g = omega (arith, (list_parts s n g).few)
+heard_few s None k e g = omega arith
+heard_few s (Some n) k e g = omega (arith, (list_parts s n g).few)
 
-pub heard_list : (s : List ℕ) (h : Heard) (k : ℕ) → k ≡ heard_count h → hashes_at s 0 k ≡ heard (heard_hashes s h)
+pub heard_list : (s : List ℕ) (h : Option ℕ) (k : ℕ) → k ≡ heard_count h → hashes_at s 0 k ≡ heard (heard_hashes s h)
 unfolding heard_hashes hashes_at
-heard_list s Nothing k e = rw e
-heard_list s (Count n) k e = rw e
+heard_list s None k e = rw e
+heard_list s (Some n) k e = rw e
 
 -- ---- those that are asked for
 
-module _ (s : List ℕ) (readOnlyUnit : Bool) (h : Heard) (k : ℕ) (e : k ≡ cond readOnlyUnit 0 (heard_count h)) where
+module _ (s : List ℕ) (readOnlyUnit : Bool) (h : Option ℕ) (k : ℕ) (e : k ≡ cond readOnlyUnit 0 (heard_count h)) where
   none_asked : readOnlyUnit ≡ true → k ≡ 0
   none_asked r = e ∙ rw r
 
@@ -100,16 +99,16 @@ module _ (s : List ℕ) (readOnlyUnit : Bool) (h : Heard) (k : ℕ) (e : k ≡ c
 
 -- ---- compared
 
-module _ (s : List ℕ) (h : Heard) (l : List ℕ) where
-  pub as_nothing : h ≡ Nothing → false ≡ heard_as l (heard_hashes s h)
+module _ (s : List ℕ) (h : Option ℕ) (l : List ℕ) where
+  pub as_nothing : h ≡ None → false ≡ heard_as l (heard_hashes s h)
   unfolding heard_hashes
   as_nothing e = rw e
 
-  pub none_nothing : h ≡ Nothing → false ≡ heard_as [] (heard_hashes s h)
+  pub none_nothing : h ≡ None → false ≡ heard_as [] (heard_hashes s h)
   unfolding heard_hashes
   none_nothing e = rw e
 
-  pub none_count : (n : ℕ) → h ≡ Count n → (b : Bool) → b ≡ eqb n 0 → b ≡ heard_as [] (heard_hashes s h)
+  pub none_count : (n : ℕ) → h ≡ Some n → (b : Bool) → b ≡ eqb n 0 → b ≡ heard_as [] (heard_hashes s h)
   unfolding heard_hashes hashes_at same
   none_count n e b f = rw (e, f) (none_of n)
     where
@@ -117,9 +116,9 @@ module _ (s : List ℕ) (h : Heard) (l : List ℕ) where
       none_of zero = refl
       none_of (suc n) = ne_eqb (suc n) 0 (λ z. omega arith)
 
-  pub as_count : (n : ℕ) → h ≡ Count n → same (hashes_at s 0 n) l ≡ heard_as l (heard_hashes s h)
+  pub as_count : (n : ℕ) → h ≡ Some n → same (hashes_at s 0 n) l ≡ heard_as l (heard_hashes s h)
   unfolding heard_hashes
   as_count n e = rw e
 
-pub count_there : (s : List ℕ) (h : Heard) (n : ℕ) → h ≡ Count n → heard_good s h ≡ true → 0 + sizes.hash * n ≤ length s
+pub count_there : (s : List ℕ) (h : Option ℕ) (n : ℕ) → h ≡ Some n → heard_good s h ≡ true → 0 + sizes.hash * n ≤ length s
 count_there s h n e g = heard_there s h n (rw e) g

@@ -12,7 +12,6 @@ ghost use Rattle.plan_parts.specs.Internal.PlanParts.{BlankBody, DocumentMarked,
 
 use bloom::have::HAVE_WORDS;
 use send::chosen::choose;
-use session_state::session::Heard;
 use table_graph::marks::set_marks;
 
 // How many hashes a body has, and whether they go as the document.
@@ -95,9 +94,9 @@ pub fn mark_body(
     headless: bool,
     have_bytes: &[u8],
     haves: &[u64],
-    have: Heard,
+    have: Option<usize>,
     their_need: &[u8],
-    need: Heard,
+    need: Option<usize>,
     past: &[bool],
     marks: &mut [bool],
     needs: &mut [bool],
@@ -116,10 +115,10 @@ pub fn mark_body(
     if peer_read_only {
         return none;
     }
-    let Heard::Count(count) = have else {
+    let Some(count) = have else {
         return none;
     };
-    let Heard::Count(asked) = need else {
+    let Some(asked) = need else {
         return none;
     };
     let kept = &haves[..HAVE_WORDS * count];

@@ -12,7 +12,7 @@ ghost use Rattle.plan_parts.specs.Internal.PlanParts.{HaveCounted};
 
 use bloom::have::{sync_count, sync_place};
 use hash_lists::compare::all_held;
-use session_state::session::{Heard, heard_count};
+use session_state::session::heard_count;
 use table_graph::beyond::mark_at_or_below;
 use table_graph::marked::count_marked;
 use table_graph::marks::flip;
@@ -45,7 +45,7 @@ pub fn unknown_sync(
     n: usize,
     have_bytes: &[u8],
     haves: &[u64],
-    have: Heard,
+    have: Option<usize>,
 ) -> bool
     requires { Indexed table.now index.now n × (haves_good have_bytes.now haves.now have ≡ true) }
     ensures { result ≡ unknown_sync (rows_at table.now 0 n) (heard_haves have_bytes.now haves.now have) }

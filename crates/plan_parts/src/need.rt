@@ -1,18 +1,17 @@
 // What a unit asks for.
-ghost use Rattle.std.specs.Prelude.{cond, true, List, [], ◌≡◌, ◌+◌, length};
+ghost use Rattle.std.specs.Prelude.{cond, true, List, [], ◌≡◌, ◌+◌, length, Ok};
 ghost use Rattle.table_index.specs.Index.{Indexed};
 ghost use Rattle.session_check.specs.SessionGood.{heard_good};
 ghost use Rattle.rules.specs.Sizes.{sizes};
 ghost use Rattle.session.specs.Plan.{heard, need_of};
 ghost use Rattle.session_state.specs.Value.{heard_count, heard_hashes};
 ghost use Rattle.table.specs.TableBytes.{rows_at};
-ghost use Rattle.table.specs.declared.check.Checked.TheVariants.{Good};
 ghost use Rattle.waiting.specs.Waiting.{Waiting};
 ghost use Rattle.waiting.specs.WaitingBytes.{waiting_of, waiting_checked, Sorted};
 ghost use Rattle.plan_parts.specs.Internal.PlanParts.{NeedFound};
 
 use hash_lists::compare::all_held;
-use session_state::session::{Heard, heard_count};
+use session_state::session::heard_count;
 use waiting::find::ORDER_SIZE;
 use waiting_missing::missing::find_in_order;
 
@@ -25,7 +24,7 @@ pub struct Asked {
 }
 
 // How many of the heads that were heard are asked for: none by a read-only unit.
-fn asked_heads(read_only: bool, heads: Heard) -> usize
+fn asked_heads(read_only: bool, heads: Option<usize>) -> usize
     ensures { result ≡ cond read_only 0 (heard_count heads) }
 {
     if read_only {
@@ -41,7 +40,7 @@ pub fn asks_nothing(
     n: usize,
     read_only: bool,
     their_heads: &[u8],
-    heads: Heard,
+    heads: Option<usize>,
 ) -> bool
     requires { Indexed table.now index.now n × (heard_good their_heads.now heads ≡ true) }
     ensures { result ≡ true → (w : List Waiting)
@@ -62,10 +61,10 @@ pub fn find_need(
     m: usize,
     read_only: bool,
     their_heads: &[u8],
-    heads: Heard,
+    heads: Option<usize>,
     refs: &mut [u32],
 ) -> Asked
-    requires { Indexed table.now index.now n × (waiting_checked (rows_at table.now 0 n) waiting.now ≡ Good m)
+    requires { Indexed table.now index.now n × (waiting_checked (rows_at table.now 0 n) waiting.now ≡ Ok m)
         × Sorted waiting.now order.now m × (heard_good their_heads.now heads ≡ true) × (length refs.old ≡ sizes.hashes + 1) }
     ensures { NeedFound their_heads.now waiting.now refs.new
         (need_of (rows_at table.now 0 n) (waiting_of waiting.now) read_only (heard (heard_hashes their_heads.now heads)))

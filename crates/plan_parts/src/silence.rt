@@ -12,16 +12,15 @@ ghost use Rattle.session_state.specs.Value.{heard_hashes};
 ghost use Rattle.table.specs.TableBytes.{rows_at};
 ghost use Rattle.table.specs.Table.{rows};
 
-use session_state::session::Heard;
 use table_graph::marked::same_marked;
 
 // Whether a list of no hashes was heard, wherever it stands.
-pub fn heard_none(heard: Heard) -> bool
+pub fn heard_none(heard: Option<usize>) -> bool
     ensures { (theirs : List ℕ) → result ≡ heard_as [] (heard_hashes theirs heard) }
 {
     match heard {
-        Heard::Nothing => false,
-        Heard::Count(many) => many == 0,
+        None => false,
+        Some(many) => many == 0,
     }
 }
 
@@ -32,14 +31,14 @@ pub fn heard_as(
     n: usize,
     marks: &[bool],
     theirs: &[u8],
-    heard: Heard,
+    heard: Option<usize>,
 ) -> bool
     requires { Indexed table.now index.now n × (n ≤ length marks.now) × (heard_good theirs.now heard ≡ true) }
     ensures { result ≡ heard_as (ascend (picked (rows (rows_at table.now 0 n)) marks.now)) (heard_hashes theirs.now heard) }
 {
     match heard {
-        Heard::Nothing => false,
-        Heard::Count(many) => same_marked(table, index, n, n, marks, theirs, 0, many),
+        None => false,
+        Some(many) => same_marked(table, index, n, n, marks, theirs, 0, many),
     }
 }
 

@@ -5,8 +5,6 @@ use mathlib.Core.List.{List, ◌∷◌}
 use mathlib.Core.Path.{◌≡◌, sym, ap, ◌∙◌}
 use native.Mathlib.Nat.{add-zero}
 use native.Mathlib.Omega.{arith}
-use borrow.Author.Tests.{eqb-true, eqb-false}
-use lib.Dec.{eqb}
 use lib.ListN.{length, get_or}
 use Rattle.table_graph.specs.Internal.Marks.{marked, picked}
 use Rattle.table_graph.proofs.GraphMarks.{many_rows}
@@ -14,16 +12,9 @@ use Rattle.table_graph.proofs.MarkedRows.{row_taken, row_passed, rows_none}
 use Rattle.table_graph.proofs.PickLaws.{pick_left, left_all, picked_count}
 use Rattle.bloom_probe.specs.Build.{add_hash, add_hashes}
 use Rattle.rules.specs.Hash.{hash_at}
-use Rattle.rules.proofs.Cases.{split}
 use Rattle.table.specs.TableBytes.{row_size, rows_at}
 use Rattle.table.specs.Table.{rows}
 use Rattle.plan_put.specs.Internal.PlanPut.{NextMarked}
-
--- one mark more is passed
-pub passed_more : (m : List Bool) (i k : ℕ) → ((j : ℕ) → i ≤ j → j < k → get_or m j false ≡ false) → get_or m k false ≡ false
-    → (j : ℕ) → i ≤ j → j < k + 1 → get_or m j false ≡ false
-passed_more m i k f e j a b =
-    split (eqb j k) (λ q. rw (eqb-true j k q) e) (λ q. let other = eqb-false j k q in f j a (omega (arith, other)))
 
 module _ (s : List ℕ) (n : ℕ) (m : List Bool) where
   abbrev hs : List ℕ

@@ -17,14 +17,12 @@ fn next_marked(n: usize, marks: &[bool], i: usize) -> usize
     requires { (n ≤ length marks.now) × (i ≤ n) }
     ensures { NextMarked n marks.now i result }
 {
-    let mut k = i;
-    while k < n {
+    for k in i..n {
         if marks[k] {
             return k;
         }
-        k += 1;
     }
-    k
+    n
 }
 
 // Where the probes of a row's hash start; behind the last row nothing is claimed of it.
@@ -49,6 +47,7 @@ fn add_marked(field: &mut [u8], probes: u64, table: &[u8], n: usize, marks: &[bo
     let rounds = count(probes);
     let mut row = next_marked(n, marks, 0);
     let mut next = row_start(table, n, row, m);
+    // Each turn finds the next marked row and reduces its start before it sets this one's bits: a loop over all rows would be no plainer.
     while row < n {
         let start = next;
         row = next_marked(n, marks, row + 1);

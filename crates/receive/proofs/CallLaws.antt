@@ -9,8 +9,6 @@ use lib.Dec.{ltb}
 use lib.ListN.{length, replicate, length-replicate}
 use lib.Seq.{sets}
 use Rattle.message_read.specs.MessageRead.{Reading, message_at, decoded_of}
-use Rattle.message_read.specs.declared.parse.Decoded.{Decoded}
-use Rattle.message_read.specs.declared.parse.Decoded.TheVariants.{Message as Placed, Refused as NotRead}
 use Rattle.message_read.specs.declared.parse.Places.{Places}
 use Rattle.message_read.proofs.ReadLaws.{not_placed}
 use Rattle.table_index.proofs.CheckLaws.{checked_table, checked_indexed}
@@ -21,13 +19,11 @@ use Rattle.rules.specs.Hash.{Bytes, hashes_at, hashes_bytes}
 use Rattle.rules.specs.Sizes.{sizes}
 use Rattle.rules.specs.declared.refusal.Refusal.{Refusal}
 use Rattle.rules.specs.declared.refusal.Refusal.TheVariants.{BadNumbers, BadRowsBefore}
-use Rattle.rules.proofs.Cases.{split, true_false}
+use Rattle.rules.proofs.Cases.{split, true_false, read_same}
 use Rattle.session.specs.Receive.{Received, flag_taken, shared_after, sent_left, received, receive, receive_read, receive_bytes}
 use Rattle.session_state.specs.Value.{Lent, kept_haves, state_of}
 use Rattle.session_state.specs.declared.session.Session.{Session}
 use Rattle.table.specs.TableBytes.{rows_at, table_of}
-use Rattle.table.specs.declared.check.Checked.{Checked}
-use Rattle.table.specs.declared.check.Checked.TheVariants as tables
 use Rattle.table.proofs.TableLaws.{table_good}
 use Rattle.receive_parts.specs.Internal.ReceiveParts.{flagged_counts, held_marked, HeadsMarked}
 use Rattle.session.specs.ReceiveCall.{after_table, receive_with, received_roomed, received_answer, received_lists, received_rooms, ReceiveCalled}
@@ -35,8 +31,6 @@ use Rattle.receive_make.specs.Internal.ReceiveChecks.{beside_rows, after_rows, c
 use Rattle.receive_make.specs.Internal.ReceiveMake.{said_at, kept_hashes, Prepared, Makes, CountsMade}
 use Rattle.receive_decide.specs.Internal.ReceivedCounts.{counts_room, counts_decided, SmallCounts, is_taken, HeardFits}
 use Rattle.session.specs.declared.receive_answer.ReceiveAnswer.{ReceiveAnswer}
-use Rattle.session.specs.declared.receive_answer.ReceiveAnswer.TheVariants.{Refused}
-use Rattle.receive_make.specs.declared.check.ReceiptChecks.TheVariants as checks
 use Rattle.receive_decide.specs.declared.decide.ReceivedCounts.{ReceivedCounts}
 use Rattle.receive.proofs.DraftLaws.{forgets_most, Drafted, draft_small, sent_is, shared_is}
 use Rattle.receive.proofs.Outcomes.{Outcome, Outcomes, outcome, same_answer}
@@ -47,18 +41,21 @@ use Rattle.receive_shared.specs.Internal.Shared.{shared_then}
 use Rattle.receive_haves.specs.Internal.HavesLaid.{LaidPut}
 use Rattle.bloom.specs.Have.{haves_of}
 use Rattle.hash_order.specs.Order.{keep}
-use Rattle.session.specs.declared.room.Room.TheVariants.{Enough}
 use Rattle.table_graph.specs.Graph.{below_row}
 use Rattle.table_graph.specs.Internal.Marks.{Marks, Blank}
 use Rattle.table_graph.proofs.MarkLaws.{blank}
 use Rattle.table_index.specs.Index.{index_checked, Indexed}
+use Rattle.std.specs.Prelude.{Result, Ok, Err}
 
 -- ---- the tests before, taken apart
 
-refused_not_good : {A : Type 0} {r : Refusal} {n : ℕ} {p : Places} → checks.Refused r ≡ checks.Good n p → A
+abbrev Checked : Type 0
+Checked = Result (ℕ × Places) Refusal
+
+refused_not_good : {A : Type 0} {r : Refusal} {n : ℕ} {p : Places} → ◌≡◌ {A = Checked} (Err r) (Ok (n, p)) → A
 refused_not_good e = absurd (let z : ◌≡◌ {A = ℕ} 0 1 = cc in omega arith)
 
-good_not_refused : {A : Type 0} {r : Refusal} {n : ℕ} {p : Places} → checks.Good n p ≡ checks.Refused r → A
+good_not_refused : {A : Type 0} {r : Refusal} {n : ℕ} {p : Places} → ◌≡◌ {A = Checked} (Ok (n, p)) (Err r) → A
 good_not_refused e = absurd (let z : ◌≡◌ {A = ℕ} 0 1 = cc in omega arith)
 
 module _ (s : Session) (l : Lent) (table index : List ℕ) (before : ℕ) (message : List ℕ) where
@@ -66,76 +63,78 @@ module _ (s : Session) (l : Lent) (table index : List ℕ) (before : ℕ) (messa
     abbrev result : Received
     result = receive_with loaded before s l table index message
 
-    as_refused : (r : Refusal) → result ≡ Received.refused r → ReceiveCalled result l l (Refused r)
+    as_refused : (r : Refusal) → result ≡ Received.refused r → ReceiveCalled result l l (Err r)
     unfolding received_roomed received_answer received_lists
     as_refused r e = record { answer = rw e; lists = rw e }
 
     module _ (good : session_good s l ≡ true) (r : Refusal) where
       -- 11, and the message's own
-      beside : (n : ℕ) → index_checked table index ≡ tables.Good n → (x : Decoded) → decoded_of (message_at message) ≡ x
-          → cond (ltb n before) (checks.Refused BadRowsBefore) (beside_rows n x) ≡ checks.Refused r → ReceiveCalled result l l (Refused r)
+      beside : (n : ℕ) → index_checked table index ≡ Ok n → (x : Result Places Refusal) → decoded_of (message_at message) ≡ x
+          → cond (ltb n before) (Err BadRowsBefore) (beside_rows n x) ≡ Err r → ReceiveCalled result l l (Err r)
       unfolding receive_with after_table beside_rows receive_bytes receive_read
       beside n rows x is e =
           let long : length (table_of table) ≡ n = (table_good table n (checked_table table index n rows)).long in
           split (ltb n before)
           (λ t.
-          let f : checks.Refused BadRowsBefore ≡ checks.Refused r = rw t at e in
+          let f : ◌≡◌ {A = Checked} (Err BadRowsBefore) (Err r) = rw t at e in
           let same : BadRowsBefore ≡ r = cc in
           rw (← same) (as_refused BadRowsBefore (rw (good, rows, long, t))))
           (λ t. go x is t (rw t at e))
         where
-          go : (x : Decoded) → decoded_of (message_at message) ≡ x → ltb n before ≡ false → beside_rows n x ≡ checks.Refused r
-              → ReceiveCalled result l l (Refused r)
-          go (Placed p) is t e = good_not_refused e
-          go (NotRead f) is t e =
+          go : (x : Result Places Refusal) → decoded_of (message_at message) ≡ x → ltb n before ≡ false → beside_rows n x ≡ Err r
+              → ReceiveCalled result l l (Err r)
+          go (Ok p) is t e = good_not_refused e
+          go (Err f) is t e =
               let same : f ≡ r = cc in
               let q : message_at message ≡ Reading.refused f = not_placed (message_at message) f is in
               let long : length (table_of table) ≡ n = (table_good table n (checked_table table index n rows)).long in
               rw (← same) (as_refused f (rw (good, rows, long, t, q)))
 
       -- 4, 6 and 12 before these
-      after : (x : Checked) → index_checked table index ≡ x → after_rows x before message ≡ checks.Refused r → ReceiveCalled result l l (Refused r)
+      after : (x : Result ℕ Refusal) → index_checked table index ≡ x → after_rows x before message ≡ Err r → ReceiveCalled result l l (Err r)
       unfolding after_rows receive_with after_table
-      after (tables.Good n) is e = beside n is (decoded_of (message_at message)) refl e
-      after (tables.Refused f) is e =
+      after (Ok n) is e = beside n is (decoded_of (message_at message)) refl e
+      after (Err f) is e =
           let same : f ≡ r = cc in
           rw (← same) (as_refused f (rw (good, is)))
 
     -- a test that fails is the answer, and everything lent stays
-    pub refused_called : (r : Refusal) → checked s l table index before message ≡ checks.Refused r → ReceiveCalled result l l (Refused r)
+    pub refused_called : (r : Refusal) → checked s l table index before message ≡ Err r → ReceiveCalled result l l (Err r)
     unfolding checked receive_with
     refused_called r e =
         split (session_good s l)
         (λ t. after t r (index_checked table index) refl (rw t at e))
         (λ t.
-        let f : checks.Refused BadNumbers ≡ checks.Refused r = rw t at e in
+        let f : ◌≡◌ {A = Checked} (Err BadNumbers) (Err r) = rw t at e in
         let same : BadNumbers ≡ r = cc in
         rw (← same) (as_refused BadNumbers (rw t)))
 
   module _ (n : ℕ) (p : Places) where
-    beside_good : (k : ℕ) (x : Decoded) → beside_rows k x ≡ checks.Good n p → (k ≡ n) × (x ≡ Placed p)
+    beside_good : (k : ℕ) (x : Result Places Refusal) → beside_rows k x ≡ Ok (n, p) → (k ≡ n) × (x ≡ Ok p)
     unfolding beside_rows
-    beside_good k (Placed f) e = (cc, cc)
-    beside_good k (NotRead r) e = refused_not_good e
+    beside_good k (Ok f) e =
+        let same = read_same e in
+        (same.0, ap Ok same.1)
+    beside_good k (Err r) e = refused_not_good e
 
-    after_good : session_good s l ≡ true → (x : Checked) → index_checked table index ≡ x → after_rows x before message ≡ checks.Good n p
+    after_good : session_good s l ≡ true → (x : Result ℕ Refusal) → index_checked table index ≡ x → after_rows x before message ≡ Ok (n, p)
         → Accepted s l table index n before message p
     unfolding after_rows
-    after_good good (tables.Good k) is e =
+    after_good good (Ok k) is e =
         split (ltb k before)
-        (λ t. refused_not_good (let f : checks.Refused BadRowsBefore ≡ checks.Good n p = rw t at e in f))
+        (λ t. refused_not_good (let f : ◌≡◌ {A = Checked} (Err BadRowsBefore) (Ok (n, p)) = rw t at e in f))
         (λ t.
         let f = beside_good k (decoded_of (message_at message)) (rw t at e) in
-        record { good = good; rows = is ∙ ap tables.Good f.0; inside = omega (arith, f.0, ltb-false k before t); read = f.1 })
-    after_good good (tables.Refused r) is e = refused_not_good e
+        record { good = good; rows = is ∙ ap Ok f.0; inside = omega (arith, f.0, ltb-false k before t); read = f.1 })
+    after_good good (Err r) is e = refused_not_good e
 
     -- all of them passed
-    pub accepted : checked s l table index before message ≡ checks.Good n p → Accepted s l table index n before message p
+    pub accepted : checked s l table index before message ≡ Ok (n, p) → Accepted s l table index n before message p
     unfolding checked
     accepted e =
         split (session_good s l)
         (λ t. after_good t (index_checked table index) refl (rw t at e))
-        (λ t. refused_not_good (let f : checks.Refused BadNumbers ≡ checks.Good n p = rw t at e in f))
+        (λ t. refused_not_good (let f : ◌≡◌ {A = Checked} (Err BadNumbers) (Ok (n, p)) = rw t at e in f))
 
 -- ---- all tests passed
 
@@ -192,7 +191,7 @@ module _ (s : Session) (l : Lent) (table index : List ℕ) (n before : ℕ) (mes
           pub is_small : SmallCounts d
           is_small = draft_small s l ok.good table n before ok.inside message p ok.read ready d drafted
 
-          module _ (loaded failed : Bool) (a : ReceiveAnswer) (failing : failed ≡ (loads && not loaded)) (decides : a ≡ counts_decided flagged failed d (received_rooms l)) where
+          module _ (loaded failed : Bool) (a : Result ReceiveAnswer Refusal) (failing : failed ≡ (loads && not loaded)) (decides : a ≡ counts_decided flagged failed d (received_rooms l)) where
             is_decided : a ≡ counts_decided (flagged_counts p.flags s) ((ltb 0 p.chunks.count && not s.read_only) && not loaded) d (received_rooms l)
             is_decided = rw (← loading, ← failing, ← flags) decides
 
@@ -216,19 +215,19 @@ module _ (s : Session) (l : Lent) (table index : List ℕ) (n before : ℕ) (mes
             pub left_called : is_taken a ≡ false → ReceiveCalled (receive_with loaded before s l table index message) l l a
             left_called not_taken = called l (stays a values not_taken together)
               where
-                stays : (a : ReceiveAnswer) (q : Received) → is_taken a ≡ false → Outcomes s l table n before message p d (received_rooms l) a q → l ≡ received_lists q l
+                stays : (a : Result ReceiveAnswer Refusal) (q : Received) → is_taken a ≡ false → Outcomes s l table n before message p d (received_rooms l) a q → l ≡ received_lists q l
                 stays a q e (Outcome.leaves kept f g) = sym (kept l)
                 stays a q e (Outcome.takes room f g h) = absurd (true_false (is_taken a) f e)
 
             module _ (yes : is_taken a ≡ true) where
               -- taken, with room for all of it
-              taking : (a : ReceiveAnswer) (q : Received) → is_taken a ≡ true → Outcomes s l table n before message p d (received_rooms l) a q
-                  → (counts_room d (received_rooms l) ≡ Enough)
+              taking : (a : Result ReceiveAnswer Refusal) (q : Received) → is_taken a ≡ true → Outcomes s l table n before message p d (received_rooms l) a q
+                  → (counts_room d (received_rooms l) ≡ Ok tt)
                   × (q ≡ Received.took (received before (rows_at table 0 n) (state_of s l) (said_at message p)))
               taking a q e (Outcome.leaves kept f g) = absurd (true_false (is_taken a) e f)
               taking a q e (Outcome.takes room f g h) = (room, g)
 
-              room : counts_room d (received_rooms l) ≡ Enough
+              room : counts_room d (received_rooms l) ≡ Ok tt
               room = (taking a values yes together).0
 
               shared_same : shared_then known loads before (rows_at table 0 n) (said_at message p).heads (hashes_at l.shared 0 s.shared_heads)

@@ -8,7 +8,6 @@ use borrow.Author.Tests.{lt-ltb, ne_eqb}
 use lib.Dec.{ltb, eqb}
 use lib.ListN.{length, take}
 use Rattle.message_read.specs.MessageRead.{message_at, decoded_of}
-use Rattle.message_read.specs.declared.parse.Decoded.TheVariants.{Message as Placed}
 use Rattle.message_read.specs.declared.parse.Places.{Places}
 use Rattle.table_graph.specs.Graph.{heads, below}
 use Rattle.session.specs.Receive.{Said, flag_taken, sent_flagged, flagged, loads, shared_loaded, shared_after, sent_left, last_sent_after, received}
@@ -16,7 +15,6 @@ use Rattle.session_check.proofs.GoodSessions.{session_parts}
 use Rattle.session_check.specs.SessionGood.{session_good}
 use Rattle.hash_lists.specs.Lists.{same}
 use Rattle.message.specs.Flags.{sync_reset, has_flag}
-use Rattle.message.specs.declared.flags.Section.{Section}
 use Rattle.hash_order.specs.Order.{keep, every}
 use Rattle.receive_parts.specs.Internal.ReceiveParts.{flagged_counts}
 use Rattle.rules.proofs.Cases.{split}
@@ -38,16 +36,18 @@ use Rattle.session.specs.declared.receive_answer.SessionRooms.{SessionRooms}
 use Rattle.receive_decide.specs.declared.decide.ReceivedCounts.{ReceivedCounts}
 use Rattle.receive_make.proofs.SaidLaws.{read_words, haves_many}
 use Rattle.receive_shared.specs.Internal.Shared.{shared_then}
+use Rattle.std.specs.Prelude.{Ok, Option}
+use Rattle.message.specs.declared.flags.MessageFlags.{MessageFlags}
 
 -- ---- counts of a good session
 
-flagged_count : (flags : Section) (s : List ℕ) (n : ℕ)
+flagged_count : (flags : Option MessageFlags) (s : List ℕ) (n : ℕ)
     → length (sent_flagged flags (hashes_at s 0 n)) ≡ cond (flag_taken (λ f. has_flag f sync_reset) flags false) 0 n
 unfolding sent_flagged
 flagged_count flags s n = split (flag_taken (λ f. has_flag f sync_reset) flags false) (λ e. rw e) (λ e. rw e (length_hashes_at s 0 n))
 
 -- the counts that a failed load leaves
-pub flagged_counts_lem : (s : Session) (l : Lent) → session_good s l ≡ true → (flags : Section)
+pub flagged_counts_lem : (s : Session) (l : Lent) → session_good s l ≡ true → (flags : Option MessageFlags)
     → counts_of (flagged flags (state_of s l)) ≡ flagged_counts flags s
 unfolding flagged
 flagged_counts_lem s l good flags =
@@ -114,7 +114,7 @@ Drafted s l table n before message p ready d =
     before message p l.shared l.sent ready d
 
 module _ (s : Session) (l : Lent) (good : session_good s l ≡ true) (table : List ℕ) (n before : ℕ) (inside : before ≤ n) (message : List ℕ) (p : Places)
-    (read : decoded_of (message_at message) ≡ Placed p) where
+    (read : decoded_of (message_at message) ≡ Ok p) where
   abbrev v : State
   v = state_of s l
 

@@ -11,7 +11,6 @@ use lib.ListN.{length, take, drop, take-append-drop}
 use lib.Seq.{sets, slice, sets-eq, length-take-le}
 use Rattle.bloom.specs.Have.{have_words, haves_of}
 use Rattle.message_read.specs.MessageRead.{message_at, decoded_of}
-use Rattle.message_read.specs.declared.parse.Decoded.TheVariants.{Message as Placed}
 use Rattle.message_read.specs.declared.parse.Places.{Places}
 use Rattle.table_graph.specs.Graph.{heads}
 use Rattle.session_check.specs.SessionGood.{session_good, lent_of}
@@ -33,13 +32,12 @@ use Rattle.session.specs.ReceiveCall.{received_lists, received_rooms}
 use Rattle.receive_make.specs.Internal.ReceiveMake.{said_at, haves_words}
 use Rattle.receive_decide.specs.Internal.ReceivedCounts.{counts_room, HeardFits}
 use Rattle.session.specs.declared.receive_answer.SessionRooms.{SessionRooms}
-use Rattle.session.specs.declared.room.Room.{Room}
-use Rattle.session.specs.declared.room.Room.TheVariants.{Enough, Short}
 use Rattle.session.specs.Rooms.{or_short}
 use Rattle.receive_decide.specs.declared.decide.ReceivedCounts.{ReceivedCounts}
 use Rattle.receive.proofs.DraftLaws.{Drafted, shared_count, told_made, told_few, told_within, draft_small}
 use Rattle.receive_make.proofs.SaidLaws.{read_words, read_layable}
 use Rattle.receive_decide.proofs.PutLaws.{lents_same}
+use Rattle.std.specs.Prelude.{Result, Ok, Err}
 
 -- ---- heads sent last that stay
 
@@ -65,14 +63,14 @@ last_put message place (suc count) false last_sent n d k = sym (stays last_sent 
 
 -- ---- room
 
-short_enough : {A : Type 0} {wanted : ℕ} → Short wanted ≡ Enough → A
+short_enough : {A : Type 0} {wanted : ℕ} → ◌≡◌ {A = Result Unit ℕ} (Err wanted) (Ok tt) → A
 short_enough e = absurd (let z : ◌≡◌ {A = ℕ} 0 1 = cc in omega arith)
 
-not_short : (room wanted : ℕ) (rest : Room) → or_short room wanted rest ≡ Enough → (wanted ≤ room) × (rest ≡ Enough)
+not_short : (room wanted : ℕ) (rest : Result Unit ℕ) → or_short room wanted rest ≡ Ok tt → (wanted ≤ room) × (rest ≡ Ok tt)
 not_short room wanted rest e =
     split (ltb room wanted)
-    (λ t. short_enough (let f : Short wanted ≡ Enough = rw t at e in f))
-    (λ t. let f : rest ≡ Enough = rw t at e in (omega (arith, ltb-false room wanted t), f))
+    (λ t. short_enough (let f : ◌≡◌ {A = Result Unit ℕ} (Err wanted) (Ok tt) = rw t at e in f))
+    (λ t. let f : rest ≡ Ok tt = rw t at e in (omega (arith, ltb-false room wanted t), f))
 
 -- Room for every list.
 pub record RoomForEach (d : ReceivedCounts) (r : SessionRooms) : Type 0 where
@@ -83,7 +81,7 @@ pub record RoomForEach (d : ReceivedCounts) (r : SessionRooms) : Type 0 where
   pub haves : have_words * d.haves ≤ r.haves
   pub bytes : d.bytes ≤ r.bytes
 
-roomy : (d : ReceivedCounts) (r : SessionRooms) → counts_room d r ≡ Enough → RoomForEach d r
+roomy : (d : ReceivedCounts) (r : SessionRooms) → counts_room d r ≡ Ok tt → RoomForEach d r
 unfolding counts_room
 roomy d r e =
     let a = not_short _ _ _ e in
@@ -97,8 +95,8 @@ roomy d r e =
 -- ---- all parts
 
 module _ (s : Session) (l : Lent) (good : session_good s l ≡ true) (table : List ℕ) (n before : ℕ) (inside : before ≤ n) (message : List ℕ) (p : Places)
-    (read : decoded_of (message_at message) ≡ Placed p) (ready : List ℕ) (d : ReceivedCounts) (made : Drafted s l table n before message p ready d)
-    (all : Bytes message) (room : counts_room d (received_rooms l) ≡ Enough)
+    (read : decoded_of (message_at message) ≡ Ok p) (ready : List ℕ) (d : ReceivedCounts) (made : Drafted s l table n before message p ready d)
+    (all : Bytes message) (room : counts_room d (received_rooms l) ≡ Ok tt)
   where
     abbrev v : State
     v = state_of s l

@@ -8,12 +8,13 @@ use bloom::have::HAVE_WORDS;
 use message_read::parse::Places;
 use receive_decide::decide::{decide, taken};
 use receive_decide::put::put_heard;
-use receive_make::check::{ReceiptChecks, check_receive};
+use receive_make::check::check_receive;
 use receive_make::make::{count_received, kept_hashes, load_failed, loads_changes};
 use receive_parts::flags::take_flags;
 use receive_parts::heads::mark_known;
 use receive_parts::left::trim_left;
 use receive_shared::shared::put_shared;
+use rules::refusal::Refusal;
 use rules::sizes::{HAVES, ROWS};
 use session::receive_answer::{ReceiveAnswer, SessionRooms};
 use session_state::session::Session;
@@ -39,7 +40,7 @@ fn receive_checked(
     haves: &mut [u64],
     have_bytes: &mut [u8],
     sent: &mut [u8],
-) -> ReceiveAnswer
+) -> Result<ReceiveAnswer, Refusal>
     requires { Accepted session (lent_of shared.old last_sent.old their_heads.old their_need.old haves.old have_bytes.old sent.old)
         table.now index.now n before message.now places }
     ensures { ReceiveCalled (receive_with loaded before session
@@ -130,7 +131,7 @@ pub fn receive_sync_message(
     haves: &mut [u64],
     have_bytes: &mut [u8],
     sent: &mut [u8],
-) -> ReceiveAnswer
+) -> Result<ReceiveAnswer, Refusal>
     ensures { ReceiveCalled (receive_with loaded before session
         (lent_of shared.old last_sent.old their_heads.old their_need.old
         haves.old have_bytes.old sent.old) table.now index.now message.now)
@@ -139,7 +140,7 @@ pub fn receive_sync_message(
         (lent_of shared.new last_sent.new their_heads.new their_need.new
         haves.new have_bytes.new sent.new) result }
 {
-    match check_receive(
+    let (rows, places) = check_receive(
         session,
         shared,
         last_sent,
@@ -152,24 +153,22 @@ pub fn receive_sync_message(
         index,
         before,
         message,
-    ) {
-        ReceiptChecks::Refused(refusal) => ReceiveAnswer::Refused(refusal),
-        ReceiptChecks::Good { rows, places } => receive_checked(
-            session,
-            table,
-            index,
-            rows,
-            before,
-            message,
-            places,
-            loaded,
-            shared,
-            last_sent,
-            their_heads,
-            their_need,
-            haves,
-            have_bytes,
-            sent,
-        ),
-    }
+    )?;
+    receive_checked(
+        session,
+        table,
+        index,
+        rows,
+        before,
+        message,
+        places,
+        loaded,
+        shared,
+        last_sent,
+        their_heads,
+        their_need,
+        haves,
+        have_bytes,
+        sent,
+    )
 }

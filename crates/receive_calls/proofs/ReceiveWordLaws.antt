@@ -9,9 +9,11 @@ use Rattle.session_state.specs.Value.{Lent}
 use Rattle.session_state.specs.declared.session.Session.{Session}
 use Rattle.session.specs.declared.receive_answer.ReceiveAnswer.{ReceiveAnswer}
 use Rattle.receive_calls.specs.ReceiveWords.{received_words, received_session, ReceiveAnswered}
+use Rattle.std.specs.Prelude.{Result}
+use Rattle.rules.specs.declared.refusal.Refusal.{Refusal}
 
 module _ {session₀ session₁ : List ℕ} {before after : Lent} {table index : List ℕ} {rows : ℕ} {message : List ℕ} {loaded : Bool} {words : List ℕ} where
-  pub receive_answered : (s : Session) (r : ReceiveAnswer) → s ≡ session_of session₀
+  pub receive_answered : (s : Session) (r : Result ReceiveAnswer Refusal) → s ≡ session_of session₀
       → ReceiveCalled (receive_with loaded rows s before table index message) before after r
       → session₁ ≡ received_session r session₀
       → words ≡ received_words r
@@ -20,7 +22,7 @@ module _ {session₀ session₁ : List ℕ} {before after : Lent} {table index :
       let known = rw same at called in
       record {
         answer = f ∙ ap received_words known.answer;
-        session = e ∙ ap (λ (k : ReceiveAnswer). received_session k session₀) known.answer;
+        session = e ∙ ap (λ (k : Result ReceiveAnswer Refusal). received_session k session₀) known.answer;
         lists = known.lists;
       }
 

@@ -7,8 +7,7 @@ use bloom::have::HAVE_WORDS;
 use rules::refusal::Refusal;
 use rules::sizes::{HASH_SIZE, HASHES};
 use session::receive_answer::{ReceiveAnswer, SessionRooms};
-use session::room::Room;
-use session_state::session::{Heard, Session};
+use session_state::session::Session;
 
 // The numbers of a session after a message: how many shared heads, heads sent last and hashes sent it has, how many of the message's heads become
 // the ones sent last, how many heads, needs and haves the message has, and how many bytes the haves take.
@@ -31,9 +30,9 @@ fn received_session(flagged: Session, d: ReceivedCounts) -> Session
     Session {
         shared_heads: d.shared,
         last_sent_heads: d.last_sent,
-        their_heads: Heard::Count(d.heads),
-        their_need: Heard::Count(d.need),
-        their_have: Heard::Count(d.haves),
+        their_heads: Some(d.heads),
+        their_need: Some(d.need),
+        their_have: Some(d.haves),
         sent_hashes: d.sent,
         in_flight: flagged.in_flight,
         have_responded: flagged.have_responded,
@@ -45,61 +44,64 @@ fn received_session(flagged: Session, d: ReceivedCounts) -> Session
     }
 }
 
-// Whether the session's lists have room, in the order in which 7 names them.
-fn counts_room(d: ReceivedCounts, r: SessionRooms) -> Room
+// Whether the session's lists have room, in the order in which 7 names them; else the length that the first too short one wants.
+fn counts_room(d: ReceivedCounts, r: SessionRooms) -> Result<(), usize>
     requires { (d.shared ≤ sizes.hashes) × SmallCounts d }
     ensures { result ≡ counts_room d r }
 {
     let shared = HASH_SIZE * d.shared;
     if r.shared < shared {
-        return Room::Short(shared);
+        return Err(shared);
     }
     let last_sent = HASH_SIZE * d.last_sent;
     if r.last_sent < last_sent {
-        return Room::Short(last_sent);
+        return Err(last_sent);
     }
     let heads = HASH_SIZE * d.heads;
     if r.their_heads < heads {
-        return Room::Short(heads);
+        return Err(heads);
     }
     let need = HASH_SIZE * d.need;
     if r.their_need < need {
-        return Room::Short(need);
+        return Err(need);
     }
     let haves = HAVE_WORDS * d.haves;
     if r.haves < haves {
-        return Room::Short(haves);
+        return Err(haves);
     }
     if r.bytes < d.bytes {
-        return Room::Short(d.bytes);
+        return Err(d.bytes);
     }
-    Room::Enough
+    Ok(())
 }
 
 // Decides: 8 where changes were to be loaded and weren't, which leaves the flags taken; 4 for too many shared heads; 7.
-pub fn decide(flagged: Session, failed: bool, d: ReceivedCounts, r: SessionRooms) -> ReceiveAnswer
+pub fn decide(
+    flagged: Session,
+    failed: bool,
+    d: ReceivedCounts,
+    r: SessionRooms,
+) -> Result<ReceiveAnswer, Refusal>
     requires { SmallCounts d }
     ensures { result ≡ counts_decided flagged failed d r }
 {
     if failed {
-        return ReceiveAnswer::Failed(flagged);
+        return Ok(ReceiveAnswer::Failed(flagged));
     }
     if HASHES < d.shared {
-        return ReceiveAnswer::Refused(Refusal::PastSize(0));
+        return Err(Refusal::PastSize(0));
     }
-    match counts_room(d, r) {
-        Room::Short(wanted) => ReceiveAnswer::Refused(Refusal::NoRoom(wanted)),
-        Room::Enough => ReceiveAnswer::Took(received_session(flagged, d)),
-    }
+    counts_room(d, r).map_err(Refusal::NoRoom)?;
+    Ok(ReceiveAnswer::Took(received_session(flagged, d)))
 }
 
 // Whether the message was taken: only then anything is put.
-pub fn taken(received: ReceiveAnswer) -> bool
+pub fn taken(received: Result<ReceiveAnswer, Refusal>) -> bool
     ensures { result ≡ is_taken received }
 {
     match received {
-        ReceiveAnswer::Took(_) => true,
-        ReceiveAnswer::Failed(_) => false,
-        ReceiveAnswer::Refused(_) => false,
+        Ok(ReceiveAnswer::Took(_)) => true,
+        Ok(ReceiveAnswer::Failed(_)) => false,
+        Err(_) => false,
     }
 }

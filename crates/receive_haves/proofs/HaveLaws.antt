@@ -189,7 +189,6 @@ module _ (s words : List ℕ) where
 
   -- the haves before record i have been laid out, and their bytes end at a place
   pub record Laying (records₀ bytes₀ records bytes : List ℕ) (at i : ℕ) : Type 0 where
-    pub upto : i ≤ have_count words
     pub long_records : length records ≡ length records₀
     pub long_bytes : length bytes ≡ length bytes₀
     pub ends : at + length (laid_bytes (left_from i)) ≡ length (laid_bytes (haves_of s words))
@@ -200,7 +199,6 @@ module _ (s words : List ℕ) where
   unfolding laid_words
   laying_starts records bytes =
       record {
-        upto = omega arith;
         long_records = refl;
         long_bytes = refl;
         ends = size_starts;
@@ -269,7 +267,6 @@ module _ (s words : List ℕ) where
           rw from at so.recorded
           in
           record {
-            upto = omega arith;
             long_records = longR ∙ so.long_records;
             long_bytes = longB ∙ so.long_bytes;
             ends = omega (arith, so.ends, one_sum i h, laid'.place);

@@ -18,11 +18,9 @@ pub fn laid_size(message: &[u8], words: &[u64]) -> usize
 {
     let total = words.len() / HAVE_WORDS;
     let mut size = 0;
-    let mut i = 0;
-    while i < total {
+    for i in 0..total {
         let filter = filter_in(words, i);
         size += HASH_SIZE * sync_count(words, i) + filter.size;
-        i += 1;
     }
     size
 }
@@ -71,10 +69,8 @@ pub fn lay_haves(message: &[u8], words: &[u64], records: &mut [u64], bytes: &mut
 {
     let total = words.len() / HAVE_WORDS;
     let mut at = 0;
-    let mut i = 0;
-    while i < total {
+    for i in 0..total {
         put_record(words, i, at, records);
         at = lay_have(message, words, i, at, bytes);
-        i += 1;
     }
 }

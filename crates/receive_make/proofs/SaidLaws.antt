@@ -11,7 +11,6 @@ use lib.Seq.{sets}
 use Rattle.bloom.specs.Have.{have_words, have_count, have_good, haves_of}
 use Rattle.bloom.proofs.HaveLaws.{PassedHaves, passed_haves}
 use Rattle.message_read.specs.MessageRead.{Reading, message_at, message_in, decoded_of}
-use Rattle.message_read.specs.declared.parse.Decoded.TheVariants.{Message as Placed}
 use Rattle.message_read.specs.declared.parse.Places.{Places}
 use Rattle.message_read.proofs.Messages.{MessageWords, message_words, haves_good_lem}
 use Rattle.message_read.proofs.ReadLaws.{message_behind, placed}
@@ -26,6 +25,7 @@ use Rattle.session_state.proofs.ValueLaws.{length_haves_from}
 use Rattle.table.specs.Table.{Row}
 use Rattle.receive_haves.specs.Internal.HavesLaid.{Layable}
 use Rattle.receive_make.specs.Internal.ReceiveMake.{haves_words, said_at, words_room, WordsMade}
+use Rattle.std.specs.Prelude.{Ok}
 
 words_of_item : (i : Item) (words : List ℕ) (next : ℕ) → i ≡ Item.item words next → words_of i ≡ words
 unfolding words_of after_item
@@ -38,7 +38,7 @@ some_chunk_lem s [] count e = sym (le-ltb 0 count (omega arith))
 some_chunk_lem s (a ∷ []) count e = absurd (omega arith)
 some_chunk_lem s (a ∷ b ∷ words) count e = sym (lt-ltb 0 count (omega arith))
 
-module _ (s : List ℕ) (p : Places) (is : decoded_of (message_at s) ≡ Placed p) where
+module _ (s : List ℕ) (p : Places) (is : decoded_of (message_at s) ≡ Ok p) where
   -- its words
   pub words : record { haves : List ℕ; chunks : List ℕ; is : message_at s ≡ Reading.read p haves chunks }
   words = placed (message_at s) p is

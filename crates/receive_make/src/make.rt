@@ -1,7 +1,6 @@
 // The numbers of a session after a message.
-ghost use Rattle.std.specs.Prelude.{not, ◌&&◌, ◌≡◌, ◌+◌, ◌*◌, ◌≤◌, ltb, length};
+ghost use Rattle.std.specs.Prelude.{Ok, not, ◌&&◌, ◌≡◌, ◌+◌, ◌*◌, ◌≤◌, ltb, length};
 ghost use Rattle.message_read.specs.MessageRead.{message_at, decoded_of};
-ghost use Rattle.message_read.specs.declared.parse.Decoded.TheVariants.{Message as Placed};
 ghost use Rattle.table_graph.specs.Graph.{heads};
 ghost use Rattle.table_index.specs.Index.{Indexed};
 ghost use Rattle.rules.specs.Hash.{hashes_at};
@@ -82,7 +81,7 @@ pub fn kept_hashes(heads: usize, sent: usize) -> usize
 
 // Puts the words of a message's haves at the start of the list, and returns how many bytes the haves take, laid out.
 fn make_words(message: &[u8], places: Places, words: &mut [u64]) -> usize
-    requires { (decoded_of (message_at message.now) ≡ Placed places) × (length words.old ≡ words_room) }
+    requires { (decoded_of (message_at message.now) ≡ Ok places) × (length words.old ≡ words_room) }
     ensures { WordsMade message.now places words.new result }
 {
     let haves = places.haves;

@@ -4,9 +4,9 @@
 use Prim.Native.Nat.{ℕ, suc, ◌+◌, ◌-◌, ◌*◌, ◌≤◌, ◌<◌}
 use mathlib.Core.Bool.{Bool, true, false, not, ◌&&◌, ◌||◌}
 use mathlib.Core.List.{List}
-use mathlib.Core.Path.{◌≡◌, refl, sym, ◌∙◌}
+use mathlib.Core.Path.{◌≡◌, sym, ◌∙◌}
 use native.Mathlib.Omega.{arith}
-use lib.ListN.{length, get_or, set, length-set}
+use lib.ListN.{length, get_or, set}
 use Rattle.table_graph.proofs.GraphMarks.{below_blank, picked_heads}
 use Rattle.table_graph.proofs.HeadLaws.{head_is}
 use Rattle.table_graph.proofs.MarkLaws.{mark_list, hash_held, hash_unknown, list_start, list_on, list_done, list_marked}
@@ -37,14 +37,12 @@ module _ (table : List ℕ) (n : ℕ) (s : List ℕ) (place many : ℕ) where
 
   -- the heads before number k are marked, and `all` says whether these are held
   pub record Marking (marks₀ marks : List Bool) (all : Bool) (k : ℕ) : Type 0 where
-    pub upto : k ≤ many
-    pub long : length marks ≡ length marks₀
     pub known : (all && every (held t) (onward s place many k)) ≡ every (held t) hs
     pub rest : mark_list (rows t) marks (hashes_at s (place + sizes.hash * k) (many - k)) ≡ mark_list (rows t) marks₀ hs
 
   pub marking_starts : (marks₀ : List Bool) → Marking marks₀ marks₀ true 0
   marking_starts marks₀ =
-      record { upto = omega arith; long = refl; known = test_starts (held t) s place many; rest = list_start table n s place many marks₀ }
+      record { known = test_starts (held t) s place many; rest = list_start table n s place many marks₀ }
 
   module _ (marks₀ marks : List Bool) (all : Bool) (k row : ℕ) (so : Marking marks₀ marks all k) (inside : k < many)
       (found : row ≡ index_in (rows t) (hash_at s (place + sizes.hash * k))) where
@@ -54,8 +52,6 @@ module _ (table : List ℕ) (n : ℕ) (s : List ℕ) (place many : ℕ) where
         test_fails (held t) s place many k inside (found_unknown table n (hash_at s (place + sizes.hash * k)) row found l)
         in
         record {
-          upto = omega arith;
-          long = so.long;
           known = sym (and_false all) ∙ (rw none at so.known);
           rest = sym (list_on table n s place many marks marks k inside (hash_unknown table n marks _ row found l)) ∙ so.rest;
         }
@@ -66,8 +62,6 @@ module _ (table : List ℕ) (n : ℕ) (s : List ℕ) (place many : ℕ) where
         test_on (held t) s place many k inside (found_held table n (hash_at s (place + sizes.hash * k)) row found l)
         in
         record {
-          upto = omega arith;
-          long = rw e (length-set marks row true) ∙ so.long;
           known = rw on at so.known;
           rest = sym (list_on table n s place many marks next k inside (e ∙ hash_held table n marks _ row found l)) ∙ so.rest;
         }

@@ -99,21 +99,20 @@ module _ (p : ℕ → Bool) (s : List ℕ) (count : ℕ) where
 
   -- `left` of those before number k were counted
   pub record Counting (left k : ℕ) : Type 0 where
-    pub upto : k ≤ count
     pub few : left ≤ k
     pub many : left + length (left_from k) ≡ length (left_from 0)
 
   pub counting_starts : Counting 0 0
-  counting_starts = record { upto = omega arith; few = omega arith; many = omega arith }
+  counting_starts = record { few = omega arith; many = omega arith }
 
   module _ (left k : ℕ) (so : Counting left k) where
     pub counting_passed : k < count → p (hash_at s (sizes.hash * k)) ≡ false → Counting left (k + 1)
-    counting_passed l e = record { upto = omega arith; few = omega (arith, so.few); many = rw (left_passed k l e) at so.many }
+    counting_passed l e = record { few = omega (arith, so.few); many = rw (left_passed k l e) at so.many }
 
     pub counting_taken : k < count → p (hash_at s (sizes.hash * k)) ≡ true → Counting (left + 1) (k + 1)
     counting_taken l e =
         let more : length (left_from k) ≡ suc (length (left_from (k + 1))) = ap length (left_taken k l e) in
-        record { upto = omega arith; few = omega (arith, so.few); many = omega (arith, so.many) }
+        record { few = omega (arith, so.few); many = omega (arith, so.many) }
 
     pub counting_ends : count ≤ k → left ≡ length (keep p (hashes_at s 0 count))
     counting_ends l =
@@ -124,12 +123,11 @@ module _ (p : ℕ → Bool) (s : List ℕ) (count : ℕ) where
   -- `left` of those before number k were moved to the front, and from there on the list is as it was
   pub record Trimming (list : List ℕ) (left k : ℕ) : Type 0 where
     pub counted : Counting left k
-    pub long : length list ≡ length s
     pub still : drop (sizes.hash * k) list ≡ drop (sizes.hash * k) s
     pub rest : sets list (sizes.hash * left) (hashes_bytes (left_from k)) ≡ sets s 0 (hashes_bytes (left_from 0))
 
   pub trimming_starts : Trimming s 0 0
-  trimming_starts = record { counted = counting_starts; long = refl; still = refl; rest = refl }
+  trimming_starts = record { counted = counting_starts; still = refl; rest = refl }
 
   module _ (list : List ℕ) (left k : ℕ) (so : Trimming list left k) (l : k < count) where
     next_place : sizes.hash * (k + 1) ≡ sizes.hash * k + sizes.hash
@@ -146,16 +144,14 @@ module _ (p : ℕ → Bool) (s : List ℕ) (count : ℕ) where
     trimming_passed e =
         record {
           counted = counting_passed left k so.counted l e;
-          long = so.long;
           still = further;
           rest = put_same _ _ (left_passed k l e) _ _ _ so.rest;
         }
 
     pub trimming_taken : (next : List ℕ) → p (hash_at s (sizes.hash * k)) ≡ true → Bytes s → sizes.hash * count ≤ length s
-        → length next ≡ length list
         → next ≡ sets list (sizes.hash * left) (slice (sizes.hash * k) (sizes.hash * k + sizes.hash) list)
         → Trimming next (left + 1) (k + 1)
-    trimming_taken next e all fits long put =
+    trimming_taken next e all fits put =
         let one : left_from k ≡ hash_at s (sizes.hash * k) ∷ left_from (k + 1) = left_taken k l e in
         let at : sizes.hash * (left + 1) ≡ sizes.hash * left + sizes.hash = omega arith in
         let part : List ℕ = slice (sizes.hash * k) (sizes.hash * k + sizes.hash) s in
@@ -168,7 +164,6 @@ module _ (p : ℕ → Bool) (s : List ℕ) (count : ℕ) where
         in
         record {
           counted = counting_taken left k so.counted l e;
-          long = long ∙ so.long;
           still = ap (drop (sizes.hash * (k + 1))) is ∙ behind ∙ further;
           rest = rw at (put_one _ _ _ one _ _ _ _ _ _ all (omega arith) refl is so.rest);
         }

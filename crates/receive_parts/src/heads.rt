@@ -33,15 +33,13 @@ pub fn mark_known(
     ensures { HeadsMarked table.now n (hashes_at message.now place many) sent marks.new result }
 {
     let mut all = true;
-    let mut k = 0;
-    while k < many {
+    for k in 0..many {
         let row = look_up(table, index, n, message, place + HASH_SIZE * k);
-        k += 1;
-        if n <= row {
+        if row < n {
+            marks[row] = true;
+        } else {
             all = false;
-            continue;
         }
-        marks[row] = true;
     }
     if sent == 0 {
         return all;

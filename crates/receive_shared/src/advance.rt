@@ -20,14 +20,10 @@ fn keep_shared(n: usize, before: usize, others: &[bool], marks: &mut [bool])
     requires { (before ≤ n) × (n ≤ length others.now) × (n ≤ length marks.old) }
     ensures { Marks n marks.new (λ i. get_or marks.old i false && (leb before i || get_or others.now i false)) }
 {
-    let mut i = 0;
-    while i < before {
-        let k = i;
-        i += 1;
-        if others[k] {
-            continue;
+    for i in 0..before {
+        if !others[i] {
+            marks[i] = false;
         }
-        marks[k] = false;
     }
 }
 

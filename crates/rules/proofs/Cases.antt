@@ -1,12 +1,22 @@
 -- Taking tests apart with the scrutinee first, so that each arm has its equation.
 use Prim.Native.Nat.{ℕ}
 use mathlib.Core.Bool.{Bool, true, false, ◌&&◌, ◌||◌}
-use mathlib.Core.Path.{◌≡◌, refl, sym}
+use mathlib.Core.Path.{◌≡◌, refl, sym, ap}
+use Rattle.std.specs.Prelude.{Result, Ok, Err, IsErrAnd}
+use Rattle.std.proofs.lemmas.Result.{err_from_is_err_and}
 use native.Mathlib.Omega.{arith}
 
 pub split {ℓ} : {C : Type ℓ} (t : Bool) → (t ≡ true → C) → (t ≡ false → C) → C
 split true f g = f refl
 split false f g = g refl
+
+-- Read values are the same where their parts are.
+pub read_same : {A B E : Type 0} {a c : A} {b d : B} → ◌≡◌ {A = Result (A × B) E} (Ok (a, b)) (Ok (c, d)) → (a ≡ c) × (b ≡ d)
+read_same {A} {B} {E} {a} {c} {b} {d} e = let q : ◌≡◌ {A = A × B} (a, b) (c, d) = cc in (ap (λ p. p.0) q, ap (λ p. p.1) q)
+
+-- What a `?` hands on is the callee's refusal.
+pub handed_on : {T E : Type 0} {e : E} {r : Result T E} → IsErrAnd r (λ d. d ≡ e) → r ≡ Err e
+handed_on {T} {E} {e} {r} h = let p = err_from_is_err_and r h in rw (p.1, p.2)
 
 pub both : (x y : Bool) → (x && y) ≡ true → (x ≡ true) × (y ≡ true)
 both true y e = (refl, e)

@@ -11,27 +11,26 @@ use borrow.Author.Tests.{lt-ltb, le-ltb}
 use Rattle.rules.specs.Hash.{Bytes, AreHashes, hashes_at, hashes_bytes}
 use Rattle.rules.specs.Output.{Output, bytes, refuse, Written, Gathered}
 use Rattle.rules.specs.Sizes.{sizes}
-use Rattle.rules.specs.declared.output.Write.{Write}
-use Rattle.rules.specs.declared.output.Write.TheVariants.{Wrote, Refused}
 use Rattle.rules.specs.declared.refusal.Refusal.{Refusal}
 use Rattle.rules.specs.declared.refusal.Refusal.TheVariants.{NoRoom}
 use Rattle.rules.proofs.Hash.{length_hashes_bytes, hashes_there_and_back, hashes_at_bytes}
+use Rattle.std.specs.Prelude.{Result, Ok, Err}
 
-pub written_once : {o : Output} {before a₁ a₂ : List ℕ} {r₁ r₂ : Write} → Written o before a₁ r₁ → Written o before a₂ r₂ → (r₁ ≡ r₂) × (a₁ ≡ a₂)
+pub written_once : {o : Output} {before a₁ a₂ : List ℕ} {r₁ r₂ : Result ℕ Refusal} → Written o before a₁ r₁ → Written o before a₂ r₂ → (r₁ ≡ r₂) × (a₁ ≡ a₂)
 written_once w v = (w.answer ∙ sym v.answer, w.content ∙ sym v.content)
 
 pub written_bytes : (l before after : List ℕ) (size : ℕ) → size ≡ length l → size ≤ length before → after ≡ sets before 0 l
-    → Written (bytes l) before after (Wrote size)
+    → Written (bytes l) before after (Ok size)
 written_bytes l before after size e h q =
     let fits : length l ≤ length before = omega arith in
     record { answer = rw (le-ltb _ _ fits, e); content = rw (le-ltb _ _ fits) q }
 
-pub no_room : (l before : List ℕ) (size : ℕ) → size ≡ length l → length before < size → Written (bytes l) before before (Refused (NoRoom size))
+pub no_room : (l before : List ℕ) (size : ℕ) → size ≡ length l → length before < size → Written (bytes l) before before (Err (NoRoom size))
 no_room l before size e h =
     let short : length before < length l = omega arith in
     record { answer = rw (lt-ltb _ _ short, e); content = rw (lt-ltb _ _ short) }
 
-pub refused : (r : Refusal) (before : List ℕ) → Written (refuse r) before before (Refused r)
+pub refused : (r : Refusal) (before : List ℕ) → Written (refuse r) before before (Err r)
 refused r before = record { answer = refl; content = refl }
 
 -- Bytes put one part after the other are the bytes put at once.

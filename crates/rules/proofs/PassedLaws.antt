@@ -8,23 +8,22 @@ use lib.Dec.{ltb, eqb}
 use lib.ListN.{length}
 use Rattle.rules.specs.Passed.{passed_up_to, passed_hashes, after_passed}
 use Rattle.rules.specs.Sizes.{sizes}
-use Rattle.rules.specs.declared.passed.Passed.{Passed}
-use Rattle.rules.specs.declared.passed.Passed.TheVariants.{Hashes, Refused}
 use Rattle.rules.specs.declared.refusal.Refusal.{Refusal}
 use Rattle.rules.specs.declared.refusal.Refusal.TheVariants.{Cut, PastSize}
 use Rattle.rules.proofs.Cases.{split}
+use Rattle.std.specs.Prelude.{Result, Ok, Err}
 
 module _ (most : ℕ) (s : List ℕ) where
-  pub up_to_long : most * sizes.hash < length s → passed_up_to most s ≡ Refused (PastSize 0)
+  pub up_to_long : most * sizes.hash < length s → passed_up_to most s ≡ Err (PastSize 0)
   unfolding passed_up_to
   up_to_long h = rw (lt-ltb _ _ h)
 
   pub up_to_cut : length s ≤ most * sizes.hash → (length s % sizes.hash ≡ 0 → ⊥)
-      → passed_up_to most s ≡ Refused (Cut (sizes.hash * (length s / sizes.hash)))
+      → passed_up_to most s ≡ Err (Cut (sizes.hash * (length s / sizes.hash)))
   unfolding passed_up_to
   up_to_cut h g = rw (le-ltb _ _ h, ne_eqb _ _ g)
 
-  pub up_to_whole : length s ≤ most * sizes.hash → length s % sizes.hash ≡ 0 → passed_up_to most s ≡ Hashes (length s / sizes.hash)
+  pub up_to_whole : length s ≤ most * sizes.hash → length s % sizes.hash ≡ 0 → passed_up_to most s ≡ Ok (length s / sizes.hash)
   unfolding passed_up_to
   up_to_whole h g = rw (le-ltb _ _ h, eq-eqb _ _ g)
 
@@ -33,7 +32,7 @@ module _ (most : ℕ) (s : List ℕ) where
     pub whole : length s ≡ sizes.hash * n
     pub few : n ≤ most
 
-  pub up_to_is : (n : ℕ) → passed_up_to most s ≡ Hashes n → PassedIs n
+  pub up_to_is : (n : ℕ) → passed_up_to most s ≡ Ok n → PassedIs n
   unfolding passed_up_to
   up_to_is n e =
       split (ltb (most * sizes.hash) (length s))
@@ -49,17 +48,17 @@ module _ (most : ℕ) (s : List ℕ) where
 
 -- a list as messages and sessions have them
 module _ (s : List ℕ) where
-  pub passed_whole : length s ≤ sizes.hashes * sizes.hash → length s % sizes.hash ≡ 0 → passed_hashes s ≡ Hashes (length s / sizes.hash)
+  pub passed_whole : length s ≤ sizes.hashes * sizes.hash → length s % sizes.hash ≡ 0 → passed_hashes s ≡ Ok (length s / sizes.hash)
   passed_whole = up_to_whole sizes.hashes s
 
-  pub passed_is : (n : ℕ) → passed_hashes s ≡ Hashes n → PassedIs sizes.hashes s n
+  pub passed_is : (n : ℕ) → passed_hashes s ≡ Ok n → PassedIs sizes.hashes s n
   passed_is = up_to_is sizes.hashes s
 
 module _ {A : Type 0} (refused : Refusal → A) (k : ℕ → A) where
-  pub after_refused : (p : Passed) (r : Refusal) → p ≡ Refused r → after_passed p refused k ≡ refused r
+  pub after_refused : (p : Result ℕ Refusal) (r : Refusal) → p ≡ Err r → after_passed p refused k ≡ refused r
   unfolding after_passed
   after_refused p r e = rw e
 
-  pub after_hashes : (p : Passed) (n : ℕ) → p ≡ Hashes n → after_passed p refused k ≡ k n
+  pub after_hashes : (p : Result ℕ Refusal) (n : ℕ) → p ≡ Ok n → after_passed p refused k ≡ k n
   unfolding after_passed
   after_hashes p n e = rw e

@@ -1,5 +1,5 @@
 -- Bytes that are zeros: in parts, and joined in one number. Assumes nothing.
-use Prim.Native.Nat.{ℕ, zero, suc, ◌+◌, ◌≤◌}
+use Prim.Native.Nat.{ℕ, zero, suc, ◌+◌}
 use mathlib.Core.Bool.{Bool, true, false, ◌&&◌}
 use mathlib.Core.List.{List}
 use mathlib.Core.Path.{◌≡◌, refl, sym, ap}
@@ -45,8 +45,3 @@ module _ (s : List ℕ) (at : ℕ) where
   unfolding zeros bytes_at
   joined_next k any e =
       rw (or_zero any (get_or s (at + k) 0), zeros_parts s at k 1, e) (ap (λ (x : Bool). zeros (bytes_at s at k) && x) (sym (and_true_right _)))
-
-  pub joined_all : (k count any : ℕ) → k ≤ count → count ≤ k → eqb any 0 ≡ zeros (bytes_at s at k) → eqb any 0 ≡ zeros (bytes_at s at count)
-  joined_all k count any b c e =
-      let same : k ≡ count = omega arith in
-      rw same at e

@@ -5,7 +5,6 @@
 #![tactic(auto)]
 
 pub mod little_endian;
-pub mod output;
 pub mod passed;
 pub mod put;
 pub mod refusal;

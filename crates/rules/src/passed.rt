@@ -6,30 +6,23 @@ ghost use Rattle.rules.specs.Sizes.{sizes};
 use crate::refusal::Refusal;
 use crate::sizes::{HASH_SIZE, HASHES};
 
-#[derive(Clone, Copy)]
-pub enum Passed {
-    // The bytes are whole hashes: their number.
-    Hashes(usize),
-    Refused(Refusal),
-}
-
 // How many hashes the bytes are: 4 for more than so many, 1 for a partial hash at the end.
-pub fn passed_up_to(most: usize, bytes: &[u8]) -> Passed
+pub fn passed_up_to(most: usize, bytes: &[u8]) -> Result<usize, Refusal>
     requires { most ≤ sizes.hashes_to_send }
     ensures { result ≡ passed_up_to most bytes.now }
 {
     if most * HASH_SIZE < bytes.len() {
-        return Passed::Refused(Refusal::PastSize(0));
+        return Err(Refusal::PastSize(0));
     }
     let count = bytes.len() / HASH_SIZE;
     if bytes.len() % HASH_SIZE != 0 {
-        return Passed::Refused(Refusal::Cut(HASH_SIZE * count));
+        return Err(Refusal::Cut(HASH_SIZE * count));
     }
-    Passed::Hashes(count)
+    Ok(count)
 }
 
 // How many hashes the bytes are, of which there may be as many as in a list of a message or a session.
-pub fn passed_hashes(bytes: &[u8]) -> Passed
+pub fn passed_hashes(bytes: &[u8]) -> Result<usize, Refusal>
     ensures { result ≡ passed_hashes bytes.now }
 {
     passed_up_to(HASHES, bytes)

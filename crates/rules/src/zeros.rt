@@ -8,10 +8,8 @@ pub fn zero_bytes(bytes: &[u8], at: usize, count: usize) -> bool
     ensures { result ≡ zeros (bytes_at bytes.now at count) }
 {
     let mut any: u8 = 0;
-    let mut k = 0;
-    while k < count {
-        any = any | bytes[at + k];
-        k += 1;
+    for byte in &bytes[at..at + count] {
+        any |= *byte;
     }
     any == 0
 }

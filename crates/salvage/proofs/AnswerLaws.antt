@@ -17,12 +17,14 @@ use Rattle.table.specs.TableWritten.{table_bytes_of}
 use Rattle.table_check.proofs.CheckLaws.{whole_inside, whole_few}
 use Rattle.salvage.specs.Internal.Putting.{RowsDecided, told_words}
 use Rattle.salvage.specs.Salvaged.{report_of, new_row, new_table, salvage, report_words, salvage_answer, SalvageCalled}
-use Rattle.salvage.specs.declared.salvage.Salvaging.TheVariants.{Done, Refused}
 use Rattle.salvage.proofs.PutLaws.{rows_long, report_long, words_told}
 use Rattle.salvage.proofs.SalvagedLaws.{all_told}
+use Rattle.rules.specs.declared.refusal.Refusal.{Refusal}
+use Rattle.salvage.specs.declared.salvage.Amounts.{Amounts}
+use Rattle.std.specs.Prelude.{Result, Ok, Err}
 
 -- 4
-pub called_long : (d most : ℕ) (s rows report : List ℕ) → most * row_size_of d < length s → SalvageCalled d most s rows rows report report (Refused (PastSize 0))
+pub called_long : (d most : ℕ) (s rows report : List ℕ) → most * row_size_of d < length s → SalvageCalled d most s rows rows report report (Err (PastSize 0))
 unfolding salvage_answer
 called_long d most s rows report h =
     let long = lt-ltb (most * row_size_of d) (length s) h in
@@ -75,7 +77,7 @@ module _ (d : ℕ) (s : List ℕ) (n : ℕ) (rules places : List ℕ) (kept : �
 
   module _ (most : ℕ) (rows report : List ℕ) (size : ℕ) (e : n ≡ length s / row_size_of d) (short : length s ≤ most * row_size_of d) (q : size ≡ kept * row_size_of d) where
     -- 7 for the rows
-    pub called_rows : length rows < size → SalvageCalled d most s rows rows report report (Refused (NoRoom size))
+    pub called_rows : length rows < size → SalvageCalled d most s rows rows report report (Err (NoRoom size))
     unfolding salvage_answer
     called_rows h =
         let fits = le-ltb (most * row_size_of d) (length s) short in
@@ -84,7 +86,7 @@ module _ (d : ℕ) (s : List ℕ) (n : ℕ) (rules places : List ℕ) (kept : �
 
     module _ (room : size ≤ length rows) where
       -- 7 for the report
-      pub called_report : length report / 2 < n - kept → SalvageCalled d most s rows rows report report (Refused (NoRoom (n - kept)))
+      pub called_report : length report / 2 < n - kept → SalvageCalled d most s rows rows report report (Err (NoRoom (n - kept)))
       unfolding salvage_answer
       called_report h =
           let fits = le-ltb (most * row_size_of d) (length s) short in
@@ -101,7 +103,7 @@ module _ (d : ℕ) (s : List ℕ) (n : ℕ) (rules places : List ℕ) (kept : �
           → rows-after ≡ sets rows 0 (table_bytes_of d (map (new_row d s (kept_of d s n)) (kept_of d s n)))
           → report-after ≡ sets report 0 (told_words rules n)
           → row ≡ row_size_of d
-          → SalvageCalled d most s rows rows-after report report-after (Done (record { rows = size; report = n - kept; partial = length s % row }))
+          → SalvageCalled d most s rows rows-after report report-after (Ok (record { rows = size; report = n - kept; partial = length s % row }))
       unfolding salvage_answer
       called_done rows-after report-after row h put told is =
           let fits = le-ltb (most * row_size_of d) (length s) short in
@@ -114,5 +116,5 @@ module _ (d : ℕ) (s : List ℕ) (n : ℕ) (rules places : List ℕ) (kept : �
           }
         where
           partial_is : (d : ℕ) (s : List ℕ) (a b : ℕ)
-              → Done (record { rows = a; report = b; partial = length s % row_size_of d }) ≡ Done (record { rows = a; report = b; partial = (salvage d s).partial })
-          partial_is d s a b = ap (λ (k : ℕ). Done (record { rows = a; report = b; partial = k })) (partial_of d s)
+              → ◌≡◌ {A = Result Amounts Refusal} (Ok (record { rows = a; report = b; partial = length s % row_size_of d })) (Ok (record { rows = a; report = b; partial = (salvage d s).partial }))
+          partial_is d s a b = ap {B = Result Amounts Refusal} (λ (k : ℕ). Ok (record { rows = a; report = b; partial = k })) (partial_of d s)

@@ -289,10 +289,6 @@ module _ (d : ℕ) (s : List ℕ) (n : ℕ) where
       ∙ sets_append A B out₀ 0
       ∙ ap (sets out₀ 0) (sym (ap (table_bytes_of d) (map_append (kept_of d s i) (kept_if (broken_rule d s (kept_of d s i) i) i)) ∙ table_append (map N (kept_of d s i)) (row_if d s n i))))
 
-  pub rows_all : (out₀ out : List ℕ) (i : ℕ) → i ≤ n → n ≤ i → out ≡ sets out₀ 0 (table_bytes_of d (map N (kept_of d s i)))
-      → out ≡ sets out₀ 0 (table_bytes_of d (map N (kept_of d s n)))
-  rows_all out₀ out i a b e = e ∙ ap (λ (k : ℕ). sets out₀ 0 (table_bytes_of d (map N (kept_of d s k)))) (let z : i ≡ n = omega arith in z)
-
   pub rows_long : length (table_bytes_of d (map N (kept_of d s n))) ≡ length (kept_of d s n) * row_size_of d
   rows_long = rows_size (kept_of d s n) (kept_of_lem n (omega arith))
 
@@ -355,9 +351,6 @@ module _ (rules : List ℕ) where
           ∙ ap₂ (λ (x : List ℕ) (k : ℕ). sets x k (words_if i (get_or rules i 0))) e (let z : at ≡ 0 + length (told_words rules i) = omega arith in z)
           ∙ sets_append (told_words rules i) (words_if i (get_or rules i 0)) before 0),
     )
-
-  pub words_all : (before report : List ℕ) (n i : ℕ) → i ≤ n → n ≤ i → report ≡ sets before 0 (told_words rules i) → report ≡ sets before 0 (told_words rules n)
-  words_all before report n i a b e = e ∙ ap (λ (k : ℕ). sets before 0 (told_words rules k)) (let z : i ≡ n = omega arith in z)
 
 -- ---- the report's words
 

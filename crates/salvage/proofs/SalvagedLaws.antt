@@ -25,9 +25,9 @@ use Rattle.table.proofs.WrittenLaws.{table_read, table_accepted, round_trip}
 use Rattle.table.specs.Table.{Row, rows, hash_of, deps_of, index_in}
 use Rattle.table.specs.TableBytes.{row_size_of, count_of, used_of, unused_of, row_of, rows_of, whole_rows_of, numbers_good, row_good_of, table_checked_of}
 use Rattle.table.specs.TableWritten.{table_bytes_of, Holdable}
-use Rattle.table.specs.declared.check.Checked.TheVariants.{Good}
 use Rattle.salvage.specs.Salvaged.{Entry, dropped_if, report_of, new_row, new_table, salvage, rows_told, IsReport, M109}
 use Rattle.salvage.proofs.NewTableLaws.{map_member, map_hashes, new_deps, new_long, new_good, kept_used}
+use Rattle.std.specs.Prelude.{Ok}
 
 -- each row is kept or told
 pub all_told : (d : ℕ) (s : List ℕ) (n : ℕ) → length (kept_of d s n) + length (report_of d s n) ≡ n
@@ -98,7 +98,7 @@ module _ (d most : ℕ) (s : List ℕ) (wide : d < 65536) (rowsFew : most ≤ 65
   pub result_values : whole_rows_of d (table_bytes_of d t) ≡ t
   result_values = table_read d t holdable
 
-  pub result_good : table_checked_of d most (table_bytes_of d t) ≡ Good (length t)
+  pub result_good : table_checked_of d most (table_bytes_of d t) ≡ Ok (length t)
   result_good = table_accepted d t (new_good d s) holdable most kept_few
 
   pub result_bytes : Bytes (table_bytes_of d t)
@@ -205,7 +205,7 @@ no_entries [] e = refl
 no_entries (x ∷ l) e = absurd (let z : suc (length l) ≡ 0 = e in omega arith)
 
 -- a good table comes out as it went in, with nothing reported
-pub unhurt : (d most : ℕ) (s : List ℕ) (m : ℕ) → Bytes s → table_checked_of d most s ≡ Good m
+pub unhurt : (d most : ℕ) (s : List ℕ) (m : ℕ) → Bytes s → table_checked_of d most s ≡ Ok m
     → ((salvage d s).bytes ≡ s) × ((salvage d s).report ≡ []) × ((salvage d s).partial ≡ 0)
 unfolding salvage new_table
 unhurt d most s m b e =
@@ -458,7 +458,7 @@ module _ (d : ℕ) (s : List ℕ) where
       and_true ((leb (count_of d s k) d && numbers_good k (used_of d s k)) && zeros (unused_of d s k)) _ a.0 (ap (λ (l : List ℕ). not (member (row_hash d s k) l)) (sym (up_hashes d s k)) ∙ n)
 
 nothing_told : (d most : ℕ) (s : List ℕ) → length s ≤ most * row_size_of d → (salvage d s).report ≡ [] → (salvage d s).partial ≡ 0
-    → table_checked_of d most s ≡ Good (length s / row_size_of d)
+    → table_checked_of d most s ≡ Ok (length s / row_size_of d)
 unfolding salvage
 nothing_told d most s short e p =
     good_accepted_of d most s p short

@@ -21,13 +21,11 @@ fn put_numbers(d: usize, table: &[u8], i: usize, places: &[u16], out: &mut [u8],
         ≡ sets out.old at (u16s_bytes (map (λ k. get_or places.now k 0) (used_of d table.now i))) }
 {
     let count = count_of(d, table, i);
-    let mut j = 0;
-    while j < count {
+    for j in 0..count {
         let k = dep_of(d, table, i, j);
         let place = places[k] as usize;
         out[at + 2 * j] = (place % 256) as u8;
         out[at + 2 * j + 1] = (place / 256) as u8;
-        j += 1;
     }
 }
 
@@ -82,10 +80,8 @@ pub fn put_rows(
     ensures { out.new
         ≡ sets out.old 0 (table_bytes_of d (map (new_row d table.now (kept_of d table.now n)) (kept_of d table.now n))) }
 {
-    let mut i = 0;
-    while i < n {
+    for i in 0..n {
         put_kept(d, table, n, i, rules, places, kept, out);
-        i += 1;
     }
 }
 
@@ -108,9 +104,7 @@ pub fn put_report(n: usize, rules: &[u8], report: &mut [u64])
     ensures { report.new ≡ sets report.old 0 (told_words rules.now n) }
 {
     let mut at = 0;
-    let mut i = 0;
-    while i < n {
+    for i in 0..n {
         at = put_entry(report, at, i, rules[i]);
-        i += 1;
     }
 }

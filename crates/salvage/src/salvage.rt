@@ -19,14 +19,7 @@ pub struct Amounts {
     pub partial: usize,
 }
 
-#[derive(Clone, Copy)]
-pub enum Salvaging {
-    Done(Amounts),
-    // Nothing was written.
-    Refused(Refusal),
-}
-
-// Writes what was decided, if there is room for both parts of it.
+// Writes what was decided, if there is room for both parts of it. Where there isn't, nothing is written.
 fn write_salvaged(
     d: usize,
     table: &[u8],
@@ -36,22 +29,22 @@ fn write_salvaged(
     kept: usize,
     rows: &mut [u8],
     report: &mut [u64],
-) -> Salvaging
+) -> Result<Amounts, Refusal>
     requires { RowsDecided d table.now n rules.now places.now kept × (n ≡ length table.now / row_size_of d) × (n ≤ sizes.rows) × (d < 65536)
         × (length table.now ≤ sizes.rows * row_size_of d) }
     ensures { SalvageCalled d sizes.rows table.now rows.old rows.new report.old report.new result }
 {
     let size = row_place(d, kept);
     if rows.len() < size {
-        return Salvaging::Refused(Refusal::NoRoom(size));
+        return Err(Refusal::NoRoom(size));
     }
     let entries = n - kept;
     if report.len() / 2 < entries {
-        return Salvaging::Refused(Refusal::NoRoom(entries));
+        return Err(Refusal::NoRoom(entries));
     }
     put_rows(d, table, n, rules, places, kept, rows);
     put_report(n, rules, report);
-    Salvaging::Done(Amounts {
+    Ok(Amounts {
         rows: size,
         report: entries,
         partial: table.len() % row_size(d),
@@ -59,13 +52,13 @@ fn write_salvaged(
 }
 
 // Salvages a change table: the kept rows go to the start of `rows`, and two numbers for each dropped row, its own and the rule's, to the start of
-// `report`.
-pub fn salvage_table(table: &[u8], rows: &mut [u8], report: &mut [u64]) -> Salvaging
+// `report`. Where it is refused, nothing is written.
+pub fn salvage_table(table: &[u8], rows: &mut [u8], report: &mut [u64]) -> Result<Amounts, Refusal>
     ensures { SalvageCalled sizes.dependencies sizes.rows table.now
         rows.old rows.new report.old report.new result }
 {
     if ROWS * ROW_SIZE < table.len() {
-        return Salvaging::Refused(Refusal::PastSize(0));
+        return Err(Refusal::PastSize(0));
     }
     let n = table.len() / ROW_SIZE;
     let mut rules = [0u8; ROWS];

@@ -21,7 +21,7 @@ use Rattle.table.proofs.TableLaws.{number_place_of, length_used_of, used_of_inde
 use Rattle.table.specs.TableBytes.{u16s_at, row_size_of, count_of, used_of, unused_of, numbers_good}
 use Rattle.table_index.proofs.ListLaws.{ascending_few}
 use Rattle.table_index.specs.Index.{record_hash}
-use Rattle.salvage_rules.specs.Internal.Decided.{Classes, rule_byte, rule_of, Before, Decided, Taken}
+use Rattle.salvage_rules.specs.Internal.Decided.{Classes, rule_byte, rule_of, Before, Taken}
 use Rattle.salvage_rules.specs.KeptRows.{Rule, rule_number, row_hash, broken_rule, kept_if, kept_of}
 use Rattle.salvage_rules.proofs.KeptLaws.{is_none, every_same, kept_is, kept_inside, kept_ascends}
 
@@ -173,14 +173,6 @@ module _ (d : ℕ) (s : List ℕ) where
   pub none_kept : 0 ≡ length (kept_of d s 0)
   unfolding kept_of
   none_kept = refl
-
-  pub all_decided : (n i : ℕ) (rules places : List ℕ) (kept : ℕ) → i ≤ n → n ≤ i → ((j : ℕ) → j < i → get_or rules j 0 ≡ rule_of d s j)
-      → ((j : ℕ) → j < i → get_or places j 0 ≡ length (kept_of d s j))
-      → kept ≡ length (kept_of d s i)
-      → Decided d s n rules places kept
-  all_decided n i rules places kept low high rule place count =
-      let same : i ≡ n = omega arith in
-      record { rule = λ j h. rule j (omega arith); place = λ j h. place j (omega arith); count = count ∙ ap (λ (k : ℕ). length (kept_of d s k)) same }
 
   pub count_next : (i kept next rule : ℕ) → kept ≡ length (kept_of d s i) → rule ≡ rule_of d s i → next ≡ cond (eqb rule 0) (kept + 1) kept → next ≡ length (kept_of d s (i + 1))
   unfolding kept_of

@@ -34,11 +34,9 @@ pub fn put_classes(d: usize, table: &[u8], order: &[u8], n: usize, classes: &mut
     ensures { Classes (record_hash table.now (row_size_of d)) n classes.new }
 {
     let mut start = 0;
-    let mut k = 0;
-    while k < n {
+    for k in 0..n {
         start = run_start(d, table, order, n, k, start);
         let row = u16_at(order, 2 * k);
         classes[row] = start as u16;
-        k += 1;
     }
 }

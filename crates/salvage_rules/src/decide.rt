@@ -20,13 +20,11 @@ fn deps_kept(d: usize, table: &[u8], i: usize, rules: &[u8]) -> bool
     ensures { result ≡ every (λ k. eqb (get_or rules.now k 0) 0) (used_of d table.now i) }
 {
     let count = count_of(d, table, i);
-    let mut j = 0;
-    while j < count {
+    for j in 0..count {
         let k = dep_of(d, table, i, j);
         if rules[k] != 0 {
             return false;
         }
-        j += 1;
     }
     true
 }
@@ -91,8 +89,7 @@ fn decide_rows(
     ensures { Decided d table.now n rules.new places.new result }
 {
     let mut kept = 0;
-    let mut i = 0;
-    while i < n {
+    for i in 0..n {
         let class = classes[i] as usize;
         let was = taken[class];
         let rule = rule_of(d, table, i, rules, was);
@@ -100,7 +97,6 @@ fn decide_rows(
         places[i] = kept as u16;
         taken[class] = taken_after(was, rule);
         kept = kept_after(kept, rule);
-        i += 1;
     }
     kept
 }

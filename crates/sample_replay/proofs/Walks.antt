@@ -3,52 +3,44 @@
 use Prim.Native.Nat.{ℕ, zero, suc, ◌+◌, ◌-◌, ◌≤◌, ◌<◌, ◌^◌}
 use mathlib.Core.Bool.{Bool, true, false, cond}
 use mathlib.Core.List.{List}
-use mathlib.Core.Path.{◌≡◌, refl, sym, ◌∙◌, ap}
+use mathlib.Core.Path.{◌≡◌, refl, ◌∙◌, ap}
 use native.Mathlib.Omega.{arith}
-use borrow.Author.Tests.{lt-ltb, le-ltb, ltb-true, ltb-false, eqb-true, eqb-false, eq-eqb}
-use lib.Dec.{ltb, eqb}
-use lib.ListN.{length, get_or, set, take, drop, replicate, length-set}
-use lib.Seq.{get_or-set_same, get_or-set_other}
+use borrow.Author.Tests.{lt-ltb, ltb-true, ltb-false, eq-eqb}
+use lib.Dec.{ltb}
+use lib.ListN.{length}
+use Rattle.std.specs.Prelude.{Option, Some, None}
 use Rattle.rules.proofs.Cases.{split}
 use Rattle.rules.specs.LittleEndian.{u16_at}
-use Rattle.sample_replay.specs.Record.{size_place, answer_place, input_place, verdict_of, record_of, record_at}
-use Rattle.sample_replay.specs.SampleWalk.{kinds, Replayed, stops, meets, after_record, walk_from, walk_of, one_if, records_in, agree_in, stop_of, none_counted, added, CountRoom, SampleCounted}
-use Rattle.sample_replay.specs.SampleWords.{words_at}
+use Rattle.sample_replay.specs.Kind.{is_kind}
+use Rattle.sample_replay.specs.Record.{size_place, input_place, record_of, record_at}
+use Rattle.sample_replay.specs.SampleWalk.{Replayed, stops, meets, after_record, walk_from, walk_of, one_if, records_in, agree_in, stop_of, tallied, TallyRoom, tally_of, added, SampleCounted}
+use Rattle.sample_replay.specs.declared.kind.Kind.{Kind}
+use Rattle.sample_replay.specs.declared.kind.Kind.TheVariants.{Number, FilterNumber, PrefixedString, HashList}
 use Rattle.sample_replay.specs.declared.record.Record.{Record}
-use Rattle.sample_replay.specs.declared.record.Record.TheVariants.{Read, Bad}
-use Rattle.sample_replay.specs.declared.record.Verdict.{Verdict}
-use Rattle.sample_replay.specs.declared.record.Verdict.TheVariants.{Same, Different, Unknown}
 use Rattle.sample_replay.specs.declared.walk.ReplayCounts.{ReplayCounts}
-use Rattle.sample_replay.proofs.Records.{of_none, header_cut, input_cut, judged}
+use Rattle.sample_replay.specs.declared.walk.Tally.{Tally}
+use Rattle.sample_replay.proofs.Records.{header_cut, input_cut, judged}
 
 -- ---- what a record that was read is like
 
-never : {kind next : ℕ} {same : Bool} {A : Type 0} → Bad ≡ Read kind same next → A
+never : {r : Record} {A : Type 0} → ◌≡◌ {A = Option Record} None (Some r) → A
 never q = absurd (let z : ◌≡◌ {A = ℕ} 0 1 = cc in omega arith)
 
-pub record Whole (s : List ℕ) (at kind next : ℕ) : Type 0 where
-  pub known : kind < kinds
+pub record Whole (s : List ℕ) (at next : ℕ) : Type 0 where
   pub onward : at < next
   pub inside : next ≤ length s
 
--- a verdict on a kind that isn't counted is `Unknown`
-known_kind : (kind : ℕ) (input stored : List ℕ) (v : Verdict) → v ≡ verdict_of kind input stored → (v ≡ Unknown → ⊥) → kind < kinds
-known_kind kind input stored v e n =
-    split (ltb kind kinds)
-    (λ t. ltb-true _ _ t)
-    (λ t.
-    let l : kinds ≤ kind = ltb-false _ _ t in
-    absurd (n (e ∙ sym (of_none kind input stored (λ q. omega arith) (λ q. omega arith) (λ q. omega arith) (λ q. omega arith)))))
+next_or : ℕ → Option Record → ℕ
+next_or n (Some r) = r.next
+next_or n None = n
 
-read_of : (k n : ℕ) (v : Verdict) (kind : ℕ) (same : Bool) (next : ℕ) → record_of k n v ≡ Read kind same next
-    → (k ≡ kind) × ((n ≡ next) × (v ≡ Unknown → ⊥))
-unfolding record_of
-read_of k n Same kind same next q = (cc, (cc, λ u. let z : ◌≡◌ {A = ℕ} 0 1 = cc in omega arith))
-read_of k n Different kind same next q = (cc, (cc, λ u. let z : ◌≡◌ {A = ℕ} 0 1 = cc in omega arith))
-read_of k n Unknown kind same next q = never q
+read_of : (k : Option Kind) (input stored : List ℕ) (n : ℕ) (r : Record) → record_of k input stored n ≡ Some r → n ≡ r.next
+unfolding record_of next_or
+read_of (Some k) input stored n r q = ap (next_or n) q
+read_of None input stored n r q = never q
 
-pub whole : (s : List ℕ) (at kind : ℕ) (same : Bool) (next : ℕ) → at < length s → record_at s at ≡ Read kind same next → Whole s at kind next
-whole s at kind same next here q =
+pub whole : (s : List ℕ) (at : ℕ) (r : Record) → record_at s at ≡ Some r → Whole s at r.next
+whole s at r q =
     split (ltb (length s - at) input_place)
     (λ t. never (header_cut s at (ltb-true _ _ t) ∙ q))
     (λ t.
@@ -58,30 +50,20 @@ whole s at kind same next here q =
     (λ u. never (input_cut s at h size refl (ltb-true _ _ u) ∙ q))
     (λ u.
     let g : size ≤ length s - (at + input_place) = ltb-false _ _ u in
-    let input : List ℕ = take (at + input_place + size - (at + input_place)) (drop (at + input_place) s) in
-    let v : Verdict = verdict_of (get_or s at 0) input (words_at s (at + answer_place)) in
-    let r : record_of (get_or s at 0) (at + input_place + size) v ≡ Read kind same next = judged s at h size refl g (words_at s (at + answer_place)) refl v v refl refl ∙ q in
-    let f : (get_or s at 0 ≡ kind) × ((at + input_place + size ≡ next) × (v ≡ Unknown → ⊥)) = read_of _ _ _ _ _ _ r in
-    let k : get_or s at 0 < kinds = known_kind _ _ _ v refl f.1.1 in
-    record { known = omega arith; onward = omega arith; inside = omega arith }))
+    let n : at + input_place + size ≡ r.next = read_of _ _ _ _ r (judged s at h size refl g ∙ q) in
+    record { onward = omega arith; inside = omega arith }))
 
 -- ---- how the walk goes on
 
 module _ (s : List ℕ) (at : ℕ) where
-  walk_ends : (k : ℕ) → length s ≤ at → walk_from k s at ≡ stops at
-  unfolding walk_from
-  walk_ends zero h = refl
-  walk_ends (suc k) h = rw (le-ltb _ _ h)
-
-  walk_stops : (k : ℕ) → record_at s at ≡ Bad → walk_from k s at ≡ stops at
+  walk_stops : (k : ℕ) → record_at s at ≡ None → walk_from k s at ≡ stops at
   unfolding walk_from after_record
   walk_stops zero e = refl
   walk_stops (suc k) e = split (ltb at (length s)) (λ t. rw (t, e)) (λ t. rw t)
 
-  walk_goes_on : (k kind : ℕ) (same : Bool) (next : ℕ) → at < length s → record_at s at ≡ Read kind same next
-      → walk_from (suc k) s at ≡ meets kind same (walk_from k s next)
+  walk_goes_on : (k : ℕ) (r : Record) → at < length s → record_at s at ≡ Some r → walk_from (suc k) s at ≡ meets r.kind r.same (walk_from k s r.next)
   unfolding walk_from after_record
-  walk_goes_on k kind same next h e = rw (lt-ltb _ _ h, e)
+  walk_goes_on k r h e = rw (lt-ltb _ _ h, e)
 
 -- ---- no more records than steps
 
@@ -97,21 +79,21 @@ one_at_most : (b : Bool) → one_if b ≤ 1
 one_at_most true = omega arith
 one_at_most false = omega arith
 
-records_steps : (k : ℕ) (w : Replayed) → records_in k w ≤ steps w
+records_steps : (k : Kind) (w : Replayed) → records_in k w ≤ steps w
 unfolding records_in steps
 records_steps k (stops at) = omega arith
-records_steps k (meets kind same w) = omega (arith, at_most_one (eqb kind k) 1 (omega arith), records_steps k w)
+records_steps k (meets kind same w) = omega (arith, at_most_one (is_kind kind k) 1 (omega arith), records_steps k w)
 
-agree_steps : (k : ℕ) (w : Replayed) → agree_in k w ≤ steps w
+agree_steps : (k : Kind) (w : Replayed) → agree_in k w ≤ steps w
 unfolding agree_in steps
 agree_steps k (stops at) = omega arith
-agree_steps k (meets kind same w) = omega (arith, at_most_one (eqb kind k) (one_if same) (one_at_most same), agree_steps k w)
+agree_steps k (meets kind same w) = omega (arith, at_most_one (is_kind kind k) (one_if same) (one_at_most same), agree_steps k w)
 
-after_steps : (r : Record) (n at : ℕ) (k : ℕ → Bool → ℕ → Replayed) → ((a : ℕ) (b : Bool) (c : ℕ) → steps (k a b c) ≤ suc n)
+after_steps : (r : Option Record) (n at : ℕ) (k : Kind → Bool → ℕ → Replayed) → ((a : Kind) (b : Bool) (c : ℕ) → steps (k a b c) ≤ suc n)
     → steps (after_record r (stops at) k) ≤ suc n
 unfolding after_record steps
-after_steps (Read a b c) n at k h = h a b c
-after_steps Bad n at k h = omega arith
+after_steps (Some r) n at k h = h r.kind r.same r.next
+after_steps None n at k h = omega arith
 
 walk_steps : (n : ℕ) (s : List ℕ) (at : ℕ) → steps (walk_from n s at) ≤ n
 unfolding walk_from steps
@@ -126,110 +108,118 @@ walk_steps (suc n) s at =
 
 -- ---- one record more is counted
 
-counted : (l : List ℕ) (kind x j : ℕ) → kind < length l → get_or (set l kind (get_or l kind 0 + x)) j 0 ≡ get_or l j 0 + cond (eqb kind j) x 0
-counted l kind x j h =
-    split (eqb kind j)
-    (λ t.
-    let e : j ≡ kind = sym (eqb-true _ _ t) in
-    rw (t, e) (get_or-set_same l kind (get_or l kind 0 + x) 0 h))
-    (λ t. rw t (get_or-set_other l kind j _ 0 (λ e. eqb-false _ _ t (sym e)) ∙ omega arith))
+more_records : (b : Bool) (t : Tally) (same : Bool) → (cond b (tallied t same) t).records ≡ t.records + cond b 1 0
+more_records true t same = refl
+more_records false t same = omega arith
+
+more_agree : (b : Bool) (t : Tally) (same : Bool) → (cond b (tallied t same) t).agree ≡ t.agree + cond b (one_if same) 0
+more_agree true t same = refl
+more_agree false t same = omega arith
+
+module _ (c : ReplayCounts) (kind : Kind) (same : Bool) (next : ℕ) where
+  counted : (k : Kind) → (tally_of (added c kind same next) k).records ≡ (tally_of c k).records + cond (is_kind kind k) 1 0
+  counted Number = more_records (is_kind kind Number) c.numbers same
+  counted FilterNumber = more_records (is_kind kind FilterNumber) c.filter_numbers same
+  counted PrefixedString = more_records (is_kind kind PrefixedString) c.prefixed_strings same
+  counted HashList = more_records (is_kind kind HashList) c.hash_lists same
+
+  counted_agree : (k : Kind) → (tally_of (added c kind same next) k).agree ≡ (tally_of c k).agree + cond (is_kind kind k) (one_if same) 0
+  counted_agree Number = more_agree (is_kind kind Number) c.numbers same
+  counted_agree FilterNumber = more_agree (is_kind kind FilterNumber) c.filter_numbers same
+  counted_agree PrefixedString = more_agree (is_kind kind PrefixedString) c.prefixed_strings same
+  counted_agree HashList = more_agree (is_kind kind HashList) c.hash_lists same
 
 -- ---- the loop's invariant
 
-pub record Replaying (s : List ℕ) (at : ℕ) (c : ReplayCounts) : Type 0 where
+pub record Replaying (s : List ℕ) (c : ReplayCounts) : Type 0 where
   pub left : ℕ
-  pub enough : length s ≤ at + left
-  pub upto : at ≤ length s
-  pub sized : length c.records ≡ kinds
-  pub sized_agree : length c.agree ≡ kinds
-  pub here : c.end ≡ at
-  pub records : (k : ℕ) → get_or c.records k 0 + records_in k (walk_from left s at) ≡ records_in k (walk_of s)
-  pub agree : (k : ℕ) → get_or c.agree k 0 + agree_in k (walk_from left s at) ≡ agree_in k (walk_of s)
-  pub stop : stop_of (walk_from left s at) ≡ stop_of (walk_of s)
+  pub enough : length s ≤ c.end + left
+  pub upto : c.end ≤ length s
+  pub records : (k : Kind) → (tally_of c k).records + records_in k (walk_from left s c.end) ≡ records_in k (walk_of s)
+  pub agree : (k : Kind) → (tally_of c k).agree + agree_in k (walk_from left s c.end) ≡ agree_in k (walk_of s)
+  pub stop : stop_of (walk_from left s c.end) ≡ stop_of (walk_of s)
 
-zeros : (m k : ℕ) → get_or {A = ℕ} (replicate m 0) k 0 ≡ 0
-zeros zero k = refl
-zeros (suc m) zero = refl
-zeros (suc m) (suc k) = zeros m k
+abbrev NoneIn : Tally → Type 0
+NoneIn t = (t.records ≡ 0) × (t.agree ≡ 0)
 
-pub starts : (s : List ℕ) → Replaying s 0 none_counted
+-- what `default` gives
+abbrev NoneYet : ReplayCounts → Type 0
+NoneYet c = NoneIn c.numbers × (NoneIn c.filter_numbers × (NoneIn c.prefixed_strings × (NoneIn c.hash_lists × (c.end ≡ 0))))
+
+none_in : (c : ReplayCounts) → NoneYet c → (k : Kind) → NoneIn (tally_of c k)
+none_in c z Number = z.0
+none_in c z FilterNumber = z.1.0
+none_in c z PrefixedString = z.1.1.0
+none_in c z HashList = z.1.1.1.0
+
+pub starts : (s : List ℕ) (c : ReplayCounts) → NoneYet c → Replaying s c
 unfolding walk_of
-starts s =
+starts s c z =
+    let e : c.end ≡ 0 = z.1.1.1.1 in
     record {
       left = length s;
       enough = omega arith;
       upto = omega arith;
-      sized = refl;
-      sized_agree = refl;
-      here = refl;
-      records = λ k. omega (arith, zeros kinds k);
-      agree = λ k. omega (arith, zeros kinds k);
-      stop = refl;
+      records = λ k. rw e (omega (arith, (none_in c z k).0));
+      agree = λ k. rw e (omega (arith, (none_in c z k).1));
+      stop = rw e;
     }
 
-module _ (s : List ℕ) (at : ℕ) (c : ReplayCounts) (g : Replaying s at c) where
+module _ (s : List ℕ) (c : ReplayCounts) (g : Replaying s c) where
   -- where the walk stops, nothing is left to count
-  stopped : walk_from g.left s at ≡ stops at → SampleCounted (walk_of s) c
+  pub ends : record_at s c.end ≡ None → SampleCounted (walk_of s) c
   unfolding records_in agree_in stop_of
-  stopped e =
+  ends n =
+      let e : walk_from g.left s c.end ≡ stops c.end = walk_stops s c.end g.left n in
       record {
-        records = λ k. let q : get_or c.records k 0 + records_in k (stops at) ≡ records_in k (walk_of s) = rw e at (g.records k) in omega arith;
-        agree = λ k. let q : get_or c.agree k 0 + agree_in k (stops at) ≡ agree_in k (walk_of s) = rw e at (g.agree k) in omega arith;
-        end = let q : stop_of (stops at) ≡ stop_of (walk_of s) = rw e at g.stop in g.here ∙ q;
+        records = λ k. let q : (tally_of c k).records + records_in k (stops c.end) ≡ records_in k (walk_of s) = rw e at (g.records k) in omega arith;
+        agree = λ k. let q : (tally_of c k).agree + agree_in k (stops c.end) ≡ agree_in k (walk_of s) = rw e at (g.agree k) in omega arith;
+        end = let q : stop_of (stops c.end) ≡ stop_of (walk_of s) = rw e at g.stop in q;
       }
 
-  pub ends : length s ≤ at → SampleCounted (walk_of s) c
-  ends h = stopped (walk_ends s at g.left h)
-
-  pub meets_bad : record_at s at ≡ Bad → SampleCounted (walk_of s) c
-  meets_bad e = stopped (walk_stops s at g.left e)
-
-  module _ (kind : ℕ) (same : Bool) (next : ℕ) (here : at < length s) (e : record_at s at ≡ Read kind same next) where
+  module _ (r : Record) (e : record_at s c.end ≡ Some r) where
     rest : ℕ
     rest = g.left - 1
 
-    onward : walk_from g.left s at ≡ meets kind same (walk_from rest s next)
+    onward : walk_from g.left s c.end ≡ meets r.kind r.same (walk_from rest s r.next)
     unfolding rest
     onward =
+        let w : Whole s c.end r.next = whole s c.end r e in
         let l : g.left ≡ suc (g.left - 1) = omega (arith, g.enough) in
-        ap (λ (n : ℕ). walk_from n s at) l ∙ walk_goes_on s at (g.left - 1) kind same next here e
+        ap (λ (n : ℕ). walk_from n s c.end) l ∙ walk_goes_on s c.end (g.left - 1) r (omega arith) e
 
-    records_more : (k : ℕ) → get_or c.records k 0 + (cond (eqb kind k) 1 0 + records_in k (walk_from rest s next)) ≡ records_in k (walk_of s)
+    records_more : (k : Kind) → (tally_of c k).records + (cond (is_kind r.kind k) 1 0 + records_in k (walk_from rest s r.next)) ≡ records_in k (walk_of s)
     unfolding records_in
     records_more k = rw onward at (g.records k)
 
-    agree_more : (k : ℕ) → get_or c.agree k 0 + (cond (eqb kind k) (one_if same) 0 + agree_in k (walk_from rest s next)) ≡ agree_in k (walk_of s)
+    agree_more : (k : Kind) → (tally_of c k).agree + (cond (is_kind r.kind k) (one_if r.same) 0 + agree_in k (walk_from rest s r.next)) ≡ agree_in k (walk_of s)
     unfolding agree_in
     agree_more k = rw onward at (g.agree k)
 
-    stop_more : stop_of (walk_from rest s next) ≡ stop_of (walk_of s)
+    stop_more : stop_of (walk_from rest s r.next) ≡ stop_of (walk_of s)
     unfolding stop_of
     stop_more = rw onward at g.stop
 
-    pub room : length s < 2 ^ 64 → CountRoom c kind same
+    pub room : length s < 2 ^ 64 → TallyRoom (tally_of c r.kind) r.same
     unfolding walk_of
     room f =
-        let t : eqb kind kind ≡ true = eq-eqb kind kind refl in
-        let r : get_or c.records kind 0 + (1 + records_in kind (walk_from rest s next)) ≡ records_in kind (walk_of s) = rw t at (records_more kind) in
-        let a : get_or c.agree kind 0 + (one_if same + agree_in kind (walk_from rest s next)) ≡ agree_in kind (walk_of s) = rw t at (agree_more kind) in
+        let t : is_kind r.kind r.kind ≡ true = eq-eqb _ _ refl in
+        let q : (tally_of c r.kind).records + (1 + records_in r.kind (walk_from rest s r.next)) ≡ records_in r.kind (walk_of s) = rw t at (records_more r.kind) in
+        let a : (tally_of c r.kind).agree + (one_if r.same + agree_in r.kind (walk_from rest s r.next)) ≡ agree_in r.kind (walk_of s) = rw t at (agree_more r.kind) in
         record {
-          known = (whole s at kind same next here e).known;
-          records = omega (arith, records_steps kind (walk_of s), walk_steps (length s) s 0);
-          agree = omega (arith, agree_steps kind (walk_of s), walk_steps (length s) s 0);
+          records = omega (arith, records_steps r.kind (walk_of s), walk_steps (length s) s 0);
+          agree = omega (arith, agree_steps r.kind (walk_of s), walk_steps (length s) s 0);
         }
 
-    pub goes_on : Replaying s next (added c kind same next)
+    pub goes_on : Replaying s (added c r.kind r.same r.next)
     unfolding rest
     goes_on =
-        let w : Whole s at kind next = whole s at kind same next here e in
+        let w : Whole s c.end r.next = whole s c.end r e in
         record {
           left = rest;
           enough = omega (arith, g.enough);
           upto = w.inside;
-          sized = rw length-set g.sized;
-          sized_agree = rw length-set g.sized_agree;
-          here = refl;
-          records = λ k. omega (arith, counted c.records kind 1 k (omega (arith, w.known, g.sized)), records_more k);
-          agree = λ k. omega (arith, counted c.agree kind (one_if same) k (omega (arith, w.known, g.sized_agree)), agree_more k);
+          records = λ k. omega (arith, counted c r.kind r.same r.next k, records_more k);
+          agree = λ k. omega (arith, counted_agree c r.kind r.same r.next k, agree_more k);
           stop = stop_more;
         }

@@ -1,3 +1,4 @@
+pub mod Kind
 pub mod Record
 pub mod SampleWalk
 pub mod SampleWords

@@ -1,14 +1,14 @@
 -- A record of a sample: kind, size, answer, input. What the definitions of wire answer to its input is held to the stored answer.
-use Rattle.std.specs.Prelude.{ℕ, ◌+◌, ◌-◌, Bool, true, false, cond, not, ◌&&◌, ◌||◌, List, ltb, eqb, length, get_or, take, drop}
+use Rattle.std.specs.Prelude.{ℕ, ◌+◌, ◌-◌, Bool, cond, not, ◌&&◌, ◌||◌, List, Option, Some, None, ltb, eqb, length, get_or, take, drop}
 use Rattle.leb128.specs.Number.{number_at, most64, most_filter}
 use Rattle.rules.specs.LittleEndian.{u16_at}
 use Rattle.wire.specs.Item.{prefixed_at, hash_list_at}
 use Rattle.wire_calls.specs.WireWords.{number_words, prefixed_words, hash_list_words}
+use Rattle.sample_replay.specs.Kind.{kind_of}
 use Rattle.sample_replay.specs.SampleWords.{words_at}
+use Rattle.sample_replay.specs.declared.kind.Kind.{Kind}
+use Rattle.sample_replay.specs.declared.kind.Kind.TheVariants.{Number, FilterNumber, PrefixedString, HashList}
 use Rattle.sample_replay.specs.declared.record.Record.{Record}
-use Rattle.sample_replay.specs.declared.record.Record.TheVariants.{Read, Bad}
-use Rattle.sample_replay.specs.declared.record.Verdict.{Verdict}
-use Rattle.sample_replay.specs.declared.record.Verdict.TheVariants.{Same, Different, Unknown}
 
 -- Places within a record, whose first byte is its kind: the size of the input.
 abbrev pub size_place : ℕ
@@ -30,34 +30,29 @@ agreeing stored found =
     || (eqb (get_or stored 1 0) (get_or found 1 0)
     && (eqb (get_or stored 2 0) (get_or found 2 0) && eqb (get_or stored 3 0) (get_or found 3 0))))
 
--- The verdict of two answers.
-unfoldable pub compare : List ℕ → List ℕ → Verdict
-compare stored found = cond (agreeing stored found) Same Different
+-- The answer of each kind, as words.
+abbrev pub answer_words : Kind → List ℕ → List ℕ
+answer_words Number input = number_words (number_at most64 input 0 (length input))
+answer_words FilterNumber input = number_words (number_at most_filter input 0 (length input))
+answer_words PrefixedString input = prefixed_words (prefixed_at input 0 (length input))
+answer_words HashList input = hash_list_words (hash_list_at input 0 (length input))
 
--- The answer of each kind.
-unfoldable pub verdict_of : ℕ → List ℕ → List ℕ → Verdict
-verdict_of kind input stored =
-    cond (eqb kind 1)
-    (compare stored (number_words (number_at most64 input 0 (length input))))
-    (cond (eqb kind 2)
-    (compare stored (number_words (number_at most_filter input 0 (length input))))
-    (cond (eqb kind 3)
-    (compare stored (prefixed_words (prefixed_at input 0 (length input))))
-    (cond (eqb kind 4) (compare stored (hash_list_words (hash_list_at input 0 (length input)))) Unknown)))
+-- Whether the answer is the stored one.
+abbrev pub verdict_of : Kind → List ℕ → List ℕ → Bool
+verdict_of kind input stored = agreeing stored (answer_words kind input)
 
 -- A record of an unknown kind is bad.
-unfoldable pub record_of : ℕ → ℕ → Verdict → Record
-record_of kind next Same = Read kind true next
-record_of kind next Different = Read kind false next
-record_of kind next Unknown = Bad
+unfoldable pub record_of : Option Kind → List ℕ → List ℕ → ℕ → Option Record
+record_of (Some k) input stored end = Some (record { kind = k; same = verdict_of k input stored; next = end })
+record_of None input stored end = None
 
 -- The record at a place, bad where the bytes end inside it.
-unfoldable pub record_at : List ℕ → ℕ → Record
+unfoldable pub record_at : List ℕ → ℕ → Option Record
 record_at s at =
     let size = u16_at s (at + size_place) in
     let start = at + input_place in
     cond (ltb (length s - at) input_place)
-    Bad
+    None
     (cond (ltb (length s - start) size)
-    Bad
-    (record_of (get_or s at 0) (start + size) (verdict_of (get_or s at 0) (take size (drop start s)) (words_at s (at + answer_place)))))
+    None
+    (record_of (kind_of (get_or s at 0)) (take size (drop start s)) (words_at s (at + answer_place)) (start + size)))

@@ -8,7 +8,7 @@ fn u64_at(bytes: &[u8], at: usize) -> u64
     requires { at + 8 ≤ length bytes.now }
     ensures { result ≡ u64_at bytes.now at }
 {
-    u32_at(bytes, at) as u64 + 4_294_967_296 * (u32_at(bytes, at + 4) as u64)
+    u64::from(u32_at(bytes, at)) + 4_294_967_296 * u64::from(u32_at(bytes, at + 4))
 }
 
 // The four words of an answer.

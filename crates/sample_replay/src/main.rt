@@ -10,31 +10,27 @@
 // Each input is read from its place 0 up to its end, and its answer's words are compared with the stored ones.
 #![tactic(auto)]
 
+mod kind;
 mod little_endian;
 mod record;
 mod walk;
 
 ghost use Rattle.std.specs.Prelude.{◌≡◌, ◌≤◌, IfOk, length};
 
+use kind::Kind;
 use std::io;
 use std::io::Read;
-use walk::ReplayCounts;
+use walk::{ReplayCounts, Tally};
 
 // The most bytes of a sample: what follows them is not read.
 const MOST: usize = 131_072;
-
-// Room for the longest sample. The `ensures` gives the length, which lending the array as a slice needs.
-fn buffer() -> [u8; MOST]
-    ensures { 131072 ≡ length result }
-{
-    [0; MOST]
-}
 
 // Reads until the buffer is full or the input ends, and answers how many bytes were put at its start.
 fn read_full(input: &mut impl Read, bytes: &mut [u8]) -> io::Result<usize>
     ensures { IfOk result (λ n. n ≤ length bytes.new) }
 {
     let mut done = 0;
+    // Each read says how many bytes it put, so no range gives the places.
     while done < bytes.len() {
         let n = input.read(&mut bytes[done..])?;
         if n == 0 {
@@ -45,27 +41,20 @@ fn read_full(input: &mut impl Read, bytes: &mut [u8]) -> io::Result<usize>
     Ok(done)
 }
 
-fn report_kind(rt: &impl Print, name: &str, records: u64, agree: u64) -> io::Result<()> {
-    println!(rt; "{name} {records} agree {agree}")
-}
-
-// A line for each kind (a new one adds its own here, beside its arm in `record::replayed`), and one more where the walk stopped before the end of the `n` bytes.
+// A line for each kind, and one more where the walk stopped before the end of the `n` bytes.
 fn report(rt: &impl Print, counts: ReplayCounts, n: usize) -> io::Result<()> {
-    let records = counts.records;
-    let agree = counts.agree;
-    let end = counts.end;
-    report_kind(rt, "numbers", records[1], agree[1])?;
-    report_kind(rt, "filter numbers", records[2], agree[2])?;
-    report_kind(rt, "prefixed strings", records[3], agree[3])?;
-    report_kind(rt, "hash lists", records[4], agree[4])?;
-    if end < n {
-        println!(rt; "bad record at {end}")?;
+    for kind in Kind::ALL {
+        let Tally { records, agree } = counts.tally(kind);
+        println!(rt; "{kind} {records} agree {agree}")?;
+    }
+    if counts.end < n {
+        println!(rt; "bad record at {}", counts.end)?;
     }
     Ok(())
 }
 
 fn main(rt: HostRuntime) -> io::Result<()> {
-    let mut bytes = buffer();
+    let mut bytes = [0; MOST];
     let n = read_full(&mut rt.reader(), &mut bytes)?;
     let counts = walk::walk(&bytes[..n]);
     report(&rt, counts, n)

@@ -1,7 +1,8 @@
 // One record: what the proved library answers to its input, held to the stored answer.
 ghost use Rattle.std.specs.Prelude.{◌≡◌, ◌≤◌, length};
-ghost use Rattle.sample_replay.specs.Record.{compare, verdict_of, record_at};
+ghost use Rattle.sample_replay.specs.Record.{agreeing, answer_words, record_at};
 
+use crate::kind::Kind;
 use crate::little_endian::words_at;
 use leb128::leb128::{leb128_u32, leb128_u64};
 use rules::little_endian::u16_at;
@@ -15,95 +16,51 @@ const ANSWER_PLACE: usize = 3;
 // The place of the input.
 const INPUT_PLACE: usize = 35;
 
-// Whether the answer found is the stored one, where the kind is one that is read here.
-#[derive(Clone, Copy)]
-pub enum Verdict {
-    Same,
-    Different,
-    Unknown,
+// A record that was read: its kind, whether the library's answer is the stored one, and the place after the record.
+#[derive(Clone, Copy, Debug, PartialEq, Eq)]
+pub struct Record {
+    pub kind: Kind,
+    pub same: bool,
+    pub next: usize,
 }
 
-// What stands at a place: a record and the place after it, or none, because it is cut or its kind unknown.
-#[derive(Clone, Copy)]
-pub enum Record {
-    Read {
-        kind: usize,
-        same: bool,
-        next: usize,
-    },
-    Bad,
-}
-
-// Two answers, word by word. Of a refusal only the number is compared: the original tells no places.
-fn compared(stored: [u64; 4], found: [u64; 4]) -> Verdict
-    ensures { result ≡ compare stored found }
+// Whether two answers agree. Of a refusal only the number is compared: the original tells no places.
+fn agreeing(stored: [u64; 4], found: [u64; 4]) -> bool
+    ensures { result ≡ agreeing stored found }
 {
-    if stored[0] != found[0] {
-        return Verdict::Different;
+    if stored[0] == 0 {
+        stored == found
+    } else {
+        stored[0] == found[0]
     }
-    if stored[0] != 0 {
-        return Verdict::Same;
-    }
-    if stored[1] != found[1] {
-        return Verdict::Different;
-    }
-    if stored[2] != found[2] {
-        return Verdict::Different;
-    }
-    if stored[3] != found[3] {
-        return Verdict::Different;
-    }
-    Verdict::Same
 }
 
-// What the library answers to an input, held to the stored answer. Each kind has its call here and nowhere else.
-fn replayed(kind: usize, input: &[u8], stored: [u64; 4]) -> Verdict
-    ensures { result ≡ verdict_of kind input.now stored }
+// What the library answers to an input, as words. Each kind has its call here and nowhere else.
+fn answer_words(kind: Kind, input: &[u8]) -> [u64; 4]
+    ensures { result ≡ answer_words kind input.now }
 {
     let end = input.len();
     match kind {
-        1 => compared(stored, number_words(leb128_u64(input, 0, end))),
-        2 => compared(stored, number_words(leb128_u32(input, 0, end))),
-        3 => compared(stored, prefixed_words(length_prefixed_bytes(input, 0, end))),
-        4 => compared(
-            stored,
-            hash_list_words(length_prefixed_hashes(input, 0, end)),
-        ),
-        _ => Verdict::Unknown,
+        Kind::Number => number_words(leb128_u64(input, 0, end)),
+        Kind::FilterNumber => number_words(leb128_u32(input, 0, end)),
+        Kind::PrefixedString => prefixed_words(length_prefixed_bytes(input, 0, end)),
+        Kind::HashList => hash_list_words(length_prefixed_hashes(input, 0, end)),
     }
 }
 
-// The record at a place.
-pub fn record_at(bytes: &[u8], at: usize) -> Record
+// The record at a place; none where the bytes end inside it, or its kind is unknown.
+pub fn record_at(bytes: &[u8], at: usize) -> Option<Record>
     requires { at ≤ length bytes.now }
     ensures { result ≡ record_at bytes.now at }
 {
     if bytes.len() - at < INPUT_PLACE {
-        return Record::Bad;
+        return None;
     }
+    let kind = Kind::try_from(bytes[at]).ok()?;
     let start = at + INPUT_PLACE;
-    let size = u16_at(bytes, at + SIZE_PLACE);
-    if bytes.len() - start < size {
-        return Record::Bad;
-    }
-    let next = start + size;
-    let kind = bytes[at] as usize;
-    let verdict = replayed(
-        kind,
-        &bytes[start..next],
-        words_at(bytes, at + ANSWER_PLACE),
-    );
-    match verdict {
-        Verdict::Same => Record::Read {
-            kind,
-            same: true,
-            next,
-        },
-        Verdict::Different => Record::Read {
-            kind,
-            same: false,
-            next,
-        },
-        Verdict::Unknown => Record::Bad,
-    }
+    let next = start + u16_at(bytes, at + SIZE_PLACE);
+    let input = bytes.get(start..next)?;
+    let stored = words_at(bytes, at + ANSWER_PLACE);
+    let same = agreeing(stored, answer_words(kind, input));
+    Some(Record { kind, same, next })
 }

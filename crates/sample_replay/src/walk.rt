@@ -1,46 +1,63 @@
 // Every record of a sample, counted by kind.
 ghost use Rattle.std.specs.Prelude.{◌≡◌};
-ghost use Rattle.sample_replay.specs.SampleWalk.{one_if, none_counted, added, CountRoom, walk_of, SampleCounted};
+ghost use Rattle.sample_replay.specs.SampleWalk.{tallied, TallyRoom, tally_of, added, walk_of, SampleCounted};
 
+use crate::kind::Kind;
 use crate::record::{Record, record_at};
 
-// Kinds are below this; 0 is none.
-const KINDS: usize = 5;
-
-fn one_if(b: bool) -> u64
-    ensures { result ≡ one_if b }
-{
-    if b { 1 } else { 0 }
+// How many records of a kind there are, and how many of them agree.
+#[derive(Clone, Copy, Debug, Default, PartialEq, Eq)]
+pub struct Tally {
+    pub records: u64,
+    pub agree: u64,
 }
 
-// How many records of each kind there are, and how many of them agree, up to the place `end`: the sample's end, or the first bad record.
-#[derive(Clone, Copy)]
+impl Tally {
+    // One record more.
+    fn add(&mut self, same: bool)
+        requires { TallyRoom self.old same }
+        ensures { self.new ≡ tallied self.old same }
+    {
+        self.records += 1;
+        self.agree += u64::from(same);
+    }
+}
+
+// The tally of each kind, up to the place `end`: the sample's end, or the first bad record.
+#[derive(Clone, Copy, Debug, Default, PartialEq, Eq)]
 pub struct ReplayCounts {
-    pub records: [u64; KINDS],
-    pub agree: [u64; KINDS],
+    pub numbers: Tally,
+    pub filter_numbers: Tally,
+    pub prefixed_strings: Tally,
+    pub hash_lists: Tally,
     pub end: usize,
 }
 
 impl ReplayCounts {
-    fn new() -> Self
-        ensures { result ≡ none_counted }
+    // The tally of a kind.
+    pub fn tally(self, kind: Kind) -> Tally
+        ensures { result ≡ tally_of self kind }
     {
-        ReplayCounts {
-            records: [0; KINDS],
-            agree: [0; KINDS],
-            end: 0,
+        match kind {
+            Kind::Number => self.numbers,
+            Kind::FilterNumber => self.filter_numbers,
+            Kind::PrefixedString => self.prefixed_strings,
+            Kind::HashList => self.hash_lists,
         }
     }
 
     // One record more, which ends at `next`.
-    fn add(mut self, kind: usize, same: bool, next: usize) -> Self
-        requires { CountRoom self kind same }
-        ensures { result ≡ added self kind same next }
+    fn add(&mut self, kind: Kind, same: bool, next: usize)
+        requires { TallyRoom (tally_of self.old kind) same }
+        ensures { self.new ≡ added self.old kind same next }
     {
-        self.records[kind] += 1;
-        self.agree[kind] += one_if(same);
         self.end = next;
-        self
+        match kind {
+            Kind::Number => self.numbers.add(same),
+            Kind::FilterNumber => self.filter_numbers.add(same),
+            Kind::PrefixedString => self.prefixed_strings.add(same),
+            Kind::HashList => self.hash_lists.add(same),
+        }
     }
 }
 
@@ -48,14 +65,10 @@ impl ReplayCounts {
 pub fn walk(bytes: &[u8]) -> ReplayCounts
     ensures { SampleCounted (walk_of bytes.now) result }
 {
-    let mut counts = ReplayCounts::new();
-    let mut at = 0;
-    while at < bytes.len() {
-        let Record::Read { kind, same, next } = record_at(bytes, at) else {
-            return counts;
-        };
-        counts = counts.add(kind, same, next);
-        at = next;
+    let mut counts = ReplayCounts::default();
+    // A record says where the next one starts, so no range gives the places.
+    while let Some(Record { kind, same, next }) = record_at(bytes, counts.end) {
+        counts.add(kind, same, next);
     }
     counts
 }

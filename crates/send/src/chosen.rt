@@ -79,11 +79,9 @@ fn mark_needs(
         (λ k. held_unmarked (rows_at table.now 0 n) members.now past.now
         (hash_at need.now (place + sizes.hash * k))) }
 {
-    let mut k = 0;
-    while k < count {
+    for k in 0..count {
         let here = held_unmarked(table, index, n, need, place + HASH_SIZE * k, members, past);
         needs[k] = here;
-        k += 1;
     }
 }
 
@@ -123,15 +121,11 @@ fn put_needs(need: &[u8], place: usize, count: usize, needs: &[bool], out: &mut 
         × (result ≡ sizes.hash * marked count needs.now) }
 {
     let mut at = 0;
-    let mut k = 0;
-    while k < count {
-        let i = k;
-        k += 1;
-        if !needs[i] {
-            continue;
+    for k in 0..count {
+        if needs[k] {
+            put_hash(out, at, need, place + HASH_SIZE * k);
+            at += HASH_SIZE;
         }
-        put_hash(out, at, need, place + HASH_SIZE * i);
-        at += HASH_SIZE;
     }
     at
 }

@@ -10,11 +10,9 @@ ghost use Rattle.send.specs.ToSend.{to_send, send_needs, to_send_output};
 
 use crate::chosen::{choose, put_chosen};
 use bloom::have::{passed_few, passed_good};
-use rules::output::Write;
-use rules::passed::{Passed, passed_hashes};
+use rules::passed::passed_hashes;
 use rules::refusal::Refusal;
 use rules::sizes::{HASH_SIZE, HASHES, ROWS};
-use table::check::Checked;
 use table_check::check::check_indexed;
 
 // The hashes to send for a table, haves and a need list that have been checked. No hash was sent before. Its arrays aren't to stand on the stack while the
@@ -30,7 +28,7 @@ pub fn put_to_send(
     place: usize,
     count: usize,
     out: &mut [u8],
-) -> Write
+) -> Result<usize, Refusal>
     requires { Choosable table.now index.now n bytes.now haves.now need.now place count }
     ensures { Written (Output.bytes (hashes_bytes (to_send (rows_at table.now 0 n) (haves_of bytes.now haves.now)
         (hashes_at need.now place count)))) out.old out.new result }
@@ -43,10 +41,10 @@ pub fn put_to_send(
     );
     let size = HASH_SIZE * total;
     if out.len() < size {
-        return Write::Refused(Refusal::NoRoom(size));
+        return Err(Refusal::NoRoom(size));
     }
     put_chosen(table, n, &marks, need, place, count, &needs, out);
-    Write::Wrote(size)
+    Ok(size)
 }
 
 // Writes the hashes to send, or refuses, for callers that have checked the table and the haves' numbers, but not the need list and the haves' sizes.
@@ -58,20 +56,16 @@ fn send_needs(
     haves: &[u64],
     need: &[u8],
     out: &mut [u8],
-) -> Write
+) -> Result<usize, Refusal>
     requires { Indexed table.now index.now n × (passed_good bytes.now haves.now ≡ true) }
     ensures { Written (send_needs (rows_at table.now 0 n) bytes.now haves.now need.now)
         out.old out.new result }
 {
-    match passed_hashes(need) {
-        Passed::Refused(r) => Write::Refused(r),
-        Passed::Hashes(count) => {
-            if !passed_few(haves) {
-                return Write::Refused(Refusal::PastSize(0));
-            }
-            put_to_send(table, index, n, bytes, haves, need, 0, count, out)
-        }
+    let count = passed_hashes(need)?;
+    if !passed_few(haves) {
+        return Err(Refusal::PastSize(0));
     }
+    put_to_send(table, index, n, bytes, haves, need, 0, count, out)
 }
 
 // The hashes to send for haves that are records over the bytes, and a need list that is lent as the bytes of its hashes.
@@ -82,15 +76,13 @@ pub fn get_hashes_to_send(
     haves: &[u64],
     need: &[u8],
     out: &mut [u8],
-) -> Write
+) -> Result<usize, Refusal>
     ensures { Written (to_send_output table.now index.now bytes.now haves.now need.now)
         out.old out.new result }
 {
     if !passed_good(bytes, haves) {
-        return Write::Refused(Refusal::BadNumbers);
+        return Err(Refusal::BadNumbers);
     }
-    match check_indexed(table, index) {
-        Checked::Refused(r) => Write::Refused(r),
-        Checked::Good(n) => send_needs(table, index, n, bytes, haves, need, out),
-    }
+    let n = check_indexed(table, index)?;
+    send_needs(table, index, n, bytes, haves, need, out)
 }

@@ -22,12 +22,10 @@ fn mark_syncs(table: &[u8], index: &[u8], n: usize, bytes: &[u8], haves: &[u64],
         (λ i. member (hash_of (rows_at table.now 0 n) i) (last_syncs (haves_of bytes.now haves.now))) }
 {
     let total = haves.len() / HAVE_WORDS;
-    let mut k = 0;
-    while k < total {
+    for k in 0..total {
         let place = sync_place(haves, k);
         let count = sync_count(haves, k);
         mark_list(table, index, n, bytes, place, count, marks);
-        k += 1;
     }
 }
 
@@ -54,13 +52,11 @@ fn some_marked(table: &[u8], i: usize, marks: &[bool]) -> bool
     ensures { result ≡ some_of (λ k. get_or marks.now k false) (used_at table.now i) }
 {
     let count = dep_count(table, i);
-    let mut j = 0;
-    while j < count {
+    for j in 0..count {
         let k = dep(table, i, j);
         if marks[k] {
             return true;
         }
-        j += 1;
     }
     false
 }
@@ -100,10 +96,8 @@ pub fn mark_s(
 {
     let mut synced = [false; ROWS];
     mark_synced(table, index, n, bytes, haves, &mut synced);
-    let mut i = 0;
-    while i < n {
+    for i in 0..n {
         let here = is_member(table, i, bytes, haves, synced[i], members);
         members[i] = here;
-        i += 1;
     }
 }

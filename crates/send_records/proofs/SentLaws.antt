@@ -17,20 +17,17 @@ use Rattle.rules.specs.Hash.{hashes_at}
 use Rattle.rules.specs.Output.{Output, Written}
 use Rattle.rules.specs.Passed.{passed_hashes, after_passed}
 use Rattle.rules.specs.Sizes.{sizes}
-use Rattle.rules.specs.declared.output.Write.{Write}
-use Rattle.rules.specs.declared.passed.Passed.{Passed}
-use Rattle.rules.specs.declared.passed.Passed.TheVariants.{Hashes, Refused}
 use Rattle.send.specs.ToSend.{send_few, send_needs, send_rows, to_send_output}
 use Rattle.table.specs.TableBytes.{table_of}
 use Rattle.table.specs.TableCalls.{after_check}
 use Rattle.table.specs.Table.{Row}
-use Rattle.table.specs.declared.check.Checked.{Checked}
-use Rattle.table.specs.declared.check.Checked.TheVariants.{Good, Refused as Bad}
 use Rattle.send_records.specs.Internal.RecordsLaid.{laid_haves, nothing_laid, laid_many, laid_steps, used_words}
 use Rattle.send_records.specs.Summary.{summary_words}
 use Rattle.send_records.specs.declared.laid.Laid.{Laid}
 use Rattle.send_records.specs.declared.summary.HaveSummary.{HaveSummary}
 use Rattle.send_records.proofs.LaidLaws.{words_long, words_append, all_laid}
+use Rattle.std.specs.Prelude.{Result, Ok, Err}
+use Rattle.rules.specs.declared.refusal.Refusal.{Refusal}
 
 -- ---- the first haves decide 10
 
@@ -73,17 +70,17 @@ module _ (s v w need : List ℕ) (many : passed_few v ≡ false) (many' : passed
   unfolding send_needs after_passed
   same_needs t = go (passed_hashes need)
     where
-      go : (x : Passed) → after_passed x Output.refuse (λ k. send_few t s v (hashes_at need 0 k)) ≡ after_passed x Output.refuse (λ k. send_few t s w (hashes_at need 0 k))
-      go (Hashes k) = same_few t (hashes_at need 0 k)
-      go (Refused r) = refl
+      go : (x : Result ℕ Refusal) → after_passed x Output.refuse (λ k. send_few t s v (hashes_at need 0 k)) ≡ after_passed x Output.refuse (λ k. send_few t s w (hashes_at need 0 k))
+      go (Ok k) = same_few t (hashes_at need 0 k)
+      go (Err r) = refl
 
   same_rows : (table index : List ℕ) → send_rows table index s v need ≡ send_rows table index s w need
   unfolding send_rows after_check
   same_rows table index = go (index_checked table index)
     where
-      go : (x : Checked) → after_check x (λ n. send_needs (table_of table) s v need) ≡ after_check x (λ n. send_needs (table_of table) s w need)
-      go (Good n) = same_needs (table_of table)
-      go (Bad r) = refl
+      go : (x : Result ℕ Refusal) → after_check x (λ n. send_needs (table_of table) s v need) ≡ after_check x (λ n. send_needs (table_of table) s w need)
+      go (Ok n) = same_needs (table_of table)
+      go (Err r) = refl
 
   same_output : (table index : List ℕ) → passed_good s v ≡ passed_good s w → to_send_output table index s v need ≡ to_send_output table index s w need
   unfolding to_send_output
@@ -117,7 +114,7 @@ module _ (table index s need : List ℕ) (hs : List HaveSummary) where
       ap (λ (w : List ℕ). to_send_output table index s w need)
       (all_laid hs ∙ ap (λ (n : ℕ). summary_words (take n hs)) e ∙ ap summary_words (take_all (length hs) hs (omega arith))))
 
-pub laid_written : (table index s need : List ℕ) (hs : List HaveSummary) (l : Laid) (before after : List ℕ) (r : Write)
+pub laid_written : (table index s need : List ℕ) (hs : List HaveSummary) (l : Laid) (before after : List ℕ) (r : Result ℕ Refusal)
     → l ≡ laid_many laid_steps hs nothing_laid
     → Written (to_send_output table index s (used_words l) need) before after r
     → Written (to_send_output table index s (summary_words hs) need) before after r

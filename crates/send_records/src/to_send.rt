@@ -8,7 +8,7 @@ ghost use Rattle.send_records.specs.Summary.{summary_words};
 use crate::laid::{LAID_HAVES, Laid, lay};
 use crate::summary::HaveSummary;
 use bloom::have::HAVE_WORDS;
-use rules::output::Write;
+use rules::refusal::Refusal;
 use send::to_send::get_hashes_to_send;
 
 fn at_most(count: usize) -> usize
@@ -29,7 +29,7 @@ fn laid_to_send<'a>(
     laid: Laid,
     need: &'a [u8],
     out: &'a mut [u8],
-) -> Write
+) -> Result<usize, Refusal>
     ensures { Written (to_send_output table.now index.now bytes.now (used_words laid) need.now)
         out.old out.new result }
 {
@@ -46,7 +46,7 @@ pub fn summaries_to_send<'a>(
     haves: &'a [HaveSummary],
     need: &'a [u8],
     out: &'a mut [u8],
-) -> Write
+) -> Result<usize, Refusal>
     ensures { Written (to_send_output table.now index.now bytes.now (summary_words haves.now) need.now)
         out.old out.new result }
 {

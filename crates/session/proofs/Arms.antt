@@ -14,13 +14,12 @@ use Rattle.bloom_probe.proofs.InsideLaws.{probes_inside as rules-inside, built_i
 use Rattle.rules.proofs.Cases.{split}
 use Rattle.rules.specs.Sizes.{sizes}
 use Rattle.session.proofs.PlanLaws.{planned_held}
-use Rattle.pick.specs.declared.check.Picked.{Picked}
-use Rattle.pick.specs.declared.check.Picked.TheVariants.{Fine, Breaks}
 use Rattle.session.specs.Plan.{Body, Planned, heard, need_of, unknown_sync, body_of, empty, silence, sent_after, plan_of, planned, reset_of, is_fine, unless_broken, plan_body}
 use Rattle.session_state.specs.Session.{State}
-use Rattle.table.specs.Table.{Row, GoodTable, held}
+use Rattle.table.specs.Table.{Row, held}
 use Rattle.waiting.specs.Waiting.{Waiting}
 use Rattle.session.specs.Arms.{ProbesInside, asked_of, PlannedRows}
+use Rattle.std.specs.Prelude.{Result, Ok, Err}
 
 pub probes_inside : ProbesInside
 probes_inside =
@@ -37,13 +36,13 @@ probes_inside =
     }
 
 -- with a body of rows, or a pick that isn't accepted, a plan asks for rows
-module _ (bits probes : ℕ) (t : List Row) (w : List Waiting) (s : State) (b : Body) (c : Picked)
-    (are : c ≡ Fine → every (held t) b.hashes ≡ true) where
-  said_rows : (k : Picked) → (k ≡ Fine → every (held t) b.hashes ≡ true)
+module _ (bits probes : ℕ) (t : List Row) (w : List Waiting) (s : State) (b : Body) (c : Result Unit ℕ)
+    (are : c ≡ Ok tt → every (held t) b.hashes ≡ true) where
+  said_rows : (k : Result Unit ℕ) → (k ≡ Ok tt → every (held t) b.hashes ≡ true)
       → every (held t) (asked_of (unless_broken k (Planned.says (plan_of bits probes t w s b) (planned t s b)))) ≡ true
   unfolding plan_of every
-  said_rows Fine f = f refl
-  said_rows (Breaks place) f = refl
+  said_rows (Ok tt) f = f refl
+  said_rows (Err place) f = refl
 
   pub body_rows : every (held t) (asked_of (plan_body bits probes t w s b c)) ≡ true
   unfolding plan_body reset_of every
@@ -60,4 +59,4 @@ module _ (bits probes : ℕ) (t : List Row) (w : List Waiting) (s : State) (b : 
       split (ltb sizes.sent_hashes (length (sent_after s b))) (λ v. rw (x, y, z, v) refl) (λ v. rw (x, y, z, v) (said_rows c are)))))
 
 pub planned_rows : PlannedRows
-planned_rows bits probes t w s good = body_rows bits probes t w s (body_of t s) Fine (λ e. planned_held t good s)
+planned_rows bits probes t w s good = body_rows bits probes t w s (body_of t s) (Ok tt) (λ e. planned_held t good s)

@@ -2,7 +2,7 @@
 use Prim.Native.Nat.{ℕ, zero, suc, ◌+◌, ◌≤◌, ◌<◌}
 use mathlib.Core.Bool.{Bool, true, false, not, ◌&&◌}
 use mathlib.Core.List.{List, [], ◌∷◌}
-use mathlib.Core.Option.{Option, none, some}
+use mathlib.Core.Option.{Option as Maybe, none, some}
 use mathlib.Core.Path.{◌≡◌, refl, sym, ap, ◌∙◌}
 use native.Mathlib.Nat.{le_trans}
 use native.Mathlib.Omega.{arith}
@@ -20,7 +20,6 @@ use Rattle.table_graph.proofs.HeadLaws.{heads_few, heads_hashes}
 use Rattle.table_graph.specs.Graph.{heads, beyond}
 use Rattle.hash_lists.specs.Lists.{same}
 use Rattle.message.specs.Sound.{Each, SoundHashes, SoundHave, FilterReadsBack, HaveReadsBack}
-use Rattle.message.specs.declared.flags.Section.{Section}
 use Rattle.waiting_missing.specs.Missing.{missing}
 use Rattle.hash_order.proofs.KeepLaws.{hashes_member, hashes_each, hashes_inside}
 use Rattle.hash_order.specs.Order.{member, every, ascends}
@@ -32,76 +31,17 @@ use Rattle.rules.specs.Hash.{Bytes, AreHashes, hashes_at}
 use Rattle.rules.specs.Sizes.{sizes}
 use Rattle.rules.specs.declared.refusal.Refusal.TheVariants.{BadRowsBefore}
 use Rattle.rules.specs.declared.refusal.Refusal.{Refusal}
-use Rattle.pick.specs.declared.check.Picked.{Picked}
-use Rattle.pick.specs.declared.check.Picked.TheVariants.{Fine}
-use Rattle.session.specs.Plan.{
-  Body,
-  Plan,
-  Planned,
-  heard,
-  need_of,
-  have_of,
-  haves_for,
-  empty,
-  body_of,
-  sent_after,
-  heads_for,
-  plan_of,
-  planned,
-  plan_body,
-  plan,
-  after,
-}
-use Rattle.session.proofs.PlanLaws.{
-  list_few,
-  body_hashes,
-  sent_ascends,
-  sent_members,
-  need_none_read_only,
-  need_missing,
-  have_one,
-  have_none,
-  plan_saying,
-}
+use Rattle.session.specs.Plan.{Body, Plan, Planned, heard, need_of, have_of, haves_for, empty, body_of, sent_after, heads_for, plan_of, planned, plan_body, plan, after}
+use Rattle.session.proofs.PlanLaws.{list_few, body_hashes, sent_ascends, sent_members, need_none_read_only, need_missing, have_one, have_none, plan_saying}
 use Rattle.session_state.specs.Session.{State, fresh, fresh_read_only, restored, set_read_only}
 use Rattle.session_state.proofs.SessionLaws.{switch_same, switch_on, switch_off}
 use Rattle.table.specs.Table.{Row, rows, held}
 use Rattle.waiting.specs.Waiting.{Waiting}
 use Rattle.session.specs.GoodState.{SoundTable, SoundHaves, WhereHeard, GoodState, SoundSaid}
-use Rattle.session.specs.Receive.{
-  Said,
-  said_in,
-  Received,
-  sent_flagged,
-  flagged,
-  loads,
-  advance,
-  shared_loaded,
-  join,
-  shared_after,
-  sent_left,
-  last_sent_after,
-  received,
-  receive,
-  receive_bytes,
-}
-use Rattle.session.proofs.ReceiveLaws.{
-  join_members,
-  advance_members,
-  shared_taken,
-  shared_joined,
-  flagged_ascends,
-  flagged_few,
-  flagged_inside,
-  left_ascends,
-  left_few,
-  left_inside,
-  receive_taking,
-  failed_leaves,
-  bytes_beyond,
-  bytes_refused,
-  bytes_read,
-}
+use Rattle.session.specs.Receive.{Said, said_in, Received, sent_flagged, flagged, loads, advance, shared_loaded, join, shared_after, sent_left, last_sent_after, received, receive, receive_bytes}
+use Rattle.session.proofs.ReceiveLaws.{join_members, advance_members, shared_taken, shared_joined, flagged_ascends, flagged_few, flagged_inside, left_ascends, left_few, left_inside, receive_taking, failed_leaves, bytes_beyond, bytes_refused, bytes_read}
+use Rattle.std.specs.Prelude.{Result, Ok, Option}
+use Rattle.message.specs.declared.flags.MessageFlags.{MessageFlags}
 
 -- ---- sessions in which nothing was said
 
@@ -191,7 +131,7 @@ sent_hashes_lem s g b are =
     (λ e. hashes_member s.sent_hashes g.sent_are h e))
 
 -- what holds where something was heard holds of what was
-pub where_heard : {A : Type 0} (P : A → Type 0) (o : Option A) → WhereHeard P o → (x : A) → o ≡ some x → P x
+pub where_heard : {A : Type 0} (P : A → Type 0) (o : Maybe A) → WhereHeard P o → (x : A) → o ≡ some x → P x
 where_heard P none h x e = absurd (let z : ◌≡◌ {A = ℕ} 0 1 = cc in omega arith)
 where_heard P (some y) h x e =
     let is : y ≡ x = cc in
@@ -201,7 +141,7 @@ where_heard P (some y) h x e =
 pub body_few : (t : List Row) (s : State) → SoundTable t → GoodState s → length (body_of t s).hashes ≤ sizes.hashes_to_send
 body_few t s w g = list_few t s w.few (λ need e. (where_heard SoundHashes s.their_need g.their_need need e).few)
 
-module _ (bits probes : ℕ) (t : List Row) (w : List Waiting) (s : State) (sound : SoundTable t) (g : GoodState s) (b : Body) (c : Picked)
+module _ (bits probes : ℕ) (t : List Row) (w : List Waiting) (s : State) (sound : SoundTable t) (g : GoodState s) (b : Body) (c : Result Unit ℕ)
     (are : AreHashes b.hashes) where
   good_after : length (sent_after s b) ≤ sizes.sent_hashes → GoodState (planned t s b)
   unfolding planned
@@ -236,10 +176,10 @@ module _ (bits probes : ℕ) (t : List Row) (w : List Waiting) (s : State) (soun
 -- so where all goes that the session asks for
 module _ (bits probes : ℕ) (t : List Row) (w : List Waiting) (s : State) (sound : SoundTable t) (g : GoodState s) where
   pub planned_good : (q : Plan) (s' : State) → plan bits probes t w s ≡ Planned.says q s' → GoodState s'
-  planned_good = body_good bits probes t w s sound g (body_of t s) Fine (body_hashes t sound.good s sound.are)
+  planned_good = body_good bits probes t w s sound g (body_of t s) (Ok tt) (body_hashes t sound.good s sound.are)
 
   pub after_good : GoodState (after (plan bits probes t w s) s)
-  after_good = body_leaves_good bits probes t w s sound g (body_of t s) Fine (body_hashes t sound.good s sound.are)
+  after_good = body_leaves_good bits probes t w s sound g (body_of t s) (Ok tt) (body_hashes t sound.good s sound.are)
 
 -- ---- messages that are planned with bits and probes that keep the filter rules
 
@@ -274,7 +214,7 @@ module _ (bits probes : ℕ) (setting : SettingGood bits probes) (t : List Row) 
 
   -- the lists of a message that is said are sound, if what is missing are hashes
   pub said_sound : (w : List Waiting) (s : State) → GoodState s → AreHashes (missing t w (heard s.their_heads))
-      → (b : Body) (c : Picked) (q : Plan) (s' : State) → plan_body bits probes t w s b c ≡ Planned.says q s'
+      → (b : Body) (c : Result Unit ℕ) (q : Plan) (s' : State) → plan_body bits probes t w s b c ≡ Planned.says q s'
       → SoundPlan q
   unfolding plan_of
   said_sound w s g a b c q s' e =
@@ -363,7 +303,7 @@ module _ (before : ℕ) (t : List Row) (s : State) (m : Said) (are : AreHashes (
       rw p.session (taken_good p.few)
 
 -- what every message does keeps a session good
-pub flagged_good : (flags : Section) (s : State) → GoodState s → GoodState (flagged flags s)
+pub flagged_good : (flags : Option MessageFlags) (s : State) → GoodState s → GoodState (flagged flags s)
 unfolding flagged
 flagged_good flags s g =
     record {

@@ -15,15 +15,12 @@ use Rattle.session.proofs.ReceiveLaws.{left_few, receive_taking, failed_leaves, 
 use Rattle.session_check.specs.SessionGood.{session_good}
 use Rattle.session_check.proofs.GoodSessions.{session_parts, LentBytes}
 use Rattle.message.specs.Flags.{sync_reset, has_flag}
-use Rattle.message.specs.declared.flags.Section.{Section}
 use Rattle.rules.specs.Hash.{Bytes, AreHashes}
 use Rattle.rules.specs.Sizes.{sizes}
 use Rattle.rules.specs.declared.refusal.Refusal.{Refusal}
 use Rattle.rules.specs.declared.refusal.Refusal.TheVariants.{BadRowsBefore}
 use Rattle.rules.proofs.Cases.{split}
 use Rattle.rules.proofs.Hash.{length_hashes_at}
-use Rattle.pick.specs.declared.check.Picked.{Picked}
-use Rattle.pick.specs.declared.check.Picked.TheVariants.{Fine}
 use Rattle.session.specs.Plan.{Body, Plan, Planned, body_of, planned, plan_body, plan}
 use Rattle.session.proofs.PlanLaws.{body_hashes, plan_saying}
 use Rattle.session_state.specs.Session.{State}
@@ -34,6 +31,8 @@ use Rattle.waiting.specs.Waiting.{Waiting}
 use Rattle.session.specs.Kept.{Stand, Kept, Stays, PlannedRoom, planned_in, ReceivedRoom, received_in}
 use Rattle.session.proofs.KeptSessions.{kept_value, kept_good, good_kept, good_state}
 use Rattle.session.proofs.Stands.{stand_none, stand_sets, heard_sets, haves_sets}
+use Rattle.std.specs.Prelude.{Result, Ok, Option}
+use Rattle.message.specs.declared.flags.MessageFlags.{MessageFlags}
 
 stays : (s : State) (l : Lent) → GoodState s → Kept s l → Stays s l
 stays s l g k = record { good = kept_good s l g k; value = kept_value s l k }
@@ -42,7 +41,7 @@ stays s l g k = record { good = kept_good s l g k; value = kept_value s l k }
 
 module _ (bits probes : ℕ) (t : List Row) (w : List Waiting) (sound : SoundTable t) where
   -- a message that is planned changes two lists
-  pub body_kept : (s : State) (l : Lent) → GoodState s → Kept s l → (b : Body) (c : Picked) → AreHashes b.hashes
+  pub body_kept : (s : State) (l : Lent) → GoodState s → Kept s l → (b : Body) (c : Result Unit ℕ) → AreHashes b.hashes
       → (q : Plan) (s' : State) → plan_body bits probes t w s b c ≡ Planned.says q s' → PlannedRoom s' l → Kept s' (planned_in s' l)
   unfolding planned
   body_kept s l g k b c are q s' e room =
@@ -58,7 +57,7 @@ module _ (bits probes : ℕ) (t : List Row) (w : List Waiting) (sound : SoundTab
       }
 
   -- so the session after it is good, and the one that was planned; any other answer leaves counts and lists as they were
-  pub body_stays_good : (n : Session) (l : Lent) → session_good n l ≡ true → LentBytes l → (b : Body) (c : Picked) → AreHashes b.hashes
+  pub body_stays_good : (n : Session) (l : Lent) → session_good n l ≡ true → LentBytes l → (b : Body) (c : Result Unit ℕ) → AreHashes b.hashes
       → (q : Plan) (s' : State) → plan_body bits probes t w (state_of n l) b c ≡ Planned.says q s' → PlannedRoom s' l → Stays s' (planned_in s' l)
   body_stays_good n l good all b c are q s' e room =
       let s : State = state_of n l in
@@ -69,7 +68,7 @@ module _ (bits probes : ℕ) (t : List Row) (w : List Waiting) (sound : SoundTab
   pub plan_stays_good : (n : Session) (l : Lent) → session_good n l ≡ true → LentBytes l
       → (q : Plan) (s' : State) → plan bits probes t w (state_of n l) ≡ Planned.says q s' → PlannedRoom s' l → Stays s' (planned_in s' l)
   plan_stays_good n l good all =
-      body_stays_good n l good all (body_of t (state_of n l)) Fine (body_hashes t sound.good (state_of n l) sound.are)
+      body_stays_good n l good all (body_of t (state_of n l)) (Ok tt) (body_hashes t sound.good (state_of n l) sound.are)
 
 -- ---- receiving
 
@@ -86,12 +85,12 @@ received_kept s l g room fits =
       sent = stand_sets s.sent_hashes l.sent g.sent_are fits;
     }
 
-sent_flagged_lem : (flags : Section) (sent buffer : List ℕ) → Stand sent buffer → Stand (sent_flagged flags sent) buffer
+sent_flagged_lem : (flags : Option MessageFlags) (sent buffer : List ℕ) → Stand sent buffer → Stand (sent_flagged flags sent) buffer
 unfolding sent_flagged
 sent_flagged_lem flags sent buffer k = split (flag_taken (λ f. has_flag f sync_reset) flags false) (λ e. rw e (stand_none buffer)) (λ e. rw e k)
 
 -- what every message does changes counts alone
-pub flagged_kept : (flags : Section) (s : State) (l : Lent) → Kept s l → Kept (flagged flags s) l
+pub flagged_kept : (flags : Option MessageFlags) (s : State) (l : Lent) → Kept s l → Kept (flagged flags s) l
 unfolding flagged
 flagged_kept flags s l k =
     record {

@@ -3,7 +3,7 @@
 use Prim.Native.Nat.{ℕ}
 use mathlib.Core.Bool.{true}
 use mathlib.Core.List.{List}
-use mathlib.Core.Option.{Option, none, some}
+use mathlib.Core.Option.{Option as Maybe, none, some}
 use mathlib.Core.Path.{◌≡◌, refl, ap, ◌∙◌}
 use borrow.Author.Tests.{le-leb}
 use lib.ListN.{length}
@@ -20,20 +20,19 @@ use Rattle.rules.specs.Hash.{Bytes, hashes_at}
 use Rattle.session_state.proofs.ValueLaws.{counts_back as counts-read}
 use Rattle.session_state.specs.Session.{State}
 use Rattle.session_state.specs.Value.{Lent, heard_hashes, heard_haves, state_of, count_heard, counts_of}
-use Rattle.session_state.specs.declared.session.Heard.TheVariants.{Nothing, Count}
-use Rattle.session_state.specs.declared.session.Heard.{Heard}
 use Rattle.session_state.specs.declared.session.Session.{Session}
 use Rattle.session.specs.Kept.{Stand, StandHeard, StandHeardHaves, Kept}
 use Rattle.session.proofs.Stands.{stand_at, heard_at, haves_at_lem}
+use Rattle.std.specs.Prelude.{Option, Some, None}
 
 -- ---- read back
 
-heard_value : (o : Option (List ℕ)) (buffer : List ℕ) → StandHeard o buffer → heard_hashes buffer (count_heard o) ≡ o
+heard_value : (o : Maybe (List ℕ)) (buffer : List ℕ) → StandHeard o buffer → heard_hashes buffer (count_heard o) ≡ o
 unfolding heard_hashes
 heard_value none buffer k = refl
 heard_value (some hs) buffer k = ap some k.are
 
-haves_value : (o : Option (List Have)) (records bytes : List ℕ) → StandHeardHaves o records bytes → heard_haves bytes records (count_heard o) ≡ o
+haves_value : (o : Maybe (List Have)) (records bytes : List ℕ) → StandHeardHaves o records bytes → heard_haves bytes records (count_heard o) ≡ o
 unfolding heard_haves
 haves_value none records bytes k = refl
 haves_value (some vs) records bytes k = ap some k.are
@@ -51,15 +50,15 @@ kept_value s l k =
 list_good_lem : (hs buffer : List ℕ) → SoundHashes hs → Stand hs buffer → list_good buffer (length hs) ≡ true
 list_good_lem hs buffer g k = list_where buffer (length hs) g.few ∙ le-leb _ _ k.fit
 
-heard_good_lem : (o : Option (List ℕ)) (buffer : List ℕ) → WhereHeard SoundHashes o → StandHeard o buffer → heard_good buffer (count_heard o) ≡ true
-heard_good_lem none buffer g k = heard_nothing buffer Nothing refl
-heard_good_lem (some hs) buffer g k = heard_count_lem buffer (Count (length hs)) (length hs) refl ∙ list_good_lem hs buffer g k
+heard_good_lem : (o : Maybe (List ℕ)) (buffer : List ℕ) → WhereHeard SoundHashes o → StandHeard o buffer → heard_good buffer (count_heard o) ≡ true
+heard_good_lem none buffer g k = heard_nothing buffer None refl
+heard_good_lem (some hs) buffer g k = heard_count_lem buffer (Some (length hs)) (length hs) refl ∙ list_good_lem hs buffer g k
 
-haves_good_lem : (o : Option (List Have)) (records bytes : List ℕ) → WhereHeard SoundHaves o → StandHeardHaves o records bytes
+haves_good_lem : (o : Maybe (List Have)) (records bytes : List ℕ) → WhereHeard SoundHaves o → StandHeardHaves o records bytes
     → haves_good bytes records (count_heard o) ≡ true
-haves_good_lem none records bytes g k = haves_nothing bytes records Nothing refl
+haves_good_lem none records bytes g k = haves_nothing bytes records None refl
 haves_good_lem (some vs) records bytes g k =
-    syncs_decide bytes records (Count (length vs)) (length vs) refl g.few k.fit k.good ∙ k.few
+    syncs_decide bytes records (Some (length vs)) (length vs) refl g.few k.fit k.good ∙ k.few
 
 -- and no call refuses it
 pub kept_good : (s : State) (l : Lent) → GoodState s → Kept s l → session_good (counts_of s) l ≡ true
@@ -75,17 +74,17 @@ kept_good s l g k =
 
 -- ---- a good session, read
 
-heard_sound : (buffer : List ℕ) (h : Heard) → Bytes buffer → ((n : ℕ) → h ≡ Count n → ListParts buffer n)
+heard_sound : (buffer : List ℕ) (h : Option ℕ) → Bytes buffer → ((n : ℕ) → h ≡ Some n → ListParts buffer n)
     → WhereHeard SoundHashes (heard_hashes buffer h)
 unfolding heard_hashes
-heard_sound buffer Nothing all f = tt
-heard_sound buffer (Count n) all f = sound_hashes buffer 0 n all (f n refl).few
+heard_sound buffer None all f = tt
+heard_sound buffer (Some n) all f = sound_hashes buffer 0 n all (f n refl).few
 
-haves_sound : (bytes records : List ℕ) (h : Heard) → Bytes bytes → ((n : ℕ) → h ≡ Count n → HavesParts bytes records n)
+haves_sound : (bytes records : List ℕ) (h : Option ℕ) → Bytes bytes → ((n : ℕ) → h ≡ Some n → HavesParts bytes records n)
     → WhereHeard SoundHaves (heard_haves bytes records h)
 unfolding heard_haves
-haves_sound bytes records Nothing all f = tt
-haves_sound bytes records (Count n) all f = sound_haves bytes _ all (f n refl).passed
+haves_sound bytes records None all f = tt
+haves_sound bytes records (Some n) all f = sound_haves bytes _ all (f n refl).passed
 
 module _ (c : Session) (l : Lent) (good : session_good c l ≡ true) where
   pub good_kept : Kept (state_of c l) l

@@ -3,6 +3,7 @@ pub mod GoodLaws
 pub mod KeptCalls
 pub mod KeptSessions
 pub mod LaidLaws
+pub mod MappedLaws
 pub mod PickPlanLaws
 pub mod PlanCalls
 pub mod PlanLaws

@@ -12,8 +12,6 @@ use Rattle.hash_order.specs.Order.{every, ascend}
 use Rattle.pick.proofs.AcceptLaws.{check_tells}
 use Rattle.pick.proofs.PlannerLaws.{planner_accepted}
 use Rattle.pick.specs.Picking.{pick_checked, pick_of}
-use Rattle.pick.specs.declared.check.Picked.{Picked}
-use Rattle.pick.specs.declared.check.Picked.TheVariants.{Fine, Breaks}
 use Rattle.rules.proofs.Cases.{split, true_false}
 use Rattle.rules.specs.Hash.{AreHashes}
 use Rattle.rules.specs.Sizes.{sizes}
@@ -22,35 +20,14 @@ use Rattle.rules.specs.declared.refusal.Refusal.TheVariants.{PastSize, BadPick}
 use Rattle.session.specs.Arms.{asked_of}
 use Rattle.session.specs.GoodState.{SoundTable, GoodState}
 use Rattle.session.specs.PickPlan.{PicksPlan, PlansWithPicks}
-use Rattle.session.specs.Plan.{
-  Body,
-  Plan,
-  Planned,
-  heard,
-  need_of,
-  unknown_sync,
-  list_of,
-  body_of,
-  empty,
-  silence,
-  sent_after,
-  plan_of,
-  planned,
-  is_fine,
-  unless_broken,
-  plan_body,
-  plan,
-  body_picked,
-  body_checked,
-  plan_picked,
-  after,
-}
+use Rattle.session.specs.Plan.{Body, Plan, Planned, heard, need_of, unknown_sync, list_of, body_of, empty, silence, sent_after, plan_of, planned, is_fine, unless_broken, plan_body, plan, body_picked, body_checked, plan_picked, after}
 use Rattle.session_state.specs.Session.{State}
 use Rattle.session.proofs.Arms.{body_rows}
 use Rattle.session.proofs.GoodLaws.{body_good}
 use Rattle.session.proofs.PlanLaws.{planned_held, speaks_body, plan_need_past, plan_resets, plan_silent, plan_sent_past, plan_ends, plan_saying}
 use Rattle.table.specs.Table.{Row, GoodTable, rows, held}
 use Rattle.waiting.specs.Waiting.{Waiting}
+use Rattle.std.specs.Prelude.{Result, Ok, Err}
 
 -- ---- what goes, and what the check says of it
 
@@ -63,7 +40,7 @@ module _ (t : List Row) (s : State) (rowSizes : List ℕ) (budget : ℕ) (pick :
   unfolding body_picked
   picked_list e = rw e
 
-  pub checked_document : (body_of t s).document ≡ true → body_checked t s rowSizes budget pick ≡ Fine
+  pub checked_document : (body_of t s).document ≡ true → body_checked t s rowSizes budget pick ≡ Ok tt
   unfolding body_checked
   checked_document e = rw e
 
@@ -79,7 +56,7 @@ module _ (t : List Row) (s : State) (rowSizes : List ℕ) (budget : ℕ) (pick :
       (λ e. ap (λ (b : Body). b.document) (picked_list e) ∙ sym e)
 
   -- what is accepted names rows of the table
-  pub picked_held : GoodTable t → body_checked t s rowSizes budget pick ≡ Fine → every (held t) (body_picked t s pick).hashes ≡ true
+  pub picked_held : GoodTable t → body_checked t s rowSizes budget pick ≡ Ok tt → every (held t) (body_picked t s pick).hashes ≡ true
   picked_held good fine =
       split (body_of t s).document
       (λ e. rw (picked_document e) (planned_held t good s))
@@ -89,7 +66,7 @@ module _ (t : List Row) (s : State) (rowSizes : List ℕ) (budget : ℕ) (pick :
       (λ h m. (((check_tells t (body_of t s).hashes rowSizes budget pick).0 (sym (checked_list e) ∙ fine)).listed h m).0)))
 
   -- which are hashes
-  pub picked_hashes : GoodTable t → AreHashes (rows t) → body_checked t s rowSizes budget pick ≡ Fine → AreHashes (body_picked t s pick).hashes
+  pub picked_hashes : GoodTable t → AreHashes (rows t) → body_checked t s rowSizes budget pick ≡ Ok tt → AreHashes (body_picked t s pick).hashes
   unfolding held
   picked_hashes good are fine =
       hashes_inside (body_picked t s pick).hashes (rows t) are
@@ -116,12 +93,12 @@ module _ (bits probes : ℕ) (t : List Row) (w : List Waiting) (s : State) (b : 
   past_other : {A : Type 0} {place : ℕ} → Planned.refused (PastSize 0) ≡ Planned.refused (BadPick place) → A
   past_other e = absurd (let z : ◌≡◌ {A = ℕ} 0 1 = cc in omega arith)
 
-  broken : (c : Picked) (q : Plan) (n : State) (place : ℕ) → unless_broken c (Planned.says q n) ≡ Planned.refused (BadPick place) → c ≡ Breaks place
-  broken Fine q n place e = absurd (let z : ◌≡◌ {A = ℕ} 0 1 = cc in omega arith)
-  broken (Breaks p) q n place e = let is : p ≡ place = cc in ap Breaks is
+  broken : (c : Result Unit ℕ) (q : Plan) (n : State) (place : ℕ) → unless_broken c (Planned.says q n) ≡ Planned.refused (BadPick place) → c ≡ Err place
+  broken (Ok tt) q n place e = absurd (let z : ◌≡◌ {A = ℕ} 0 1 = cc in omega arith)
+  broken (Err p) q n place e = let is : p ≡ place = cc in ap Err is
 
   -- it is the check that gives it
-  refused_broken : (c : Picked) (place : ℕ) → plan_body bits probes t w s b c ≡ Planned.refused (BadPick place) → c ≡ Breaks place
+  refused_broken : (c : Result Unit ℕ) (place : ℕ) → plan_body bits probes t w s b c ≡ Planned.refused (BadPick place) → c ≡ Err place
   refused_broken c place e =
       split (ltb sizes.hashes (length (need_of t w s.read_only (heard s.their_heads))))
       (λ x. past_other (sym (plan_need_past bits probes t w s b c (ltb-true _ _ x)) ∙ e))
@@ -146,12 +123,12 @@ module _ (bits probes : ℕ) (t : List Row) (w : List Waiting) (s : State) (b : 
   reset_unsilent : {A : Type 0} {p : Plan} → Planned.reset p ≡ Planned.silent → A
   reset_unsilent e = absurd (let z : ◌≡◌ {A = ℕ} 0 1 = cc in omega arith)
 
-  ends_unsilent : {A : Type 0} (c : Picked) (q : Plan) (n : State) → unless_broken c (Planned.says q n) ≡ Planned.silent → A
-  ends_unsilent Fine q n e = absurd (let z : ◌≡◌ {A = ℕ} 0 1 = cc in omega arith)
-  ends_unsilent (Breaks place) q n e = refused_unsilent e
+  ends_unsilent : {A : Type 0} (c : Result Unit ℕ) (q : Plan) (n : State) → unless_broken c (Planned.says q n) ≡ Planned.silent → A
+  ends_unsilent (Ok tt) q n e = absurd (let z : ◌≡◌ {A = ℕ} 0 1 = cc in omega arith)
+  ends_unsilent (Err place) q n e = refused_unsilent e
 
   -- a plan is silent where the tests of silence say so
-  silent_tested : (c : Picked) → plan_body bits probes t w s b c ≡ Planned.silent → silence t s (is_fine c && empty b.hashes) ≡ true
+  silent_tested : (c : Result Unit ℕ) → plan_body bits probes t w s b c ≡ Planned.silent → silence t s (is_fine c && empty b.hashes) ≡ true
   silent_tested c e =
       split (ltb sizes.hashes (length (need_of t w s.read_only (heard s.their_heads))))
       (λ x. refused_unsilent (sym (plan_need_past bits probes t w s b c (ltb-true _ _ x)) ∙ e))
@@ -169,10 +146,10 @@ module _ (bits probes : ℕ) (t : List Row) (w : List Waiting) (s : State) (b : 
       ends_unsilent c (plan_of bits probes t w s b) (planned t s b) (sym (plan_ends bits probes t w s b c few y z (ltb-false _ _ v)) ∙ e)))))
 
   -- and they don't where a pick breaks a rule and nothing is in flight
-  broken_told : (c : Picked) (place : ℕ) → c ≡ Breaks place → s.in_flight ≡ false → plan_body bits probes t w s b c ≡ Planned.silent → ⊥
+  broken_told : (c : Result Unit ℕ) (place : ℕ) → c ≡ Err place → s.in_flight ≡ false → plan_body bits probes t w s b c ≡ Planned.silent → ⊥
   broken_told c place is lands e =
       true_false (silence t s (is_fine c && empty b.hashes)) (silent_tested c e)
-      (speaks_body t s (is_fine c && empty b.hashes) lands (ap (λ (k : Picked). is_fine k && empty b.hashes) is))
+      (speaks_body t s (is_fine c && empty b.hashes) lands (ap (λ (k : Result Unit ℕ). is_fine k && empty b.hashes) is))
 
 -- ---- the plan
 
@@ -181,13 +158,13 @@ module _ (bits probes : ℕ) (rowSizes : List ℕ) (budget : ℕ) (t : List Row)
   document_plans pick e =
       ap₂ (plan_body bits probes t w s) (picked_document t s rowSizes budget pick e) (checked_document t s rowSizes budget pick e)
 
-  whole_plans : body_checked t s rowSizes budget (body_of t s).hashes ≡ Fine
+  whole_plans : body_checked t s rowSizes budget (body_of t s).hashes ≡ Ok tt
       → plan_picked bits probes rowSizes budget t w s (body_of t s).hashes ≡ plan bits probes t w s
   whole_plans e = ap₂ (plan_body bits probes t w s) (whole_body t s) e
 
   pick_named : (pick : List ℕ) (p : Plan) (s' : State) → (body_of t s).document ≡ false
       → plan_picked bits probes rowSizes budget t w s pick ≡ Planned.says p s'
-      → (p.body ≡ list_of pick) × (s'.sent_hashes ≡ ascend (pick ++ s.sent_hashes)) × (pick_checked t (body_of t s).hashes rowSizes budget pick ≡ Fine)
+      → (p.body ≡ list_of pick) × (s'.sent_hashes ≡ ascend (pick ++ s.sent_hashes)) × (pick_checked t (body_of t s).hashes rowSizes budget pick ≡ Ok tt)
   unfolding plan_of planned sent_after
   pick_named pick p s' d e =
       let said = plan_saying bits probes t w s (body_picked t s pick) (body_checked t s rowSizes budget pick) p s' e in
@@ -198,14 +175,14 @@ module _ (bits probes : ℕ) (rowSizes : List ℕ) (budget : ℕ) (t : List Row)
       )
 
   pick_refused : (pick : List ℕ) (place : ℕ) → plan_picked bits probes rowSizes budget t w s pick ≡ Planned.refused (BadPick place)
-      → ((body_of t s).document ≡ false) × (pick_checked t (body_of t s).hashes rowSizes budget pick ≡ Breaks place)
+      → ((body_of t s).document ≡ false) × (pick_checked t (body_of t s).hashes rowSizes budget pick ≡ Err place)
   pick_refused pick place e =
-      let is : body_checked t s rowSizes budget pick ≡ Breaks place = refused_broken bits probes t w s _ _ place e in
+      let is : body_checked t s rowSizes budget pick ≡ Err place = refused_broken bits probes t w s _ _ place e in
       split (body_of t s).document
-      (λ d. absurd (true_false (is_fine Fine) refl (ap is_fine (sym (checked_document t s rowSizes budget pick d) ∙ is))))
+      (λ d. absurd (true_false (is_fine (Ok tt)) refl (ap is_fine (sym (checked_document t s rowSizes budget pick d) ∙ is))))
       (λ d. (d, sym (checked_list t s rowSizes budget pick d) ∙ is))
 
-  planner_checked : GoodTable t → length rowSizes ≡ length t → body_checked t s rowSizes budget (pick_of t (body_of t s).hashes rowSizes budget) ≡ Fine
+  planner_checked : GoodTable t → length rowSizes ≡ length t → body_checked t s rowSizes budget (pick_of t (body_of t s).hashes rowSizes budget) ≡ Ok tt
   planner_checked good each =
       split (body_of t s).document
       (λ d. checked_document t s rowSizes budget _ d)

@@ -5,8 +5,9 @@ use Rattle.session.specs.Plan.{Plan, Planned}
 use Rattle.session_state.specs.Value.{Lent}
 use Rattle.session.specs.PlanCall.{Buffers, put_into, planned_lists, PlanCalled}
 use Rattle.session.specs.declared.plan_answer.PlanAnswer.{PlanAnswer}
+use Rattle.std.specs.Prelude.{Result}
 
-pub plan_called_once : {p : Planned} {l l₁ l₂ : Lent} {before after₁ after₂ : Buffers} {r₁ r₂ : PlanAnswer} → PlanCalled p l l₁ before after₁ r₁
+pub plan_called_once : {p : Planned} {l l₁ l₂ : Lent} {before after₁ after₂ : Buffers} {r₁ r₂ : Result PlanAnswer Refusal} → PlanCalled p l l₁ before after₁ r₁
     → PlanCalled p l l₂ before after₂ r₂
     → (r₁ ≡ r₂) × ((after₁ ≡ after₂) × (l₁ ≡ l₂))
 plan_called_once x y = (x.answer ∙ sym y.answer, (x.buffers ∙ sym y.buffers, x.lists ∙ sym y.lists))

@@ -16,8 +16,6 @@ use Rattle.waiting_missing.specs.Missing.{missing}
 use Rattle.hash_order.proofs.KeepLaws.{every_one}
 use Rattle.hash_order.proofs.OrderLaws.{ascend_ascends, ascend_members, member_append}
 use Rattle.hash_order.specs.Order.{member, every, ascends}
-use Rattle.pick.specs.declared.check.Picked.{Picked}
-use Rattle.pick.specs.declared.check.Picked.TheVariants.{Fine, Breaks}
 use Rattle.rules.proofs.Cases.{split, true_false, and_false}
 use Rattle.rules.specs.Hash.{AreHashes}
 use Rattle.rules.specs.Sizes.{sizes}
@@ -29,34 +27,8 @@ use Rattle.session_state.specs.Session.{State}
 use Rattle.table.proofs.TableLaws.{length_rows}
 use Rattle.table.specs.Table.{Row, GoodTable, rows, held}
 use Rattle.waiting.specs.Waiting.{Waiting}
-use Rattle.session.specs.Plan.{
-  Body,
-  Plan,
-  Planned,
-  heard,
-  heard_as,
-  need_of,
-  have_of,
-  haves_for,
-  unknown_sync,
-  list_of,
-  document_of,
-  document_part,
-  body_for,
-  body_heard,
-  body_of,
-  empty,
-  silence,
-  sent_after,
-  flags_for,
-  plan_of,
-  planned,
-  reset_of,
-  is_fine,
-  unless_broken,
-  plan_body,
-  after,
-}
+use Rattle.session.specs.Plan.{Body, Plan, Planned, heard, heard_as, need_of, have_of, haves_for, unknown_sync, list_of, document_of, document_part, body_for, body_heard, body_of, empty, silence, sent_after, flags_for, plan_of, planned, reset_of, is_fine, unless_broken, plan_body, after}
+use Rattle.std.specs.Prelude.{Result, Ok, Err}
 
 -- ---- the body
 
@@ -278,15 +250,15 @@ reset_unsaid e = absurd (let z : ◌≡◌ {A = ℕ} 0 1 = cc in omega arith)
 silent_unsaid : {A : Type 0} {q : Plan} {s : State} → Planned.silent ≡ Planned.says q s → A
 silent_unsaid e = absurd (let z : ◌≡◌ {A = ℕ} 0 1 = cc in omega arith)
 
-broken_unsaid : {A : Type 0} (place : ℕ) (p : Planned) {q : Plan} {s : State} → unless_broken (Breaks place) p ≡ Planned.says q s → A
+broken_unsaid : {A : Type 0} (place : ℕ) (p : Planned) {q : Plan} {s : State} → unless_broken (Err place) p ≡ Planned.says q s → A
 broken_unsaid place p e = refused_unsaid e
 
 -- what goes where a message is said breaks no rule
-said_fine : (c : Picked) (p : Planned) {q : Plan} {s : State} → unless_broken c p ≡ Planned.says q s → c ≡ Fine
-said_fine Fine p e = refl
-said_fine (Breaks place) p e = broken_unsaid place p e
+said_fine : (c : Result Unit ℕ) (p : Planned) {q : Plan} {s : State} → unless_broken c p ≡ Planned.says q s → c ≡ Ok tt
+said_fine (Ok tt) p e = refl
+said_fine (Err place) p e = broken_unsaid place p e
 
-module _ (bits probes : ℕ) (t : List Row) (w : List Waiting) (s : State) (b : Body) (c : Picked) where
+module _ (bits probes : ℕ) (t : List Row) (w : List Waiting) (s : State) (b : Body) (c : Result Unit ℕ) where
   abbrev need : List ℕ
   need = need_of t w s.read_only (heard s.their_heads)
 
@@ -318,9 +290,9 @@ module _ (bits probes : ℕ) (t : List Row) (w : List Waiting) (s : State) (b : 
         unfolding plan_body
         plan_ends h = rw (le-ltb _ _ few, known, speaks, le-ltb _ _ h)
 
-        pub plan_is : length (sent_after s b) ≤ sizes.sent_hashes → c ≡ Fine
+        pub plan_is : length (sent_after s b) ≤ sizes.sent_hashes → c ≡ Ok tt
             → plan_body bits probes t w s b c ≡ Planned.says (plan_of bits probes t w s b) (planned t s b)
-        plan_is h e = plan_ends h ∙ ap (λ (k : Picked). unless_broken k (Planned.says (plan_of bits probes t w s b) (planned t s b))) e
+        plan_is h e = plan_ends h ∙ ap (λ (k : Result Unit ℕ). unless_broken k (Planned.says (plan_of bits probes t w s b) (planned t s b))) e
 
   -- What stands where a message is said.
   pub record Saying (q : Plan) (s' : State) : Type 0 where
@@ -328,7 +300,7 @@ module _ (bits probes : ℕ) (t : List Row) (w : List Waiting) (s : State) (b : 
     pub known : unknown_sync t s.their_have ≡ false
     pub speaks : silence t s nothing_goes ≡ false
     pub sent_few : length (sent_after s b) ≤ sizes.sent_hashes
-    pub fine : c ≡ Fine
+    pub fine : c ≡ Ok tt
     pub message : q ≡ plan_of bits probes t w s b
     pub session : s' ≡ planned t s b
 
@@ -348,7 +320,7 @@ module _ (bits probes : ℕ) (t : List Row) (w : List Waiting) (s : State) (b : 
       (λ v. refused_unsaid (sym (plan_sent_past few y z (ltb-true _ _ v)) ∙ e))
       (λ v.
       let sent : length (sent_after s b) ≤ sizes.sent_hashes = ltb-false _ _ v in
-      let fine : c ≡ Fine = said_fine c _ (sym (plan_ends few y z sent) ∙ e) in
+      let fine : c ≡ (Ok tt) = said_fine c _ (sym (plan_ends few y z sent) ∙ e) in
       let is : Planned.says q s' ≡ Planned.says (plan_of bits probes t w s b) (planned t s b) = sym e ∙ plan_is few y z sent fine in
       record { few = few; known = y; speaks = z; sent_few = sent; fine = fine; message = cc; session = cc }))))
 
@@ -358,7 +330,7 @@ module _ (bits probes : ℕ) (t : List Row) (w : List Waiting) (s : State) (b : 
   plan_says q s' e = let p = plan_saying q s' e in (p.message, p.session)
 
 -- own filters never enter the session: it is the same whatever bits and probes they have
-pub own_filters : (bits probes bits' probes' : ℕ) (t : List Row) (w : List Waiting) (s : State) (b : Body) (c : Picked)
+pub own_filters : (bits probes bits' probes' : ℕ) (t : List Row) (w : List Waiting) (s : State) (b : Body) (c : Result Unit ℕ)
     → after (plan_body bits probes t w s b c) s ≡ after (plan_body bits' probes' t w s b c) s
 unfolding plan_body
 own_filters bits probes bits' probes' t w s b c =
@@ -375,6 +347,6 @@ own_filters bits probes bits' probes' t w s b c =
     (λ v. rw (x, y, z, v))
     (λ v. rw (x, y, z, v) (same_after c _ _ (planned t s b) s)))))
   where
-    same_after : (c : Picked) (p q : Plan) (n s : State) → after (unless_broken c (Planned.says p n)) s ≡ after (unless_broken c (Planned.says q n)) s
-    same_after Fine p q n s = refl
-    same_after (Breaks place) p q n s = refl
+    same_after : (c : Result Unit ℕ) (p q : Plan) (n s : State) → after (unless_broken c (Planned.says p n)) s ≡ after (unless_broken c (Planned.says q n)) s
+    same_after (Ok tt) p q n s = refl
+    same_after (Err place) p q n s = refl

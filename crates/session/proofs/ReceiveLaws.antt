@@ -13,7 +13,6 @@ use Rattle.message_read.specs.MessageRead.{Reading, message_at, message_in}
 use Rattle.message_read.specs.declared.parse.Places.{Places}
 use Rattle.table_graph.specs.Graph.{below}
 use Rattle.message.specs.Flags.{sync_reset, has_flag}
-use Rattle.message.specs.declared.flags.Section.{Section}
 use Rattle.hash_order.proofs.KeepLaws.{keep_member, keep_most, keep_ascends, once_ascends}
 use Rattle.hash_order.proofs.OrderLaws.{ascend_ascends, ascend_members, ascending_unique, member_append, member_none}
 use Rattle.hash_order.specs.Order.{member, keep, every, ascends, Once}
@@ -26,25 +25,9 @@ use Rattle.session.specs.ReceiveCall.{received_lists}
 use Rattle.session_state.specs.Session.{State}
 use Rattle.session_state.specs.Value.{Lent}
 use Rattle.table.specs.Table.{Row, held}
-use Rattle.session.specs.Receive.{
-  Said,
-  said_in,
-  Received,
-  left,
-  flag_taken,
-  sent_flagged,
-  flagged,
-  loads,
-  advance,
-  shared_loaded,
-  join,
-  shared_after,
-  sent_left,
-  received,
-  receive,
-  receive_read,
-  receive_bytes,
-}
+use Rattle.session.specs.Receive.{Said, said_in, Received, left, flag_taken, sent_flagged, flagged, loads, advance, shared_loaded, join, shared_after, sent_left, received, receive, receive_read, receive_bytes}
+use Rattle.std.specs.Prelude.{Option}
+use Rattle.message.specs.declared.flags.MessageFlags.{MessageFlags}
 
 -- ---- the shared heads
 
@@ -122,16 +105,16 @@ module _ (before : ℕ) (t : List Row) (s : State) (m : Said) where
 
 -- ---- the hashes sent
 
-pub flagged_ascends : (flags : Section) (sent : List ℕ) → ascends sent ≡ true → ascends (sent_flagged flags sent) ≡ true
+pub flagged_ascends : (flags : Option MessageFlags) (sent : List ℕ) → ascends sent ≡ true → ascends (sent_flagged flags sent) ≡ true
 unfolding sent_flagged ascends
 flagged_ascends flags sent a = split (flag_taken (λ f. has_flag f sync_reset) flags false) (λ e. rw e) (λ e. rw e a)
 
-pub flagged_few : (flags : Section) (sent : List ℕ) → length (sent_flagged flags sent) ≤ length sent
+pub flagged_few : (flags : Option MessageFlags) (sent : List ℕ) → length (sent_flagged flags sent) ≤ length sent
 unfolding sent_flagged
 flagged_few flags sent = split (flag_taken (λ f. has_flag f sync_reset) flags false) (λ e. rw e (omega arith)) (λ e. rw e (omega arith))
 
 -- a reset makes them forgotten, and nothing is added
-pub flagged_inside : (flags : Section) (sent : List ℕ) (h : ℕ) → member h (sent_flagged flags sent) ≡ true → member h sent ≡ true
+pub flagged_inside : (flags : Option MessageFlags) (sent : List ℕ) (h : ℕ) → member h (sent_flagged flags sent) ≡ true → member h sent ≡ true
 unfolding sent_flagged
 flagged_inside flags sent h = split (flag_taken (λ f. has_flag f sync_reset) flags false) (λ e. rw e (λ m. absurd (member_none h m))) (λ e. rw e (λ m. m))
 
@@ -179,7 +162,7 @@ pub record FlagsApart (s s' : State) : Type 0 where
   pub read_only : s'.read_only ≡ s.read_only
   pub needs_reset : s'.needs_reset ≡ s.needs_reset
 
-module _ (flags : Section) (s : State) where
+module _ (flags : Option MessageFlags) (s : State) where
   pub flagged_keeps : FlagsApart s (flagged flags s)
   unfolding flagged
   flagged_keeps =

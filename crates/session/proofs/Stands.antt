@@ -1,7 +1,7 @@
 -- Lists that stand in their buffers: what is read there stands there, and so does what was put there.
 use Prim.Native.Nat.{ℕ, ◌*◌, ◌≤◌}
 use mathlib.Core.List.{List, []}
-use mathlib.Core.Option.{Option, none, some}
+use mathlib.Core.Option.{Option as Maybe, none, some}
 use mathlib.Core.Path.{◌≡◌, refl}
 use native.Mathlib.Nat.{zero-add}
 use native.Mathlib.Omega.{arith}
@@ -19,26 +19,25 @@ use Rattle.session.specs.Laid.{laid_bytes, laid_words}
 use Rattle.session.specs.Plan.{heard}
 use Rattle.session.proofs.LaidLaws.{laid_read, laid_good, sound_syncs}
 use Rattle.session_state.specs.Value.{kept_haves, heard_hashes, heard_haves}
-use Rattle.session_state.specs.declared.session.Heard.{Heard}
-use Rattle.session_state.specs.declared.session.Heard.TheVariants.{Nothing, Count}
 use Rattle.session_state.proofs.ValueLaws.{kept_length}
 use Rattle.session.specs.Kept.{Stand, StandHeard, StandHaves, StandHeardHaves}
+use Rattle.std.specs.Prelude.{Option, Some, None}
 
 -- ---- what is read at the start of a buffer stands there
 
 pub stand_at : (buffer : List ℕ) (n : ℕ) → sizes.hash * n ≤ length buffer → Stand (hashes_at buffer 0 n) buffer
 stand_at buffer n h = record { fit = rw (length_hashes_at buffer 0 n) h; are = rw (length_hashes_at buffer 0 n) }
 
-pub heard_at : (buffer : List ℕ) (h : Heard) → ((n : ℕ) → h ≡ Count n → ListParts buffer n) → StandHeard (heard_hashes buffer h) buffer
+pub heard_at : (buffer : List ℕ) (h : Option ℕ) → ((n : ℕ) → h ≡ Some n → ListParts buffer n) → StandHeard (heard_hashes buffer h) buffer
 unfolding heard_hashes
-heard_at buffer Nothing f = tt
-heard_at buffer (Count n) f = stand_at buffer n (f n refl).there
+heard_at buffer None f = tt
+heard_at buffer (Some n) f = stand_at buffer n (f n refl).there
 
-pub haves_at_lem : (bytes records : List ℕ) (h : Heard) → ((n : ℕ) → h ≡ Count n → HavesParts bytes records n)
+pub haves_at_lem : (bytes records : List ℕ) (h : Option ℕ) → ((n : ℕ) → h ≡ Some n → HavesParts bytes records n)
     → StandHeardHaves (heard_haves bytes records h) records bytes
 unfolding heard_haves
-haves_at_lem bytes records Nothing f = tt
-haves_at_lem bytes records (Count n) f =
+haves_at_lem bytes records None f = tt
+haves_at_lem bytes records (Some n) f =
     let p = f n refl in
     let many : length (haves_of bytes (kept_haves records n)) ≡ n = kept_length bytes records n p.there in
     record { fit = rw many p.there; are = rw many; good = rw many p.good; few = rw many p.short }
@@ -65,7 +64,7 @@ stand_same buffer n all fits =
     let long : length (take size buffer) ≡ size = length-take-le size buffer fits in
     rw (first, sets-eq (take size buffer) buffer 0 (omega arith), long, zero-add) (take-append-drop size buffer)
 
-pub heard_sets : (o : Option (List ℕ)) (before : List ℕ) → WhereHeard SoundHashes o → sizes.hash * length (heard o) ≤ length before
+pub heard_sets : (o : Maybe (List ℕ)) (before : List ℕ) → WhereHeard SoundHashes o → sizes.hash * length (heard o) ≤ length before
     → StandHeard o (sets before 0 (hashes_bytes (heard o)))
 heard_sets none before g fits = tt
 heard_sets (some hs) before g fits = stand_sets hs before g.are fits
@@ -82,7 +81,7 @@ module _ (records bytes : List ℕ) where
         few = good.1;
       }
 
-  pub haves_sets : (o : Option (List Have)) → WhereHeard SoundHaves o
+  pub haves_sets : (o : Maybe (List Have)) → WhereHeard SoundHaves o
       → have_words * length (heard o) ≤ length records
       → length (laid_bytes (heard o)) ≤ length bytes
       → StandHeardHaves o (sets records 0 (laid_words (heard o))) (sets bytes 0 (laid_bytes (heard o)))

@@ -1,6 +1,6 @@
 -- What a unit says next, and its session afterwards. 01, Session, which goes by `generate_sync_message` of src/sync.rs: the definitions stand in the
 -- order in which it computes them. 02, M-110: the steps are over what goes, the body that the session asks for or a pick of it.
-use Rattle.std.specs.Prelude.{ℕ, ◌+◌, ◌/◌, Bool, true, false, cond, not, ◌&&◌, ◌||◌, List, [], ◌∷◌, ◌++◌, ltb, length}
+use Rattle.std.specs.Prelude.{ℕ, ◌+◌, ◌/◌, Bool, true, false, cond, not, ◌&&◌, ◌||◌, List, [], ◌∷◌, ◌++◌, ltb, length, Result, Ok, Err}
 use Rattle.std.proofs.Math.Option.{Option, none, some}
 use Rattle.bloom.specs.Filter.{filter_of4, default_bits, default_probes}
 use Rattle.bloom.specs.Have.{Have}
@@ -15,8 +15,6 @@ use Rattle.hash_order.specs.Order.{member, every, ascend}
 use Rattle.bloom_probe.specs.Build.{filter_of}
 use Rattle.rules.specs.Sizes.{sizes}
 use Rattle.pick.specs.Picking.{pick_checked}
-use Rattle.pick.specs.declared.check.Picked.{Picked}
-use Rattle.pick.specs.declared.check.Picked.TheVariants.{Fine, Breaks}
 use Rattle.rules.specs.declared.refusal.Refusal.TheVariants.{PastSize, BadPick}
 use Rattle.rules.specs.declared.refusal.Refusal.{Refusal}
 use Rattle.send.specs.ToSend.{to_send_less}
@@ -180,18 +178,18 @@ reset_of t =
     }
 
 -- 02, M-110: a pick breaks no rule, or none is looked at.
-abbrev pub is_fine : Picked → Bool
-is_fine Fine = true
-is_fine (Breaks place) = false
+abbrev pub is_fine : Result Unit ℕ → Bool
+is_fine (Ok tt) = true
+is_fine (Err place) = false
 
 -- 02, M-110: 17 with its place for a pick that isn't accepted, else the message.
-abbrev pub unless_broken : Picked → Planned → Planned
-unless_broken Fine p = p
-unless_broken (Breaks place) p = refused (BadPick place)
+abbrev pub unless_broken : Result Unit ℕ → Planned → Planned
+unless_broken (Ok tt) p = p
+unless_broken (Err place) p = refused (BadPick place)
 
 -- The stages for what goes, in 01's order of refusals and, for 17, in 02's: 4 for the need list, even before a reset or silence; a reset; silence; 4 for the
 -- sent hashes; 17 for the pick; the message. A pick that isn't accepted is no silence, even an empty one, so that it is refused.
-unfoldable pub plan_body : ℕ → ℕ → List Row → List Waiting → State → Body → Picked → Planned
+unfoldable pub plan_body : ℕ → ℕ → List Row → List Waiting → State → Body → Result Unit ℕ → Planned
 plan_body bits probes t w s b c =
     cond (ltb sizes.hashes (length (need_of t w s.read_only (heard s.their_heads))))
     (refused (PastSize 0))
@@ -205,16 +203,16 @@ plan_body bits probes t w s b c =
 
 -- The plan: all of what the session asks for goes, and no pick is looked at.
 abbrev pub plan : ℕ → ℕ → List Row → List Waiting → State → Planned
-plan bits probes t w s = plan_body bits probes t w s (body_of t s) Fine
+plan bits probes t w s = plan_body bits probes t w s (body_of t s) (Ok tt)
 
 -- 02, M-110. What goes with a pick: the document whole, or the pick. It is decided on all that the session asks for whether the body is the document.
 unfoldable pub body_picked : List Row → State → List ℕ → Body
 body_picked t s pick = cond (body_of t s).document (body_of t s) (list_of pick)
 
 -- 02, M-110. The check of a pick, against what is to be sent by list; with a document none is looked at.
-unfoldable pub body_checked : List Row → State → List ℕ → ℕ → List ℕ → Picked
+unfoldable pub body_checked : List Row → State → List ℕ → ℕ → List ℕ → Result Unit ℕ
 body_checked t s rowSizes budget pick =
-    cond (body_of t s).document Fine (pick_checked t (body_of t s).hashes rowSizes budget pick)
+    cond (body_of t s).document (Ok tt) (pick_checked t (body_of t s).hashes rowSizes budget pick)
 
 -- 02, M-110: the plan with a pick, one size a row and a budget.
 abbrev pub plan_picked : ℕ → ℕ → List ℕ → ℕ → List Row → List Waiting → State → List ℕ → Planned

@@ -1,6 +1,6 @@
 -- What the call answers, and what it leaves in the buffers that it is lent. 01, Refusal numbers, and 02, M-100, for 12: 10; 4 and 6; 12; 4 and 9; what
 -- planning itself refuses; 7 for the first buffer that is too short, the message's in wire order and then the session's.
-use Rattle.std.specs.Prelude.{ℕ, ◌+◌, ◌*◌, cond, not, List, [], ◌∷◌, ◌≡◌, length}
+use Rattle.std.specs.Prelude.{ℕ, ◌+◌, ◌*◌, cond, not, List, [], ◌∷◌, ◌≡◌, length, Result, Ok, Err}
 use Rattle.std.proofs.lemmas.List.Edits.{sets}
 use Rattle.bloom.specs.Filter.{pair_good}
 use Rattle.bloom.specs.Have.{Have, numbers_of}
@@ -17,26 +17,22 @@ use Rattle.session.specs.Rooms.{or_short, if_room}
 use Rattle.session_state.specs.Value.{Lent, state_of, counts_of}
 use Rattle.session_state.specs.declared.session.Session.{Session}
 use Rattle.settings.specs.Settings.{setting_for}
-use Rattle.settings.specs.declared.find.SettingAnswer.{SettingAnswer}
-use Rattle.settings.specs.declared.find.SettingAnswer.TheVariants.{Chosen, Refused as BadList}
 use Rattle.table.specs.TableBytes.{table_of}
-use Rattle.table.specs.declared.check.Checked.{Checked}
-use Rattle.table.specs.declared.check.Checked.TheVariants.{Good, Refused as BadTable}
 use Rattle.waiting.specs.WaitingBytes.{waiting_of}
 use Rattle.waiting.specs.WaitingCalls.{tables_checked}
 use Rattle.session.specs.declared.plan_answer.PlanAnswer.{PlanAnswer}
-use Rattle.session.specs.declared.plan_answer.PlanAnswer.TheVariants.{Refused, Silent, Reset, Says}
+use Rattle.session.specs.declared.plan_answer.PlanAnswer.TheVariants.{Silent, Reset, Says}
 use Rattle.session.specs.declared.plan_answer.Rooms.{Rooms}
 use Rattle.session.specs.declared.plan_answer.Stated.{Stated}
-use Rattle.session.specs.declared.room.Room.{Room}
-use Rattle.session.specs.declared.room.Room.TheVariants.{Enough}
+use Rattle.rules.specs.declared.refusal.Refusal.{Refusal}
+use Rattle.settings.specs.declared.choice.Choice.{Choice}
 
 -- ---- what is planned, for a session as counts with its lent lists, and tables and index as bytes
 
 -- 4 and 6 for the change table, 12 for its index, 4 and 9 for the waiting table.
-unfoldable pub after_tables : Checked → Planned → Planned
-after_tables (Good m) p = p
-after_tables (BadTable r) p = Planned.refused r
+unfoldable pub after_tables : Result ℕ Refusal → Planned → Planned
+after_tables (Ok m) p = p
+after_tables (Err r) p = Planned.refused r
 
 -- 10 comes first of all, then the tables.
 abbrev pub plan_after : Session → Lent → List ℕ → List ℕ → List ℕ → Planned → Planned
@@ -54,21 +50,21 @@ plan_passed bits probes s l table index waiting =
     cond (not (pair_good bits probes)) (Planned.refused BadNumbers) (plan_with bits probes s l table index waiting)
 
 -- 02, M-107: the plan with what a settings list answers. 14 stands behind 9, and before what planning itself refuses.
-unfoldable pub plan_by : SettingAnswer → Session → Lent → List ℕ → List ℕ → List ℕ → Planned
-plan_by (Chosen c) s l table index waiting = plan_with c.bits c.probes s l table index waiting
-plan_by (BadList r) s l table index waiting = plan_after s l table index waiting (Planned.refused r)
+unfoldable pub plan_by : Result Choice Refusal → Session → Lent → List ℕ → List ℕ → List ℕ → Planned
+plan_by (Ok c) s l table index waiting = plan_with c.bits c.probes s l table index waiting
+plan_by (Err r) s l table index waiting = plan_after s l table index waiting (Planned.refused r)
 
 -- 02, M-107: the plan with a station's setting at a version.
 abbrev pub plan_settled : List ℕ → ℕ → ℕ → Session → Lent → List ℕ → List ℕ → List ℕ → Planned
 plan_settled settings station version s l table index waiting = plan_by (setting_for settings station version) s l table index waiting
 
 -- 02, M-110: the plan with a pick that is passed as bytes: 4 and 1 for it stand behind 14, whatever the body is.
-unfoldable pub plan_picked_by : SettingAnswer → List ℕ → ℕ → List ℕ → Session → Lent → List ℕ → List ℕ → List ℕ → Planned
-plan_picked_by (Chosen c) rowSizes budget pick s l table index waiting =
+unfoldable pub plan_picked_by : Result Choice Refusal → List ℕ → ℕ → List ℕ → Session → Lent → List ℕ → List ℕ → List ℕ → Planned
+plan_picked_by (Ok c) rowSizes budget pick s l table index waiting =
     plan_after s l table index waiting
     (after_passed (passed_hashes pick) Planned.refused
     (λ k. plan_picked c.bits c.probes rowSizes budget (table_of table) (waiting_of waiting) (state_of s l) (hashes_at pick 0 k)))
-plan_picked_by (BadList r) rowSizes budget pick s l table index waiting = plan_after s l table index waiting (Planned.refused r)
+plan_picked_by (Err r) rowSizes budget pick s l table index waiting = plan_after s l table index waiting (Planned.refused r)
 
 -- 02, M-110: the plan with a pick and a station's setting at a version.
 abbrev pub plan_picked_settled : List ℕ → ℕ → ℕ → List ℕ → ℕ → List ℕ → Session → Lent → List ℕ → List ℕ → List ℕ → Planned
@@ -109,26 +105,26 @@ stated_of p =
     }
 
 -- What the call answers, once there is room.
-unfoldable pub planned_answer : Planned → PlanAnswer
-planned_answer (Planned.refused r) = Refused r
-planned_answer Planned.silent = Silent
-planned_answer (Planned.reset p) = Reset (stated_of p)
-planned_answer (Planned.says p after) = Says (stated_of p) (counts_of after)
+unfoldable pub planned_answer : Planned → Result PlanAnswer Refusal
+planned_answer (Planned.refused r) = Err r
+planned_answer Planned.silent = Ok Silent
+planned_answer (Planned.reset p) = Ok (Reset (stated_of p))
+planned_answer (Planned.says p after) = Ok (Says (stated_of p) (counts_of after))
 
 -- ---- room
 
 -- The message's lists in wire order: heads, need, the have's bytes, the hash list.
-unfoldable pub message_room : Stated → Rooms → Room
+unfoldable pub message_room : Stated → Rooms → Result Unit ℕ
 message_room p r =
     or_short r.heads (sizes.hash * p.heads)
     (or_short r.need (sizes.hash * p.need)
     (or_short r.have (sizes.hash * p.syncs + p.filter.size)
-    (or_short r.list (sizes.hash * p.hashes) Enough)))
+    (or_short r.list (sizes.hash * p.hashes) (Ok tt))))
 
 -- The session's lists that change: last-sent heads, sent hashes.
-unfoldable pub session_room : ℕ → ℕ → Rooms → Room
+unfoldable pub session_room : ℕ → ℕ → Rooms → Result Unit ℕ
 session_room last_sent sent r =
-    or_short r.last_sent (sizes.hash * last_sent) (or_short r.sent (sizes.hash * sent) Enough)
+    or_short r.last_sent (sizes.hash * last_sent) (or_short r.sent (sizes.hash * sent) (Ok tt))
 
 -- 7 comes last. A reset changes no list of the session.
 unfoldable pub planned_roomed : Rooms → Planned → Planned
@@ -189,7 +185,7 @@ planned_lists (Planned.reset p) l = l
 planned_lists (Planned.says p after) l = planned_in after l
 
 -- What the call ensures: the answer, the message's buffers and the session's lists, of what was planned and has room.
-pub record PlanCalled (p : Planned) (l l' : Lent) (before after : Buffers) (r : PlanAnswer) : Type 0 where
+pub record PlanCalled (p : Planned) (l l' : Lent) (before after : Buffers) (r : Result PlanAnswer Refusal) : Type 0 where
   pub answer : r ≡ planned_answer (planned_roomed (planned_rooms before l) p)
   pub buffers : after ≡ put_into (planned_roomed (planned_rooms before l) p) before
   pub lists : l' ≡ planned_lists (planned_roomed (planned_rooms before l) p) l

@@ -1,6 +1,6 @@
 -- What a message does to a session. 01, Session, which goes by `receive_sync_message` of src/sync.rs: the definitions stand in the order in which it
 -- computes them. The table is the one after loading; its first rows, "rows before", were held before.
-use Rattle.std.specs.Prelude.{ℕ, Bool, true, false, cond, not, ◌&&◌, List, [], ◌∷◌, ◌++◌, ltb, length, take}
+use Rattle.std.specs.Prelude.{ℕ, Bool, true, false, cond, not, ◌&&◌, List, [], ◌∷◌, ◌++◌, ltb, length, take, Option, Some, None}
 use Rattle.std.proofs.Math.Option.{some}
 use Rattle.bloom.specs.Have.{Have}
 use Rattle.message_read.specs.MessageRead.{Reading, message_at, message_in}
@@ -9,8 +9,6 @@ use Rattle.hash_lists.specs.Lists.{same}
 use Rattle.message.specs.Flags.{sync_reset, read_only_flag, supports_sync_reset, has_flag}
 use Rattle.message.specs.Message.{Message}
 use Rattle.message.specs.declared.flags.MessageFlags.{MessageFlags}
-use Rattle.message.specs.declared.flags.Section.TheVariants.{Absent, Present}
-use Rattle.message.specs.declared.flags.Section.{Section}
 use Rattle.hash_order.specs.Order.{member, keep, every, ascend}
 use Rattle.rules.specs.Sizes.{sizes}
 use Rattle.rules.specs.declared.refusal.Refusal.TheVariants.{PastSize, BadRowsBefore}
@@ -24,7 +22,7 @@ pub record Said : Type 0 where
   pub heads : List ℕ
   pub need : List ℕ
   pub haves : List Have
-  pub flags : Section
+  pub flags : Option MessageFlags
   pub chunks : Bool
 
 -- Whether there is a chunk at all.
@@ -50,17 +48,17 @@ left (failed s') s = s'
 left (refused r) s = s
 
 -- What a flags section says, or what was so before where there is none.
-abbrev pub flag_taken : (MessageFlags → Bool) → Section → Bool → Bool
-flag_taken f Absent was = was
-flag_taken f (Present flags) was = f flags
+abbrev pub flag_taken : (MessageFlags → Bool) → Option MessageFlags → Bool → Bool
+flag_taken f None was = was
+flag_taken f (Some flags) was = f flags
 
 -- Hashes sent, which a reset makes forgotten.
-unfoldable pub sent_flagged : Section → List ℕ → List ℕ
+unfoldable pub sent_flagged : Option MessageFlags → List ℕ → List ℕ
 sent_flagged flags sent = cond (flag_taken (λ f. has_flag f sync_reset) flags false) [] sent
 
 -- What every message does, even one whose changes don't load: nothing is in flight any more, and a flags section is taken, which tells that the peer
 -- knows V2.
-unfoldable pub flagged : Section → State → State
+unfoldable pub flagged : Option MessageFlags → State → State
 flagged flags s =
     record {
       shared_heads = s.shared_heads;

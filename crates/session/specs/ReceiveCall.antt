@@ -1,6 +1,6 @@
 -- What the call answers, and what it leaves in the session's lists. 01, Refusal numbers, and 02, M-100, for 12: 10; 4 and 6; 12; 11; the message from its
 -- first byte; 8; 4 for the joined heads; 7 for the first list that is too short.
-use Rattle.std.specs.Prelude.{ℕ, ◌*◌, Bool, cond, not, List, ◌≡◌, length}
+use Rattle.std.specs.Prelude.{ℕ, ◌*◌, Bool, cond, not, List, ◌≡◌, length, Result, Ok, Err}
 use Rattle.bloom.specs.Have.{have_words}
 use Rattle.session.specs.Receive.{Received, receive_bytes}
 use Rattle.table_index.specs.Index.{index_checked}
@@ -15,20 +15,17 @@ use Rattle.session_state.specs.Session.{State}
 use Rattle.session_state.specs.Value.{Lent, state_of, counts_of}
 use Rattle.session_state.specs.declared.session.Session.{Session}
 use Rattle.table.specs.TableBytes.{table_of}
-use Rattle.table.specs.declared.check.Checked.{Checked}
-use Rattle.table.specs.declared.check.Checked.TheVariants.{Good, Refused as BadTable}
 use Rattle.session.specs.declared.receive_answer.ReceiveAnswer.{ReceiveAnswer}
-use Rattle.session.specs.declared.receive_answer.ReceiveAnswer.TheVariants.{Took, Failed, Refused}
+use Rattle.session.specs.declared.receive_answer.ReceiveAnswer.TheVariants.{Took, Failed}
 use Rattle.session.specs.declared.receive_answer.SessionRooms.{SessionRooms}
-use Rattle.session.specs.declared.room.Room.{Room}
-use Rattle.session.specs.declared.room.Room.TheVariants.{Enough}
+use Rattle.rules.specs.declared.refusal.Refusal.{Refusal}
 
 -- ---- what is received, for a session as counts with its lent lists, and a table and its index as bytes
 
 -- 4 and 6 for the table, 12 for its index; the rest wants its rows.
-unfoldable pub after_table : Checked → Received → Received
-after_table (Good n) p = p
-after_table (BadTable r) p = Received.refused r
+unfoldable pub after_table : Result ℕ Refusal → Received → Received
+after_table (Ok n) p = p
+after_table (Err r) p = Received.refused r
 
 -- 10 comes first.
 unfoldable pub receive_with : Bool → ℕ → Session → Lent → List ℕ → List ℕ → List ℕ → Received
@@ -40,14 +37,14 @@ receive_with loaded before s l table index message =
 -- ---- room: 7 comes last
 
 -- The session's lists: shared, last-sent, their heads and need, the haves' records in words, then their bytes. Sent hashes only become fewer.
-unfoldable pub kept_room : State → SessionRooms → Room
+unfoldable pub kept_room : State → SessionRooms → Result Unit ℕ
 kept_room s r =
     or_short r.shared (sizes.hash * length s.shared_heads)
     (or_short r.last_sent (sizes.hash * length s.last_sent_heads)
     (or_short r.their_heads (sizes.hash * length (heard s.their_heads))
     (or_short r.their_need (sizes.hash * length (heard s.their_need))
     (or_short r.haves (have_words * length (heard s.their_have))
-    (or_short r.bytes (length (laid_bytes (heard s.their_have))) Enough)))))
+    (or_short r.bytes (length (laid_bytes (heard s.their_have))) (Ok tt))))))
 
 -- 7 comes last, and only where nothing was refused.
 unfoldable pub received_roomed : SessionRooms → Received → Received
@@ -58,10 +55,10 @@ received_roomed r (Received.refused refusal) = Received.refused refusal
 -- ---- the answer, and the lists at exit: what is kept at their start, the rest as it was
 
 -- What the call answers.
-unfoldable pub received_answer : Received → ReceiveAnswer
-received_answer (Received.took s) = Took (counts_of s)
-received_answer (Received.failed s) = Failed (counts_of s)
-received_answer (Received.refused r) = Refused r
+unfoldable pub received_answer : Received → Result ReceiveAnswer Refusal
+received_answer (Received.took s) = Ok (Took (counts_of s))
+received_answer (Received.failed s) = Ok (Failed (counts_of s))
+received_answer (Received.refused r) = Err r
 
 -- The lists at exit: what the session keeps at their start; after a failed load and any other refusal all as they were.
 unfoldable pub received_lists : Received → Lent → Lent
@@ -82,6 +79,6 @@ received_rooms l =
     }
 
 -- What the call ensures.
-pub record ReceiveCalled (p : Received) (before after : Lent) (r : ReceiveAnswer) : Type 0 where
+pub record ReceiveCalled (p : Received) (before after : Lent) (r : Result ReceiveAnswer Refusal) : Type 0 where
   pub answer : r ≡ received_answer (received_roomed (received_rooms before) p)
   pub lists : after ≡ received_lists (received_roomed (received_rooms before) p) before

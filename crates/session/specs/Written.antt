@@ -1,10 +1,9 @@
 -- The message that is written for a plan (src/sync/message_builder.rs of the crate), and what its peer hears of it. 01, Session: the host lends the bytes of
 -- changes and of the document, and writing is a call of its own.
-use Rattle.std.specs.Prelude.{ℕ, Bool, cond, not, ◌||◌, List, [], ◌∷◌, map, eqb}
+use Rattle.std.specs.Prelude.{ℕ, Bool, cond, not, ◌||◌, List, [], ◌∷◌, map, eqb, Some}
 use Rattle.bloom.specs.Filter.{Filter, filter_of4, default_bits, default_probes}
 use Rattle.bloom.specs.Have.{Have}
 use Rattle.message.specs.Message.{Message, joined}
-use Rattle.message.specs.declared.flags.Section.TheVariants.{Present}
 use Rattle.message.specs.declared.version.MessageVersion.TheVariants.{V1, V2}
 use Rattle.message.specs.declared.version.MessageVersion.{MessageVersion}
 use Rattle.session.specs.Plan.{Plan, Body, empty}
@@ -34,7 +33,7 @@ message_for host p =
       need = p.need;
       haves = p.haves;
       chunks = chunks_for host p;
-      flags = Present p.flags;
+      flags = Some p.flags;
     }
 
 -- A filter as it is heard: one without entries is written as no bytes, which say the default.
@@ -61,6 +60,6 @@ heard_said p =
       heads = p.heads;
       need = p.need;
       haves = haves_heard p.haves;
-      flags = Present p.flags;
+      flags = Some p.flags;
       chunks = carries p.body;
     }

@@ -9,4 +9,3 @@
 
 pub mod plan_answer;
 pub mod receive_answer;
-pub mod room;

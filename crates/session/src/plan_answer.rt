@@ -2,7 +2,6 @@
 use bloom::have::FilterNumbers;
 use message::flags::MessageFlags;
 use message::version::MessageVersion;
-use rules::refusal::Refusal;
 use session_state::session::Session;
 
 // A message to be written: its version and flags, how many hashes its lists have, and the numbers of its have, if it has one. The have's last-sync
@@ -20,9 +19,9 @@ pub struct Stated {
     pub hashes: usize,
 }
 
+// What is answered where nothing is refused.
 #[derive(Clone, Copy)]
 pub enum PlanAnswer {
-    Refused(Refusal),
     // There is nothing to say.
     Silent,
     // The peer is to start anew; the session stays as it was.

@@ -1,15 +1,13 @@
 // What receiving answers.
-use rules::refusal::Refusal;
 use session_state::session::Session;
 
+// What is answered where nothing but loading is refused: after any other refusal the session stays as it was.
 #[derive(Clone, Copy)]
 pub enum ReceiveAnswer {
     // The session after the message.
     Took(Session),
     // Loading failed, which is refusal 8: the session with what every message does to it.
     Failed(Session),
-    // Any other refusal; the session stays as it was.
-    Refused(Refusal),
 }
 
 // The lengths of the session's lists that are lent: bytes, and words for the records of haves.

@@ -12,10 +12,9 @@ use Rattle.hash_order.specs.Order.{ascends}
 use Rattle.rules.specs.Hash.{hash_at, hashes_at}
 use Rattle.rules.specs.Sizes.{sizes}
 use Rattle.session_state.specs.Value.{Lent, kept_haves}
-use Rattle.session_state.specs.declared.session.Heard.TheVariants.{Nothing, Count}
-use Rattle.session_state.specs.declared.session.Heard.{Heard}
 use Rattle.session_state.specs.declared.session.Session.{Session}
 use Rattle.session_check.specs.SessionGood.{list_good, heard_good, haves_good, sent_good, session_good}
+use Rattle.std.specs.Prelude.{Option, Some, None}
 
 -- ---- a list
 
@@ -28,22 +27,22 @@ module _ (s : List ℕ) (count : ℕ) where
   unfolding list_good
   list_where h = rw (le-leb count sizes.hashes h)
 
-pub heard_nothing : (s : List ℕ) (h : Heard) → h ≡ Nothing → heard_good s h ≡ true
+pub heard_nothing : (s : List ℕ) (h : Option ℕ) → h ≡ None → heard_good s h ≡ true
 unfolding heard_good
 heard_nothing s h e = rw e
 
-pub heard_count_lem : (s : List ℕ) (h : Heard) (n : ℕ) → h ≡ Count n → heard_good s h ≡ list_good s n
+pub heard_count_lem : (s : List ℕ) (h : Option ℕ) (n : ℕ) → h ≡ Some n → heard_good s h ≡ list_good s n
 unfolding heard_good
 heard_count_lem s h n e = rw e
 
 -- ---- kept haves
 
-module _ (s haves : List ℕ) (h : Heard) where
-  pub haves_nothing : h ≡ Nothing → haves_good s haves h ≡ true
+module _ (s haves : List ℕ) (h : Option ℕ) where
+  pub haves_nothing : h ≡ None → haves_good s haves h ≡ true
   unfolding haves_good
   haves_nothing e = rw e
 
-  module _ (n : ℕ) (is : h ≡ Count n) where
+  module _ (n : ℕ) (is : h ≡ Some n) where
     pub haves_many : sizes.haves < n → haves_good s haves h ≡ false
     unfolding haves_good
     haves_many m = rw (is, lt-leb n sizes.haves m)
@@ -76,35 +75,36 @@ unfolding ascends
 climbed x y ys e = rw e
 
 module _ (s : List ℕ) (count : ℕ) where
-  -- whether the hashes from number i on ascend
+  -- whether the hashes from the one before number i on ascend
   pub climbing : ℕ → Bool
-  climbing i = ascends (hashes_at s (sizes.hash * i) (count - i))
+  climbing i = ascends (hashes_at s (sizes.hash * (i - 1)) (count - (i - 1)))
 
-  pub climbing_starts : climbing 0 ≡ ascends (hashes_at s 0 count)
+  pub climbing_starts : climbing 1 ≡ ascends (hashes_at s 0 count)
   unfolding climbing
   climbing_starts =
       let d : count - 0 ≡ count = omega arith in
       rw d
 
-  module _ (i : ℕ) where
-    pub climbing_fails : i + 1 < count → ltb (hash_at s (sizes.hash * i)) (hash_at s (sizes.hash * (i + 1))) ≡ false → climbing i ≡ false
+  module _ (i : ℕ) (behind : 1 ≤ i) where
+    pub climbing_fails : i < count → ltb (hash_at s (sizes.hash * (i - 1))) (hash_at s (sizes.hash * i)) ≡ false → climbing i ≡ false
     unfolding climbing hashes_at ascends
     climbing_fails l e =
-        let d : count - i ≡ suc (suc (count - (i + 2))) = omega arith in
-        let next : sizes.hash * i + sizes.hash ≡ sizes.hash * (i + 1) = omega arith in
+        let d : count - (i - 1) ≡ suc (suc (count - (i + 1))) = omega arith in
+        let next : sizes.hash * (i - 1) + sizes.hash ≡ sizes.hash * i = omega arith in
         rw (d, next, e)
 
-    pub climbing_on : i + 1 < count → ltb (hash_at s (sizes.hash * i)) (hash_at s (sizes.hash * (i + 1))) ≡ true → climbing i ≡ climbing (i + 1)
+    pub climbing_on : i < count → ltb (hash_at s (sizes.hash * (i - 1))) (hash_at s (sizes.hash * i)) ≡ true → climbing i ≡ climbing (i + 1)
     unfolding climbing hashes_at
     climbing_on l e =
-        let d : count - i ≡ suc (suc (count - (i + 2))) = omega arith in
-        let f : count - (i + 1) ≡ suc (count - (i + 2)) = omega arith in
-        let next : sizes.hash * i + sizes.hash ≡ sizes.hash * (i + 1) = omega arith in
-        rw (d, f, next) (climbed _ _ _ e)
+        let d : count - (i - 1) ≡ suc (suc (count - (i + 1))) = omega arith in
+        let here : i + 1 - 1 ≡ i = omega arith in
+        let f : count - i ≡ suc (count - (i + 1)) = omega arith in
+        let next : sizes.hash * (i - 1) + sizes.hash ≡ sizes.hash * i = omega arith in
+        rw (d, here, f, next) (climbed _ _ _ e)
 
-    pub climbing_ends : count ≤ i + 1 → climbing i ≡ true
+    pub climbing_ends : count ≤ i → climbing i ≡ true
     unfolding climbing
-    climbing_ends l = one_ascends s (sizes.hash * i) (count - i) (omega arith)
+    climbing_ends l = one_ascends s (sizes.hash * (i - 1)) (count - (i - 1)) (omega arith)
 
   pub sent_many : sizes.sent_hashes < count → sent_good s count ≡ false
   unfolding sent_good

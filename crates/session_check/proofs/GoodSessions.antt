@@ -20,11 +20,10 @@ use Rattle.session_state.proofs.ValueLaws.{kept_length, kept_records}
 use Rattle.session_state.specs.Counts.{fresh_counts, fresh_read_only_counts, restored_counts, set_read_only_counts}
 use Rattle.session_state.specs.Session.{State}
 use Rattle.session_state.specs.Value.{Lent, kept_haves, heard_hashes, heard_haves, state_of}
-use Rattle.session_state.specs.declared.session.Heard.TheVariants.{Nothing, Count}
-use Rattle.session_state.specs.declared.session.Heard.{Heard}
 use Rattle.session_state.specs.declared.session.Session.{Session}
 use Rattle.session_check.specs.SessionGood.{list_good, heard_good, haves_good, sent_good, session_good}
 use Rattle.session_check.proofs.GoodLaws.{heard_count_lem}
+use Rattle.std.specs.Prelude.{Option, Some, None}
 
 -- ---- what is lent with a good session
 
@@ -65,7 +64,7 @@ pub record HavesParts (s haves : List ℕ) (count : ℕ) : Type 0 where
   pub filters : GoodFilters s (kept_haves haves count)
   pub syncs : SyncsThere s (kept_haves haves count)
 
-pub haves_parts : (s haves : List ℕ) (count : ℕ) → haves_good s haves (Count count) ≡ true → HavesParts s haves count
+pub haves_parts : (s haves : List ℕ) (count : ℕ) → haves_good s haves (Some count) ≡ true → HavesParts s haves count
 unfolding haves_good SyncsThere
 haves_parts s haves count e =
     let kept : List ℕ = kept_haves haves count in
@@ -113,9 +112,9 @@ session_tests s l e =
 pub record SessionParts (s : Session) (l : Lent) : Type 0 where
   pub shared : ListParts l.shared s.shared_heads
   pub last_sent : ListParts l.last_sent s.last_sent_heads
-  pub their_heads : (n : ℕ) → s.their_heads ≡ Count n → ListParts l.their_heads n
-  pub their_need : (n : ℕ) → s.their_need ≡ Count n → ListParts l.their_need n
-  pub their_have : (n : ℕ) → s.their_have ≡ Count n → HavesParts l.bytes l.haves n
+  pub their_heads : (n : ℕ) → s.their_heads ≡ Some n → ListParts l.their_heads n
+  pub their_need : (n : ℕ) → s.their_need ≡ Some n → ListParts l.their_need n
+  pub their_have : (n : ℕ) → s.their_have ≡ Some n → HavesParts l.bytes l.haves n
   pub sent : SentParts l.sent s.sent_hashes
 
 pub session_parts : (s : Session) (l : Lent) → session_good s l ≡ true → SessionParts s l
@@ -159,27 +158,27 @@ pub record Within (v : State) : Type 0 where
   pub sent : length v.sent_hashes ≤ sizes.sent_hashes
   pub ascending : ascends v.sent_hashes ≡ true
 
-pub heard_within : (s : List ℕ) (h : Heard) → heard_good s h ≡ true → (hs : List ℕ) → heard_hashes s h ≡ some hs → length hs ≤ sizes.hashes
+pub heard_within : (s : List ℕ) (h : Option ℕ) → heard_good s h ≡ true → (hs : List ℕ) → heard_hashes s h ≡ some hs → length hs ≤ sizes.hashes
 unfolding heard_good heard_hashes
-heard_within s Nothing e hs q = absurd (let z : ◌≡◌ {A = ℕ} 0 1 = cc in omega arith)
-heard_within s (Count n) e hs q =
+heard_within s None e hs q = absurd (let z : ◌≡◌ {A = ℕ} 0 1 = cc in omega arith)
+heard_within s (Some n) e hs q =
     let r : hashes_at s 0 n ≡ hs = cc in
     let few : n ≤ sizes.hashes = (list_parts s n e).few in
     rw (← r, length_hashes_at s 0 n) few
 
-haves_within : (s haves : List ℕ) (h : Heard) → haves_good s haves h ≡ true → (hs : List Have) → heard_haves s haves h ≡ some hs → length hs ≤ sizes.haves
+haves_within : (s haves : List ℕ) (h : Option ℕ) → haves_good s haves h ≡ true → (hs : List Have) → heard_haves s haves h ≡ some hs → length hs ≤ sizes.haves
 unfolding heard_haves
-haves_within s haves Nothing e hs q = absurd (let z : ◌≡◌ {A = ℕ} 0 1 = cc in omega arith)
-haves_within s haves (Count n) e hs q =
+haves_within s haves None e hs q = absurd (let z : ◌≡◌ {A = ℕ} 0 1 = cc in omega arith)
+haves_within s haves (Some n) e hs q =
     let r : haves_of s (kept_haves haves n) ≡ hs = cc in
     let p = haves_parts s haves n e in
     rw (← r, kept_length s haves n p.there) p.few
 
-syncs_within : (s haves : List ℕ) (h : Heard) → haves_good s haves h ≡ true → (hs : List Have) → heard_haves s haves h ≡ some hs
+syncs_within : (s haves : List ℕ) (h : Option ℕ) → haves_good s haves h ≡ true → (hs : List Have) → heard_haves s haves h ≡ some hs
     → EachHave (λ h. length h.last_sync ≤ sizes.hashes) hs
 unfolding heard_haves have_in
-syncs_within s haves Nothing e hs q = absurd (let z : ◌≡◌ {A = ℕ} 0 1 = cc in omega arith)
-syncs_within s haves (Count n) e hs q =
+syncs_within s haves None e hs q = absurd (let z : ◌≡◌ {A = ℕ} 0 1 = cc in omega arith)
+syncs_within s haves (Some n) e hs q =
     let kept : List ℕ = kept_haves haves n in
     let r : haves_of s kept ≡ hs = cc in
     let p = haves_parts s haves n e in
@@ -222,17 +221,17 @@ pub record OfHashes (v : State) : Type 0 where
   pub their_syncs : (hs : List Have) → v.their_have ≡ some hs → EachHave (λ h. AreHashes h.last_sync) hs
   pub sent : AreHashes v.sent_hashes
 
-heard_hashes_lem : (s : List ℕ) (h : Heard) → Bytes s → (hs : List ℕ) → heard_hashes s h ≡ some hs → AreHashes hs
+heard_hashes_lem : (s : List ℕ) (h : Option ℕ) → Bytes s → (hs : List ℕ) → heard_hashes s h ≡ some hs → AreHashes hs
 unfolding heard_hashes
-heard_hashes_lem s Nothing b hs q = absurd (let z : ◌≡◌ {A = ℕ} 0 1 = cc in omega arith)
-heard_hashes_lem s (Count n) b hs q =
+heard_hashes_lem s None b hs q = absurd (let z : ◌≡◌ {A = ℕ} 0 1 = cc in omega arith)
+heard_hashes_lem s (Some n) b hs q =
     let r : hashes_at s 0 n ≡ hs = cc in
     rw (← r) (hashes_are_hashes s 0 n b)
 
-syncs_hashes : (s haves : List ℕ) (h : Heard) → Bytes s → (hs : List Have) → heard_haves s haves h ≡ some hs → EachHave (λ h. AreHashes h.last_sync) hs
+syncs_hashes : (s haves : List ℕ) (h : Option ℕ) → Bytes s → (hs : List Have) → heard_haves s haves h ≡ some hs → EachHave (λ h. AreHashes h.last_sync) hs
 unfolding heard_haves have_in
-syncs_hashes s haves Nothing b hs q = absurd (let z : ◌≡◌ {A = ℕ} 0 1 = cc in omega arith)
-syncs_hashes s haves (Count n) b hs q =
+syncs_hashes s haves None b hs q = absurd (let z : ◌≡◌ {A = ℕ} 0 1 = cc in omega arith)
+syncs_hashes s haves (Some n) b hs q =
     let kept : List ℕ = kept_haves haves n in
     let r : haves_of s kept ≡ hs = cc in
     rw (← r) (each_have (λ h. AreHashes h.last_sync) s kept (λ j h. hashes_are_hashes s (sync_place kept j) (sync_count kept j) b))

@@ -11,9 +11,9 @@ use Rattle.bloom.specs.Have.{have_words, have_count, numbers_in, sync_place, syn
 use Rattle.bloom.proofs.HaveLaws.{HaveParts}
 use Rattle.rules.specs.Sizes.{sizes}
 use Rattle.session_state.specs.Value.{kept_haves}
-use Rattle.session_state.specs.declared.session.Heard.TheVariants.{Count}
 use Rattle.session_check.specs.SessionGood.{haves_good}
 use Rattle.session_check.proofs.GoodSessions.{haves_parts}
+use Rattle.std.specs.Prelude.{Some}
 
 -- ---- a record
 
@@ -39,7 +39,7 @@ pub record KeptEach (s haves : List ℕ) (count : ℕ) : Type 0 where
   pub each : (i : ℕ) → i < count → HaveParts s haves i
   pub syncs : (i : ℕ) → i < count → sync_count haves i ≤ sizes.hashes
 
-pub kept_each : (s haves : List ℕ) (count : ℕ) → haves_good s haves (Count count) ≡ true → KeptEach s haves count
+pub kept_each : (s haves : List ℕ) (count : ℕ) → haves_good s haves (Some count) ≡ true → KeptEach s haves count
 kept_each s haves count e =
     let p = haves_parts s haves count e in
     record {
@@ -74,7 +74,7 @@ module _ (s haves : List ℕ) (count : ℕ) (k : KeptEach s haves count) where
   kept_few : (i : ℕ) → i < count → sync_count (kept_haves haves count) i ≤ sizes.hashes
   kept_few i h = rw (kept_count haves count i h) (k.syncs i h)
 
-  pub each_kept : haves_good s haves (Count count) ≡ true
+  pub each_kept : haves_good s haves (Some count) ≡ true
   unfolding haves_good passed_good passed_few
   each_kept =
       let kept : List ℕ = kept_haves haves count in

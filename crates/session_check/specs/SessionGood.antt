@@ -1,13 +1,11 @@
 -- When a session is bad. 01, Refusal numbers, 10: a count passes its limit, or what is lent of its list; sent hashes don't ascend; a kept have isn't
 -- one.
-use Rattle.std.specs.Prelude.{ℕ, ◌*◌, Bool, true, ◌&&◌, List, leb, length}
+use Rattle.std.specs.Prelude.{ℕ, ◌*◌, Bool, true, ◌&&◌, List, leb, length, Option, Some, None}
 use Rattle.bloom.specs.Have.{have_words, passed_good, passed_few}
 use Rattle.hash_order.specs.Order.{ascends}
 use Rattle.rules.specs.Hash.{hashes_at}
 use Rattle.rules.specs.Sizes.{sizes}
 use Rattle.session_state.specs.Value.{Lent, kept_haves}
-use Rattle.session_state.specs.declared.session.Heard.TheVariants.{Nothing, Count}
-use Rattle.session_state.specs.declared.session.Heard.{Heard}
 use Rattle.session_state.specs.declared.session.Session.{Session}
 
 -- A list of hashes: no more than a list may have, and all of them are lent.
@@ -15,15 +13,15 @@ unfoldable pub list_good : List ℕ → ℕ → Bool
 list_good s n = leb n sizes.hashes && leb (sizes.hash * n) (length s)
 
 -- A list of hashes that may be absent: absent, or good.
-unfoldable pub heard_good : List ℕ → Heard → Bool
-heard_good s Nothing = true
-heard_good s (Count n) = list_good s n
+unfoldable pub heard_good : List ℕ → Option ℕ → Bool
+heard_good s None = true
+heard_good s (Some n) = list_good s n
 
 -- Kept haves, which may be absent: no more than there may be, all of their records are lent, and these are good as passed ones are, with no
 -- more last-sync hashes each than a list may have.
-unfoldable pub haves_good : List ℕ → List ℕ → Heard → Bool
-haves_good s haves Nothing = true
-haves_good s haves (Count n) =
+unfoldable pub haves_good : List ℕ → List ℕ → Option ℕ → Bool
+haves_good s haves None = true
+haves_good s haves (Some n) =
     (leb n sizes.haves && leb (have_words * n) (length haves))
     && (passed_good s (kept_haves haves n) && passed_few (kept_haves haves n))
 

@@ -5,13 +5,13 @@ ghost use Rattle.session_check.specs.SessionGood.{haves_good, lent_of, session_g
 use crate::list::{heard_good, list_good, sent_good};
 use bloom::have::{HAVE_WORDS, passed_few, passed_good};
 use rules::sizes::HAVES;
-use session_state::session::{Heard, Session};
+use session_state::session::Session;
 
 // Whether the peer's haves, which may be absent, are haves over the lent bytes.
-pub fn haves_good(bytes: &[u8], haves: &[u64], heard: Heard) -> bool
+pub fn haves_good(bytes: &[u8], haves: &[u64], heard: Option<usize>) -> bool
     ensures { result ≡ haves_good bytes.now haves.now heard }
 {
-    let Heard::Count(count) = heard else {
+    let Some(count) = heard else {
         return true;
     };
     if HAVES < count {
@@ -47,16 +47,13 @@ pub fn session_good(
     if !list_good(last_sent, session.last_sent_heads) {
         return false;
     }
-    let heads = session.their_heads;
-    if !heard_good(their_heads, heads) {
+    if !heard_good(their_heads, session.their_heads) {
         return false;
     }
-    let need = session.their_need;
-    if !heard_good(their_need, need) {
+    if !heard_good(their_need, session.their_need) {
         return false;
     }
-    let have = session.their_have;
-    if !haves_good(bytes, haves, have) {
+    if !haves_good(bytes, haves, session.their_have) {
         return false;
     }
     if !sent_good(sent, session.sent_hashes) {

@@ -7,7 +7,6 @@ ghost use Rattle.session_check.specs.SessionGood.{list_good, heard_good, sent_go
 
 use hash_order::hashes::hash_before;
 use rules::sizes::{HASH_SIZE, HASHES, SENT_HASHES};
-use session_state::session::Heard;
 
 // Whether `count` hashes can be the list that a buffer starts with.
 pub fn list_good(bytes: &[u8], count: usize) -> bool
@@ -20,12 +19,12 @@ pub fn list_good(bytes: &[u8], count: usize) -> bool
 }
 
 // Whether a list that may be absent is good for the bytes that are lent for it: absent, or no more than a list may have and all of it lent.
-pub fn heard_good(bytes: &[u8], heard: Heard) -> bool
+pub fn heard_good(bytes: &[u8], heard: Option<usize>) -> bool
     ensures { result ≡ heard_good bytes.now heard }
 {
     match heard {
-        Heard::Nothing => true,
-        Heard::Count(count) => list_good(bytes, count),
+        None => true,
+        Some(count) => list_good(bytes, count),
     }
 }
 
@@ -34,12 +33,10 @@ fn ascending(bytes: &[u8], count: usize) -> bool
     requires { sizes.hash * count ≤ length bytes.now }
     ensures { result ≡ ascends (hashes_at bytes.now 0 count) }
 {
-    let mut i = 0;
-    while i + 1 < count {
-        if !hash_before(bytes, HASH_SIZE * i, bytes, HASH_SIZE * (i + 1)) {
+    for i in 1..count {
+        if !hash_before(bytes, HASH_SIZE * (i - 1), bytes, HASH_SIZE * i) {
             return false;
         }
-        i += 1;
     }
     true
 }

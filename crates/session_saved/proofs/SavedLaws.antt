@@ -14,24 +14,13 @@ use Rattle.session_check.proofs.GoodSessions.{list_parts}
 use Rattle.rules.specs.Hash.{Bytes, AreHashes, hashes_at, hashes_bytes}
 use Rattle.rules.specs.Output.{bytes, refuse, Written}
 use Rattle.rules.specs.Sizes.{sizes}
-use Rattle.rules.specs.declared.output.Write.{Write}
-use Rattle.rules.specs.declared.output.Write.TheVariants.{Wrote, Refused as NotWritten}
 use Rattle.rules.specs.declared.refusal.Refusal.{Refusal}
 use Rattle.rules.specs.declared.refusal.Refusal.TheVariants.{Cut, WrongType, NoRoom, BadNumbers}
 use Rattle.rules.proofs.Cases.{split}
-use Rattle.rules.proofs.Hash.{
-  take_drop,
-  slice_parts,
-  length_hashes_at,
-  length_hashes_bytes,
-  hashes_are_hashes,
-  hashes_at_bytes,
-  hashes_there_and_back,
-}
+use Rattle.rules.proofs.Hash.{take_drop, slice_parts, length_hashes_at, length_hashes_bytes, hashes_are_hashes, hashes_at_bytes, hashes_there_and_back}
 use Rattle.rules.proofs.Outputs.{written_bytes, no_room}
 use Rattle.wire.specs.Item.{run, hash_list_bytes, hash_list_at}
 use Rattle.leb128.specs.Number.{shortest, Put}
-use Rattle.wire.specs.declared.parse.Listed.TheVariants.{Items, Refused as NotListed}
 use Rattle.wire.proofs.Item.{HashesInside, hash_list_inside, hash_list_written}
 use Rattle.leb128.proofs.Number.{put_then}
 use Rattle.session_state.specs.Counts.{restored_counts}
@@ -40,8 +29,8 @@ use Rattle.session_state.specs.Value.{Lent, state_of}
 use Rattle.session_state.specs.declared.session.Session.{Session as Counts}
 use Rattle.session_state.proofs.ValueLaws.{restored_value}
 use Rattle.session_saved.specs.Saved.{state_type, state_output, state_at, saved_with, loaded_into, Restored}
-use Rattle.session_saved.specs.declared.saved.SavedRead.{SavedRead}
-use Rattle.session_saved.specs.declared.saved.SavedRead.TheVariants.{Session, Refused}
+use Rattle.std.specs.Prelude.{Result, Ok, Err}
+use Rattle.session_state.specs.declared.session.Session.{Session}
 
 -- ---- writing
 
@@ -69,7 +58,7 @@ module _ (s : List ℕ) (count : ℕ) where
   state_length e x d = rw length-append (omega (arith, prefix_long e))
 
   pub state_no_room : Bytes s → list_good s count ≡ true → (x : ℕ) → x ≡ length (shortest count) → (before : List ℕ) → length before < 1 + x + sizes.hash * count
-      → Written (state_output s count) before before (NotWritten (NoRoom (1 + x + sizes.hash * count)))
+      → Written (state_output s count) before before (Err (NoRoom (1 + x + sizes.hash * count)))
   state_no_room all e x d before h = rw (state_good all e) (no_room _ _ _ (state_length e x d) h)
 
   pub state_written : Bytes s → list_good s count ≡ true → (x : ℕ) → x ≡ length (shortest count)
@@ -77,7 +66,7 @@ module _ (s : List ℕ) (count : ℕ) where
       → 1 + x + sizes.hash * count ≤ length before
       → Put (set before 0 state_type) mid 1 (shortest count) next
       → after ≡ sets mid next (take (sizes.hash * count) s)
-      → Written (state_output s count) before after (Wrote (1 + x + sizes.hash * count))
+      → Written (state_output s count) before after (Ok (1 + x + sizes.hash * count))
   unfolding state_bytes
   state_written all e x d before mid after next h p q =
       rw (state_good all e)
@@ -87,12 +76,12 @@ module _ (s : List ℕ) (count : ℕ) where
 -- ---- reading
 
 module _ (s : List ℕ) where
-  pub state_empty : length s ≡ 0 → state_at s ≡ NotListed (Cut 0)
+  pub state_empty : length s ≡ 0 → state_at s ≡ Err (Cut 0)
   unfolding state_at
   state_empty e = rw (eq-eqb (length s) 0 e)
 
   module _ (some : length s ≡ 0 → ⊥) where
-    pub state_other : (get_or s 0 0 ≡ state_type → ⊥) → state_at s ≡ NotListed (WrongType (get_or s 0 0))
+    pub state_other : (get_or s 0 0 ≡ state_type → ⊥) → state_at s ≡ Err (WrongType (get_or s 0 0))
     unfolding state_at
     state_other f = rw (ne_eqb (length s) 0 some, ne_eqb (get_or s 0 0) state_type f)
 
@@ -101,7 +90,7 @@ module _ (s : List ℕ) where
     state_list e = rw (ne_eqb (length s) 0 some, eq-eqb (get_or s 0 0) state_type e)
 
   -- where the shared heads of a state stand
-  pub state_inside : (start count next : ℕ) → state_at s ≡ Items (run start count) next → HashesInside s 1 (length s) (run start count) next
+  pub state_inside : (start count next : ℕ) → state_at s ≡ Ok (run start count, next) → HashesInside s 1 (length s) (run start count) next
   state_inside start count next e =
       split (eqb (length s) 0)
       (λ t. absurd (let z : ◌≡◌ {A = ℕ} 0 1 = cc (state_empty (eqb-true _ _ t)) in omega arith))
@@ -112,12 +101,12 @@ module _ (s : List ℕ) where
       (λ u. absurd (let z : ◌≡◌ {A = ℕ} 0 1 = cc (state_other some (eqb-false _ _ u)) in omega arith)))
 
 module _ (s before : List ℕ) where
-  pub load_refused : (r : Refusal) → state_at s ≡ NotListed r → Restored s before before (Refused r)
+  pub load_refused : (r : Refusal) → state_at s ≡ Err r → Restored s before before (Err r)
   unfolding saved_with loaded_into
   load_refused r e = record { answer = rw e; content = rw e }
 
-  module _ (start count next : ℕ) (is : state_at s ≡ Items (run start count) next) where
-    pub load_short : length before < sizes.hash * count → Restored s before before (Refused (NoRoom (sizes.hash * count)))
+  module _ (start count next : ℕ) (is : state_at s ≡ Ok (run start count, next)) where
+    pub load_short : length before < sizes.hash * count → Restored s before before (Err (NoRoom (sizes.hash * count)))
     unfolding saved_with loaded_into
     load_short h = record { answer = rw (is, lt-ltb _ _ h); content = rw (is, lt-ltb _ _ h) }
 
@@ -135,31 +124,31 @@ module _ (s before : List ℕ) where
     pub load_session : (after : List ℕ) → sizes.hash * count ≤ length before → after ≡ sets before 0 (take (next - start) (drop start s))
         → (session : Counts)
         → session ≡ restored_counts count
-        → Restored s before after (Session session)
+        → Restored s before after (Ok session)
     unfolding saved_with loaded_into
-    load_session after h q session e = record { answer = rw (is, le-ltb _ _ h) (ap Session e); content = rw (is, le-ltb _ _ h, ← part_is) q }
+    load_session after h q session e = record { answer = rw (is, le-ltb _ _ h) (ap Ok e); content = rw (is, le-ltb _ _ h, ← part_is) q }
 
 state_out : (s : List ℕ) (count : ℕ) → list_good s count ≡ true → state_output s count ≡ bytes (state_type ∷ hash_list_bytes (hashes_at s 0 count))
 unfolding state_output
 state_out s count e = rw e
 
-loaded : (before s after : List ℕ) (start count next : ℕ) (r : SavedRead) → sizes.hash * count ≤ length before → state_at s ≡ Items (run start count) next
+loaded : (before s after : List ℕ) (start count next : ℕ) (r : Result Session Refusal) → sizes.hash * count ≤ length before → state_at s ≡ Ok (run start count, next)
     → Restored s before after r
-    → (r ≡ Session (restored_counts count)) × (after ≡ sets before 0 (slice start next s))
+    → (r ≡ Ok (restored_counts count)) × (after ≡ sets before 0 (slice start next s))
 unfolding saved_with loaded_into
 loaded before s after start count next r h e l = (rw (e, le-ltb _ _ h) at l.answer, rw (e, le-ltb _ _ h) at l.content)
 
 -- ---- the laws
 
 -- A saved state is read in one way.
-pub restored_once : {s before a₁ a₂ : List ℕ} {r₁ r₂ : SavedRead} → Restored s before a₁ r₁ → Restored s before a₂ r₂ → (r₁ ≡ r₂) × (a₁ ≡ a₂)
+pub restored_once : {s before a₁ a₂ : List ℕ} {r₁ r₂ : Result Session Refusal} → Restored s before a₁ r₁ → Restored s before a₂ r₂ → (r₁ ≡ r₂) × (a₁ ≡ a₂)
 restored_once w v = (w.answer ∙ sym v.answer, w.content ∙ sym v.content)
 
 -- Reading what was written, whatever follows it, gives the shared heads back: as many, and the same.
 pub state_written_read : (s rest : List ℕ) (count : ℕ) → list_good s count ≡ true → AreHashes (hashes_at s 0 count)
     → let t = state_type ∷ (hash_list_bytes (hashes_at s 0 count) ++ rest) in
     let start = 1 + length (shortest count) in
-    (state_at t ≡ Items (run start count) (1 + length (hash_list_bytes (hashes_at s 0 count)))) × (hashes_at t start count ≡ hashes_at s 0 count)
+    (state_at t ≡ Ok (run start count, 1 + length (hash_list_bytes (hashes_at s 0 count)))) × (hashes_at t start count ≡ hashes_at s 0 count)
 state_written_read s rest count good are =
     let hs : List ℕ = hashes_at s 0 count in
     let t : List ℕ = state_type ∷ (hash_list_bytes hs ++ rest) in
@@ -185,7 +174,7 @@ heads_stand hs rest count next many ends =
     rw (ends, ← many) (slice_parts (sizes.hash * length hs) (1 + length n) (length t) t b rest (omega arith) long behind).0
 
 -- what is written where there is room, the rest of the buffer behind it
-saved_bytes : (s before saved : List ℕ) (count : ℕ) (w : Write) → list_good s count ≡ true
+saved_bytes : (s before saved : List ℕ) (count : ℕ) (w : Result ℕ Refusal) → list_good s count ≡ true
     → 1 + length (hash_list_bytes (hashes_at s 0 count)) ≤ length before
     → Written (state_output s count) before saved w
     → saved ≡ state_type ∷ (hash_list_bytes (hashes_at s 0 count) ++ drop (1 + length (hash_list_bytes (hashes_at s 0 count))) before)
@@ -201,13 +190,13 @@ saved_bytes s before saved count w good room v =
 
 -- A session with these shared heads: their number, the hashes in the buffer that was lent for them, and the session as a value, which is fresh
 -- but for them whatever else is lent with it.
-pub record LoadsBack (r : SavedRead) (after : List ℕ) (count : ℕ) (hs : List ℕ) : Type 0 where
-  pub session : r ≡ Session (restored_counts count)
+pub record LoadsBack (r : Result Session Refusal) (after : List ℕ) (count : ℕ) (hs : List ℕ) : Type 0 where
+  pub session : r ≡ Ok (restored_counts count)
   pub heads : hashes_at after 0 count ≡ hs
   pub value : (l : Lent) → l.shared ≡ after → state_of (restored_counts count) l ≡ restored hs
 
 -- hashes that are copied to the start of a buffer are the list that it starts with
-loads : (before s after : List ℕ) (start count next : ℕ) (r : SavedRead) → sizes.hash * count ≤ length before → state_at s ≡ Items (run start count) next
+loads : (before s after : List ℕ) (start count next : ℕ) (r : Result Session Refusal) → sizes.hash * count ≤ length before → state_at s ≡ Ok (run start count, next)
     → Restored s before after r
     → (hs : List ℕ)
     → AreHashes hs
@@ -231,8 +220,8 @@ loads before s after start count next r wide is l hs are many part =
     }
 
 -- Reading a saved state loads its hashes.
-pub read_loads : (s before after : List ℕ) (start count next : ℕ) (r : SavedRead) → Bytes s → sizes.hash * count ≤ length before
-    → state_at s ≡ Items (run start count) next
+pub read_loads : (s before after : List ℕ) (start count next : ℕ) (r : Result Session Refusal) → Bytes s → sizes.hash * count ≤ length before
+    → state_at s ≡ Ok (run start count, next)
     → Restored s before after r
     → LoadsBack r after count (hashes_at s start count)
 read_loads s before after start count next r all wide is l =
@@ -243,7 +232,7 @@ read_loads s before after start count next r all wide is l =
     (ap (λ (k : ℕ). slice start k s) e ∙ sym (hashes_at_bytes s start count all fits))
 
 -- Saving and then loading, with room for both, loads the shared heads that were saved.
-pub saved_and_loaded : (s before saved shared after : List ℕ) (count : ℕ) (w : Write) (r : SavedRead)
+pub saved_and_loaded : (s before saved shared after : List ℕ) (count : ℕ) (w : Result ℕ Refusal) (r : Result Session Refusal)
     → list_good s count ≡ true
     → AreHashes (hashes_at s 0 count)
     → 1 + length (hash_list_bytes (hashes_at s 0 count)) ≤ length before
@@ -258,6 +247,6 @@ saved_and_loaded s before saved shared after count w r good are room wide v l =
     let many : length hs ≡ count = length_hashes_at s 0 count in
     let start : ℕ = 1 + length (shortest count) in
     let next : ℕ = 1 + length (hash_list_bytes hs) in
-    let read : state_at saved ≡ Items (run start count) next = rw is (state_written_read s rest count good are).0 in
+    let read : state_at saved ≡ Ok (run start count, next) = rw is (state_written_read s rest count good are).0 in
     let ends : next ≡ start + sizes.hash * count = (state_inside saved start count next read).whole in
     loads shared saved after start count next r wide read l hs are many (rw is (heads_stand hs rest count next many ends))

@@ -15,27 +15,26 @@ use Rattle.rules.proofs.Hash.{length_hashes_at}
 use Rattle.session_state.specs.Counts.{fresh_counts, fresh_read_only_counts, restored_counts, switched_off_counts, set_read_only_counts}
 use Rattle.session_state.specs.Session.{fresh, fresh_read_only, restored, switched_off, set_read_only}
 use Rattle.session_state.specs.Value.{Lent, kept_haves, heard_count, heard_hashes, heard_haves, state_of, count_heard, counts_of}
-use Rattle.session_state.specs.declared.session.Heard.{Heard}
-use Rattle.session_state.specs.declared.session.Heard.TheVariants.{Nothing, Count}
 use Rattle.session_state.specs.declared.session.Session.{Session}
 use Rattle.session_state.proofs.CountsLaws.{counts_same, counts_on, counts_off}
 use Rattle.session_state.proofs.SessionLaws.{switch_same, switch_on, switch_off}
+use Rattle.std.specs.Prelude.{Option, Some, None}
 
 -- ---- what was heard
 
-pub hashes_absent : (s : List ℕ) (h : Heard) → h ≡ Nothing → heard_hashes s h ≡ none
+pub hashes_absent : (s : List ℕ) (h : Option ℕ) → h ≡ None → heard_hashes s h ≡ none
 unfolding heard_hashes
 hashes_absent s h e = rw e
 
-pub hashes_there : (s : List ℕ) (h : Heard) (n : ℕ) → h ≡ Count n → heard_hashes s h ≡ some (hashes_at s 0 n)
+pub hashes_there : (s : List ℕ) (h : Option ℕ) (n : ℕ) → h ≡ Some n → heard_hashes s h ≡ some (hashes_at s 0 n)
 unfolding heard_hashes
 hashes_there s h n e = rw e
 
-pub haves_absent : (s haves : List ℕ) (h : Heard) → h ≡ Nothing → heard_haves s haves h ≡ none
+pub haves_absent : (s haves : List ℕ) (h : Option ℕ) → h ≡ None → heard_haves s haves h ≡ none
 unfolding heard_haves
 haves_absent s haves h e = rw e
 
-pub haves_there_lem : (s haves : List ℕ) (h : Heard) (n : ℕ) → h ≡ Count n → heard_haves s haves h ≡ some (haves_of s (kept_haves haves n))
+pub haves_there_lem : (s haves : List ℕ) (h : Option ℕ) (n : ℕ) → h ≡ Some n → heard_haves s haves h ≡ some (haves_of s (kept_haves haves n))
 unfolding heard_haves
 haves_there_lem s haves h n e = rw e
 
@@ -84,19 +83,19 @@ unfolding haves_of
 kept_length s haves n h = length_haves_from s (kept_haves haves n) (have_count (kept_haves haves n)) 0 ∙ kept_records haves n h
 
 -- what was heard is as long as its count says
-pub hashes_counted : (s : List ℕ) (h : Heard) → count_heard (heard_hashes s h) ≡ h
+pub hashes_counted : (s : List ℕ) (h : Option ℕ) → count_heard (heard_hashes s h) ≡ h
 unfolding heard_hashes
-hashes_counted s Nothing = refl
-hashes_counted s (Count n) = ap Count (length_hashes_at s 0 n)
+hashes_counted s None = refl
+hashes_counted s (Some n) = ap Some (length_hashes_at s 0 n)
 
 -- All records of the haves that were heard are lent.
-abbrev pub HavesLent : List ℕ → Heard → Type 0
-HavesLent haves h = (n : ℕ) → h ≡ Count n → have_words * n ≤ length haves
+abbrev pub HavesLent : List ℕ → Option ℕ → Type 0
+HavesLent haves h = (n : ℕ) → h ≡ Some n → have_words * n ≤ length haves
 
-pub haves_counted : (s haves : List ℕ) (h : Heard) → HavesLent haves h → count_heard (heard_haves s haves h) ≡ h
+pub haves_counted : (s haves : List ℕ) (h : Option ℕ) → HavesLent haves h → count_heard (heard_haves s haves h) ≡ h
 unfolding heard_haves
-haves_counted s haves Nothing f = refl
-haves_counted s haves (Count n) f = ap Count (kept_length s haves n (f n refl))
+haves_counted s haves None f = refl
+haves_counted s haves (Some n) f = ap Some (kept_length s haves n (f n refl))
 
 -- a session that was read from counts has these counts
 pub counts_back : (s : Session) (l : Lent) → HavesLent l.haves s.their_have → counts_of (state_of s l) ≡ s
@@ -118,7 +117,7 @@ same_counts s t l f g e = sym (counts_back s l f) ∙ ap counts_of e ∙ counts_
 abbrev room : ℕ → Lent
 room n = record { shared = []; last_sent = []; their_heads = []; their_need = []; haves = replicate (have_words * n) 0; bytes = []; sent = [] }
 
-room_lent : (h : Heard) (k : ℕ) → heard_count h ≤ k → HavesLent (room k).haves h
+room_lent : (h : Option ℕ) (k : ℕ) → heard_count h ≤ k → HavesLent (room k).haves h
 room_lent h k le n e =
     let m : heard_count h ≡ n = rw e in
     let long : length (room k).haves ≡ have_words * k = length-replicate (have_words * k) 0 in

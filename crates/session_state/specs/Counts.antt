@@ -1,19 +1,17 @@
 -- The struct that code keeps of a session: its flags and the counts of its lists. What its functions return; with the lent lists each is the
 -- session of the same name in Session (ValueLaws).
-use Rattle.std.specs.Prelude.{ℕ, Bool, true, false, cond}
-use Rattle.session_state.specs.declared.session.Heard.{Heard}
-use Rattle.session_state.specs.declared.session.Heard.TheVariants.{Nothing, Count}
+use Rattle.std.specs.Prelude.{ℕ, Bool, true, false, cond, Option, Some, None}
 use Rattle.session_state.specs.declared.session.Session.{Session}
 
 -- Nothing was said yet, but some heads are shared (their number) and these haves were heard; the peer's capabilities (V2, resets), whether this unit takes no
 -- changes, and whether a reset is wanted.
-abbrev pub begun_counts : ℕ → Heard → Bool → Bool → Bool → Bool → Session
+abbrev pub begun_counts : ℕ → Option ℕ → Bool → Bool → Bool → Bool → Session
 begun_counts shared have v2 reset read_only wantsReset =
     record {
       shared_heads = shared;
       last_sent_heads = 0;
-      their_heads = Nothing;
-      their_need = Nothing;
+      their_heads = None;
+      their_need = None;
       their_have = have;
       sent_hashes = 0;
       in_flight = false;
@@ -27,15 +25,15 @@ begun_counts shared have v2 reset read_only wantsReset =
 
 -- Nothing was said yet.
 abbrev pub fresh_counts : Session
-fresh_counts = begun_counts 0 Nothing false false false false
+fresh_counts = begun_counts 0 None false false false false
 
 -- Nothing was said yet, and the unit takes no changes.
 abbrev pub fresh_read_only_counts : Session
-fresh_read_only_counts = begun_counts 0 Nothing false false true false
+fresh_read_only_counts = begun_counts 0 None false false true false
 
 -- `shared` heads were saved; their haves are present and none.
 abbrev pub restored_counts : ℕ → Session
-restored_counts shared = begun_counts shared (Count 0) false false false false
+restored_counts shared = begun_counts shared (Some 0) false false false false
 
 -- Read-only from off to on.
 abbrev pub switched_on_counts : Session → Session
@@ -58,7 +56,7 @@ switched_on_counts s =
 
 -- Read-only from on to off: the lists are gone, so their buffers are free.
 abbrev pub switched_off_counts : Session → Session
-switched_off_counts s = begun_counts 0 Nothing s.supports_v2 s.supports_reset false true
+switched_off_counts s = begun_counts 0 None s.supports_v2 s.supports_reset false true
 
 -- Setting read-only to what it is changes nothing.
 unfoldable pub set_read_only_counts : Session → Bool → Session

@@ -1,11 +1,9 @@
 -- The session that a struct of counts is, with the lists that are lent beside it.
-use Rattle.std.specs.Prelude.{ℕ, ◌*◌, List, length, take}
-use Rattle.std.proofs.Math.Option.{Option, none, some}
+use Rattle.std.specs.Prelude.{ℕ, ◌*◌, List, length, take, Option, Some, None}
+use Rattle.std.proofs.Math.Option.{Option as Maybe, none, some}
 use Rattle.bloom.specs.Have.{Have, have_words, haves_of}
 use Rattle.rules.specs.Hash.{hashes_at}
 use Rattle.session_state.specs.Session.{State}
-use Rattle.session_state.specs.declared.session.Heard.{Heard}
-use Rattle.session_state.specs.declared.session.Heard.TheVariants.{Nothing, Count}
 use Rattle.session_state.specs.declared.session.Session.{Session}
 
 -- The lent lists of a session: buffers of hashes, and the peer's haves as words over bytes.
@@ -23,19 +21,19 @@ abbrev pub kept_haves : List ℕ → ℕ → List ℕ
 kept_haves haves n = take (have_words * n) haves
 
 -- How many were heard: none where nothing was.
-abbrev pub heard_count : Heard → ℕ
-heard_count Nothing = 0
-heard_count (Count n) = n
+abbrev pub heard_count : Option ℕ → ℕ
+heard_count None = 0
+heard_count (Some n) = n
 
 -- What the peer said last, which may be absent: the first hashes of a buffer, or the first haves.
-unfoldable pub heard_hashes : List ℕ → Heard → Option (List ℕ)
-heard_hashes s Nothing = none
-heard_hashes s (Count n) = some (hashes_at s 0 n)
+unfoldable pub heard_hashes : List ℕ → Option ℕ → Maybe (List ℕ)
+heard_hashes s None = none
+heard_hashes s (Some n) = some (hashes_at s 0 n)
 
 -- The haves that the peer said last, which may be absent: the first records of a list, over the lent bytes.
-unfoldable pub heard_haves : List ℕ → List ℕ → Heard → Option (List Have)
-heard_haves s haves Nothing = none
-heard_haves s haves (Count n) = some (haves_of s (kept_haves haves n))
+unfoldable pub heard_haves : List ℕ → List ℕ → Option ℕ → Maybe (List Have)
+heard_haves s haves None = none
+heard_haves s haves (Some n) = some (haves_of s (kept_haves haves n))
 
 -- The session that counts and lent lists are.
 abbrev pub state_of : Session → Lent → State
@@ -57,9 +55,9 @@ state_of s l =
     }
 
 -- The counts of a session: how long its lists are, and its flags.
-abbrev pub count_heard : {A : Type 0} → Option (List A) → Heard
-count_heard none = Nothing
-count_heard (some l) = Count (length l)
+abbrev pub count_heard : {A : Type 0} → Maybe (List A) → Option ℕ
+count_heard none = None
+count_heard (some l) = Some (length l)
 
 -- The counts of a session.
 abbrev pub counts_of : State → Session

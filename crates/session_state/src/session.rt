@@ -3,21 +3,11 @@ ghost use Rattle.std.specs.Prelude.{false, ◌≡◌};
 ghost use Rattle.session_state.specs.Value.{heard_count};
 ghost use Rattle.session_state.specs.Counts.{begun_counts, fresh_counts, fresh_read_only_counts, restored_counts, set_read_only_counts};
 
-// How many hashes or haves the peer's last message had, if there was one.
-#[derive(Clone, Copy)]
-pub enum Heard {
-    Nothing,
-    Count(usize),
-}
-
 // How many were heard: none where nothing was.
-pub fn heard_count(heard: Heard) -> usize
+pub fn heard_count(heard: Option<usize>) -> usize
     ensures { result ≡ heard_count heard }
 {
-    match heard {
-        Heard::Nothing => 0,
-        Heard::Count(count) => count,
-    }
+    heard.unwrap_or(0)
 }
 
 #[derive(Clone, Copy)]
@@ -26,10 +16,10 @@ pub struct Session {
     pub shared_heads: usize,
     // The heads that were sent last.
     pub last_sent_heads: usize,
-    // What the peer said last: its heads, what it needs, and its haves.
-    pub their_heads: Heard,
-    pub their_need: Heard,
-    pub their_have: Heard,
+    // What the peer said last, if anything: how many heads it has, hashes it needs, and haves.
+    pub their_heads: Option<usize>,
+    pub their_need: Option<usize>,
+    pub their_have: Option<usize>,
     // Hashes sent in this session, strictly ascending.
     pub sent_hashes: usize,
     // Whether what was sent last is still unanswered.
@@ -48,14 +38,14 @@ pub struct Session {
 
 impl Session {
     // A session in which nothing was said, but these haves were heard.
-    fn heard_only(their_have: Heard) -> Session
+    fn heard_only(their_have: Option<usize>) -> Session
         ensures { result ≡ begun_counts 0 their_have false false false false }
     {
         Session {
             shared_heads: 0,
             last_sent_heads: 0,
-            their_heads: Heard::Nothing,
-            their_need: Heard::Nothing,
+            their_heads: None,
+            their_need: None,
             their_have,
             sent_hashes: 0,
             in_flight: false,
@@ -72,7 +62,7 @@ impl Session {
     pub fn new() -> Session
         ensures { result ≡ fresh_counts }
     {
-        Session::heard_only(Heard::Nothing)
+        Session::heard_only(None)
     }
 
     // A session in which nothing was said yet, of a unit that takes no changes.
@@ -88,7 +78,7 @@ impl Session {
     pub fn restored(shared_heads: usize) -> Session
         ensures { result ≡ restored_counts shared_heads }
     {
-        let mut s = Session::heard_only(Heard::Count(0));
+        let mut s = Session::heard_only(Some(0));
         s.shared_heads = shared_heads;
         s
     }

@@ -45,15 +45,13 @@ use Rattle.settings.specs.Settings.{
   appended,
 }
 use Rattle.settings.specs.declared.choice.Choice.{Choice}
-use Rattle.settings.specs.declared.find.SettingAnswer.TheVariants.{Chosen, Refused as Unknown}
 use Rattle.table.proofs.CheckLaws.{RecordsSound, records_sound, good_records}
 use Rattle.table.specs.TableCalls.{after_check}
-use Rattle.table.specs.declared.check.Checked.{Checked}
-use Rattle.table.specs.declared.check.Checked.TheVariants.{Good, Refused}
+use Rattle.std.specs.Prelude.{Result, Ok, Err}
 
 -- ---- a list that was checked
 
-never_good : (i n : ℕ) → Refused (BadSettings i) ≡ Good n → ⊥
+never_good : (i n : ℕ) → Err (BadSettings i) ≡ Ok n → ⊥
 never_good i n e =
     let z : ◌≡◌ {A = ℕ} 0 1 = cc in
     omega arith
@@ -61,19 +59,19 @@ never_good i n e =
 abbrev Sound : List ℕ → ℕ → Type 0
 Sound s n = RecordsSound (setting_good s) setting_size (length s) n
 
-pub sound_has : (s : List ℕ) (n : ℕ) → settings_checked s ≡ Good n → Sound s n
+pub sound_has : (s : List ℕ) (n : ℕ) → settings_checked s ≡ Ok n → Sound s n
 unfolding settings_checked
 sound_has s n e = records_sound _ (setting_good s) setting_size (length s) never_good n e
 
 counted : (s : List ℕ) (n : ℕ) → length s ≡ n * setting_size → length s / setting_size ≡ n
 counted s n whole = ap (λ (k : ℕ). k / setting_size) whole ∙ mul-div_cancel n {n = setting_size} (omega arith)
 
-has_sound : (s : List ℕ) (n : ℕ) → length s ≡ n * setting_size → ((i : ℕ) → i < n → setting_good s i ≡ true) → settings_checked s ≡ Good n
+has_sound : (s : List ℕ) (n : ℕ) → length s ≡ n * setting_size → ((i : ℕ) → i < n → setting_good s i ≡ true) → settings_checked s ≡ Ok n
 unfolding settings_checked
 has_sound s n whole each =
     let is = counted s n whole in
     let rest : length s % setting_size ≡ 0 = ap (λ (k : ℕ). k % setting_size) whole ∙ mul-mod_left n setting_size in
-    good_records _ (setting_good s) setting_size (length s) rest (λ i h. each i (omega arith)) ∙ ap Good is
+    good_records _ (setting_good s) setting_size (length s) rest (λ i h. each i (omega arith)) ∙ ap Ok is
 
 -- ---- what stands before and behind
 
@@ -252,7 +250,7 @@ allowed_pair c e =
 record Given (s : List ℕ) (station : ℕ) (c : Choice) (r : List ℕ) : Type 0 where
   count : ℕ
   sound : Sound s count
-  checked : settings_checked s ≡ Good count
+  checked : settings_checked s ≡ Ok count
   ok : allowed c ≡ true
   named : station ≤ most_number
   left : newest_version s < most_number
@@ -267,9 +265,9 @@ given_has : (s : List ℕ) (station : ℕ) (c : Choice) (r : List ℕ) → appen
 unfolding appended after_check setting_after appendable
 given_has s station c r e = opened (settings_checked s) refl
   where
-    opened : (g : Checked) → settings_checked s ≡ g → Given s station c r
-    opened (Refused z) q = absurd (no_bytes z r (rw q at e))
-    opened (Good n) q =
+    opened : (g : Result ℕ Refusal) → settings_checked s ≡ g → Given s station c r
+    opened (Err z) q = absurd (no_bytes z r (rw q at e))
+    opened (Ok n) q =
         let e₁ = rw q at e in
         split (allowed c && (leb station most_number && ltb (newest_version s) most_number))
         (λ x.
@@ -324,7 +322,7 @@ module _ (s : List ℕ) (station : ℕ) (c : Choice) (r : List ℕ) (a : Given s
       in
       ap₂ (λ (l : List ℕ) (k : ℕ). setting_good (s ++ l) k) a.is same ∙ good)
 
-  checked_after : settings_checked (s ++ r) ≡ Good (suc a.count)
+  checked_after : settings_checked (s ++ r) ≡ Ok (suc a.count)
   checked_after = has_sound (s ++ r) (suc a.count) whole_after each_after
 
   behind : setting_at (s ++ r) a.count ≡ x
@@ -344,11 +342,11 @@ module _ (s : List ℕ) (station : ℕ) (c : Choice) (r : List ℕ) (a : Given s
       ∙ ap (λ (k : ℕ). settings_at s 0 k ++ x ∷ []) a.sound.count
 
   after_is : (other version : ℕ) → setting_for (s ++ r) other version
-      ≡ Chosen (cond (eqb station other && leb (suc (newest_version s)) version) c (choice_of (settings_of s) other version))
+      ≡ Ok (cond (eqb station other && leb (suc (newest_version s)) version) c (choice_of (settings_of s) other version))
   unfolding setting_for choice_of
-  after_is other version = rw (checked_after, values_after) (ap Chosen (asked_end crate_choice (settings_of s) x other version))
+  after_is other version = rw (checked_after, values_after) (ap Ok (asked_end crate_choice (settings_of s) x other version))
 
-  before_is : (other version : ℕ) → setting_for s other version ≡ Chosen (choice_of (settings_of s) other version)
+  before_is : (other version : ℕ) → setting_for s other version ≡ Ok (choice_of (settings_of s) other version)
   unfolding setting_for
   before_is other version = rw a.checked
 
@@ -363,24 +361,24 @@ module _ (s : List ℕ) (station : ℕ) (c : Choice) (r : List ℕ) (a : Given s
       record {
         long = ap length a.is ∙ record-long x;
         bytes = record-bytes;
-        good = λ n e. checked_after ∙ ap (λ (m : ℕ). Good (suc m)) (let same : Good a.count ≡ Good n = sym a.checked ∙ e in let z : a.count ≡ n = cc in z);
+        good = λ n e. checked_after ∙ ap (λ (m : ℕ). Ok (suc m)) (let same : Ok a.count ≡ Ok n = sym a.checked ∙ e in let z : a.count ≡ n = cc in z);
         values = values_after;
         newest = newest_after;
         stays =
             λ other version h.
             after_is other version
-            ∙ ap (λ (t : Bool). Chosen (cond t c (choice_of (settings_of s) other version)))
+            ∙ ap (λ (t : Bool). Ok (cond t c (choice_of (settings_of s) other version)))
             (ap (λ (t : Bool). eqb station other && t) (lt-leb (suc (newest_version s)) version (omega arith)) ∙ and_off (eqb station other))
             ∙ sym (before_is other version);
         others =
             λ other version h.
             after_is other version
-            ∙ ap (λ (t : Bool). Chosen (cond (t && leb (suc (newest_version s)) version) c (choice_of (settings_of s) other version))) (ne_eqb station other (λ q. h (sym q)))
+            ∙ ap (λ (t : Bool). Ok (cond (t && leb (suc (newest_version s)) version) c (choice_of (settings_of s) other version))) (ne_eqb station other (λ q. h (sym q)))
             ∙ sym (before_is other version);
         new =
             λ version h.
             after_is station version
-            ∙ ap₂ (λ (t u : Bool). Chosen (cond (t && u) c (choice_of (settings_of s) station version))) (eq-eqb station station refl) (le-leb (suc (newest_version s)) version h);
+            ∙ ap₂ (λ (t u : Bool). Ok (cond (t && u) c (choice_of (settings_of s) station version))) (eq-eqb station station refl) (le-leb (suc (newest_version s)) version h);
       }
 
 -- ---- answers are allowed
@@ -420,15 +418,15 @@ crate_allowed : allowed crate_choice ≡ true
 unfolding allowed
 crate_allowed = refl
 
-within_list : (s : List ℕ) (station version : ℕ) (c : Choice) → setting_for s station version ≡ Chosen c → allowed c ≡ true
+within_list : (s : List ℕ) (station version : ℕ) (c : Choice) → setting_for s station version ≡ Ok c → allowed c ≡ true
 unfolding setting_for choice_of settings_of
 within_list s station version c e = opened (settings_checked s) refl
   where
-    opened : (g : Checked) → settings_checked s ≡ g → allowed c ≡ true
-    opened (Refused z) q = absurd (let b : Unknown z ≡ Chosen c = rw q at e in let w : ◌≡◌ {A = ℕ} 0 1 = cc in omega arith)
-    opened (Good n) q =
+    opened : (g : Result ℕ Refusal) → settings_checked s ≡ g → allowed c ≡ true
+    opened (Err z) q = absurd (let b : Err z ≡ Ok c = rw q at e in let w : ◌≡◌ {A = ℕ} 0 1 = cc in omega arith)
+    opened (Ok n) q =
         let f = sound_has s n q in
-        let same : Chosen (asked_from crate_choice (settings_at s 0 (length s / setting_size)) station version) ≡ Chosen c = rw q at e in
+        let same : Ok (asked_from crate_choice (settings_at s 0 (length s / setting_size)) station version) ≡ Ok c = rw q at e in
         let is : asked_from crate_choice (settings_at s 0 (length s / setting_size)) station version ≡ c = cc in
         ap allowed (sym is) ∙ asked_allowed s 0 (length s / setting_size) crate_choice station version crate_allowed (λ j p r. f.each j (omega (arith, f.count)))
 

@@ -40,12 +40,11 @@ use Rattle.settings.specs.Settings.{
   appended,
 }
 use Rattle.settings.specs.declared.choice.Choice.{Choice}
-use Rattle.settings.specs.declared.find.SettingAnswer.TheVariants.{Chosen, Refused as Unknown}
 use Rattle.settings.proofs.HistoryLaws.{sound_has, allowed_small}
 use Rattle.table.proofs.CheckLaws.{records_bad, records_partial, records_good}
 use Rattle.table.specs.TableBytes.{first_bad}
 use Rattle.table.specs.TableCalls.{after_check}
-use Rattle.table.specs.declared.check.Checked.TheVariants.{Good, Refused}
+use Rattle.std.specs.Prelude.{Ok, Err}
 
 -- ---- a choice
 
@@ -138,16 +137,16 @@ setting_made version station c v s b p e f g h = rw (e, f, g, h)
 -- ---- a list is checked
 
 module _ (s : List ℕ) (r : ℕ) (e : r ≡ first_bad (setting_good s) 0 (length s / setting_size)) where
-  pub settings_bad : r < length s / setting_size → Refused (BadSettings r) ≡ settings_checked s
+  pub settings_bad : r < length s / setting_size → Err (BadSettings r) ≡ settings_checked s
   unfolding settings_checked
   settings_bad h = sym (records_bad _ (setting_good s) setting_size (length s) r e h)
 
   module _ (none : length s / setting_size ≤ r) where
-    pub settings_partial : (length s % setting_size ≡ 0 → ⊥) → Refused (BadSettings (length s / setting_size)) ≡ settings_checked s
+    pub settings_partial : (length s % setting_size ≡ 0 → ⊥) → Err (BadSettings (length s / setting_size)) ≡ settings_checked s
     unfolding settings_checked
     settings_partial h = sym (records_partial _ (setting_good s) setting_size (length s) r e none h)
 
-    pub settings_fine : length s % setting_size ≡ 0 → Good (length s / setting_size) ≡ settings_checked s
+    pub settings_fine : length s % setting_size ≡ 0 → Ok (length s / setting_size) ≡ settings_checked s
     unfolding settings_checked
     settings_fine h = sym (records_good _ (setting_good s) setting_size (length s) r e none h)
 
@@ -189,17 +188,17 @@ module _ (s : List ℕ) (station version : ℕ) where
     counted_one q h = rw (← is, eq-eqb st station q, ← read, le-leb v version h)
 
 module _ (s : List ℕ) (station version : ℕ) where
-  pub asked_refused : (r : Refusal) → settings_checked s ≡ Refused r → Unknown r ≡ setting_for s station version
+  pub asked_refused : (r : Refusal) → settings_checked s ≡ Err r → Err r ≡ setting_for s station version
   unfolding setting_for
   asked_refused r e = rw e
 
-  pub asked_found : (n : ℕ) → settings_checked s ≡ Good n → (c : Choice) → c ≡ choice_of (settings_at s 0 n) station version
-      → Chosen c ≡ setting_for s station version
+  pub asked_found : (n : ℕ) → settings_checked s ≡ Ok n → (c : Choice) → c ≡ choice_of (settings_at s 0 n) station version
+      → Ok c ≡ setting_for s station version
   unfolding setting_for settings_of
   asked_found n e c f = rw (e, ← (sound_has s n e).count, f)
 
 -- so many records stand there
-pub checked_long : (s : List ℕ) (n : ℕ) → settings_checked s ≡ Good n → n * setting_size ≤ length s
+pub checked_long : (s : List ℕ) (n : ℕ) → settings_checked s ≡ Ok n → n * setting_size ≤ length s
 checked_long s n e = let z = (sound_has s n e).whole in omega arith
 
 -- ---- appended
@@ -234,10 +233,10 @@ module _ (newest station : ℕ) (c : Choice) where
   append_new e = rw (e, add-one newest)
 
 module _ (s : List ℕ) (station : ℕ) (c : Choice) where
-  pub append_refused : (r : Refusal) → settings_checked s ≡ Refused r → appended s station c ≡ Output.refuse r
+  pub append_refused : (r : Refusal) → settings_checked s ≡ Err r → appended s station c ≡ Output.refuse r
   unfolding appended after_check
   append_refused r e = rw e
 
-  pub append_goes : (n : ℕ) → settings_checked s ≡ Good n → (newest : ℕ) → newest ≡ version_before s n → appended s station c ≡ setting_after newest station c
+  pub append_goes : (n : ℕ) → settings_checked s ≡ Ok n → (newest : ℕ) → newest ≡ version_before s n → appended s station c ≡ setting_after newest station c
   unfolding appended after_check newest_version
   append_goes n e newest f = rw (e, ← (sound_has s n e).count, f)

@@ -1,6 +1,6 @@
 -- 02, M-107: filter settings per station, with history. House records of 32 bytes, no header, numbers little-endian: version, station, bits per entry,
 -- probes (four bytes each), read-only (one byte) and 15 zeros. A settings list has no limit of its own.
-use Rattle.std.specs.Prelude.{ℕ, zero, suc, ◌+◌, ◌-◌, ◌*◌, ◌/◌, ◌%◌, Bool, cond, not, ◌&&◌, List, [], ◌∷◌, ◌++◌, ltb, leb, eqb, length, get_or, replicate}
+use Rattle.std.specs.Prelude.{ℕ, zero, suc, ◌+◌, ◌-◌, ◌*◌, ◌/◌, ◌%◌, Bool, cond, not, ◌&&◌, List, [], ◌∷◌, ◌++◌, ltb, leb, eqb, length, get_or, replicate, Result, Ok, Err}
 use Rattle.bloom.specs.Filter.{default_bits, default_probes, most_bits}
 use Rattle.rules.specs.LittleEndian.{u32_at}
 use Rattle.rules.specs.Output.{Output}
@@ -8,12 +8,9 @@ use Rattle.rules.specs.Sizes.{sizes}
 use Rattle.rules.specs.Zeros.{bytes_at, zeros}
 use Rattle.rules.specs.declared.refusal.Refusal.TheVariants.{BadSettings, BadSetting}
 use Rattle.settings.specs.declared.choice.Choice.{Choice}
-use Rattle.settings.specs.declared.find.SettingAnswer.{SettingAnswer}
-use Rattle.settings.specs.declared.find.SettingAnswer.TheVariants.{Chosen, Refused as Unknown}
 use Rattle.table.specs.TableBytes.{records_checked}
 use Rattle.table.specs.TableCalls.{after_check}
-use Rattle.table.specs.declared.check.Checked.{Checked}
-use Rattle.table.specs.declared.check.Checked.TheVariants.{Good, Refused}
+use Rattle.rules.specs.declared.refusal.Refusal.{Refusal}
 
 -- ---- a setting, as value and as bytes
 
@@ -88,8 +85,8 @@ setting_good s i =
     && (allowed (setting_at s i).choice && zeros (bytes_at s (i * setting_size + 17) (setting_size - 17)))
 
 -- How many records a good list has, or 14.
-unfoldable pub settings_checked : List ℕ → Checked
-settings_checked s = records_checked (λ i. Refused (BadSettings i)) (setting_good s) setting_size (length s)
+unfoldable pub settings_checked : List ℕ → Result ℕ Refusal
+settings_checked s = records_checked (λ i. Err (BadSettings i)) (setting_good s) setting_size (length s)
 
 -- ---- asked: a station's last record not above a version, or the crate's choice
 
@@ -107,12 +104,12 @@ unfoldable pub choice_of : List StationSetting → ℕ → ℕ → Choice
 choice_of l station version = asked_from crate_choice l station version
 
 -- What follows a list's check: a choice, or 14.
-abbrev pub chosen_after : Checked → Choice → SettingAnswer
-chosen_after (Good n) c = Chosen c
-chosen_after (Refused r) c = Unknown r
+abbrev pub chosen_after : Result ℕ Refusal → Choice → Result Choice Refusal
+chosen_after (Ok n) c = Ok c
+chosen_after (Err r) c = Err r
 
 -- 14, then the choice.
-unfoldable pub setting_for : List ℕ → ℕ → ℕ → SettingAnswer
+unfoldable pub setting_for : List ℕ → ℕ → ℕ → Result Choice Refusal
 setting_for s station version = chosen_after (settings_checked s) (choice_of (settings_of s) station version)
 
 -- ---- appended: the last version plus 1

@@ -6,10 +6,8 @@ ghost use Rattle.settings.specs.Settings.{setting_size, setting_bytes, version_b
 use crate::check::check_settings;
 use crate::choice::{Choice, allowed};
 use crate::record::{SETTING_SIZE, setting_bytes, version_at};
-use rules::output::Write;
 use rules::put::copy_into;
 use rules::refusal::Refusal;
-use table::check::Checked;
 
 // The most that four bytes are: the last version, and the last station.
 pub const MOST_NUMBER: u64 = 4_294_967_295;
@@ -39,35 +37,43 @@ fn appendable(newest: u64, station: u64, choice: Choice) -> bool
 }
 
 // Writes the record of a setting at the buffer's start.
-fn write_setting(version: u64, station: u64, choice: Choice, out: &mut [u8]) -> Write
+fn write_setting(
+    version: u64,
+    station: u64,
+    choice: Choice,
+    out: &mut [u8],
+) -> Result<usize, Refusal>
     requires { choice.read_only ≤ 1 }
     ensures { Written (Output.bytes (setting_bytes (record { version = version; station = station; choice = choice })))
         out.old out.new result }
 {
     if out.len() < SETTING_SIZE {
-        return Write::Refused(Refusal::NoRoom(SETTING_SIZE));
+        return Err(Refusal::NoRoom(SETTING_SIZE));
     }
     let bytes = setting_bytes(version, station, choice);
     copy_into(out, 0, &bytes);
-    Write::Wrote(SETTING_SIZE)
+    Ok(SETTING_SIZE)
 }
 
 // Writes the record that goes behind a list of this newest version.
-fn append_after(newest: u64, station: u64, choice: Choice, out: &mut [u8]) -> Write
+fn append_after(newest: u64, station: u64, choice: Choice, out: &mut [u8]) -> Result<usize, Refusal>
     ensures { Written (setting_after newest station choice) out.old out.new result }
 {
     if !appendable(newest, station, choice) {
-        return Write::Refused(Refusal::BadSetting);
+        return Err(Refusal::BadSetting);
     }
     write_setting(newest + 1, station, choice, out)
 }
 
 // Writes the record that goes behind the list, with the last version plus 1.
-pub fn append_setting(settings: &[u8], station: u64, choice: Choice, out: &mut [u8]) -> Write
+pub fn append_setting(
+    settings: &[u8],
+    station: u64,
+    choice: Choice,
+    out: &mut [u8],
+) -> Result<usize, Refusal>
     ensures { Written (appended settings.now station choice) out.old out.new result }
 {
-    match check_settings(settings) {
-        Checked::Refused(r) => Write::Refused(r),
-        Checked::Good(n) => append_after(newest_version(settings, n), station, choice, out),
-    }
+    let n = check_settings(settings)?;
+    append_after(newest_version(settings, n), station, choice, out)
 }

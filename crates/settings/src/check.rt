@@ -7,7 +7,6 @@ use crate::choice::allowed;
 use crate::record::{SETTING_SIZE, choice_at, version_at};
 use rules::refusal::Refusal;
 use rules::zeros::zero_bytes;
-use table::check::Checked;
 
 // Whether record i is good behind a record of this version: a newer version, a choice that is allowed, and zeros.
 fn setting_good(settings: &[u8], i: usize, before: u64) -> bool
@@ -29,28 +28,26 @@ fn first_bad(settings: &[u8], n: usize) -> usize
     ensures { result ≡ first_bad (setting_good settings.now) 0 n }
 {
     let mut before = 0;
-    let mut i = 0;
-    while i < n {
+    for i in 0..n {
         if !setting_good(settings, i, before) {
             return i;
         }
         before = version_at(settings, i);
-        i += 1;
     }
     n
 }
 
 // How many records a good list has, or the first bad one. Bytes at its end that are no whole record are one.
-pub fn check_settings(settings: &[u8]) -> Checked
+pub fn check_settings(settings: &[u8]) -> Result<usize, Refusal>
     ensures { result ≡ settings_checked settings.now }
 {
     let n = settings.len() / SETTING_SIZE;
     let bad = first_bad(settings, n);
     if bad < n {
-        return Checked::Refused(Refusal::BadSettings(bad));
+        return Err(Refusal::BadSettings(bad));
     }
     if settings.len() % SETTING_SIZE != 0 {
-        return Checked::Refused(Refusal::BadSettings(n));
+        return Err(Refusal::BadSettings(n));
     }
-    Checked::Good(n)
+    Ok(n)
 }

@@ -6,14 +6,6 @@ use crate::check::check_settings;
 use crate::choice::{Choice, crate_choice};
 use crate::record::{choice_at, station_at, version_at};
 use rules::refusal::Refusal;
-use table::check::Checked;
-
-// A choice, or the refusal of the list.
-#[derive(Clone, Copy)]
-pub enum SettingAnswer {
-    Chosen(Choice),
-    Refused(Refusal),
-}
 
 // The choice of record i where it is one of the station's and not above the version, else the one before it.
 fn asked_next(settings: &[u8], i: usize, station: u64, version: u64, before: Choice) -> Choice
@@ -35,20 +27,16 @@ fn choice_of(settings: &[u8], n: usize, station: u64, version: u64) -> Choice
     ensures { result ≡ choice_of (settings_at settings.now 0 n) station version }
 {
     let mut choice = crate_choice();
-    let mut i = 0;
-    while i < n {
+    for i in 0..n {
         choice = asked_next(settings, i, station, version, choice);
-        i += 1;
     }
     choice
 }
 
-// The choice of a station's last record not above a version, or the crate's.
-pub fn setting_at(settings: &[u8], station: u64, version: u64) -> SettingAnswer
+// The choice of a station's last record not above a version, or the crate's; of a list that isn't good, the refusal.
+pub fn setting_at(settings: &[u8], station: u64, version: u64) -> Result<Choice, Refusal>
     ensures { result ≡ setting_for settings.now station version }
 {
-    match check_settings(settings) {
-        Checked::Refused(r) => SettingAnswer::Refused(r),
-        Checked::Good(n) => SettingAnswer::Chosen(choice_of(settings, n, station, version)),
-    }
+    let n = check_settings(settings)?;
+    Ok(choice_of(settings, n, station, version))
 }

@@ -1,22 +1,20 @@
 // Calls of the crate `settings`.
 ghost use Rattle.std.specs.Prelude.{◌≡◌};
-ghost use Rattle.call_words.specs.Answer.{Answered};
+ghost use Rattle.call_words.specs.Answer.{Answered, write_words};
 ghost use Rattle.settings.specs.Settings.{settings_checked, setting_for, appended};
 ghost use Rattle.settings_calls.specs.SettingWords.{setting_words};
-ghost use Rattle.table_calls.specs.TableWords.{checked_words};
 
 use crate::answer::setting_words;
 use call_words::answer::write_words;
 use settings::choice::Choice;
-use table_calls::answer::checked_words;
 
 // Checks the settings list in `settings`: records of 32 bytes, which are version, station, bits, probes, four bytes each, read-only, one byte, and 15
 // zeros. Answer: 0, how many records it has; or 14 and its first bad record.
 #[unsafe(no_mangle)]
 pub extern "C" fn bt_check_settings(settings: &[u8], answer: &mut [u64; 4])
-    ensures { answer.new ≡ checked_words (settings_checked settings.now) }
+    ensures { answer.new ≡ write_words (settings_checked settings.now) }
 {
-    *answer = checked_words(settings::check::check_settings(settings));
+    *answer = write_words(settings::check::check_settings(settings));
 }
 
 // Gives the setting of `station` at `version` by the settings list in `settings`: the station's last record not above that version, else the crate's 10

@@ -1,13 +1,12 @@
 -- Words of the calls that check a session and read a saved state.
-use Rattle.std.specs.Prelude.{ℕ, Bool, true, false, List, [], ◌∷◌, ◌≡◌, length}
+use Rattle.std.specs.Prelude.{ℕ, Bool, true, false, List, [], ◌∷◌, ◌≡◌, length, Result, Ok, Err}
 use Rattle.call_words.specs.Answer.{refusal_words}
 use Rattle.rules.specs.declared.refusal.Refusal.TheVariants.{BadNumbers}
 use Rattle.session_saved.specs.Saved.{state_at, saved_with, loaded_into}
-use Rattle.session_saved.specs.declared.saved.SavedRead.{SavedRead}
-use Rattle.session_saved.specs.declared.saved.SavedRead.TheVariants.{Session as Read, Refused as NotRead}
 use Rattle.session_state.specs.Counts.{fresh_counts, fresh_read_only_counts}
 use Rattle.session_state.specs.declared.session.Session.{Session}
 use Rattle.call_words.specs.SessionWords.{session_words}
+use Rattle.rules.specs.declared.refusal.Refusal.{Refusal}
 
 -- The counts of a session in which nothing was said yet, read-only or not.
 abbrev pub fresh_for : Bool → Session
@@ -20,14 +19,14 @@ good_words true = 0 ∷ 0 ∷ 0 ∷ 0 ∷ []
 good_words false = refusal_words BadNumbers
 
 -- A session that is read from a saved state: the answer's words.
-abbrev pub saved_words : SavedRead → List ℕ
-saved_words (Read s) = 0 ∷ s.shared_heads ∷ 0 ∷ 0 ∷ []
-saved_words (NotRead r) = refusal_words r
+abbrev pub saved_words : Result Session Refusal → List ℕ
+saved_words (Ok s) = 0 ∷ s.shared_heads ∷ 0 ∷ 0 ∷ []
+saved_words (Err r) = refusal_words r
 
 -- The session's words at exit: after a refusal as they were.
-abbrev pub saved_session : SavedRead → List ℕ → List ℕ
-saved_session (Read s) before = session_words s
-saved_session (NotRead r) before = before
+abbrev pub saved_session : Result Session Refusal → List ℕ → List ℕ
+saved_session (Ok s) before = session_words s
+saved_session (Err r) before = before
 
 -- The call that reads a saved state s: its words, the buffer of the shared heads and the session's words at exit.
 pub record StateRead (s sharedIn sharedOut sessionIn sessionOut words : List ℕ) : Type 0 where

@@ -5,7 +5,7 @@ ghost use Rattle.state_calls.specs.StateCalls.{good_words, saved_words, saved_se
 use call_words::answer::refusal_words;
 use call_words::words::session_words;
 use rules::refusal::Refusal;
-use session_saved::saved::SavedRead;
+use session_state::session::Session;
 
 pub fn good_words(good: bool) -> [u64; 4]
     ensures { result ≡ good_words good }
@@ -16,21 +16,21 @@ pub fn good_words(good: bool) -> [u64; 4]
     refusal_words(Refusal::BadNumbers)
 }
 
-pub fn saved_words(l: SavedRead) -> [u64; 4]
+pub fn saved_words(l: Result<Session, Refusal>) -> [u64; 4]
     ensures { result ≡ saved_words l }
 {
     match l {
-        SavedRead::Session(session) => [0, session.shared_heads as u64, 0, 0],
-        SavedRead::Refused(r) => refusal_words(r),
+        Ok(session) => [0, session.shared_heads as u64, 0, 0],
+        Err(r) => refusal_words(r),
     }
 }
 
 // The session that was read, else the one that was lent.
-pub fn saved_session(loaded: SavedRead, before: [u64; 16]) -> [u64; 16]
+pub fn saved_session(loaded: Result<Session, Refusal>, before: [u64; 16]) -> [u64; 16]
     ensures { result ≡ saved_session loaded before }
 {
     match loaded {
-        SavedRead::Session(session) => session_words(session),
-        SavedRead::Refused(_) => before,
+        Ok(session) => session_words(session),
+        Err(_) => before,
     }
 }

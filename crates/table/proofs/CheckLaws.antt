@@ -14,8 +14,8 @@ use Rattle.rules.specs.Sizes.{sizes}
 use Rattle.rules.specs.declared.refusal.Refusal.TheVariants.{PastSize, BadRow}
 use Rattle.rules.proofs.Cases.{split}
 use Rattle.table.specs.TableBytes.{row_size_of, row_good_of, first_bad, records_checked, checked_with, table_checked_of, row_size, table_checked}
-use Rattle.table.specs.declared.check.Checked.{Checked}
-use Rattle.table.specs.declared.check.Checked.TheVariants.{Good, Refused}
+use Rattle.std.specs.Prelude.{Result, Ok, Err}
+use Rattle.rules.specs.declared.refusal.Refusal.{Refusal}
 
 -- ---- rows
 
@@ -80,7 +80,7 @@ pub record RecordsSound (good : ℕ → Bool) (size bytes n : ℕ) : Type 0 wher
 some_left : (r : ℕ) → (r ≡ 0 → ⊥) → 0 < r
 some_left r h = omega arith
 
-module _ (bad : ℕ → Checked) (good : ℕ → Bool) (size bytes : ℕ) where
+module _ (bad : ℕ → Result ℕ Refusal) (good : ℕ → Bool) (size bytes : ℕ) where
   pub records_bad : (r : ℕ) → r ≡ first_bad good 0 (bytes / size) → r < bytes / size → records_checked bad good size bytes ≡ bad r
   unfolding records_checked
   records_bad r e h = rw (← e, lt-ltb r (bytes / size) h)
@@ -90,16 +90,16 @@ module _ (bad : ℕ → Checked) (good : ℕ → Bool) (size bytes : ℕ) where
     unfolding records_checked
     records_partial h = rw (← e, le-ltb r (bytes / size) none, lt-ltb 0 (bytes % size) (some_left (bytes % size) h))
 
-    pub records_good : bytes % size ≡ 0 → records_checked bad good size bytes ≡ Good (bytes / size)
+    pub records_good : bytes % size ≡ 0 → records_checked bad good size bytes ≡ Ok (bytes / size)
     unfolding records_checked
     records_good h = rw (← e, le-ltb r (bytes / size) none, le-ltb 0 (bytes % size) (omega arith))
 
-  pub good_records : bytes % size ≡ 0 → ((i : ℕ) → i < bytes / size → good i ≡ true) → records_checked bad good size bytes ≡ Good (bytes / size)
+  pub good_records : bytes % size ≡ 0 → ((i : ℕ) → i < bytes / size → good i ≡ true) → records_checked bad good size bytes ≡ Ok (bytes / size)
   good_records rest each =
       let all : first_bad good 0 (bytes / size) ≡ 0 + bytes / size = all_first_bad good 0 (bytes / size) (λ j l b. each j (omega arith)) in
       records_good (0 + bytes / size) (sym all) (omega arith) rest
 
-  pub records_sound : ((i n : ℕ) → bad i ≡ Good n → ⊥) → (n : ℕ) → records_checked bad good size bytes ≡ Good n → RecordsSound good size bytes n
+  pub records_sound : ((i n : ℕ) → bad i ≡ Ok n → ⊥) → (n : ℕ) → records_checked bad good size bytes ≡ Ok n → RecordsSound good size bytes n
   unfolding records_checked
   records_sound never n a =
       split (ltb (first_bad good 0 (bytes / size)) (bytes / size))
@@ -109,7 +109,7 @@ module _ (bad : ℕ → Checked) (good : ℕ → Bool) (size bytes : ℕ) where
       split (ltb 0 (bytes % size))
       (λ g. absurd (never (bytes / size) n (rw g at a₁)))
       (λ g.
-      let same : Good (bytes / size) ≡ Good n = rw g at a₁ in
+      let same : Ok (bytes / size) ≡ Ok n = rw g at a₁ in
       let count : n ≡ bytes / size = cc in
       let rest : bytes % size ≤ 0 = ltb-false 0 (bytes % size) g in
       let sum : bytes / size * size + bytes % size ≡ bytes = div-add-mod' bytes size in
@@ -130,8 +130,8 @@ pub record RecordsAccepted (good : ℕ → Bool) (size most bytes n : ℕ) : Typ
   pub few : bytes ≤ most * size
   pub each : (i : ℕ) → i < n → good i ≡ true
 
-module _ (bad : ℕ → Checked) (good : ℕ → Bool) (size most bytes : ℕ) where
-  pub check_past : most * size < bytes → checked_with bad good size most bytes ≡ Refused (PastSize 0)
+module _ (bad : ℕ → Result ℕ Refusal) (good : ℕ → Bool) (size most bytes : ℕ) where
+  pub check_past : most * size < bytes → checked_with bad good size most bytes ≡ Err (PastSize 0)
   unfolding checked_with
   check_past h = rw (lt-ltb (most * size) bytes h)
 
@@ -147,17 +147,17 @@ module _ (bad : ℕ → Checked) (good : ℕ → Bool) (size most bytes : ℕ) w
       pub check_partial : (bytes % size ≡ 0 → ⊥) → checked_with bad good size most bytes ≡ bad (bytes / size)
       check_partial h = check_within ∙ records_partial bad good size bytes r e none h
 
-      pub check_good : bytes % size ≡ 0 → checked_with bad good size most bytes ≡ Good (bytes / size)
+      pub check_good : bytes % size ≡ 0 → checked_with bad good size most bytes ≡ Ok (bytes / size)
       check_good h = check_within ∙ records_good bad good size bytes r e none h
 
-    pub good_is_accepted : bytes % size ≡ 0 → ((i : ℕ) → i < bytes / size → good i ≡ true) → checked_with bad good size most bytes ≡ Good (bytes / size)
+    pub good_is_accepted : bytes % size ≡ 0 → ((i : ℕ) → i < bytes / size → good i ≡ true) → checked_with bad good size most bytes ≡ Ok (bytes / size)
     good_is_accepted rest each = check_within ∙ good_records bad good size bytes rest each
 
-  pub accepted : ((i n : ℕ) → bad i ≡ Good n → ⊥) → (n : ℕ) → checked_with bad good size most bytes ≡ Good n → RecordsAccepted good size most bytes n
+  pub accepted : ((i n : ℕ) → bad i ≡ Ok n → ⊥) → (n : ℕ) → checked_with bad good size most bytes ≡ Ok n → RecordsAccepted good size most bytes n
   unfolding checked_with
   accepted never n a =
       split (ltb (most * size) bytes)
-      (λ e. absurd (let b : Refused (PastSize 0) ≡ Good n = rw e at a in let z : ◌≡◌ {A = ℕ} 0 1 = cc in omega arith))
+      (λ e. absurd (let b : Err (PastSize 0) ≡ Ok n = rw e at a in let z : ◌≡◌ {A = ℕ} 0 1 = cc in omega arith))
       (λ e.
       let s = records_sound bad good size bytes never n (rw e at a) in
       record { count = s.count; whole = s.whole; few = ltb-false (most * size) bytes e; each = s.each })
@@ -174,24 +174,24 @@ fewer n most size h b =
 -- ---- a change table
 
 module _ (d most : ℕ) (s : List ℕ) where
-  pub table_past_of : most * row_size_of d < length s → table_checked_of d most s ≡ Refused (PastSize 0)
+  pub table_past_of : most * row_size_of d < length s → table_checked_of d most s ≡ Err (PastSize 0)
   unfolding table_checked_of
   table_past_of h = check_past _ (row_good_of d s) (row_size_of d) most (length s) h
 
   module _ (few : length s ≤ most * row_size_of d) where
     pub table_bad_of : (r : ℕ) → r ≡ first_bad (row_good_of d s) 0 (length s / row_size_of d) → r < length s / row_size_of d
-        → table_checked_of d most s ≡ Refused (BadRow r)
+        → table_checked_of d most s ≡ Err (BadRow r)
     unfolding table_checked_of
     table_bad_of r e h = check_bad _ (row_good_of d s) (row_size_of d) most (length s) few r e h
 
     module _ (r : ℕ) (e : r ≡ first_bad (row_good_of d s) 0 (length s / row_size_of d)) (none : length s / row_size_of d ≤ r) where
-      pub table_partial_of : (length s % row_size_of d ≡ 0 → ⊥) → table_checked_of d most s ≡ Refused (BadRow (length s / row_size_of d))
+      pub table_partial_of : (length s % row_size_of d ≡ 0 → ⊥) → table_checked_of d most s ≡ Err (BadRow (length s / row_size_of d))
       unfolding table_checked_of
       table_partial_of h = check_partial _ (row_good_of d s) (row_size_of d) most (length s) few r e none h
 
-      pub table_fine_of : length s % row_size_of d ≡ 0 → table_checked_of d most s ≡ Good (length s / row_size_of d)
+      pub table_fine_of : length s % row_size_of d ≡ 0 → table_checked_of d most s ≡ Ok (length s / row_size_of d)
       unfolding table_checked_of
       table_fine_of h = check_good _ (row_good_of d s) (row_size_of d) most (length s) few r e none h
 
-pub table_past : (s : List ℕ) → sizes.rows * row_size < length s → table_checked s ≡ Refused (PastSize 0)
+pub table_past : (s : List ℕ) → sizes.rows * row_size < length s → table_checked s ≡ Err (PastSize 0)
 table_past = table_past_of sizes.dependencies sizes.rows

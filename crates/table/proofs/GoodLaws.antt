@@ -5,20 +5,20 @@ use mathlib.Core.Bool.{true}
 use mathlib.Core.List.{List}
 use mathlib.Core.Path.{◌≡◌, sym, ◌∙◌}
 use native.Mathlib.Omega.{arith}
-use lib.ListN.{length, take}
+use lib.ListN.{length}
 use Rattle.hash_order.proofs.KeepLaws.{once_index}
 use Rattle.hash_order.specs.Order.{member}
 use Rattle.rules.proofs.Hash.{hash_is_hash}
 use Rattle.rules.specs.Hash.{Bytes, AreHashes, hash_at}
 use Rattle.rules.specs.Sizes.{sizes}
 use Rattle.table.specs.TableBytes.{row_size_of, row_of, rows_of, row_size, used_at, rows_at, table_checked, GoodRows}
-use Rattle.table.specs.Table.{Row, rows, hash_of}
-use Rattle.table.specs.declared.check.Checked.TheVariants.{Good}
+use Rattle.table.specs.Table.{rows, hash_of}
 use Rattle.table.proofs.ExtendLaws.{good_take}
 use Rattle.table.proofs.TableLaws.{table_good, row_has, length_rows, length_rows_at, deps_of_row, hash_of_row, take_rows_at}
+use Rattle.std.specs.Prelude.{Ok}
 
 -- an accepted table
-pub accepted_rows : (s : List ℕ) (n : ℕ) → table_checked s ≡ Good n → GoodRows s n
+pub accepted_rows : (s : List ℕ) (n : ℕ) → table_checked s ≡ Ok n → GoodRows s n
 accepted_rows s n e =
     let d = table_good s n e in
     record {

@@ -1,5 +1,5 @@
 -- The place of a number in a list; the rows of a table by their numbers; and what is accepted as a table decodes to a good one.
-use Prim.Native.Nat.{ℕ, zero, suc, ◌+◌, ◌-◌, ◌*◌, ◌/◌, ◌%◌, ◌≤◌, ◌<◌}
+use Prim.Native.Nat.{ℕ, zero, suc, ◌+◌, ◌*◌, ◌/◌, ◌%◌, ◌≤◌, ◌<◌}
 use mathlib.Core.Bool.{Bool, true, false, not, ◌&&◌}
 use mathlib.Core.List.{List, [], ◌∷◌}
 use mathlib.Core.Path.{◌≡◌, refl, sym, ◌∙◌, ap}
@@ -17,11 +17,11 @@ use Rattle.rules.specs.Sizes.{sizes}
 use Rattle.rules.specs.Zeros.{zeros}
 use Rattle.table.specs.TableBytes.{u16s_at, row_size_of, count_of, used_of, unused_of, row_of, rows_of, whole_rows_of, row_good_of, table_checked_of, row_size, dep_count, used_at, rows_at, table_of, numbers_good, table_checked}
 use Rattle.table.specs.Table.{Row, no_row, rows, hash_of, deps_of, GoodTable, index_in, row_number, held}
-use Rattle.table.specs.declared.check.Checked.TheVariants.{Good, Refused}
 use Rattle.table.proofs.Today.{row_at, row_good}
 use Rattle.rules.specs.declared.refusal.Refusal.TheVariants.{BadRow}
 use Rattle.table.proofs.CheckLaws.{fewer, accepted, good_is_accepted}
 use Rattle.table.proofs.TwoBytes.{length_twos_at}
+use Rattle.std.specs.Prelude.{Ok, Err}
 
 -- ---- places in a list
 
@@ -313,10 +313,10 @@ pub record DecodedOf (d most : ℕ) (s : List ℕ) (n : ℕ) : Type 0 where
   pub each : (i : ℕ) → i < n → row_good_of d s i ≡ true
   pub good : GoodTable (whole_rows_of d s)
 
-pub good_table_of : (d most : ℕ) (s : List ℕ) (n : ℕ) → table_checked_of d most s ≡ Good n → DecodedOf d most s n
+pub good_table_of : (d most : ℕ) (s : List ℕ) (n : ℕ) → table_checked_of d most s ≡ Ok n → DecodedOf d most s n
 unfolding table_checked_of whole_rows_of
 good_table_of d most s n e =
-    let a = accepted (λ i. Refused (BadRow i)) (row_good_of d s) (row_size_of d) most (length s) (λ i m q. let z : ◌≡◌ {A = ℕ} 0 1 = cc in omega arith) n e in
+    let a = accepted (λ i. Err (BadRow i)) (row_good_of d s) (row_size_of d) most (length s) (λ i m q. let z : ◌≡◌ {A = ℕ} 0 1 = cc in omega arith) n e in
     let is : rows_of d s 0 (length s / row_size_of d) ≡ rows_of d s 0 n = ap (rows_of d s 0) (sym a.count) in
     record {
       whole = a.whole;
@@ -333,22 +333,22 @@ pub good_accepted_of : (d most : ℕ) (s : List ℕ)
     → length s % row_size_of d ≡ 0
     → length s ≤ most * row_size_of d
     → ((i : ℕ) → i < length s / row_size_of d → row_good_of d s i ≡ true)
-    → table_checked_of d most s ≡ Good (length s / row_size_of d)
+    → table_checked_of d most s ≡ Ok (length s / row_size_of d)
 unfolding table_checked_of
-good_accepted_of d most s rest few each = good_is_accepted (λ i. Refused (BadRow i)) (row_good_of d s) (row_size_of d) most (length s) few rest each
+good_accepted_of d most s rest few each = good_is_accepted (λ i. Err (BadRow i)) (row_good_of d s) (row_size_of d) most (length s) few rest each
 
 -- what an accepted table of today's size decodes to
 abbrev pub DecodedTable : List ℕ → ℕ → Type 0
 DecodedTable s n = DecodedOf sizes.dependencies sizes.rows s n
 
-pub table_good : (s : List ℕ) (n : ℕ) → table_checked s ≡ Good n → DecodedTable s n
+pub table_good : (s : List ℕ) (n : ℕ) → table_checked s ≡ Ok n → DecodedTable s n
 table_good = good_table_of sizes.dependencies sizes.rows
 
 pub good_accepted : (s : List ℕ)
     → length s % row_size ≡ 0
     → length s ≤ sizes.rows * row_size
     → ((i : ℕ) → i < length s / row_size → row_good s i ≡ true)
-    → table_checked s ≡ Good (length s / row_size)
+    → table_checked s ≡ Ok (length s / row_size)
 good_accepted = good_accepted_of sizes.dependencies sizes.rows
 
 -- the bytes of an accepted table and its rows

@@ -22,10 +22,10 @@ use Rattle.rules.specs.Zeros.{zeros}
 use Rattle.table.specs.Table.{Row, GoodTable, rows, hash_of, deps_of}
 use Rattle.table.specs.TableBytes.{u16s_at, u16s_bytes, row_size_of, count_of, used_of, unused_of, row_of, rows_of, whole_rows_of, numbers_good, row_good_of, table_checked_of}
 use Rattle.table.specs.TableWritten.{row_bytes_of, table_bytes_of, Holdable, RoundTrip}
-use Rattle.table.specs.declared.check.Checked.TheVariants.{Good}
 use Rattle.table.proofs.ExtendLaws.{rows_take}
 use Rattle.table.proofs.TableLaws.{length_rows, take_rows_of, row_deps_of, row_hash_of, length_used_of, good_row_has, good_table_of, good_accepted_of}
 use Rattle.table.proofs.TwoBytes.{length_twos_at, length_twos_bytes, twos_at_bytes, u16_behind, u16s_behind, u16_front, twos_front, twos_bytes}
+use Rattle.std.specs.Prelude.{Ok}
 
 -- ---- what stands behind some bytes
 
@@ -341,7 +341,7 @@ module _ (d : ℕ) (t : List Row) (good : GoodTable t) (h : Holdable d t) where
       in
       rw (le-leb (count_of d out i) d count, order, below, table_unused d t h i l, new)
 
-  pub table_accepted : (most : ℕ) → length t ≤ most → table_checked_of d most out ≡ Good (length t)
+  pub table_accepted : (most : ℕ) → length t ≤ most → table_checked_of d most out ≡ Ok (length t)
   table_accepted most few =
       let long = table_long d t h in
       let n : length out / row_size_of d ≡ length t = ap (λ (x : ℕ). x / row_size_of d) long ∙ mul-div_cancel (length t) {n = row_size_of d} (omega arith) in
@@ -349,7 +349,7 @@ module _ (d : ℕ) (t : List Row) (good : GoodTable t) (h : Holdable d t) where
       (ap (λ (x : ℕ). x % row_size_of d) long ∙ mul-mod_left (length t) (row_size_of d))
       (le_trans (le_of_eq long) (mul-le-mul_right (row_size_of d) few))
       (λ i l. out_good i (let z = n in omega arith))
-      ∙ ap Good n
+      ∙ ap Ok n
 
 -- ---- what is written are bytes
 

@@ -2,7 +2,7 @@
 -- are a bad row with the next number.
 -- A row has room for d dependencies. All of it is said over d, in names that end in `Of`; the names without it are for as many dependencies as a
 -- change may have.
-use Rattle.std.specs.Prelude.{ℕ, zero, suc, ◌+◌, ◌-◌, ◌*◌, ◌/◌, ◌%◌, ◌≤◌, ◌<◌, Bool, cond, not, ◌&&◌, List, [], ◌∷◌, ltb, leb, length}
+use Rattle.std.specs.Prelude.{ℕ, zero, suc, ◌+◌, ◌-◌, ◌*◌, ◌/◌, ◌%◌, ◌≤◌, ◌<◌, Bool, cond, not, ◌&&◌, List, [], ◌∷◌, ltb, leb, length, Result, Ok, Err}
 use Rattle.hash_order.specs.Order.{member, every, ascends}
 use Rattle.rules.specs.Hash.{hash_at}
 use Rattle.rules.specs.LittleEndian.{u16_at}
@@ -10,8 +10,7 @@ use Rattle.rules.specs.Sizes.{sizes}
 use Rattle.rules.specs.Zeros.{zeros}
 use Rattle.rules.specs.declared.refusal.Refusal.TheVariants.{PastSize, BadRow}
 use Rattle.table.specs.Table.{Row, GoodTable, rows}
-use Rattle.table.specs.declared.check.Checked.{Checked}
-use Rattle.table.specs.declared.check.Checked.TheVariants.{Good, Refused}
+use Rattle.rules.specs.declared.refusal.Refusal.{Refusal}
 
 -- The two-byte numbers that stand one after the other from a place on, as many as the last argument says.
 unfoldable pub u16s_at : List ℕ → ℕ → ℕ → List ℕ
@@ -70,21 +69,21 @@ first_bad good i zero = i
 first_bad good i (suc count) = cond (not (good i)) i (first_bad good (suc i) count)
 
 -- Records of `size` bytes: the first bad one, which a partial record at the end is, with the next number; else how many there are.
-unfoldable pub records_checked : (ℕ → Checked) → (ℕ → Bool) → ℕ → ℕ → Checked
+unfoldable pub records_checked : (ℕ → Result ℕ Refusal) → (ℕ → Bool) → ℕ → ℕ → Result ℕ Refusal
 records_checked bad good size bytes =
     cond (ltb (first_bad good 0 (bytes / size)) (bytes / size))
     (bad (first_bad good 0 (bytes / size)))
     (cond (ltb 0 (bytes % size))
     (bad (bytes / size))
-    (Good (bytes / size)))
+    (Ok (bytes / size)))
 
 -- A table of at most `most` records: 4 for more bytes, then the first bad one.
-unfoldable pub checked_with : (ℕ → Checked) → (ℕ → Bool) → ℕ → ℕ → ℕ → Checked
-checked_with bad good size most bytes = cond (ltb (most * size) bytes) (Refused (PastSize 0)) (records_checked bad good size bytes)
+unfoldable pub checked_with : (ℕ → Result ℕ Refusal) → (ℕ → Bool) → ℕ → ℕ → ℕ → Result ℕ Refusal
+checked_with bad good size most bytes = cond (ltb (most * size) bytes) (Err (PastSize 0)) (records_checked bad good size bytes)
 
 -- A change table of at most `most` rows: 4, then 6.
-unfoldable pub table_checked_of : ℕ → ℕ → List ℕ → Checked
-table_checked_of d most s = checked_with (λ i. Refused (BadRow i)) (row_good_of d s) (row_size_of d) most (length s)
+unfoldable pub table_checked_of : ℕ → ℕ → List ℕ → Result ℕ Refusal
+table_checked_of d most s = checked_with (λ i. Err (BadRow i)) (row_good_of d s) (row_size_of d) most (length s)
 
 -- Bytes of a change row as 01 has it: with room for as many dependencies as a change may have. The names below are those above at that width.
 abbrev pub row_size : ℕ
@@ -107,7 +106,7 @@ abbrev pub table_of : List ℕ → List Row
 table_of s = whole_rows_of sizes.dependencies s
 
 -- 4, then 6, or how many rows a change table has.
-abbrev pub table_checked : List ℕ → Checked
+abbrev pub table_checked : List ℕ → Result ℕ Refusal
 table_checked s = table_checked_of sizes.dependencies sizes.rows s
 
 -- The one precondition of what computes over a checked table: its first n rows stand there, are no more than a table may have, and are a good

@@ -1,9 +1,8 @@
 -- The bytes of a table, which is reading one turned round. 01, Change table; 02, M-106, which has rows of two widths. A row has room for d dependencies.
-use Rattle.std.specs.Prelude.{ℕ, ◌-◌, ◌*◌, ◌≤◌, ◌<◌, List, [], ◌∷◌, ◌++◌, ◌≡◌, length, replicate}
+use Rattle.std.specs.Prelude.{ℕ, ◌-◌, ◌*◌, ◌≤◌, ◌<◌, List, [], ◌∷◌, ◌++◌, ◌≡◌, length, replicate, Ok}
 use Rattle.rules.specs.Hash.{Bytes, AreHashes, hash_bytes}
 use Rattle.table.specs.Table.{Row, GoodTable, rows, deps_of}
 use Rattle.table.specs.TableBytes.{u16s_bytes, row_size_of, whole_rows_of, table_checked_of}
-use Rattle.table.specs.declared.check.Checked.TheVariants.{Good}
 
 -- The bytes of a row: hash, count, the numbers in use, and zeros for the others.
 unfoldable pub row_bytes_of : ℕ → Row → List ℕ
@@ -26,6 +25,6 @@ pub record Holdable (d : ℕ) (t : List Row) : Type 0 where
 pub record RoundTrip : Type 0 where
   pub read : (d : ℕ) (t : List Row) → Holdable d t → whole_rows_of d (table_bytes_of d t) ≡ t
   pub long : (d : ℕ) (t : List Row) → Holdable d t → length (table_bytes_of d t) ≡ length t * row_size_of d
-  pub written : (d most : ℕ) (s : List ℕ) (n : ℕ) → Bytes s → table_checked_of d most s ≡ Good n → table_bytes_of d (whole_rows_of d s) ≡ s
-  pub good : (d most : ℕ) (t : List Row) → GoodTable t → Holdable d t → length t ≤ most → table_checked_of d most (table_bytes_of d t) ≡ Good (length t)
+  pub written : (d most : ℕ) (s : List ℕ) (n : ℕ) → Bytes s → table_checked_of d most s ≡ Ok n → table_bytes_of d (whole_rows_of d s) ≡ s
+  pub good : (d most : ℕ) (t : List Row) → GoodTable t → Holdable d t → length t ≤ most → table_checked_of d most (table_bytes_of d t) ≡ Ok (length t)
   pub bytes : (d : ℕ) (t : List Row) → GoodTable t → Holdable d t → d < 65536 → length t ≤ 65536 → Bytes (table_bytes_of d t)

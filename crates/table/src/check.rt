@@ -1,4 +1,4 @@
-// What is answered of a table, and which rows are good by their own bytes: that a hash stands once shows only beside other rows (table_check).
+// Which rows are good by their own bytes: that a hash stands once shows only beside other rows (table_check).
 // Rows have room for d dependencies.
 ghost use Rattle.std.specs.Prelude.{◌≡◌, ◌+◌, ◌*◌, ◌≤◌, length};
 ghost use Rattle.rules.specs.Zeros.{zeros};
@@ -6,16 +6,8 @@ ghost use Rattle.table.specs.TableBytes.{row_size_of, count_of, used_of, unused_
 ghost use Rattle.table.specs.Internal.OwnBytes.{row_sound_of};
 
 use crate::row::{count_of, dep_of, row_place};
-use rules::refusal::Refusal;
 use rules::sizes::HASH_SIZE;
 use rules::zeros::zero_bytes;
-
-// A good table's number of rows, or the refusal.
-#[derive(Clone, Copy)]
-pub enum Checked {
-    Good(usize),
-    Refused(Refusal),
-}
 
 // Whether the numbers in use of row i ascend and are below it.
 pub fn numbers_good(d: usize, table: &[u8], i: usize) -> bool
@@ -24,8 +16,7 @@ pub fn numbers_good(d: usize, table: &[u8], i: usize) -> bool
 {
     let count = count_of(d, table, i);
     let mut least = 0;
-    let mut j = 0;
-    while j < count {
+    for j in 0..count {
         let k = dep_of(d, table, i, j);
         if k < least {
             return false;
@@ -34,7 +25,6 @@ pub fn numbers_good(d: usize, table: &[u8], i: usize) -> bool
             return false;
         }
         least = k + 1;
-        j += 1;
     }
     true
 }
@@ -71,12 +61,10 @@ pub fn first_unsound(d: usize, table: &[u8], n: usize) -> usize
     requires { n * row_size_of d ≤ length table.now }
     ensures { result ≡ first_bad (row_sound_of d table.now) 0 n }
 {
-    let mut i = 0;
-    while i < n {
+    for i in 0..n {
         if !row_sound(d, table, i) {
             return i;
         }
-        i += 1;
     }
     n
 }

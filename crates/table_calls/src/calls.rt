@@ -1,7 +1,6 @@
 // Calls of the crates `table_check`, `table_index_build`, `table_convert`, `waiting`, `table_graph` and `waiting_missing`.
 ghost use Rattle.std.specs.Prelude.{◌≡◌};
-ghost use Rattle.call_words.specs.Answer.{Answered};
-ghost use Rattle.table_calls.specs.TableWords.{checked_words};
+ghost use Rattle.call_words.specs.Answer.{Answered, write_words};
 ghost use Rattle.table.specs.TableBytes.{table_checked};
 ghost use Rattle.table_index_build.specs.Indexing.{built_output, extended_output};
 ghost use Rattle.table_convert.specs.Rows.{widened, narrowed};
@@ -9,24 +8,23 @@ ghost use Rattle.waiting.specs.WaitingCalls.{tables_checked};
 ghost use Rattle.table_graph.specs.GraphCalls.{heads_output, beyond_output};
 ghost use Rattle.waiting_missing.specs.MissingCalls.{missing_output};
 
-use crate::answer::checked_words;
 use call_words::answer::write_words;
 
 // Checks the change table in `table`. Answer: 0, how many rows it has.
 #[unsafe(no_mangle)]
 pub extern "C" fn bt_check_table(table: &[u8], answer: &mut [u64; 4])
-    ensures { answer.new ≡ checked_words (table_checked table.now) }
+    ensures { answer.new ≡ write_words (table_checked table.now) }
 {
-    *answer = checked_words(table_check::check::check_alone(table));
+    *answer = write_words(table_check::check::check_alone(table));
 }
 
 // Checks the change table in `table` beside its index in `index`, and the waiting table in `waiting` beside both. Answer: 0, how many rows the
 // waiting table has.
 #[unsafe(no_mangle)]
 pub extern "C" fn bt_check_tables(table: &[u8], index: &[u8], waiting: &[u8], answer: &mut [u64; 4])
-    ensures { answer.new ≡ checked_words (tables_checked table.now index.now waiting.now) }
+    ensures { answer.new ≡ write_words (tables_checked table.now index.now waiting.now) }
 {
-    *answer = checked_words(waiting::check::check_tables(table, index, waiting));
+    *answer = write_words(waiting::check::check_tables(table, index, waiting));
 }
 
 // Writes the index of the change table in `table` at the start of `out`: the row numbers in ascending order of hash, two bytes each. Answer: 0, the

@@ -25,14 +25,13 @@ use Rattle.table.specs.TableCalls.{passed_on}
 use Rattle.table.specs.Table.{rows, hash_of}
 use Rattle.table.specs.Widths.{Sized, WithinRows, checked_as}
 use Rattle.table.specs.declared.width.Width.{Width}
-use Rattle.table.specs.declared.check.Checked.{Checked}
-use Rattle.table.specs.declared.check.Checked.TheVariants.{Good, Refused}
 use Rattle.table_index.proofs.CheckLaws.{unfit_decides}
 use Rattle.table_index.proofs.FitLaws.{index_fitting}
 use Rattle.table_index.proofs.LookLaws.{hash_once}
 use Rattle.table_index.specs.Index.{indexed, index_fits, index_checked, record_hash}
 use Rattle.table_check.specs.Internal.Repeats.{CheckedInOrder, RowOrder, new_hash, fits_within}
 use Rattle.table_check.proofs.RepeatLaws.{first_both, first_within}
+use Rattle.std.specs.Prelude.{Result, Ok, Err}
 
 -- ---- the first bad row
 
@@ -106,24 +105,24 @@ module _ (w : Width) (size : ℕ) (is : size ≡ row_size_of w.dependencies) whe
   within_limit long h = rw is at h
 
 module _ (w : Width) (s : List ℕ) (size : ℕ) (is : size ≡ row_size_of w.dependencies) where
-  pub past_limit : w.rows * size < length s → Refused (PastSize 0) ≡ checked_as w s
+  pub past_limit : w.rows * size < length s → Err (PastSize 0) ≡ checked_as w s
   past_limit h = sym (table_past_of w.dependencies w.rows s (rw is at h))
 
   module _ (few : WithinRows w s) (bad : ℕ) (e : bad ≡ first_bad (row_good_of w.dependencies s) 0 (length s / row_size_of w.dependencies)) where
-    pub answer_bad : bad < length s / size → Refused (BadRow bad) ≡ checked_as w s
+    pub answer_bad : bad < length s / size → Err (BadRow bad) ≡ checked_as w s
     answer_bad h = sym (table_bad_of w.dependencies w.rows s few bad e (rw is at h))
 
-    pub answer_partial : length s / size ≤ bad → (length s % size ≡ 0 → ⊥) → Refused (BadRow (length s / size)) ≡ checked_as w s
+    pub answer_partial : length s / size ≤ bad → (length s % size ≡ 0 → ⊥) → Err (BadRow (length s / size)) ≡ checked_as w s
     answer_partial h rest = rw is (sym (table_partial_of w.dependencies w.rows s few bad e (rw is at h) (rw is at rest)))
 
-    pub answer_good : length s / size ≤ bad → length s % size ≡ 0 → Good (length s / size) ≡ checked_as w s
+    pub answer_good : length s / size ≤ bad → length s % size ≡ 0 → Ok (length s / size) ≡ checked_as w s
     answer_good h rest = rw is (sym (table_fine_of w.dependencies w.rows s few bad e (rw is at h) (rw is at rest)))
 
-  pub past_in_order : (x : List ℕ) → w.rows * size < length s → CheckedInOrder w s x (Refused (PastSize 0))
+  pub past_in_order : (x : List ℕ) → w.rows * size < length s → CheckedInOrder w s x (Err (PastSize 0))
   past_in_order x h = record { answer = past_limit h; order = λ n q. absurd (let z : ◌≡◌ {A = ℕ} 0 1 = cc in omega arith) }
 
 -- the order that a table was checked by, of as many rows as it has if it is good
-pub left_in_order : (w : Width) (s x : List ℕ) (n : ℕ) (r : Checked) → n ≡ length s / row_size_of w.dependencies → RowOrder w.dependencies s x n
+pub left_in_order : (w : Width) (s x : List ℕ) (n : ℕ) (r : Result ℕ Refusal) → n ≡ length s / row_size_of w.dependencies → RowOrder w.dependencies s x n
     → r ≡ checked_as w s
     → CheckedInOrder w s x r
 left_in_order w s x n r all rows is =
@@ -139,11 +138,11 @@ left_in_order w s x n r all rows is =
 -- ---- each answer
 
 module _ (s : List ℕ) where
-  pub unfit_refused : (r : Refusal) → table_checked s ≡ Refused r → passed_on (table_checked s) (Refused BadIndex) ≡ Refused r
+  pub unfit_refused : (r : Refusal) → table_checked s ≡ Err r → passed_on (table_checked s) (Err BadIndex) ≡ Err r
   unfolding passed_on
   unfit_refused r e = rw e
 
-  pub unfit_good : (n : ℕ) → table_checked s ≡ Good n → passed_on (table_checked s) (Refused BadIndex) ≡ Refused BadIndex
+  pub unfit_good : (n : ℕ) → table_checked s ≡ Ok n → passed_on (table_checked s) (Err BadIndex) ≡ Err BadIndex
   unfolding passed_on
   unfit_good n e = rw e
 
@@ -163,11 +162,11 @@ module _ (s : List ℕ) where
         (leb-true (length s) (sizes.rows * row_size) p.0, p.1)
 
     -- a table past its limit is refused whatever its index
-    indexed_past : sizes.rows * row_size < length s → index_checked s x ≡ passed_on (table_checked s) (Refused BadIndex)
+    indexed_past : sizes.rows * row_size < length s → index_checked s x ≡ passed_on (table_checked s) (Err BadIndex)
     unfolding index_checked passed_on
     indexed_past h = rw (table_past s h)
 
-    pub within_neither : fits_within s x ≡ false → index_checked s x ≡ passed_on (table_checked s) (Refused BadIndex)
+    pub within_neither : fits_within s x ≡ false → index_checked s x ≡ passed_on (table_checked s) (Err BadIndex)
     within_neither e =
         split (ltb (sizes.rows * row_size) (length s))
         (λ h. indexed_past (ltb-true (sizes.rows * row_size) (length s) h))

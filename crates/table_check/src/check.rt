@@ -1,18 +1,17 @@
-// A change table checked: beside an index, or by an order that is made of its rows.
-ghost use Rattle.std.specs.Prelude.{◌≡◌, ◌*◌, ◌/◌, ◌≤◌, length};
+// A change table checked: beside an index, or by an order that is made of its rows. What is answered is a good table's number of rows, else the refusal.
+ghost use Rattle.std.specs.Prelude.{◌≡◌, ◌*◌, ◌/◌, ◌≤◌, length, Err};
 ghost use Rattle.rules.specs.Sizes.{sizes};
 ghost use Rattle.rules.specs.declared.refusal.Refusal.TheVariants.{BadIndex};
 ghost use Rattle.table.specs.TableBytes.{row_size_of, row_good_of, first_bad, table_checked};
 ghost use Rattle.table.specs.TableCalls.{passed_on};
 ghost use Rattle.table.specs.Widths.{Sized, WithinRows, checked_as};
-ghost use Rattle.table.specs.declared.check.Checked.TheVariants.{Refused};
 ghost use Rattle.table_index.specs.Index.{index_checked};
 ghost use Rattle.table_check.specs.Internal.Repeats.{CheckedInOrder, RowOrder, fits_within};
 
 use crate::repeat::first_repeat;
 use rules::refusal::Refusal;
 use rules::sizes::{DEPENDENCIES, ROWS};
-use table::check::{Checked, first_unsound};
+use table::check::first_unsound;
 use table::row::{ROW_SIZE, row_size};
 use table::width::{WIDE, Width};
 use table_index::fit::index_fits;
@@ -20,7 +19,7 @@ use table_order::entry::INDEX_SIZE;
 use table_order::merge::build_by_rows;
 
 // What is answered of a table within its limit, by the first of its whole rows that isn't good. A partial row at its end is a bad one.
-fn answer(width: Width, table: &[u8], bad: usize) -> Checked
+fn answer(width: Width, table: &[u8], bad: usize) -> Result<usize, Refusal>
     requires { Sized width × WithinRows width table.now
         × (bad ≡ first_bad (row_good_of width.dependencies table.now) 0 (length table.now / row_size_of width.dependencies)) }
     ensures { result ≡ checked_as width table.now }
@@ -28,12 +27,12 @@ fn answer(width: Width, table: &[u8], bad: usize) -> Checked
     let size = row_size(width.dependencies);
     let n = table.len() / size;
     if bad < n {
-        return Checked::Refused(Refusal::BadRow(bad));
+        return Err(Refusal::BadRow(bad));
     }
     if table.len() % size != 0 {
-        return Checked::Refused(Refusal::BadRow(n));
+        return Err(Refusal::BadRow(n));
     }
-    Checked::Good(n)
+    Ok(n)
 }
 
 // The first of the first n rows that isn't good, or n.
@@ -50,7 +49,7 @@ fn first_bad(d: usize, table: &[u8], order: &[u8], n: usize) -> usize
 }
 
 // The check of a table within its limit, by the order of its n whole rows.
-pub fn check_ordered(width: Width, table: &[u8], order: &[u8], n: usize) -> Checked
+pub fn check_ordered(width: Width, table: &[u8], order: &[u8], n: usize) -> Result<usize, Refusal>
     requires { Sized width × WithinRows width table.now × (n ≡ length table.now / row_size_of width.dependencies)
         × RowOrder width.dependencies table.now order.now n }
     ensures { result ≡ checked_as width table.now }
@@ -59,13 +58,13 @@ pub fn check_ordered(width: Width, table: &[u8], order: &[u8], n: usize) -> Chec
 }
 
 // The check of a table of a width, by the order of its whole rows, which is made in what is lent for it and left there.
-pub fn check_in_order(width: Width, table: &[u8], order: &mut [u8]) -> Checked
+pub fn check_in_order(width: Width, table: &[u8], order: &mut [u8]) -> Result<usize, Refusal>
     requires { Sized width × (width.rows ≤ sizes.rows) × (2 * sizes.rows ≤ length order.old) }
     ensures { CheckedInOrder width table.now order.new result }
 {
     let size = row_size(width.dependencies);
     if width.rows * size < table.len() {
-        return Checked::Refused(Refusal::PastSize(0));
+        return Err(Refusal::PastSize(0));
     }
     let n = table.len() / size;
     build_by_rows(table, size, order, n);
@@ -73,7 +72,7 @@ pub fn check_in_order(width: Width, table: &[u8], order: &mut [u8]) -> Checked
 }
 
 // The check of a table of a width that is lent with no index: its rows are put in order in memory of the call's own.
-pub fn check_as(width: Width, table: &[u8]) -> Checked
+pub fn check_as(width: Width, table: &[u8]) -> Result<usize, Refusal>
     requires { Sized width × (width.rows ≤ sizes.rows) }
     ensures { result ≡ checked_as width table.now }
 {
@@ -82,20 +81,18 @@ pub fn check_as(width: Width, table: &[u8]) -> Checked
 }
 
 // The check of a table as rows are.
-pub fn check_alone(table: &[u8]) -> Checked
+pub fn check_alone(table: &[u8]) -> Result<usize, Refusal>
     ensures { result ≡ table_checked table.now }
 {
     check_as(WIDE, table)
 }
 
 // What is answered beside an index that doesn't fit: the table alone decides between its own refusals and the index's.
-fn check_unfit(table: &[u8]) -> Checked
-    ensures { result ≡ passed_on (table_checked table.now) (Refused BadIndex) }
+fn check_unfit(table: &[u8]) -> Result<usize, Refusal>
+    ensures { result ≡ passed_on (table_checked table.now) (Err BadIndex) }
 {
-    match check_alone(table) {
-        Checked::Refused(r) => Checked::Refused(r),
-        Checked::Good(_) => Checked::Refused(Refusal::BadIndex),
-    }
+    check_alone(table)?;
+    Err(Refusal::BadIndex)
 }
 
 // Whether an index fits a table that is within its limit. Beside a table past it no index is gone through.
@@ -109,7 +106,7 @@ fn fits_within(table: &[u8], index: &[u8]) -> bool
 }
 
 // The number of rows of a change table, if it is good and the index fits it. The index is tested once, for all that is looked up by it.
-pub fn check_indexed(table: &[u8], index: &[u8]) -> Checked
+pub fn check_indexed(table: &[u8], index: &[u8]) -> Result<usize, Refusal>
     ensures { result ≡ index_checked table.now index.now }
 {
     if !fits_within(table, index) {

@@ -32,10 +32,8 @@ pub fn first_repeat(d: usize, table: &[u8], order: &[u8], n: usize) -> usize
     ensures { result ≡ first_bad (new_hash d table.now) 0 n }
 {
     let mut first = n;
-    let mut k = 0;
-    while k + 1 < n {
+    for k in 0..n.saturating_sub(1) {
         first = or_repeat(d, table, order, n, k, first);
-        k += 1;
     }
     first
 }

@@ -23,12 +23,11 @@ use Rattle.table.specs.TableBytes.{row_size_of, count_of, whole_rows_of, rows_of
 use Rattle.table.specs.TableCalls.{after_check}
 use Rattle.table.specs.TableWritten.{table_bytes_of, Holdable}
 use Rattle.table.specs.Widths.{narrow_rows, wide_rows, Sized, checked_as}
-use Rattle.table.specs.declared.check.Checked.TheVariants.{Good, Refused}
-use Rattle.table.specs.declared.check.Checked.{Checked}
 use Rattle.table.specs.declared.width.Width.{Width}
 use Rattle.table_index.specs.Index.{index_fits}
 use Rattle.table_convert.specs.Internal.RowsPut.{count_fits, Fitting}
 use Rattle.table_convert.specs.Rows.{table_as, row_fits, first_wide, bytes_as, converted, Converts, Widens, M106}
+use Rattle.std.specs.Prelude.{Result, Ok, Err}
 
 -- ---- bytes or a refusal
 
@@ -43,18 +42,18 @@ not_bytes r b e = let z : ◌≡◌ {A = ℕ} 0 1 = cc in omega arith
 -- what is made of a table
 record Made (w : Width) (s : List ℕ) (k : List Row → Output) (r : List ℕ) : Type 0 where
   rows : ℕ
-  checked : checked_as w s ≡ Good rows
+  checked : checked_as w s ≡ Ok rows
   is : k (whole_rows_of w.dependencies s) ≡ Output.bytes r
 
 table_has : (w : Width) (s : List ℕ) (k : List Row → Output) (r : List ℕ) → table_as w s k ≡ Output.bytes r → Made w s k r
 unfolding table_as after_check
 table_has w s k r e = checked (checked_as w s) refl
   where
-    checked : (c : Checked) → checked_as w s ≡ c → Made w s k r
-    checked (Good n) q = record { rows = n; checked = q; is = rw q at e }
-    checked (Refused f) q = absurd (not_bytes f r (rw q at e))
+    checked : (c : Result ℕ Refusal) → checked_as w s ≡ c → Made w s k r
+    checked (Ok n) q = record { rows = n; checked = q; is = rw q at e }
+    checked (Err f) q = absurd (not_bytes f r (rw q at e))
 
-pub has_table : (w : Width) (s : List ℕ) (n : ℕ) (k : List Row → Output) → checked_as w s ≡ Good n → table_as w s k ≡ k (whole_rows_of w.dependencies s)
+pub has_table : (w : Width) (s : List ℕ) (n : ℕ) (k : List Row → Output) → checked_as w s ≡ Ok n → table_as w s k ≡ k (whole_rows_of w.dependencies s)
 unfolding table_as after_check
 has_table w s n k q = rw q
 
@@ -115,7 +114,7 @@ module _ (from to : Width) (sizedTo : Sized to) (s r : List ℕ) (b : Bytes s) (
 
   record Through : Type 0 where
     rows : ℕ
-    checked : checked_as from s ≡ Good rows
+    checked : checked_as from s ≡ Ok rows
     out : BytesOf to t r
 
   through : Through
@@ -137,7 +136,7 @@ module _ (from to : Width) (sizedTo : Sized to) (s r : List ℕ) (b : Bytes s) (
   pub values : whole_rows_of to.dependencies r ≡ t
   values = ap (whole_rows_of to.dependencies) through.out.is ∙ round_trip.read to.dependencies t holdable
 
-  pub stays_good : checked_as to r ≡ Good (length t)
+  pub stays_good : checked_as to r ≡ Ok (length t)
   stays_good = ap (checked_as to) through.out.is ∙ round_trip.good to.dependencies to.rows t decoded.good holdable through.out.few
 
   narrow_from : (i : ℕ) → i < length t → length (deps_of t i) ≤ from.dependencies
@@ -219,18 +218,18 @@ unfolding first_bad
 first_bad_same p q i zero f = refl
 first_bad_same p q i (suc n) f = rw (f i (omega arith) (omega arith), first_bad_same p q (suc i) n (λ k a b. f k (omega arith) (omega arith)))
 
-pub convert_refused : (from to : Width) (s : List ℕ) (r : Refusal) → checked_as from s ≡ Refused r → converted from to s ≡ Output.refuse r
+pub convert_refused : (from to : Width) (s : List ℕ) (r : Refusal) → checked_as from s ≡ Err r → converted from to s ≡ Output.refuse r
 unfolding converted table_as after_check
 convert_refused from to s r e = rw e
 
-pub convert_goes : (from to : Width) (s : List ℕ) (n : ℕ) → checked_as from s ≡ Good n → converted from to s ≡ bytes_as to (whole_rows_of from.dependencies s)
+pub convert_goes : (from to : Width) (s : List ℕ) (n : ℕ) → checked_as from s ≡ Ok n → converted from to s ≡ bytes_as to (whole_rows_of from.dependencies s)
 unfolding converted
 convert_goes from to s n e = has_table from s n (bytes_as to) e
 
-pub rows_inside : (from : Width) (s : List ℕ) (n : ℕ) → checked_as from s ≡ Good n → n * row_size_of from.dependencies ≤ length s
+pub rows_inside : (from : Width) (s : List ℕ) (n : ℕ) → checked_as from s ≡ Ok n → n * row_size_of from.dependencies ≤ length s
 rows_inside from s n good = omega (arith, (good_table_of from.dependencies from.rows s n good).whole)
 
-module _ (from to : Width) (s : List ℕ) (n : ℕ) (good : checked_as from s ≡ Good n) where
+module _ (from to : Width) (s : List ℕ) (n : ℕ) (good : checked_as from s ≡ Ok n) where
   table : DecodedOf from.dependencies from.rows s n
   table = good_table_of from.dependencies from.rows s n good
 

@@ -1,11 +1,10 @@
--- Rows put as rows of another width: zeros one by one, a row by its two parts, and rows one after the other. Each law is one turn or one end of a loop.
+-- Rows put as rows of another width: a row by its two parts, and rows one after the other, where each law is one turn or one end of the loop.
 use Prim.Native.Nat.{ℕ, zero, suc, ◌+◌, ◌-◌, ◌*◌, ◌≤◌, ◌<◌}
 use mathlib.Core.List.{List, ◌++◌}
 use mathlib.Core.Path.{◌≡◌, sym, ap, ◌∙◌}
-use native.Mathlib.Nat.{add-zero, add-suc}
 use native.Mathlib.Numerals.{add-one}
 use native.Mathlib.Omega.{arith}
-use lib.ListN.{length, set, take, drop, replicate, length-append}
+use lib.ListN.{length, take, drop, replicate, length-append}
 use lib.Seq.{sets, slice}
 use Rattle.rules.proofs.Hash.{take_drop, length_slice_of}
 use Rattle.rules.proofs.Outputs.{sets_append}
@@ -16,32 +15,6 @@ use Rattle.table.proofs.WrittenLaws.{row_as, row_long_lem}
 use Rattle.table.specs.TableBytes.{row_size_of, count_of, row_of, rows_of}
 use Rattle.table.specs.TableWritten.{row_bytes_of, table_bytes_of}
 use Rattle.table_convert.specs.Internal.RowsPut.{Fitting}
-
--- ---- zeros
-
--- the buffer with the zeros that are left put
-pub zeroed : List ℕ → ℕ → ℕ → ℕ → List ℕ
-zeroed out at count i = sets out (at + i) (replicate (count - i) 0)
-
-module _ (out : List ℕ) (at count : ℕ) where
-  pub zeros_start : zeroed out at count 0 ≡ sets out at (replicate count 0)
-  unfolding zeroed
-  zeros_start =
-      let all : count - 0 ≡ count = omega arith in
-      rw (all, add-zero)
-
-  module _ (i : ℕ) where
-    pub zeros_more : i < count → zeroed (set out (at + i) 0) at count (i + 1) ≡ zeroed out at count i
-    unfolding zeroed
-    zeros_more h =
-        let e : count - i ≡ suc (count - (i + 1)) = omega arith in
-        rw (e, add-one, add-suc)
-
-    pub zeros_all : count ≤ i → out ≡ zeroed out at count i
-    unfolding zeroed
-    zeros_all h =
-        let e : count - i ≡ 0 = omega arith in
-        rw e
 
 -- ---- a row
 

@@ -1,6 +1,6 @@
 -- The converter between change rows of two widths. 02, M-106: from the old change rows to the new and back. Refusals come in this order: 4 and 6 by
 -- the rules of the width that is read, 4 for more rows than the other width may have, 13 for a row that it has no room for, and 7, which is the call's.
-use Rattle.std.specs.Prelude.{ℕ, ◌*◌, ◌/◌, Bool, cond, List, ◌≡◌, ltb, leb, length}
+use Rattle.std.specs.Prelude.{ℕ, ◌*◌, ◌/◌, Bool, cond, List, ◌≡◌, ltb, leb, length, Ok}
 use Rattle.rules.specs.Hash.{Bytes}
 use Rattle.rules.specs.Output.{Output}
 use Rattle.rules.specs.declared.refusal.Refusal.TheVariants.{PastSize, TooWide}
@@ -9,7 +9,6 @@ use Rattle.table.specs.TableBytes.{row_size_of, whole_rows_of, first_bad}
 use Rattle.table.specs.TableCalls.{after_check}
 use Rattle.table.specs.TableWritten.{table_bytes_of}
 use Rattle.table.specs.Widths.{narrow_rows, wide_rows, Sized, checked_as}
-use Rattle.table.specs.declared.check.Checked.TheVariants.{Good}
 use Rattle.table.specs.declared.width.Width.{Width}
 use Rattle.table_index.specs.Index.{index_fits}
 
@@ -53,7 +52,7 @@ pub record Converts (from to : Width) : Type 0 where
   -- the same values
   pub values : (s r : List ℕ) → Bytes s → converted from to s ≡ Output.bytes r → whole_rows_of to.dependencies r ≡ whole_rows_of from.dependencies s
   -- good stays good, with as many rows
-  pub good : (s r : List ℕ) → Bytes s → converted from to s ≡ Output.bytes r → checked_as to r ≡ Good (length (whole_rows_of from.dependencies s))
+  pub good : (s r : List ℕ) → Bytes s → converted from to s ≡ Output.bytes r → checked_as to r ≡ Ok (length (whole_rows_of from.dependencies s))
   -- what is written are bytes
   pub bytes : (s r : List ℕ) → Bytes s → converted from to s ≡ Output.bytes r → Bytes r
   -- there and back is the same bytes
@@ -67,7 +66,7 @@ pub record Converts (from to : Width) : Type 0 where
 
 -- Nothing but 4 and 6 by the old rules refuses a table that is widened.
 abbrev pub Widens : Type 0
-Widens = (s : List ℕ) (n : ℕ) → checked_as narrow_rows s ≡ Good n → (r : List ℕ) × (widened s ≡ Output.bytes r)
+Widens = (s : List ℕ) (n : ℕ) → checked_as narrow_rows s ≡ Ok n → (r : List ℕ) × (widened s ≡ Output.bytes r)
 
 -- All that is shown of the converter, both ways round, since it holds of any two widths of which the one that is written has counts and row numbers
 -- of two bytes, as both widths have.

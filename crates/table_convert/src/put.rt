@@ -14,11 +14,7 @@ pub fn put_zeros(out: &mut [u8], at: usize, count: usize)
     requires { at + count ≤ length out.old }
     ensures { out.new ≡ sets out.old at (replicate count 0) }
 {
-    let mut i = 0;
-    while i < count {
-        out[at + i] = 0;
-        i += 1;
-    }
+    out[at..at + count].fill(0);
 }
 
 // Puts row i in its place.
@@ -40,9 +36,7 @@ pub fn put_rows(from: usize, to: usize, table: &[u8], n: usize, out: &mut [u8])
     requires { Fitting from to table.now n × (n * row_size_of to ≤ length out.old) }
     ensures { out.new ≡ sets out.old 0 (table_bytes_of to (rows_of from table.now 0 n)) }
 {
-    let mut i = 0;
-    while i < n {
+    for i in 0..n {
         put_row(from, to, table, i, out);
-        i += 1;
     }
 }

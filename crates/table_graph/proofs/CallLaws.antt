@@ -6,8 +6,6 @@ use borrow.Author.Tests.{lt-ltb, le-ltb}
 use Rattle.rules.specs.Hash.{hashes_at, hashes_bytes}
 use Rattle.rules.specs.Output.{Output}
 use Rattle.rules.specs.Passed.{passed_hashes}
-use Rattle.rules.specs.declared.passed.Passed.TheVariants.{Hashes}
-use Rattle.rules.specs.declared.passed.Passed.TheVariants as passed
 use Rattle.rules.specs.declared.refusal.Refusal.{Refusal}
 use Rattle.rules.specs.declared.refusal.Refusal.TheVariants.{BadRowsBefore}
 use Rattle.rules.proofs.PassedLaws.{after_refused, after_hashes}
@@ -15,24 +13,24 @@ use Rattle.table_index.specs.Index.{index_checked}
 use Rattle.table_index.proofs.CheckLaws.{checked_table}
 use Rattle.table.specs.TableBytes.{rows_at}
 use Rattle.table.specs.TableCalls.{after_check}
-use Rattle.table.specs.declared.check.Checked.TheVariants.{Good, Refused}
 use Rattle.table.proofs.TableLaws.{table_good, take_rows_at}
 use Rattle.table_graph.specs.GraphCalls.{beyond_output, heads_output}
 use Rattle.table_graph.specs.Graph.{heads, beyond}
+use Rattle.std.specs.Prelude.{Ok, Err}
 
 -- ---- the rows beyond a list
 
 module _ (s x l : List ℕ) where
-  pub beyond_refused : (r : Refusal) → index_checked s x ≡ Refused r → beyond_output s x l ≡ Output.refuse r
+  pub beyond_refused : (r : Refusal) → index_checked s x ≡ Err r → beyond_output s x l ≡ Output.refuse r
   unfolding beyond_output after_check
   beyond_refused r e = rw e
 
-  module _ (n : ℕ) (good : index_checked s x ≡ Good n) where
-    pub beyond_no_list : (r : Refusal) → passed_hashes l ≡ passed.Refused r → beyond_output s x l ≡ Output.refuse r
+  module _ (n : ℕ) (good : index_checked s x ≡ Ok n) where
+    pub beyond_no_list : (r : Refusal) → passed_hashes l ≡ Err r → beyond_output s x l ≡ Output.refuse r
     unfolding beyond_output after_check
     beyond_no_list r e = rw good (after_refused _ _ _ r e)
 
-    pub beyond_written : (count : ℕ) → passed_hashes l ≡ Hashes count
+    pub beyond_written : (count : ℕ) → passed_hashes l ≡ Ok count
         → beyond_output s x l ≡ Output.bytes (hashes_bytes (beyond (rows_at s 0 n) (hashes_at l 0 count)))
     unfolding beyond_output after_check
     beyond_written count e = rw (good, (table_good s n (checked_table s x n good)).is) (after_hashes _ _ _ count e)
@@ -40,11 +38,11 @@ module _ (s x l : List ℕ) where
 -- ---- heads
 
 module _ (s x : List ℕ) (before : ℕ) where
-  pub heads_refused : (r : Refusal) → index_checked s x ≡ Refused r → heads_output s x before ≡ Output.refuse r
+  pub heads_refused : (r : Refusal) → index_checked s x ≡ Err r → heads_output s x before ≡ Output.refuse r
   unfolding heads_output after_check
   heads_refused r e = rw e
 
-  module _ (n : ℕ) (good : index_checked s x ≡ Good n) where
+  module _ (n : ℕ) (good : index_checked s x ≡ Ok n) where
     pub heads_many_lem : n < before → heads_output s x before ≡ Output.refuse BadRowsBefore
     unfolding heads_output after_check
     heads_many_lem h = rw (good, lt-ltb _ _ h)

@@ -118,19 +118,17 @@ module _ (s x : List ℕ) (n before : ℕ) (m : List Bool) where
 
   -- `count` hashes have been put of those before entry k
   pub record Collecting (list₀ list : List ℕ) (count k : ℕ) : Type 0 where
-    pub upto : k ≤ n
-    pub long : length list ≡ length list₀
     pub many : count + length (collect_from k) ≡ length (collect_from 0)
     pub rest : sets list (sizes.hash * count) (hashes_bytes (collect_from k)) ≡ sets list₀ 0 (hashes_bytes (collect_from 0))
 
   pub collecting_starts : (list₀ : List ℕ) → Collecting list₀ list₀ 0 0
-  collecting_starts list₀ = record { upto = omega arith; long = refl; many = omega arith; rest = refl }
+  collecting_starts list₀ = record { many = omega arith; rest = refl }
 
   module _ (list₀ list : List ℕ) (count k r : ℕ) (so : Collecting list₀ list count k) (inside : k < n) (read : r ≡ u16_at x (2 * k)) where
     pub collecting_passed : collects r ≡ false → Collecting list₀ list count (k + 1)
     collecting_passed e =
         let same : collect_from k ≡ collect_from (k + 1) = collect_passed k r inside read e in
-        record { upto = omega arith; long = so.long; many = rw same at so.many; rest = put_same _ _ same _ _ _ so.rest }
+        record { many = rw same at so.many; rest = put_same _ _ same _ _ _ so.rest }
 
     module _ (low : r < n) (e : collects r ≡ true) where
       -- there is room for one more
@@ -140,16 +138,14 @@ module _ (s x : List ℕ) (n before : ℕ) (m : List Bool) where
           let more : length (collect_from k) ≡ suc (length (collect_from (k + 1))) = ap length (collect_taken k r inside read low e) in
           omega (arith, so.many, ap length (collect_is ok h), few)
 
-      pub collecting_taken : (next : List ℕ) → Bytes s → n * row_size ≤ length s → length next ≡ length list
+      pub collecting_taken : (next : List ℕ) → Bytes s → n * row_size ≤ length s
           → next ≡ sets list (sizes.hash * count) (slice (r * row_size) (r * row_size + sizes.hash) s)
           → Collecting list₀ next (count + 1) (k + 1)
-      collecting_taken next all whole long put =
+      collecting_taken next all whole put =
           let one : collect_from k ≡ hash_at s (r * row_size) ∷ collect_from (k + 1) = collect_taken k r inside read low e in
           let at : sizes.hash * (count + 1) ≡ sizes.hash * count + sizes.hash = omega arith in
           let more : length (collect_from k) ≡ suc (length (collect_from (k + 1))) = ap length one in
           record {
-            upto = omega arith;
-            long = long ∙ so.long;
             many = omega (arith, so.many);
             rest = rw at (put_one _ _ _ one _ _ _ _ _ _ all (omega arith) refl put so.rest);
           }

@@ -1,6 +1,6 @@
 -- The numbers of a list whose places are some of p, and the rows of a table that are chosen so: how many they are, which they are, each once,
 -- hashes if the list's are. One list serves both: the rows' hashes, and a list of hashes that has marks of its own.
-use Prim.Native.Nat.{ℕ, zero, suc, ◌+◌, ◌-◌, ◌*◌, ◌≤◌, ◌<◌}
+use Prim.Native.Nat.{ℕ, zero, suc, ◌+◌, ◌*◌, ◌≤◌, ◌<◌}
 use mathlib.Core.Bool.{Bool, true, false, cond, ◌||◌, ◌&&◌}
 use mathlib.Core.List.{List, [], ◌∷◌}
 use mathlib.Core.Path.{◌≡◌, refl, sym, ap, ◌∙◌}

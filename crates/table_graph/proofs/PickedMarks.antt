@@ -2,7 +2,7 @@
 use Prim.Native.Nat.{ℕ, ◌+◌, ◌*◌, ◌≤◌, ◌<◌}
 use mathlib.Core.Bool.{Bool, true, false, ◌||◌}
 use mathlib.Core.List.{List}
-use mathlib.Core.Path.{◌≡◌, refl, ap, ◌∙◌}
+use mathlib.Core.Path.{◌≡◌, ap, ◌∙◌}
 use native.Mathlib.Nat.{zero-add}
 use native.Mathlib.Omega.{arith}
 use lib.ListN.{length, get_or}
@@ -26,12 +26,10 @@ module _ (s : List ℕ) (n : ℕ) (l : List ℕ) (count : ℕ) (picks : List Boo
 
   -- the hashes before number k are marked where they are picked
   pub record Picking (marks₀ marks : List Bool) (k : ℕ) : Type 0 where
-    pub upto : k ≤ count
-    pub long : length marks ≡ length marks₀
     pub rest : mark_list (rows (rows_at s 0 n)) marks (pick_left (hashes_at l 0 count) picks k) ≡ mark_list (rows (rows_at s 0 n)) marks₀ (picked (hashes_at l 0 count) picks)
 
   pub picking_starts : (marks₀ : List Bool) → Picking marks₀ marks₀ 0
-  picking_starts marks₀ = record { upto = omega arith; long = refl; rest = ap (mark_list hs marks₀) (left_all asked picks) }
+  picking_starts marks₀ = record { rest = ap (mark_list hs marks₀) (left_all asked picks) }
 
   module _ (marks₀ marks : List Bool) (k : ℕ) (so : Picking marks₀ marks k) (inside : k < count) where
     there : k < length asked
@@ -39,13 +37,13 @@ module _ (s : List ℕ) (n : ℕ) (l : List ℕ) (count : ℕ) (picks : List Boo
 
     pub picking_passed : get_or picks k false ≡ false → Picking marks₀ marks (k + 1)
     picking_passed e =
-        record { upto = omega arith; long = so.long; rest = rw (left_passed asked picks k there e) at so.rest }
+        record { rest = rw (left_passed asked picks k there e) at so.rest }
 
-    pub picking_taken : get_or picks k false ≡ true → (next : List Bool) → length next ≡ length marks → next ≡ mark_hash hs marks (hash_at l (sizes.hash * k)) → Picking marks₀ next (k + 1)
+    pub picking_taken : get_or picks k false ≡ true → (next : List Bool) → next ≡ mark_hash hs marks (hash_at l (sizes.hash * k)) → Picking marks₀ next (k + 1)
     unfolding mark_list
-    picking_taken e next long put =
+    picking_taken e next put =
         let first : get_or asked k 0 ≡ hash_at l (sizes.hash * k) = hashes_index l 0 count k inside ∙ rw zero-add in
-        record { upto = omega arith; long = long ∙ so.long; rest = rw put (rw (left_taken asked picks k there e, first) at so.rest) }
+        record { rest = rw put (rw (left_taken asked picks k there e, first) at so.rest) }
 
   pub picking_ends : (marks₀ marks : List Bool) (k : ℕ) → Picking marks₀ marks k → count ≤ k → GoodRows s n → n ≤ length marks₀
       → Marks n marks (λ i. get_or marks₀ i false || member (hash_of (rows_at s 0 n) i) (picked (hashes_at l 0 count) picks))

@@ -24,12 +24,11 @@ module _ (table x : List ℕ) (n before : ℕ) (m : List Bool) where
   module _ (s : List ℕ) (place many : ℕ) where
     -- the first `count` hashes are those of the rows before entry k
     pub record Comparing (count k : ℕ) : Type 0 where
-      pub upto : k ≤ n
       pub few : count ≤ many
       pub rest : same (onward s place many count) (collect_from table x n before m k) ≡ same (hashes_at s place many) (collect_from table x n before m 0)
 
     pub comparing_starts : Comparing 0 0
-    comparing_starts = record { upto = omega arith; few = omega arith; rest = rw (onward_starts s place many) }
+    comparing_starts = record { few = omega arith; rest = rw (onward_starts s place many) }
 
     abbrev Decided : Bool → Type 0
     Decided b = b ≡ same (hashes_at s place many) (ascend (picked (rows (rows_at table 0 before)) m))
@@ -41,7 +40,7 @@ module _ (table x : List ℕ) (n before : ℕ) (m : List Bool) where
       module _ (r : ℕ) (inside : k < n) (read : r ≡ u16_at x (2 * k)) where
         pub comparing_passed : collects table x n before m r ≡ false → Comparing count (k + 1)
         comparing_passed e =
-            record { upto = omega arith; few = so.few; rest = rw (collect_passed table x n before m k r inside read e) at so.rest }
+            record { few = so.few; rest = rw (collect_passed table x n before m k r inside read e) at so.rest }
 
         module _ (low : r < n) (e : collects table x n before m r ≡ true) where
           -- a row more than there are hashes
@@ -60,7 +59,6 @@ module _ (table x : List ℕ) (n before : ℕ) (m : List Bool) where
             unfolding same
             comparing_taken d =
                 record {
-                  upto = omega arith;
                   few = omega arith;
                   rest = rw (onward_first s place many count there, collect_taken table x n before m k r inside read low e, d) at so.rest;
                 }

@@ -1,14 +1,13 @@
 -- Marks turned one after the other: those before the i-th are what f makes of them, the others are as they were.
 use Prim.Native.Nat.{ℕ, ◌+◌, ◌≤◌, ◌<◌}
-use mathlib.Core.Bool.{Bool, true, false, not, ◌&&◌}
+use mathlib.Core.Bool.{Bool, false}
 use mathlib.Core.List.{List}
-use mathlib.Core.Path.{◌≡◌, refl, sym, ap, ◌∙◌}
+use mathlib.Core.Path.{◌≡◌, refl, ap, ◌∙◌}
 use native.Mathlib.Nat.{not-suc-le-zero}
 use native.Mathlib.Omega.{arith}
 use lib.ListN.{length, get_or, set}
 use lib.Seq.{get_or-set_same, get_or-set_other}
 use Rattle.hash_order.proofs.ReachLaws.{below_suc}
-use Rattle.rules.proofs.Cases.{and_false}
 use Rattle.table_graph.specs.Internal.Marks.{Marks}
 
 pub record Turned (f : ℕ → Bool → Bool) (i : ℕ) (old new : List Bool) : Type 0 where
@@ -47,24 +46,3 @@ module _ (f : ℕ → Bool → Bool) where
 
     pub turn_done : (n : ℕ) → n ≤ i → Marks n new (λ k. f k (get_or old k false))
     turn_done n h = record { each = λ k l. w.done k (omega arith) }
-
--- marks taken off where others are set
-pub off : List Bool → ℕ → Bool → Bool
-off others k b = b && not (get_or others k false)
-
-module _ (others : List Bool) (i : ℕ) (old new : List Bool) (w : Turned (off others) i old new) where
-  pub mark_stays : get_or others i false ≡ false → Turned (off others) (i + 1) old new
-  unfolding off
-  mark_stays e = turn_same (off others) i old new w (rw e (sym (and_with (get_or new i false))))
-    where
-      and_with : (x : Bool) → (x && true) ≡ x
-      and_with true = refl
-      and_with false = refl
-
-  pub mark_goes : i < length new → get_or others i false ≡ true → Turned (off others) (i + 1) old (set new i false)
-  unfolding off
-  mark_goes h e = turn_set (off others) i old new w false h (rw e (sym (and_false (get_or new i false))))
-
-  pub off_done : (n : ℕ) → n ≤ i → Marks n new (λ k. get_or old k false && not (get_or others k false))
-  unfolding off
-  off_done n h = turn_done (off others) i old new w n h

@@ -11,11 +11,9 @@ ghost use Rattle.table_graph.specs.Internal.Marks.{Marks, Blank};
 
 use crate::marked::{count_marked, put_marked};
 use crate::marks::{flip, mark_below, mark_list};
-use rules::output::Write;
-use rules::passed::{Passed, passed_hashes};
+use rules::passed::passed_hashes;
 use rules::refusal::Refusal;
 use rules::sizes::{HASH_SIZE, ROWS};
-use table::check::Checked;
 use table_check::check::check_indexed;
 
 // Marks the rows of a list and all below them.
@@ -43,7 +41,7 @@ pub fn put_beyond(
     l: &[u8],
     count: usize,
     out: &mut [u8],
-) -> Write
+) -> Result<usize, Refusal>
     requires { Indexed table.now index.now n × (sizes.hash * count ≤ length l.now) }
     ensures { Written (Output.bytes (hashes_bytes (beyond (rows_at table.now 0 n) (hashes_at l.now 0 count))))
         out.old out.new result }
@@ -53,21 +51,17 @@ pub fn put_beyond(
     flip(n, &mut marks);
     let size = HASH_SIZE * count_marked(n, &marks);
     if out.len() < size {
-        return Write::Refused(Refusal::NoRoom(size));
+        return Err(Refusal::NoRoom(size));
     }
     put_marked(table, n, &marks, out, 0);
-    Write::Wrote(size)
+    Ok(size)
 }
 
 // The rows beyond a list that is lent as the bytes of its hashes.
-pub fn beyond(table: &[u8], index: &[u8], l: &[u8], out: &mut [u8]) -> Write
+pub fn beyond(table: &[u8], index: &[u8], l: &[u8], out: &mut [u8]) -> Result<usize, Refusal>
     ensures { Written (beyond_output table.now index.now l.now) out.old out.new result }
 {
-    match check_indexed(table, index) {
-        Checked::Refused(r) => Write::Refused(r),
-        Checked::Good(n) => match passed_hashes(l) {
-            Passed::Refused(refusal) => Write::Refused(refusal),
-            Passed::Hashes(count) => put_beyond(table, index, n, l, count, out),
-        },
-    }
+    let n = check_indexed(table, index)?;
+    let count = passed_hashes(l)?;
+    put_beyond(table, index, n, l, count, out)
 }

@@ -11,10 +11,8 @@ ghost use Rattle.table_graph.specs.Internal.Marks.{Marks, Blank};
 
 use crate::marked::{collect_marked, count_marked};
 use crate::marks::{flip, mark_needed};
-use rules::output::Write;
 use rules::refusal::Refusal;
 use rules::sizes::{HASH_SIZE, ROWS};
-use table::check::Checked;
 use table_check::check::check_indexed;
 
 // Marks the heads of the first rows, where none is marked.
@@ -27,7 +25,13 @@ pub fn mark_heads(table: &[u8], before: usize, marks: &mut [bool])
 }
 
 // Writes the heads of a table's first rows, ascending, or refuses a buffer that is too short for them.
-pub fn put_heads(table: &[u8], index: &[u8], n: usize, before: usize, out: &mut [u8]) -> Write
+pub fn put_heads(
+    table: &[u8],
+    index: &[u8],
+    n: usize,
+    before: usize,
+    out: &mut [u8],
+) -> Result<usize, Refusal>
     requires { Indexed table.now index.now n × (before ≤ n) }
     ensures { Written (Output.bytes (hashes_bytes (heads (rows_at table.now 0 before)))) out.old out.new result }
 {
@@ -35,23 +39,19 @@ pub fn put_heads(table: &[u8], index: &[u8], n: usize, before: usize, out: &mut 
     mark_heads(table, before, &mut marks);
     let size = HASH_SIZE * count_marked(before, &marks);
     if out.len() < size {
-        return Write::Refused(Refusal::NoRoom(size));
+        return Err(Refusal::NoRoom(size));
     }
     collect_marked(table, index, n, before, &marks, out);
-    Write::Wrote(size)
+    Ok(size)
 }
 
 // The heads of the first rows of a table.
-pub fn heads(table: &[u8], index: &[u8], before: usize, out: &mut [u8]) -> Write
+pub fn heads(table: &[u8], index: &[u8], before: usize, out: &mut [u8]) -> Result<usize, Refusal>
     ensures { Written (heads_output table.now index.now before) out.old out.new result }
 {
-    match check_indexed(table, index) {
-        Checked::Refused(r) => Write::Refused(r),
-        Checked::Good(n) => {
-            if n < before {
-                return Write::Refused(Refusal::BadRowsBefore);
-            }
-            put_heads(table, index, n, before, out)
-        }
+    let n = check_indexed(table, index)?;
+    if n < before {
+        return Err(Refusal::BadRowsBefore);
     }
+    put_heads(table, index, n, before, out)
 }

@@ -21,14 +21,10 @@ pub fn count_marked(n: usize, marks: &[bool]) -> usize
     ensures { result ≡ marked n marks.now }
 {
     let mut count = 0;
-    let mut i = 0;
-    while i < n {
-        let k = i;
-        i += 1;
-        if !marks[k] {
-            continue;
+    for mark in &marks[..n] {
+        if *mark {
+            count += 1;
         }
-        count += 1;
     }
     count
 }
@@ -39,15 +35,11 @@ pub fn put_marked(table: &[u8], n: usize, marks: &[bool], out: &mut [u8], place:
     ensures { out.new ≡ sets out.old place (hashes_bytes (picked (rows (rows_at table.now 0 n)) marks.now)) }
 {
     let mut at = place;
-    let mut i = 0;
-    while i < n {
-        let k = i;
-        i += 1;
-        if !marks[k] {
-            continue;
+    for i in 0..n {
+        if marks[i] {
+            put_hash(out, at, table, i * ROW_SIZE);
+            at += HASH_SIZE;
         }
-        put_hash(out, at, table, k * ROW_SIZE);
-        at += HASH_SIZE;
     }
 }
 
@@ -65,18 +57,12 @@ pub fn collect_marked(
     ensures { Collected (ascend (picked (rows (rows_at table.now 0 before)) marks.now)) list.old list.new result }
 {
     let mut count = 0;
-    let mut k = 0;
-    while k < n {
+    for k in 0..n {
         let row = u16_at(index, 2 * k);
-        k += 1;
-        if before <= row {
-            continue;
+        if row < before && marks[row] {
+            put_hash(list, HASH_SIZE * count, table, row * ROW_SIZE);
+            count += 1;
         }
-        if !marks[row] {
-            continue;
-        }
-        put_hash(list, HASH_SIZE * count, table, row * ROW_SIZE);
-        count += 1;
     }
     count
 }
@@ -97,23 +83,16 @@ pub fn same_marked(
         (ascend (picked (rows (rows_at table.now 0 before)) marks.now)) }
 {
     let mut count = 0;
-    let mut k = 0;
-    while k < n {
+    for k in 0..n {
         let row = u16_at(index, 2 * k);
-        k += 1;
-        if before <= row {
-            continue;
+        if row < before && marks[row] {
+            if many <= count
+                || !same_hash(bytes, place + HASH_SIZE * count, table, row * ROW_SIZE)
+            {
+                return false;
+            }
+            count += 1;
         }
-        if !marks[row] {
-            continue;
-        }
-        if many <= count {
-            return false;
-        }
-        if !same_hash(bytes, place + HASH_SIZE * count, table, row * ROW_SIZE) {
-            return false;
-        }
-        count += 1;
     }
     count == many
 }

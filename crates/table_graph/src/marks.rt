@@ -21,12 +21,8 @@ fn mark_deps(table: &[u8], i: usize, marks: &mut [bool])
     requires { GoodRows table.now (i + 1) × (i ≤ length marks.old) }
     ensures { marks.new ≡ mark_all marks.old (used_at table.now i) }
 {
-    let count = dep_count(table, i);
-    let mut j = 0;
-    while j < count {
-        let k = dep(table, i, j);
-        marks[k] = true;
-        j += 1;
+    for j in 0..dep_count(table, i) {
+        marks[dep(table, i, j)] = true;
     }
 }
 
@@ -56,9 +52,7 @@ fn mark_down(table: &[u8], n: usize, every: bool, marks: &mut [bool])
     requires { GoodRows table.now n × (n ≤ length marks.old) }
     ensures { marks.new ≡ mark_down every (deps_of (rows_at table.now 0 n)) n marks.old }
 {
-    let mut i = n;
-    while 0 < i {
-        i -= 1;
+    for i in (0..n).rev() {
         mark_row(table, every, i, marks);
     }
 }
@@ -106,10 +100,8 @@ pub fn mark_list(
     ensures { Marks n marks.new
         (λ i. get_or marks.old i false || member (hash_of (rows_at table.now 0 n) i) (hashes_at l.now place count)) }
 {
-    let mut k = 0;
-    while k < count {
+    for k in 0..count {
         mark_hash(table, index, n, l, place + HASH_SIZE * k, marks);
-        k += 1;
     }
 }
 
@@ -128,14 +120,10 @@ pub fn mark_picked(
         (λ i. get_or marks.old i false
         || member (hash_of (rows_at table.now 0 n) i) (picked (hashes_at l.now 0 count) picks.now)) }
 {
-    let mut k = 0;
-    while k < count {
-        let i = k;
-        k += 1;
-        if !picks[i] {
-            continue;
+    for k in 0..count {
+        if picks[k] {
+            mark_hash(table, index, n, l, HASH_SIZE * k, marks);
         }
-        mark_hash(table, index, n, l, HASH_SIZE * i, marks);
     }
 }
 
@@ -144,10 +132,9 @@ pub fn copy_marks(n: usize, others: &[bool], marks: &mut [bool])
     requires { (n ≤ length others.now) × (n ≤ length marks.old) }
     ensures { Marks n marks.new (λ i. get_or others.now i false) }
 {
-    let mut i = 0;
-    while i < n {
+    // Not by copy_from_slice: it asks for memmove, which the archive does without.
+    for i in 0..n {
         marks[i] = others[i];
-        i += 1;
     }
 }
 
@@ -156,11 +143,7 @@ pub fn set_marks(n: usize, mark: bool, marks: &mut [bool])
     requires { n ≤ length marks.old }
     ensures { Marks n marks.new (λ i. mark) }
 {
-    let mut i = 0;
-    while i < n {
-        marks[i] = mark;
-        i += 1;
-    }
+    marks[..n].fill(mark);
 }
 
 // Marks just the first rows that weren't marked.
@@ -168,10 +151,8 @@ pub fn flip(n: usize, marks: &mut [bool])
     requires { n ≤ length marks.old }
     ensures { Marks n marks.new (λ i. not (get_or marks.old i false)) }
 {
-    let mut i = 0;
-    while i < n {
-        marks[i] = !marks[i];
-        i += 1;
+    for mark in &mut marks[..n] {
+        *mark = !*mark;
     }
 }
 
@@ -180,13 +161,9 @@ pub fn unmark(n: usize, marks: &mut [bool], others: &[bool])
     requires { (n ≤ length marks.old) × (n ≤ length others.now) }
     ensures { Marks n marks.new (λ i. get_or marks.old i false && not (get_or others.now i false)) }
 {
-    let mut i = 0;
-    while i < n {
-        let k = i;
-        i += 1;
-        if !others[k] {
-            continue;
+    for i in 0..n {
+        if others[i] {
+            marks[i] = false;
         }
-        marks[k] = false;
     }
 }

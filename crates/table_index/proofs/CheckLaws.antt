@@ -11,24 +11,24 @@ use Rattle.table.proofs.GoodLaws.{accepted_rows}
 use Rattle.table.proofs.TableLaws.{table_good}
 use Rattle.table.specs.TableBytes.{row_size, rows_at, table_of, whole_rows_of, table_checked, GoodRows}
 use Rattle.table.specs.TableCalls.{passed_on}
-use Rattle.table.specs.declared.check.Checked.TheVariants.{Good, Refused}
-use Rattle.table.specs.declared.check.Checked.{Checked}
 use Rattle.table_index.specs.Index.{index_fits, index_checked, Indexed}
 use Rattle.table_index.proofs.FitLaws.{index_fitting}
+use Rattle.std.specs.Prelude.{Result, Ok, Err}
+use Rattle.rules.specs.declared.refusal.Refusal.{Refusal}
 
 -- an index that doesn't fit never gives rows
-never : (c : Checked) (n : ℕ) → passed_on c (Refused BadIndex) ≡ Good n → ⊥
+never : (c : Result ℕ Refusal) (n : ℕ) → passed_on c (Err BadIndex) ≡ Ok n → ⊥
 unfolding passed_on
-never (Good m) n e = let z : ◌≡◌ {A = ℕ} 0 1 = cc in omega arith
-never (Refused r) n e = let z : ◌≡◌ {A = ℕ} 0 1 = cc in omega arith
+never (Ok m) n e = let z : ◌≡◌ {A = ℕ} 0 1 = cc in omega arith
+never (Err r) n e = let z : ◌≡◌ {A = ℕ} 0 1 = cc in omega arith
 
-passed_same : (c : Checked) → passed_on c c ≡ c
+passed_same : (c : Result ℕ Refusal) → passed_on c c ≡ c
 unfolding passed_on
-passed_same (Good n) = refl
-passed_same (Refused r) = refl
+passed_same (Ok n) = refl
+passed_same (Err r) = refl
 
 module _ (s x : List ℕ) where
-  pub unfit_decides : index_fits (rows_at s 0 (length s / row_size)) x ≡ false → index_checked s x ≡ passed_on (table_checked s) (Refused BadIndex)
+  pub unfit_decides : index_fits (rows_at s 0 (length s / row_size)) x ≡ false → index_checked s x ≡ passed_on (table_checked s) (Err BadIndex)
   unfolding index_checked whole_rows_of
   unfit_decides e = rw e
 
@@ -36,20 +36,20 @@ module _ (s x : List ℕ) where
   unfolding index_checked whole_rows_of
   fit_decides e = rw e (passed_same (table_checked s))
 
-  pub checked_table : (n : ℕ) → index_checked s x ≡ Good n → table_checked s ≡ Good n
+  pub checked_table : (n : ℕ) → index_checked s x ≡ Ok n → table_checked s ≡ Ok n
   checked_table n e =
       split (index_fits (rows_at s 0 (length s / row_size)) x)
       (λ f. sym (fit_decides f) ∙ e)
       (λ f. absurd (never (table_checked s) n (sym (unfit_decides f) ∙ e)))
 
-  pub checked_fits : (n : ℕ) → index_checked s x ≡ Good n → index_fits (table_of s) x ≡ true
+  pub checked_fits : (n : ℕ) → index_checked s x ≡ Ok n → index_fits (table_of s) x ≡ true
   unfolding whole_rows_of
   checked_fits n e =
       split (index_fits (rows_at s 0 (length s / row_size)) x)
       (λ f. f)
       (λ f. absurd (never (table_checked s) n (sym (unfit_decides f) ∙ e)))
 
-  pub checked_indexed : (n : ℕ) → index_checked s x ≡ Good n → Indexed s x n
+  pub checked_indexed : (n : ℕ) → index_checked s x ≡ Ok n → Indexed s x n
   checked_indexed n e =
       let good : GoodRows s n = accepted_rows s n (checked_table n e) in
       let is : table_of s ≡ rows_at s 0 n = (table_good s n (checked_table n e)).is in

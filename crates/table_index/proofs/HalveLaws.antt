@@ -10,7 +10,7 @@ use lib.Dec.{ltb}
 use lib.ListN.{length, get_or, length-map}
 use Rattle.hash_order.proofs.KeepLaws.{index_once}
 use Rattle.hash_order.proofs.OrderLaws.{place_within, member_index}
-use Rattle.hash_order.specs.Order.{member, ascends, place_of}
+use Rattle.hash_order.specs.Order.{member, place_of}
 use Rattle.rules.proofs.Cases.{split, true_false}
 use Rattle.rules.specs.LittleEndian.{u16_at}
 use Rattle.rules.specs.Sizes.{sizes}

@@ -19,8 +19,7 @@ fn entries_fit(table: &[u8], index: &[u8], n: usize) -> bool
     if n <= last {
         return false;
     }
-    let mut i = 1;
-    while i < n {
+    for i in 1..n {
         let r = u16_at(index, 2 * i);
         if n <= r {
             return false;
@@ -29,7 +28,6 @@ fn entries_fit(table: &[u8], index: &[u8], n: usize) -> bool
             return false;
         }
         last = r;
-        i += 1;
     }
     true
 }

@@ -28,6 +28,7 @@ pub fn place_by(
 {
     let mut low = 0;
     let mut high = n;
+    // The library halves a slice of elements; an index is lent as bytes, two for each entry, and so is halved here.
     while low < high {
         let middle = low + (high - low) / 2;
         let r = u16_at(index, 2 * middle);

@@ -27,12 +27,11 @@ use Rattle.table.proofs.TwoBytes.{length_twos_bytes, twos_at_bytes, twos_back, t
 use Rattle.table.specs.TableBytes.{u16s_at, u16s_bytes, row_size, rows_at, table_of, whole_rows_of, table_checked}
 use Rattle.table.specs.TableCalls.{after_check, passed_on}
 use Rattle.table.specs.Table.{Row, GoodTable, hash_of}
-use Rattle.table.specs.declared.check.Checked.TheVariants.{Good, Refused}
-use Rattle.table.specs.declared.check.Checked.{Checked}
 use Rattle.table_index_build.specs.Indexing.{built_output, fits_but_last, extended_output}
 use Rattle.table_index_build.proofs.ExtendLaws.{index_next, index_records}
 use Rattle.table_check.specs.Internal.Repeats.{RowOrder}
 use Rattle.table_order.proofs.EntryLaws.{u16_same}
+use Rattle.std.specs.Prelude.{Result, Ok, Err}
 
 -- ---- entries and their bytes
 
@@ -66,14 +65,14 @@ index_order s x n e room is = record { inside = omega arith; entries = room; ord
 module _ (s : List ℕ) where
   -- ---- built
 
-  pub built_refused : (r : Refusal) → table_checked s ≡ Refused r → built_output s ≡ Output.refuse r
+  pub built_refused : (r : Refusal) → table_checked s ≡ Err r → built_output s ≡ Output.refuse r
   unfolding built_output after_check
   built_refused r e = rw e
 
   pub built_past : sizes.rows * row_size < length s → built_output s ≡ Output.refuse (PastSize 0)
   built_past h = built_refused (PastSize 0) (table_past s h)
 
-  pub built_written : (n k : ℕ) (l : List ℕ) → table_checked s ≡ Good k → n ≡ length s / row_size → l ≡ index_of (rows_at s 0 n)
+  pub built_written : (n k : ℕ) (l : List ℕ) → table_checked s ≡ Ok k → n ≡ length s / row_size → l ≡ index_of (rows_at s 0 n)
       → built_output s ≡ Output.bytes (u16s_bytes l)
   unfolding built_output after_check whole_rows_of
   built_written n k l good e is = rw (good, is, e)
@@ -81,7 +80,7 @@ module _ (s : List ℕ) where
   -- ---- extended
 
   module _ (x : List ℕ) where
-    pub extend_refused : (r : Refusal) → table_checked s ≡ Refused r → extended_output s x ≡ Output.refuse r
+    pub extend_refused : (r : Refusal) → table_checked s ≡ Err r → extended_output s x ≡ Output.refuse r
     unfolding extended_output after_check
     extend_refused r e = rw e
 
@@ -114,12 +113,12 @@ module _ (s : List ℕ) where
         rw m at (sym (index_next s x (n - 1) f.2))
 
     -- an index extended by the last row is the one built afresh
-    pub extended_is_built : (n : ℕ) → table_checked s ≡ Good n → fits_but_last s n x ≡ true → extended_output s x ≡ built_output s
+    pub extended_is_built : (n : ℕ) → table_checked s ≡ Ok n → fits_but_last s n x ≡ true → extended_output s x ≡ built_output s
     unfolding extended_output built_output after_check
     extended_is_built n good ok = rw (good, ok, last_put n (table_good s n good).count ok)
 
     module _ (n : ℕ) (e : n ≡ length s / row_size) where
-      pub extend_unfit : (k : ℕ) → table_checked s ≡ Good k → fits_but_last s n x ≡ false → extended_output s x ≡ Output.refuse BadIndex
+      pub extend_unfit : (k : ℕ) → table_checked s ≡ Ok k → fits_but_last s n x ≡ false → extended_output s x ≡ Output.refuse BadIndex
       unfolding extended_output after_check
       extend_unfit k good unfit =
           let same : n ≡ k = e ∙ sym (table_good s k good).count in
@@ -128,9 +127,9 @@ module _ (s : List ℕ) where
       pub extend_written : fits_but_last s n x ≡ true → extended_output s x ≡ built_output s
       extend_written ok = decided (table_checked s) refl
         where
-          decided : (c : Checked) → table_checked s ≡ c → extended_output s x ≡ built_output s
-          decided (Good k) q = extended_is_built k q (let same : n ≡ k = e ∙ sym (table_good s k q).count in rw same at ok)
-          decided (Refused r) q = extend_refused r q ∙ sym (built_refused r q)
+          decided : (c : Result ℕ Refusal) → table_checked s ≡ c → extended_output s x ≡ built_output s
+          decided (Ok k) q = extended_is_built k q (let same : n ≡ k = e ∙ sym (table_good s k q).count in rw same at ok)
+          decided (Err r) q = extend_refused r q ∙ sym (built_refused r q)
 
 -- ---- what is built fits
 
@@ -148,7 +147,7 @@ bytes_fit t good =
     rw (eq-eqb (length (u16s_bytes (indexed (hash_of t) (length t)))) (2 * length t) size, back) (good_fits t good)
 
 -- so the index of all rows but the last is extended, never refused, and gives the index that is built of them all
-pub built_extends : (s : List ℕ) (n : ℕ) → table_checked s ≡ Good n → 0 < n
+pub built_extends : (s : List ℕ) (n : ℕ) → table_checked s ≡ Ok n → 0 < n
     → extended_output s (u16s_bytes (index_of (rows_at s 0 (n - 1)))) ≡ built_output s
 unfolding fits_but_last
 built_extends s n good some =
@@ -156,7 +155,7 @@ built_extends s n good some =
     extended_is_built s (u16s_bytes (index_of (rows_at s 0 (n - 1)))) n good
     (rw (lt-ltb 0 n some) (bytes_fit (rows_at s 0 (n - 1)) part.good))
 
-module _ (s : List ℕ) (n : ℕ) (good : table_checked s ≡ Good n) where
+module _ (s : List ℕ) (n : ℕ) (good : table_checked s ≡ Ok n) where
   pub built_fits : index_fits (table_of s) (u16s_bytes (index_of (table_of s))) ≡ true
   built_fits = bytes_fit (table_of s) (table_good s n good).good
 
@@ -168,6 +167,6 @@ module _ (s : List ℕ) (n : ℕ) (good : table_checked s ≡ Good n) where
       twos_bytes (indexed (hash_of t) (length t)) (λ x m. omega (arith, index_member_below (hash_of t) (length t) x m, d.long, d.few))
 
   -- so the table is accepted beside it
-  pub built_accepted : index_checked s (u16s_bytes (index_of (table_of s))) ≡ Good n
+  pub built_accepted : index_checked s (u16s_bytes (index_of (table_of s))) ≡ Ok n
   unfolding index_checked passed_on
   built_accepted = rw (good, built_fits)

@@ -7,11 +7,9 @@ ghost use Rattle.table_index.specs.Index.{index_of};
 ghost use Rattle.table_index_build.specs.Indexing.{built_output, fits_but_last, extended_output};
 
 use crate::extend::extend;
-use rules::output::Write;
 use rules::put::copy_into;
 use rules::refusal::Refusal;
 use rules::sizes::ROWS;
-use table::check::Checked;
 use table::row::ROW_SIZE;
 use table::width::WIDE;
 use table_check::check::{check_alone, check_ordered};
@@ -20,36 +18,34 @@ use table_order::entry::INDEX_SIZE;
 use table_order::merge::build_by_rows;
 
 // Writes the first n entries of an index.
-fn put_index(index: &[u8], n: usize, out: &mut [u8]) -> Write
+fn put_index(index: &[u8], n: usize, out: &mut [u8]) -> Result<usize, Refusal>
     requires { 2 * n ≤ length index.now }
     ensures { Written (Output.bytes (u16s_bytes (u16s_at index.now 0 n))) out.old out.new result }
 {
     let size = 2 * n;
     if out.len() < size {
-        return Write::Refused(Refusal::NoRoom(size));
+        return Err(Refusal::NoRoom(size));
     }
     copy_into(out, 0, &index[..size]);
-    Write::Wrote(size)
+    Ok(size)
 }
 
 // Checks a table within its limit beside its index, and writes that.
-fn put_built(table: &[u8], index: &[u8], n: usize, out: &mut [u8]) -> Write
+fn put_built(table: &[u8], index: &[u8], n: usize, out: &mut [u8]) -> Result<usize, Refusal>
     requires { (length table.now ≤ sizes.rows * row_size) × (n ≡ length table.now / row_size) × (2 * n ≤ length index.now)
         × (u16s_at index.now 0 n ≡ index_of (rows_at table.now 0 n)) }
     ensures { Written (built_output table.now) out.old out.new result }
 {
-    match check_ordered(WIDE, table, index, n) {
-        Checked::Refused(r) => Write::Refused(r),
-        Checked::Good(_) => put_index(index, n, out),
-    }
+    check_ordered(WIDE, table, index, n)?;
+    put_index(index, n, out)
 }
 
 // Builds the index of a table.
-pub fn build_index(table: &[u8], out: &mut [u8]) -> Write
+pub fn build_index(table: &[u8], out: &mut [u8]) -> Result<usize, Refusal>
     ensures { Written (built_output table.now) out.old out.new result }
 {
     if ROWS * ROW_SIZE < table.len() {
-        return Write::Refused(Refusal::PastSize(0));
+        return Err(Refusal::PastSize(0));
     }
     let n = table.len() / ROW_SIZE;
     let mut index = [0u8; INDEX_SIZE];
@@ -69,7 +65,7 @@ fn fits_but_last(table: &[u8], index: &[u8], n: usize) -> bool
 }
 
 // Writes the index of a table, made of one that fits all rows but the last.
-fn put_extended(table: &[u8], index: &[u8], n: usize, out: &mut [u8]) -> Write
+fn put_extended(table: &[u8], index: &[u8], n: usize, out: &mut [u8]) -> Result<usize, Refusal>
     requires { (length table.now ≤ sizes.rows * row_size) × (n ≡ length table.now / row_size) × (fits_but_last table.now n index.now ≡ true) }
     ensures { Written (built_output table.now) out.old out.new result }
 {
@@ -80,18 +76,16 @@ fn put_extended(table: &[u8], index: &[u8], n: usize, out: &mut [u8]) -> Write
 }
 
 // Extends an index of all rows but the last by that one.
-pub fn extend_index(table: &[u8], index: &[u8], out: &mut [u8]) -> Write
+pub fn extend_index(table: &[u8], index: &[u8], out: &mut [u8]) -> Result<usize, Refusal>
     ensures { Written (extended_output table.now index.now) out.old out.new result }
 {
     if ROWS * ROW_SIZE < table.len() {
-        return Write::Refused(Refusal::PastSize(0));
+        return Err(Refusal::PastSize(0));
     }
     let n = table.len() / ROW_SIZE;
     if fits_but_last(table, index, n) {
         return put_extended(table, index, n, out);
     }
-    match check_alone(table) {
-        Checked::Refused(r) => Write::Refused(r),
-        Checked::Good(_) => Write::Refused(Refusal::BadIndex),
-    }
+    check_alone(table)?;
+    Err(Refusal::BadIndex)
 }

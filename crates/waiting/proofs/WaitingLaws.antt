@@ -23,10 +23,10 @@ use Rattle.table.proofs.CheckLaws.{fewer, accepted, good_is_accepted}
 use Rattle.table.proofs.TableLaws.{length_rows, index_tells, index_of_entry, member_is, index_of_member, entry_at_index}
 use Rattle.table.specs.TableBytes.{records_checked, checked_with, first_bad}
 use Rattle.table.specs.Table.{Row, rows, index_in, held}
-use Rattle.table.specs.declared.check.Checked.TheVariants.{Good, Refused}
 use Rattle.waiting.specs.WaitingBytes.{waiting_size_of, asks_count_of, asks_place_of, waiting_row_of, waiting_rows_of, whole_waiting_of, fill_of, unasked_of, waiting_good_of, waiting_checked_of, waiting_size, asks_count, waitings_at, waiting_of, waiting_checked}
 use Rattle.waiting.specs.Waiting.{Waiting, no_waiting, waiting, asks_of}
 use Rattle.waiting.proofs.Today.{asks_place, waiting_good}
+use Rattle.std.specs.Prelude.{Ok, Err}
 
 -- ---- waiting rows by their numbers
 
@@ -256,10 +256,10 @@ pub record WaitingDecodedOf (d : ℕ) (t : List Row) (s : List ℕ) (n : ℕ) : 
   pub each : (i : ℕ) → i < n → waiting_good_of d t s i ≡ true
   pub good : GoodWaitingOf d t (whole_waiting_of d s)
 
-pub waiting_table_of : (d : ℕ) (t : List Row) (s : List ℕ) (n : ℕ) → waiting_checked_of d t s ≡ Good n → WaitingDecodedOf d t s n
+pub waiting_table_of : (d : ℕ) (t : List Row) (s : List ℕ) (n : ℕ) → waiting_checked_of d t s ≡ Ok n → WaitingDecodedOf d t s n
 unfolding waiting_checked_of whole_waiting_of
 waiting_table_of d t s n e =
-    let a = accepted (λ i. Refused (BadWaitingRow i)) (waiting_good_of d t s) (waiting_size_of d) sizes.waiting_rows (length s) (λ i m q. let z : ◌≡◌ {A = ℕ} 0 1 = cc in omega arith) n e in
+    let a = accepted (λ i. Err (BadWaitingRow i)) (waiting_good_of d t s) (waiting_size_of d) sizes.waiting_rows (length s) (λ i m q. let z : ◌≡◌ {A = ℕ} 0 1 = cc in omega arith) n e in
     let is : waiting_rows_of d s 0 (length s / waiting_size_of d) ≡ waiting_rows_of d s 0 n = ap (waiting_rows_of d s 0) (sym a.count) in
     record {
       whole = a.whole;
@@ -276,10 +276,10 @@ pub waiting_accepted_of : (d : ℕ) (t : List Row) (s : List ℕ)
     → length s % waiting_size_of d ≡ 0
     → length s ≤ sizes.waiting_rows * waiting_size_of d
     → ((i : ℕ) → i < length s / waiting_size_of d → waiting_good_of d t s i ≡ true)
-    → waiting_checked_of d t s ≡ Good (length s / waiting_size_of d)
+    → waiting_checked_of d t s ≡ Ok (length s / waiting_size_of d)
 unfolding waiting_checked_of
 waiting_accepted_of d t s rest few each =
-    good_is_accepted (λ i. Refused (BadWaitingRow i)) (waiting_good_of d t s) (waiting_size_of d) sizes.waiting_rows (length s) few rest each
+    good_is_accepted (λ i. Err (BadWaitingRow i)) (waiting_good_of d t s) (waiting_size_of d) sizes.waiting_rows (length s) few rest each
 
 -- the same of today's tables
 abbrev pub RowWaits : List Row → List ℕ → ℕ → Type 0
@@ -297,14 +297,14 @@ row_waits = row_waits_of sizes.dependencies
 pub waitings_good : (t : List Row) (s : List ℕ) (n : ℕ) → ((i : ℕ) → i < n → waiting_good t s i ≡ true) → GoodWaiting t (waitings_at s 0 n)
 waitings_good = good_waiting_of sizes.dependencies
 
-pub waiting_good_lem : (t : List Row) (s : List ℕ) (n : ℕ) → waiting_checked t s ≡ Good n → WaitingDecoded t s n
+pub waiting_good_lem : (t : List Row) (s : List ℕ) (n : ℕ) → waiting_checked t s ≡ Ok n → WaitingDecoded t s n
 waiting_good_lem = waiting_table_of sizes.dependencies
 
 pub good_waiting_accepted : (t : List Row) (s : List ℕ)
     → length s % waiting_size ≡ 0
     → length s ≤ sizes.waiting_rows * waiting_size
     → ((i : ℕ) → i < length s / waiting_size → waiting_good t s i ≡ true)
-    → waiting_checked t s ≡ Good (length s / waiting_size)
+    → waiting_checked t s ≡ Ok (length s / waiting_size)
 good_waiting_accepted = waiting_accepted_of sizes.dependencies
 
 pub index_of_waiting : (t : List Row) (w : List Waiting) → GoodWaiting t w → (i : ℕ) → i < length w → index_in (waiting w) (get_or (waiting w) i 0) ≡ i
@@ -323,6 +323,6 @@ module _ (t : List Row) (s : List ℕ) (n : ℕ) (d : WaitingDecoded t s n) wher
   decoded_asks_count i b = (row_waits t s i (d.each i b)).count
 
 -- a table of no bytes is good
-pub none_waits : (t : List Row) (w : List ℕ) → length w ≡ 0 → Good 0 ≡ waiting_checked t w
+pub none_waits : (t : List Row) (w : List ℕ) → length w ≡ 0 → Ok 0 ≡ waiting_checked t w
 unfolding waiting_checked_of checked_with records_checked first_bad
 none_waits t w e = rw e

@@ -1,7 +1,7 @@
 -- The house records of waiting rows, and when a waiting table is bad. 01, Waiting table; Refusal numbers, 4 and 9.
 -- As for change rows, all of it is said over d, the dependencies that a row has room for, in names that end in `Of`; the names without it are for
 -- as many dependencies as a change may have.
-use Rattle.std.specs.Prelude.{ℕ, zero, suc, ◌+◌, ◌-◌, ◌*◌, ◌/◌, ◌≤◌, Bool, true, not, ◌&&◌, List, [], ◌∷◌, ◌≡◌, leb, length, get_or}
+use Rattle.std.specs.Prelude.{ℕ, zero, suc, ◌+◌, ◌-◌, ◌*◌, ◌/◌, ◌≤◌, Bool, true, not, ◌&&◌, List, [], ◌∷◌, ◌≡◌, leb, length, get_or, Result, Ok, Err}
 use Rattle.table_index.specs.Index.{fits_by, record_hash}
 use Rattle.hash_order.specs.Order.{member}
 use Rattle.rules.specs.Hash.{hash_at, hashes_at}
@@ -10,9 +10,8 @@ use Rattle.rules.specs.Zeros.{bytes_at, zeros}
 use Rattle.rules.specs.declared.refusal.Refusal.TheVariants.{BadWaitingRow}
 use Rattle.table.specs.TableBytes.{u16s_at, first_bad, checked_with}
 use Rattle.table.specs.Table.{Row, held}
-use Rattle.table.specs.declared.check.Checked.TheVariants.{Good, Refused}
-use Rattle.table.specs.declared.check.Checked.{Checked}
 use Rattle.waiting.specs.Waiting.{Waiting, waiting}
+use Rattle.rules.specs.declared.refusal.Refusal.{Refusal}
 
 -- Waiting row: hash, count byte and zeros up to the size of a hash, and d hashes.
 abbrev pub waiting_size_of : ℕ → ℕ
@@ -62,8 +61,8 @@ waiting_good_of d t s i =
     && not (held t (hash_at s (i * waiting_size_of d)))
 
 -- A waiting table beside a change table: 4, then 9.
-unfoldable pub waiting_checked_of : ℕ → List Row → List ℕ → Checked
-waiting_checked_of d t s = checked_with (λ i. Refused (BadWaitingRow i)) (waiting_good_of d t s) (waiting_size_of d) sizes.waiting_rows (length s)
+unfoldable pub waiting_checked_of : ℕ → List Row → List ℕ → Result ℕ Refusal
+waiting_checked_of d t s = checked_with (λ i. Err (BadWaitingRow i)) (waiting_good_of d t s) (waiting_size_of d) sizes.waiting_rows (length s)
 
 -- Bytes of a waiting row as 01 has it: with room for as many hashes as a change may have dependencies. The names below are those above at that width.
 abbrev pub waiting_size : ℕ
@@ -82,7 +81,7 @@ abbrev pub waiting_of : List ℕ → List Waiting
 waiting_of s = whole_waiting_of sizes.dependencies s
 
 -- 4, then 9, or how many rows a waiting table has.
-abbrev pub waiting_checked : List Row → List ℕ → Checked
+abbrev pub waiting_checked : List Row → List ℕ → Result ℕ Refusal
 waiting_checked t s = waiting_checked_of sizes.dependencies t s
 
 -- ---- what internal contracts speak of
@@ -99,6 +98,6 @@ pub record FirstBad (t : List Row) (w : List ℕ) (m : ℕ) (o : List ℕ) (r : 
   pub sorted : m ≤ r → Sorted w o m
 
 -- A waiting table's check; where it is good, its rows stand in order.
-pub record InOrder (t : List Row) (w o : List ℕ) (r : Checked) : Type 0 where
+pub record InOrder (t : List Row) (w o : List ℕ) (r : Result ℕ Refusal) : Type 0 where
   pub answer : r ≡ waiting_checked t w
-  pub sorted : (m : ℕ) → r ≡ Good m → Sorted w o m
+  pub sorted : (m : ℕ) → r ≡ Ok m → Sorted w o m

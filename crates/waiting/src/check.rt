@@ -1,4 +1,4 @@
-// Whether a waiting table is good beside a change table.
+// Whether a waiting table is good beside a change table: how many rows it has, else the refusal.
 ghost use Rattle.std.specs.Prelude.{◌≡◌, ◌+◌, ◌*◌, ◌≤◌, length};
 ghost use Rattle.table_index.specs.Index.{Indexed};
 ghost use Rattle.rules.specs.Sizes.{sizes};
@@ -11,7 +11,6 @@ use crate::row::{ASKS_PLACE, WAITING_SIZE};
 use rules::refusal::Refusal;
 use rules::sizes::{DEPENDENCIES, HASH_SIZE, WAITING_ROWS};
 use rules::zeros::zero_bytes;
-use table::check::Checked;
 use table_check::check::check_indexed;
 use table_index::look::look_up;
 use table_index_build::extend::extend;
@@ -70,13 +69,11 @@ fn first_bad_waiting(
     requires { Indexed table.now index.now n × (m * waiting_size ≤ length waiting.now) × (m ≤ sizes.waiting_rows) × (2 * m ≤ length order.old) }
     ensures { FirstBad (rows_at table.now 0 n) waiting.now m order.new result }
 {
-    let mut i = 0;
-    while i < m {
+    for i in 0..m {
         if !waiting_good(table, index, n, waiting, order, i) {
             return i;
         }
         extend(waiting, WAITING_SIZE, order, i);
-        i += 1;
     }
     m
 }
@@ -89,42 +86,40 @@ pub fn check_in_order(
     n: usize,
     waiting: &[u8],
     order: &mut [u8],
-) -> Checked
+) -> Result<usize, Refusal>
     requires { Indexed table.now index.now n × (2 * sizes.waiting_rows ≤ length order.old) }
     ensures { InOrder (rows_at table.now 0 n) waiting.now order.new result }
 {
     if WAITING_ROWS * WAITING_SIZE < waiting.len() {
-        return Checked::Refused(Refusal::PastSize(0));
+        return Err(Refusal::PastSize(0));
     }
     let m = waiting.len() / WAITING_SIZE;
     let bad = first_bad_waiting(table, index, n, waiting, m, order);
     if bad < m {
-        return Checked::Refused(Refusal::BadWaitingRow(bad));
+        return Err(Refusal::BadWaitingRow(bad));
     }
     if waiting.len() % WAITING_SIZE != 0 {
-        return Checked::Refused(Refusal::BadWaitingRow(m));
+        return Err(Refusal::BadWaitingRow(m));
     }
-    Checked::Good(m)
+    Ok(m)
 }
 
 // Checks a waiting table for callers that look no waiting row up. Nearly always nothing waits, and then no memory is cleared for an order.
-pub fn check_waiting(table: &[u8], index: &[u8], n: usize, waiting: &[u8]) -> Checked
+pub fn check_waiting(table: &[u8], index: &[u8], n: usize, waiting: &[u8]) -> Result<usize, Refusal>
     requires { Indexed table.now index.now n }
     ensures { result ≡ waiting_checked (rows_at table.now 0 n) waiting.now }
 {
     if waiting.len() == 0 {
-        return Checked::Good(0);
+        return Ok(0);
     }
     let mut order = [0u8; ORDER_SIZE];
     check_in_order(table, index, n, waiting, &mut order)
 }
 
 // Checks a change table beside its index, and a waiting table beside both.
-pub fn check_tables(table: &[u8], index: &[u8], waiting: &[u8]) -> Checked
+pub fn check_tables(table: &[u8], index: &[u8], waiting: &[u8]) -> Result<usize, Refusal>
     ensures { result ≡ tables_checked table.now index.now waiting.now }
 {
-    match check_indexed(table, index) {
-        Checked::Refused(r) => Checked::Refused(r),
-        Checked::Good(n) => check_waiting(table, index, n, waiting),
-    }
+    let n = check_indexed(table, index)?;
+    check_waiting(table, index, n, waiting)
 }

@@ -16,9 +16,8 @@ use Rattle.rules.proofs.Cases.{split, either}
 use Rattle.rules.specs.Hash.{hash_at, hashes_at}
 use Rattle.rules.specs.Sizes.{sizes}
 use Rattle.table.specs.Table.{index_in}
-use Rattle.waiting.proofs.Today.{asks_place}
 use Rattle.waiting.proofs.WaitingLaws.{length_waitings_at}
-use Rattle.waiting.specs.WaitingBytes.{asks_count, waitings_at}
+use Rattle.waiting.specs.WaitingBytes.{waitings_at}
 use Rattle.waiting.specs.Waiting.{Waiting, waiting, asks_of}
 use Rattle.waiting_asked.specs.Asking.{Request, change, list, Asks, away, marked, waits, none, more, Askable}
 
@@ -147,10 +146,6 @@ module _ {waitings order : List ℕ} {m : ℕ} {marks : List Bool} (a : Askable 
 
   pub still_askable : {marks' : List Bool} → length marks' ≡ length marks → Askable waitings order m marks'
   still_askable p = record { sorted = a.sorted; few = a.few; rows = a.rows; marked = rw p a.marked }
-
-  -- its list stands in the table
-  pub asks_inside : (k entries : ℕ) → k < m → entries ≡ asks_count waitings k → asks_place k + sizes.hash * entries ≤ length waitings
-  asks_inside k entries b c = omega (arith, a.few k b, a.sorted.inside)
 
 module _ (waitings : List ℕ) (m : ℕ) where
   pub row_away : {k : ℕ} {marks : List Bool} → m ≤ k → Asks (waitings_at waitings 0 m) (change k) marks marks

@@ -49,11 +49,9 @@ fn ask_list(
 {
     let place = row * WAITING_SIZE + ASKS_PLACE;
     let entries = asks_count(waiting, row);
-    let mut i = 0;
-    while i < entries {
+    for i in 0..entries {
         let next = find_waiting(waiting, order, m, waiting, place + HASH_SIZE * i);
         ask_change(waiting, order, m, marks, next);
-        i += 1;
     }
 }
 
@@ -71,10 +69,8 @@ pub fn ask_hashes(
     ensures { Asks (waitings_at waiting.now 0 m) (Request.list (hashes_at bytes.now place entries))
         marks.old marks.new }
 {
-    let mut i = 0;
-    while i < entries {
+    for i in 0..entries {
         let next = find_waiting(waiting, order, m, bytes, place + HASH_SIZE * i);
         ask_change(waiting, order, m, marks, next);
-        i += 1;
     }
 }

@@ -7,12 +7,12 @@ use Rattle.hash_order.proofs.KeepLaws.{once_ascends}
 use Rattle.hash_order.specs.Order.{member, ascends, Once}
 use Rattle.rules.specs.Hash.{Bytes, AreHashes}
 use Rattle.table.specs.Table.{Row, held}
-use Rattle.table.specs.declared.check.Checked.TheVariants.{Good}
 use Rattle.waiting.proofs.WaitingLaws.{waiting_good_lem, asks_hashes}
 use Rattle.waiting.specs.WaitingBytes.{waiting_of, waiting_checked}
 use Rattle.waiting.specs.Waiting.{Waiting, waiting}
 use Rattle.waiting_missing.specs.Missing.{Missing, missing}
 use Rattle.waiting_missing.proofs.MissingLaws.{missing_member, member_missing, missing_unknown, missing_ascends, missing_are_hashes, unknown_not_held, unknown_not_waiting}
+use Rattle.std.specs.Prelude.{Ok}
 
 -- The list that `missing` is: what the relation says, each hash once, ascending, and none of them held or waiting.
 pub record MissingAgrees (t : List Row) (w : List Waiting) (l : List ℕ) : Type 0 where
@@ -23,7 +23,7 @@ pub record MissingAgrees (t : List Row) (w : List Waiting) (l : List ℕ) : Type
   pub order : ascends (missing t w l) ≡ true
   pub once : Once (missing t w l)
 
-module _ (t : List Row) (s : List ℕ) (m : ℕ) (good : waiting_checked t s ≡ Good m) where
+module _ (t : List Row) (s : List ℕ) (m : ℕ) (good : waiting_checked t s ≡ Ok m) where
   pub accepted_agrees : (l : List ℕ) → MissingAgrees t (waiting_of s) l
   accepted_agrees l =
       record {

@@ -1,11 +1,10 @@
 // What is missing from a list of hashes, each once, ascending.
-ghost use Rattle.std.specs.Prelude.{◌≡◌, ◌+◌, ◌*◌, ◌≤◌, length};
+ghost use Rattle.std.specs.Prelude.{◌≡◌, ◌+◌, ◌*◌, ◌≤◌, length, Ok};
 ghost use Rattle.table_index.specs.Index.{Indexed};
 ghost use Rattle.rules.specs.Hash.{hashes_at};
 ghost use Rattle.rules.specs.Output.{Written};
 ghost use Rattle.rules.specs.Sizes.{sizes};
 ghost use Rattle.table.specs.TableBytes.{rows_at};
-ghost use Rattle.table.specs.declared.check.Checked.TheVariants.{Good};
 ghost use Rattle.waiting.specs.WaitingBytes.{waiting_of, waiting_checked, Sorted};
 ghost use Rattle.waiting_missing.specs.Internal.Take.{RefsFound};
 ghost use Rattle.waiting_missing.specs.MissingCalls.{missing_from, missing_beside, missing_output};
@@ -13,11 +12,9 @@ ghost use Rattle.waiting_missing.specs.Missing.{missing};
 
 use crate::take::{take_asked, take_refs};
 use hash_refs::found::write_found;
-use rules::output::Write;
-use rules::passed::{Passed, passed_hashes};
+use rules::passed::passed_hashes;
 use rules::refusal::Refusal;
 use rules::sizes::{HASHES, WAITING_ROWS};
-use table::check::Checked;
 use table_check::check::check_indexed;
 use waiting::check::check_in_order;
 use waiting::find::ORDER_SIZE;
@@ -47,7 +44,7 @@ pub fn find_in_order(
     entries: usize,
     refs: &mut [u32],
 ) -> FoundCount
-    requires { Indexed table.now index.now n × (waiting_checked (rows_at table.now 0 n) waiting.now ≡ Good m)
+    requires { Indexed table.now index.now n × (waiting_checked (rows_at table.now 0 n) waiting.now ≡ Ok m)
         × Sorted waiting.now order.now m × (place + sizes.hash * entries ≤ length list.now) × (entries ≤ sizes.hashes) }
     ensures { RefsFound list.now place entries waiting.now
         (missing (rows_at table.now 0 n) (waiting_of waiting.now) (hashes_at list.now place entries)) refs.new result }
@@ -73,23 +70,19 @@ fn missing_from(
     m: usize,
     l: &[u8],
     out: &mut [u8],
-) -> Write
-    requires { Indexed table.now index.now n × (waiting_checked (rows_at table.now 0 n) waiting.now ≡ Good m)
+) -> Result<usize, Refusal>
+    requires { Indexed table.now index.now n × (waiting_checked (rows_at table.now 0 n) waiting.now ≡ Ok m)
         × Sorted waiting.now order.now m }
     ensures { Written (missing_from (rows_at table.now 0 n) (waiting_of waiting.now) l.now)
         out.old out.new result }
 {
-    match passed_hashes(l) {
-        Passed::Refused(refusal) => Write::Refused(refusal),
-        Passed::Hashes(entries) => {
-            let mut refs = [0u32; FOUND];
-            let found = find_in_order(table, index, n, waiting, order, m, l, 0, entries, &mut refs);
-            if HASHES < found.all {
-                return Write::Refused(Refusal::PastSize(0));
-            }
-            write_found(l, 0, entries, waiting, &refs, found.all, out)
-        }
+    let entries = passed_hashes(l)?;
+    let mut refs = [0u32; FOUND];
+    let found = find_in_order(table, index, n, waiting, order, m, l, 0, entries, &mut refs);
+    if HASHES < found.all {
+        return Err(Refusal::PastSize(0));
     }
+    write_found(l, 0, entries, waiting, &refs, found.all, out)
 }
 
 // Writes what is missing from a passed list, or refuses, once the change table is checked: the waiting table's check leaves the order that look-ups want.
@@ -100,25 +93,27 @@ fn missing_beside(
     waiting: &[u8],
     l: &[u8],
     out: &mut [u8],
-) -> Write
+) -> Result<usize, Refusal>
     requires { Indexed table.now index.now n }
     ensures { Written (missing_beside (rows_at table.now 0 n) waiting.now l.now)
         out.old out.new result }
 {
     let mut order = [0u8; ORDER_SIZE];
-    match check_in_order(table, index, n, waiting, &mut order) {
-        Checked::Refused(refusal) => Write::Refused(refusal),
-        Checked::Good(m) => missing_from(table, index, n, waiting, &order, m, l, out),
-    }
+    let m = check_in_order(table, index, n, waiting, &mut order)?;
+    missing_from(table, index, n, waiting, &order, m, l, out)
 }
 
 // What is missing from a list of hashes, each once, ascending.
-pub fn missing(table: &[u8], index: &[u8], waiting: &[u8], l: &[u8], out: &mut [u8]) -> Write
+pub fn missing(
+    table: &[u8],
+    index: &[u8],
+    waiting: &[u8],
+    l: &[u8],
+    out: &mut [u8],
+) -> Result<usize, Refusal>
     ensures { Written (missing_output table.now index.now waiting.now l.now)
         out.old out.new result }
 {
-    match check_indexed(table, index) {
-        Checked::Refused(refusal) => Write::Refused(refusal),
-        Checked::Good(n) => missing_beside(table, index, n, waiting, l, out),
-    }
+    let n = check_indexed(table, index)?;
+    missing_beside(table, index, n, waiting, l, out)
 }

@@ -72,12 +72,10 @@ pub fn take_refs(
         refs.old count refs.new result }
 {
     let mut found = count;
-    let mut i = first;
-    while i < end {
+    for i in first..end {
         found = take_ref(
             table, index, n, waiting, order, m, list, place, entries, refs, found, i,
         );
-        i += 1;
     }
     found
 }
@@ -116,14 +114,12 @@ pub fn take_asked(
         refs.old count refs.new result }
 {
     let mut found = count;
-    let mut row = 0;
-    while row < m {
+    for row in 0..m {
         let first = entries + (row * WAITING_SIZE + ASKS_PLACE) / HASH_SIZE;
         let end = first + asked_count(waiting, marks, row);
         found = take_refs(
             table, index, n, waiting, order, m, list, place, entries, refs, found, first, end,
         );
-        row += 1;
     }
     found
 }

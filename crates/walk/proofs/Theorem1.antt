@@ -1,6 +1,6 @@
 -- Demand 3. The walk is a run in the whole A in which A itself answers, and A's heads are heard from round two on: so all is held after m + 1 rounds, and
 -- what a run promises of its names and tables is promised of the walk. That a walk can go on is that loading has an outcome. Assumes nothing.
-use Prim.Native.Nat.{ℕ, zero, suc, ◌+◌, ◌≤◌}
+use Prim.Native.Nat.{ℕ, zero, suc, ◌≤◌}
 use mathlib.Core.Bool.{Bool, true, false, not, ◌||◌, ◌&&◌}
 use mathlib.Core.List.{List, ◌++◌}
 use mathlib.Core.Path.{◌≡◌, refl, ap, ◌∙◌}

@@ -28,7 +28,7 @@ use Rattle.waiting.specs.Waiting.{Waiting, waiting}
 use Rattle.walk.proofs.Loaded.{loads_more, loads_all}
 use Rattle.walk.proofs.Loading.{settles_fewer}
 use Rattle.walk.specs.Round.{Part, Loads, trim}
-use Rattle.walk_ends_sessions.proofs.Sides.{HeardSo, nothing, words, Side, Speaker, Hearer, old_head, take_before}
+use Rattle.walk_ends_sessions.proofs.Sides.{words, Side, Speaker, Hearer, old_head, take_before}
 use Rattle.walk_sessions.proofs.Spoken.{plain_writes, plain_keeps, HeardWords}
 use Rattle.walk_sessions.proofs.Waits.{loads_waits, rows_few, part_sound}
 

@@ -4,7 +4,7 @@ use Prim.Native.Nat.{ℕ, zero, suc, ◌≤◌, ◌<◌, max}
 use mathlib.Core.Bool.{Bool, true, false, not, cond, ◌&&◌}
 use mathlib.Core.List.{List}
 use mathlib.Core.Logic.{◌⊎◌, inl, inr}
-use mathlib.Core.Path.{◌≡◌, refl, sym, ap, ◌∙◌}
+use mathlib.Core.Path.{◌≡◌}
 use native.Mathlib.Omega.{arith}
 use lib.ListN.{length}
 use Rattle.bloom.specs.declared.setting.Setting.{Setting}
@@ -15,12 +15,12 @@ use Rattle.session.specs.Written.{Host}
 use Rattle.table.specs.Table.{Row, held}
 use Rattle.waiting.specs.Waiting.{Waiting}
 use Rattle.walk.specs.Walk.{holds_all, lacking}
-use Rattle.walk_ends.proofs.BothEnds.{NamedAll, both_ends, turns_named}
+use Rattle.walk_ends.proofs.BothEnds.{both_ends, turns_named}
 use Rattle.walk_ends.proofs.Exchanging.{turns_exchange}
-use Rattle.walk_ends.specs.Ends.{End, BothEnds, first_speaks}
+use Rattle.walk_ends.specs.Ends.{BothEnds, first_speaks}
 use Rattle.walk_ends.specs.Joint.{twice}
 use Rattle.walk_ends_sessions.proofs.Talk.{Standing, inside_standing, next, statement}
-use Rattle.walk_ends_sessions.specs.TalkEnds.{both_hold, MessageReached, MessageAccepted, MessageGranted, MessageUnderway, EndTables, carried_before, carried_by_first, carried_by_second, EndsMeet, SessionsMeet}
+use Rattle.walk_ends_sessions.specs.TalkEnds.{both_hold, MessageReached, MessageGranted, MessageUnderway, EndTables, EndsMeet, SessionsMeet}
 use Rattle.walk_sessions.specs.Passing.{Passes}
 
 -- what each has named, by who spoke first

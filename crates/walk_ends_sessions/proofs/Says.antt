@@ -1,48 +1,30 @@
 -- The unit that speaks a message states what its end states: its heads, what is missing from the heads heard, a have whose last-sync hashes both hold, and by list
 -- the end's list, since what it heard and what it sent are the end's. It knows the last-sync hashes that it heard, so it doesn't reset; in the first exchange it has
 -- said nothing yet and afterwards the other's heads aren't its own, so it isn't silent. Assumes nothing.
-use Prim.Native.Nat.{ℕ, zero, suc, ◌≤◌}
-use mathlib.Core.Bool.{Bool, true, false, not, ◌&&◌, ◌||◌}
-use mathlib.Core.List.{List, [], ◌∷◌, ◌++◌}
-use mathlib.Core.Option.{Option, none, some}
-use mathlib.Core.Path.{◌≡◌, refl, sym, ap, ap₂, ◌∙◌}
+use Prim.Native.Nat.{ℕ, suc, ◌≤◌}
+use mathlib.Core.Bool.{true, false, not, ◌&&◌, ◌||◌}
+use mathlib.Core.List.{List, ◌++◌}
+use mathlib.Core.Option.{Option, some}
+use mathlib.Core.Path.{◌≡◌, refl, sym, ap, ◌∙◌}
 use native.Mathlib.Nat.{le_trans}
 use native.Mathlib.Omega.{arith}
 use borrow.Author.Tests.{ltb-true, ltb-false}
 use lib.Dec.{ltb}
 use lib.ListN.{length}
 use Rattle.bloom.specs.Have.{Have}
-use Rattle.hash_order.proofs.KeepLaws.{keep_same, every_one, every_member, hashes_inside}
+use Rattle.hash_order.proofs.KeepLaws.{keep_same, every_member, hashes_inside}
 use Rattle.hash_order.proofs.OrderLaws.{member_append, member_none}
 use Rattle.hash_order.specs.Order.{member, every}
 use Rattle.message.specs.Message.{message_bytes}
 use Rattle.message.specs.Sound.{SoundHashes}
-use Rattle.pick.specs.declared.check.Picked.{Picked}
-use Rattle.rules.proofs.Cases.{split, either, true_false}
+use Rattle.rules.proofs.Cases.{split, either}
 use Rattle.rules.specs.Hash.{AreHashes}
 use Rattle.rules.specs.Sizes.{sizes}
 use Rattle.send.specs.ToSend.{to_send, to_send_less}
 use Rattle.session.proofs.GoodLaws.{body_good}
 use Rattle.session.proofs.PlanLaws.{list_hashes, sent_ascends, sent_members, need_missing, have_one, have_none, speaks_first, speaks_apart, plan_is}
 use Rattle.session.specs.GoodState.{SoundTable}
-use Rattle.session.specs.Plan.{
-  Body,
-  Plan,
-  Planned,
-  heard,
-  have_of,
-  haves_for,
-  unknown_sync,
-  body_of,
-  body_heard,
-  empty,
-  silence,
-  sent_after,
-  plan_of,
-  planned,
-  is_fine,
-  plan_body,
-}
+use Rattle.session.specs.Plan.{Body, Plan, Planned, heard, have_of, haves_for, unknown_sync, body_of, empty, silence, sent_after, plan_of, planned, is_fine, plan_body}
 use Rattle.session.specs.Receive.{receive, receive_bytes}
 use Rattle.session.specs.Written.{Host, message_for, heard_have, haves_heard, heard_said}
 use Rattle.session_state.specs.Session.{State}
@@ -61,6 +43,7 @@ use Rattle.walk_sessions.proofs.Message.{heard_selects}
 use Rattle.walk_sessions.proofs.Sides.{Fixed, not_same}
 use Rattle.walk_sessions.proofs.Spoken.{HeardWords, Spoken, spoken}
 use Rattle.walk_sessions.proofs.Waits.{rows_few, part_sound, part_few, missing_sound}
+use Rattle.std.specs.Prelude.{Result}
 
 -- t is the speaker's table, u the hearer's; told is what the speaker's end has heard
 module _ (bits probes : ℕ) (J t u : List Row) (w : List Waiting) (sent : List ℕ) (told : Option StatedWords) (i : ℕ) (s : State) where
@@ -72,7 +55,7 @@ module _ (bits probes : ℕ) (J t u : List Row) (w : List Waiting) (sent : List 
   haves = haves_for bits probes t need (heads_heard told) s.shared_heads
 
   -- g is what goes, c what the check says of it
-  module _ (g : Body) (c : Picked) where
+  module _ (g : Body) (c : Result Unit ℕ) where
     abbrev q : Plan
     q = plan_of bits probes t w s g
 
@@ -157,7 +140,7 @@ module _ (bits probes : ℕ) (J t u : List Row) (w : List Waiting) (sent : List 
         (sync_known u' (heard_have (have_of bits probes t s.shared_heads)) (λ h m. more h (side.theirs h m))))
         (λ e. rw (have_none bits probes t need (heads_heard told) s.shared_heads e))
 
-    module _ (cover : (h : ℕ) → held J h ≡ true → (held t h || held u h) ≡ true) (going : 2 ≤ i → (holds_all J u && holds_all J t) ≡ false) (g : Body) (c : Picked)
+    module _ (cover : (h : ℕ) → held J h ≡ true → (held t h || held u h) ≡ true) (going : 2 ≤ i → (holds_all J u && holds_all J t) ≡ false) (g : Body) (c : Result Unit ℕ)
         (may : MayGo t g c) where
       sent_own : (h : ℕ) → member h (sent_after s g) ≡ true → held t h ≡ true
       sent_own h e =

@@ -1,7 +1,7 @@
 -- Two fresh sessions with news at both ends are the ends of walk_ends: both sides stand before the first message, and each message that is granted keeps them and is a
 -- turn of the ends. That the tables stay parts of the joint set is M-111's. Assumes nothing.
 use Prim.Native.Nat.{ℕ, zero, suc, ◌≤◌, ◌<◌}
-use mathlib.Core.Bool.{true, false, ◌&&◌, ◌||◌}
+use mathlib.Core.Bool.{true, false}
 use mathlib.Core.List.{List, [], ◌++◌}
 use mathlib.Core.Option.{Option, none, some}
 use mathlib.Core.Path.{◌≡◌, refl, sym, ap, ap₂, subst, ◌∙◌}
@@ -14,7 +14,6 @@ use Rattle.hash_order.proofs.KeepLaws.{every_member}
 use Rattle.hash_order.proofs.OrderLaws.{member_none}
 use Rattle.hash_order.specs.Order.{member, every}
 use Rattle.message.specs.Message.{message_bytes}
-use Rattle.pick.specs.declared.check.Picked.{Picked}
 use Rattle.rules.proofs.Cases.{split}
 use Rattle.rules.specs.Sizes.{sizes}
 use Rattle.send_members.proofs.SLaws.{last_syncs_one}
@@ -36,33 +35,19 @@ use Rattle.walk.proofs.Walk01.{haves_given}
 use Rattle.walk.specs.Round.{Part, Picks, Loads, trim}
 use Rattle.walk.specs.Walk.{accepted}
 use Rattle.walk_ends.proofs.Turning.{turns_parts, turns_cover}
-use Rattle.walk_ends.specs.Ends.{StatedWords, End, heads_heard, list_for, end_spoken, EndSpeaks, EndHears, Turn, Turns}
+use Rattle.walk_ends.specs.Ends.{StatedWords, End, heads_heard, list_for, end_spoken, Turn, Turns}
 use Rattle.walk_ends_sessions.proofs.Hears.{Hears, hears}
 use Rattle.walk_ends_sessions.proofs.Says.{Says, says}
 use Rattle.walk_ends_sessions.proofs.Sides.{nothing, Speaker, Hearer, side_fresh}
-use Rattle.walk_ends_sessions.specs.TalkEnds.{
-  Units,
-  said,
-  taken,
-  units_at,
-  carried_before,
-  both_hold,
-  MessageReached,
-  MessageAccepted,
-  MessageGranted,
-  MessageUnderway,
-  EndTables,
-  MessageAgrees,
-  StatementEnds,
-  SessionsAreEnds,
-}
+use Rattle.walk_ends_sessions.specs.TalkEnds.{Units, said, taken, units_at, carried_before, both_hold, MessageAccepted, MessageGranted, MessageUnderway, EndTables, MessageAgrees, StatementEnds, SessionsAreEnds}
 use Rattle.walk_picked.proofs.PickedWalkLaws.{accepted_picks}
 use Rattle.walk_sessions.proofs.Answers.{MayGo}
 use Rattle.walk_sessions.proofs.Passing.{body_passed, check_passed, passing_is, passed_as, may_go, passed_replies}
 use Rattle.walk_sessions.proofs.Sides.{Fixed}
 use Rattle.walk_sessions.proofs.Waits.{loads_longer, part_sound, part_few}
-use Rattle.walk_sessions.specs.Passing.{Passes, plan_passing, FitIn, Replies}
+use Rattle.walk_sessions.specs.Passing.{Passes, FitIn, Replies}
 use Rattle.walk_sessions.specs.Talk.{bytes_for, goes}
+use Rattle.std.specs.Prelude.{Result}
 
 -- what goes where this is passed is one of the lists that an end may name
 replies_pick : (t : List Row) (p : Passes) (offer reply : List ℕ) → GoodTable t → every (held t) offer ≡ true → FitIn t p → Replies t p offer reply
@@ -157,7 +142,7 @@ module _ (set : ℕ → Setting) (pass : ℕ → Passes) (J : List Row) (T : ℕ
     abbrev body : Body
     body = body_passed t s (pass i)
 
-    abbrev check : Picked
+    abbrev check : Result Unit ℕ
     check = check_passed t s (pass i)
 
     may : MayGo t body check

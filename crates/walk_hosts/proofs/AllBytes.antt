@@ -12,7 +12,6 @@ use Rattle.message.specs.Flags.{section_bytes}
 use Rattle.message.specs.Message.{Message, type_of, joined, counted, have_bytes, message_bytes}
 use Rattle.message.specs.Sound.{Each}
 use Rattle.message.specs.declared.flags.MessageFlags.{MessageFlags}
-use Rattle.message.specs.declared.flags.Section.TheVariants.{Present}
 use Rattle.message.specs.declared.version.MessageVersion.{MessageVersion}
 use Rattle.message.specs.declared.version.MessageVersion.TheVariants.{V1, V2}
 use Rattle.leb128.specs.Number.{shortest}
@@ -30,6 +29,7 @@ use Rattle.session.specs.Plan.{Plan}
 use Rattle.wire.specs.Item.{prefixed_bytes, hash_list_bytes}
 use Rattle.walk_hosts.specs.Memory.{HostBytes}
 use Rattle.session.specs.Written.{Host, list_chunks, chunks_for, message_for}
+use Rattle.std.specs.Prelude.{Some}
 
 -- ---- lists
 
@@ -111,7 +111,7 @@ unfolding Each
 each_so P Q f [] e = tt
 each_so P Q f (x ∷ xs) e = (f x e.0, each_so P Q f xs e.1)
 
-pub message_bytes_lem : (m : Message) (f : MessageFlags) → m.flags ≡ Present f → Each FieldBytes m.haves → Each Bytes m.chunks → Bytes (message_bytes m)
+pub message_bytes_lem : (m : Message) (f : MessageFlags) → m.flags ≡ Some f → Each FieldBytes m.haves → Each Bytes m.chunks → Bytes (message_bytes m)
 unfolding message_bytes section_bytes
 message_bytes_lem m f flags haves chunks =
     let flag : ℕ = 0x80 + f.0 % 0x80 in

@@ -19,22 +19,10 @@ use Rattle.rules.specs.Zeros.{bytes_at, zeros}
 use Rattle.table.specs.TableBytes.{u16s_at, count_of, used_of, unused_of, row_of, rows_of, whole_rows_of, numbers_good, row_good_of, first_bad, records_checked, checked_with, table_checked_of, table_of}
 use Rattle.table.specs.TableCalls.{passed_on}
 use Rattle.table.specs.Table.{Row, rows, hash_of, held}
-use Rattle.table.specs.declared.check.Checked.TheVariants.{Good}
 use Rattle.walk_sessions.proofs.TalkExample.{held_by_b, waiting_at_b, waiting_at_a, lent, set_by_a, set_by_b, good_at_a, good_at_b, BringsAll, all_granted}
 use Rattle.walk_sessions.specs.Passing.{Passes, FitIn}
 use Rattle.walk_sessions.specs.Talk.{Reached, Granted}
-use Rattle.waiting.specs.WaitingBytes.{
-  asks_count_of,
-  waiting_row_of,
-  waiting_rows_of,
-  whole_waiting_of,
-  fill_of,
-  unasked_of,
-  waiting_good_of,
-  waiting_checked_of,
-  waiting_of,
-  waiting_checked,
-}
+use Rattle.waiting.specs.WaitingBytes.{asks_count_of, waiting_row_of, waiting_rows_of, whole_waiting_of, fill_of, unasked_of, waiting_good_of, waiting_checked_of, waiting_of, waiting_checked}
 use Rattle.waiting.specs.Waiting.{Waiting, waiting}
 use Rattle.session.specs.PlanCall.{Buffers}
 use Rattle.session.specs.Written.{Host}
@@ -45,6 +33,7 @@ use Rattle.walk_hosts.specs.Calls.{AllGranted, CallsEnd, Lends}
 use Rattle.walk_hosts.specs.CallContracts.{WriteLent, ReceiveLent}
 use Rattle.walk_hosts.proofs.Goes.{calls_go}
 use Rattle.walk_hosts.proofs.Talk.{calls_corollary}
+use Rattle.std.specs.Prelude.{Ok}
 
 -- ---- tables as bytes
 
@@ -79,11 +68,11 @@ all_index = 1 ∷ 0 ∷ 2 ∷ 0 ∷ 0 ∷ 0 ∷ []
 
 computed :
     (table_of a_row ≡ one)
-    × (index_checked a_row (0 ∷ 0 ∷ []) ≡ Good 1)
+    × (index_checked a_row (0 ∷ 0 ∷ []) ≡ Ok 1)
     × (table_of all_rows ≡ three)
-    × (index_checked all_rows all_index ≡ Good 3)
+    × (index_checked all_rows all_index ≡ Ok 3)
     × (waiting_of c_waits_lem ≡ c_waits)
-    × (waiting_checked one c_waits_lem ≡ Good 1)
+    × (waiting_checked one c_waits_lem ≡ Ok 1)
 unfolding
     big_endian big_endian_bytes hash_at hashes_at hash_bytes member every ascends u16_at u16s_at count_of used_of unused_of row_of rows_of whole_rows_of zeros numbers_good
     row_good_of first_bad records_checked checked_with table_checked_of asks_count_of waiting_row_of waiting_rows_of whole_waiting_of bytes_at fill_of unasked_of waiting_good_of
@@ -91,7 +80,7 @@ unfolding
 computed = (refl, refl, refl, refl, refl, refl)
 
 -- nothing waits in no bytes
-none_waits : (t : List Row) → (waiting_of [] ≡ []) × (waiting_checked t [] ≡ Good 0)
+none_waits : (t : List Row) → (waiting_of [] ≡ []) × (waiting_checked t [] ≡ Ok 0)
 unfolding first_bad records_checked checked_with waiting_rows_of whole_waiting_of waiting_checked_of
 none_waits t = (refl, refl)
 

@@ -14,7 +14,6 @@ use Rattle.bloom.specs.Filter.{default_bits, default_probes, SettingGood}
 use Rattle.bloom.specs.declared.setting.Setting.{Setting}
 use Rattle.bloom.proofs.Rules.{rules_none}
 use Rattle.session.specs.PlanCall.{Buffers, after_tables, plan_with, planned_answer, planned_roomed, planned_rooms, message_put, put_into, planned_lists}
-use Rattle.table_graph.specs.Graph.{heads}
 use Rattle.table_index.proofs.CheckLaws.{checked_table}
 use Rattle.session.specs.Kept.{planned_in}
 use Rattle.session.proofs.KeptCalls.{body_stays_good}
@@ -29,23 +28,7 @@ use Rattle.rules.specs.declared.refusal.Refusal.{Refusal}
 use Rattle.rules.proofs.Cases.{split}
 use Rattle.session.specs.GoodState.{SoundTable, WhereHeard, GoodState}
 use Rattle.session.specs.Laid.{laid_bytes}
-use Rattle.session.specs.Plan.{
-  Body,
-  Plan,
-  Planned,
-  heard,
-  need_of,
-  unknown_sync,
-  empty,
-  silence,
-  sent_after,
-  plan_of,
-  reset_of,
-  is_fine,
-  unless_broken,
-  plan_body,
-  after,
-}
+use Rattle.session.specs.Plan.{Body, Plan, Planned, heard, need_of, unknown_sync, empty, silence, sent_after, plan_of, reset_of, is_fine, unless_broken, plan_body, after}
 use Rattle.session.proofs.GoodLaws.{heads_sound, body_good, said_sound}
 use Rattle.session.proofs.PlanLaws.{have_or_none, said_flags, plan_need_past, plan_resets, plan_silent, plan_sent_past, plan_ends, plan_saying}
 use Rattle.plan_calls.specs.PlanWords.{planned_words, planned_session}
@@ -63,14 +46,13 @@ use Rattle.table.specs.TableCalls.{passed_on}
 use Rattle.waiting.specs.WaitingCalls.{tables_checked}
 use Rattle.waiting.specs.Waiting.{Waiting}
 use Rattle.hash_order.proofs.KeepLaws.{every_member, hashes_inside}
-use Rattle.pick.specs.declared.check.Picked.{Picked}
-use Rattle.pick.specs.declared.check.Picked.TheVariants.{Fine as PickedFine, Breaks}
 use Rattle.walk_sessions.proofs.Answers.{MayGo}
 use Rattle.walk_sessions.proofs.Passing.{body_passed, check_passed, passing_is, fine_accepted, may_go}
 use Rattle.walk_sessions.specs.Passing.{Passes, plan_passing}
 use Rattle.walk_hosts.specs.Calls.{plan_made, PlanMade}
 use Rattle.walk_hosts.specs.Memory.{Memory, Roomy, OfBytes, Holds, RoomyOut, Tabled, Beside}
 use Rattle.walk_hosts.proofs.Rooms.{Fine, planned_room, reset_roomed, says_roomed}
+use Rattle.std.specs.Prelude.{Result, Ok, Err}
 
 -- ---- tables and memory as the laws below want them
 
@@ -146,7 +128,7 @@ module _ (table waiting : List ℕ) (tabled : Tabled table) (beside : Beside (ta
     abbrev body : Body
     body = body_passed t x pass
 
-    abbrev check : Picked
+    abbrev check : Result Unit ℕ
     check = check_passed t x pass
 
     over : {p : Planned} → plan_passing pass setting.bits setting.probes t w x ≡ p → plan_body setting.bits setting.probes t w x body check ≡ p
@@ -178,9 +160,9 @@ module _ (table waiting : List ℕ) (tabled : Tabled table) (beside : Beside (ta
         says_other : {A : Type 0} {p q : Plan} {s : State} → Planned.says p s ≡ Planned.reset q → A
         says_other f = absurd (let z : ◌≡◌ {A = ℕ} 0 1 = cc in omega arith)
 
-        ended : {A : Type 0} {q : Plan} (k : Picked) (p : Plan) (s : State) → unless_broken k (Planned.says p s) ≡ Planned.reset q → A
-        ended PickedFine p s f = says_other f
-        ended (Breaks place) p s f = refused_other f
+        ended : {A : Type 0} {q : Plan} (k : Result Unit ℕ) (p : Plan) (s : State) → unless_broken k (Planned.says p s) ≡ Planned.reset q → A
+        ended (Ok tt) p s f = says_other f
+        ended (Err place) p s f = refused_other f
 
     heard_hashes_lem : AreHashes (heard x.their_heads)
     unfolding AreHashes

@@ -17,7 +17,6 @@ use Rattle.session.proofs.Stands.{stand_haves_sets}
 use Rattle.walk_hosts.specs.Memory.{RoomyOut}
 use Rattle.walk_hosts.proofs.Rooms.{Fine, laid_small}
 use Rattle.message.specs.Message.{message_bytes}
-use Rattle.message.specs.declared.flags.Section.TheVariants.{Present}
 use Rattle.message.specs.declared.version.MessageVersion.{MessageVersion}
 use Rattle.message.specs.declared.version.MessageVersion.TheVariants.{V1, V2}
 use Rattle.message.specs.Write.{Parts, parts_of, hashes_of, chunks_from, message_of, message_output}
@@ -29,27 +28,8 @@ use Rattle.rules.specs.Output.{Output, answer_of, content_of}
 use Rattle.rules.specs.Passed.{passed_hashes}
 use Rattle.rules.specs.Refusal.{number_of}
 use Rattle.rules.specs.Sizes.{sizes}
-use Rattle.rules.specs.declared.passed.Passed.TheVariants.{Hashes}
 use Rattle.rules.specs.declared.refusal.Refusal.{Refusal}
-use Rattle.rules.specs.declared.refusal.Refusal.TheVariants.{
-  Cut,
-  WrongType,
-  BadNumber,
-  PastSize,
-  NoBits,
-  BadRow,
-  NoRoom,
-  LoadFailed,
-  BadWaitingRow,
-  BadNumbers,
-  BadRowsBefore,
-  BadIndex,
-  TooWide,
-  BadSettings,
-  BadSetting,
-  PastTotal,
-  BadPick,
-}
+use Rattle.rules.specs.declared.refusal.Refusal.TheVariants.{Cut, WrongType, BadNumber, PastSize, NoBits, BadRow, NoRoom, LoadFailed, BadWaitingRow, BadNumbers, BadRowsBefore, BadIndex, TooWide, BadSettings, BadSetting, PastTotal, BadPick}
 use Rattle.rules.proofs.Hash.{length_hashes_bytes, hashes_there_and_back}
 use Rattle.rules.proofs.Outputs.{take_sets, written_gathered}
 use Rattle.rules.proofs.PassedLaws.{passed_whole}
@@ -65,6 +45,7 @@ use Rattle.walk_hosts.specs.Calls.{have_words_in, plan_in, WriteMade}
 use Rattle.walk_hosts.proofs.Planning.{PlanPut}
 use Rattle.session.specs.Written.{Host, chunks_for, message_for}
 use Rattle.session.proofs.WrittenLaws.{chunks_few}
+use Rattle.std.specs.Prelude.{Ok, Some}
 
 -- ---- words
 
@@ -122,7 +103,7 @@ bytes_hashes hs are =
     in
     rw many (hashes_there_and_back (hashes_bytes hs) 0 hs are whole)
 
-bytes_passed : (hs : List ℕ) → length hs ≤ sizes.hashes → passed_hashes (hashes_bytes hs) ≡ Hashes (length (hashes_bytes hs) / sizes.hash)
+bytes_passed : (hs : List ℕ) → length hs ≤ sizes.hashes → passed_hashes (hashes_bytes hs) ≡ Ok (length (hashes_bytes hs) / sizes.hash)
 bytes_passed hs few =
     passed_whole (hashes_bytes hs) (rw (length_hashes_bytes hs) (omega arith)) (rw (length_hashes_bytes hs) (omega arith))
 
@@ -173,12 +154,12 @@ module _ (q : Plan) (fine : Fine q) (o o' : Buffers) (wide : RoomyOut o) (put : 
 
     abbrev parts : Parts
     parts =
-        parts_of q.version (hashes_bytes q.heads) (hashes_bytes q.need) o'.have (have_words_in answer) made.chunks made.lengths (Present q.flags)
+        parts_of q.version (hashes_bytes q.heads) (hashes_bytes q.need) o'.have (have_words_in answer) made.chunks made.lengths (Some q.flags)
 
     version_is : version_of (get_or answer 2 0) ≡ q.version
     version_is = rw is (version_read q.version)
 
-    section_is : section_of (get_or answer 3 0) ≡ Present q.flags
+    section_is : section_of (get_or answer 3 0) ≡ Some q.flags
     section_is = rw is (sym (section_there q.flags.0 fine.flags))
 
     heads_passed : take (sizes.hash * get_or answer 5 0) o'.heads ≡ hashes_bytes q.heads

@@ -1,6 +1,6 @@
 -- What a talk of calls takes each call for is that call's contract: PlanMade, WriteMade, Hears and Fresh, held beside the arguments in the order in which C
 -- lends them. 01, The catch-up walk, its last rule, is about the session calls; so nothing of it rests on reading a contract beside Calls.antt.
-use Rattle.std.specs.Prelude.{ℕ, ◌*◌, ◌≤◌, true, cond, List, [], ◌≡◌, eqb, length, get_or, take}
+use Rattle.std.specs.Prelude.{ℕ, ◌*◌, ◌≤◌, true, cond, List, [], ◌≡◌, eqb, length, get_or, take, Ok}
 use contract.Lifetimes.{Lfts}
 use denote.Triple.Clauses.{AtExit}
 use denote.Triple.Entry.{Args}
@@ -13,7 +13,6 @@ use Rattle.message.specs.Write.{chunks_from}
 use Rattle.rules.specs.Hash.{Bytes, hashes_at}
 use Rattle.rules.specs.Passed.{passed_hashes}
 use Rattle.rules.specs.Sizes.{sizes}
-use Rattle.rules.specs.declared.passed.Passed.TheVariants.{Hashes}
 use Rattle.call_words.specs.SessionWords.{flag_of}
 use Rattle.session_state.specs.Value.{Lent}
 use Rattle.walk_hosts.specs.Calls.{have_words_in, plan_in, PlanMade, WriteMade, Hears}
@@ -34,7 +33,6 @@ use Rattle.state_calls.proofs.calls.bt_fresh.Reads as reads-bt-fresh
 use Rattle.session.specs.PlanCall.{Buffers}
 use Rattle.settings.specs.Settings.{setting_for}
 use Rattle.settings.specs.declared.choice.Choice.{Choice}
-use Rattle.settings.specs.declared.find.SettingAnswer.TheVariants.{Chosen}
 use Rattle.session.specs.Written.{Host, chunks_for}
 use Rattle.walk_sessions.specs.Passing.{Passes}
 
@@ -83,7 +81,7 @@ PlanSettledSaid κs
     (settings, (station, (version, (session, (shared, (last-sent, (their-heads, (their-need, (haves, (bytes, (sent, (table, (index, (waiting, (heads, (need, (have, (list, (answer, _)))))))))))))))))))
     (_, (_, (_, (session', (_, (last-sent', (_, (_, (_, (_, (sent', (_, (_, (_, (heads', (need', (have', (list', (answer', _))))))))))))))))))) =
     (c : Choice)
-    → setting_for settings.now station version ≡ Chosen c
+    → setting_for settings.now station version ≡ Ok c
     → OfBytes (lent_of shared.now last-sent'.now their-heads.now their-need.now haves.now bytes.now sent'.now)
     → PlanMade (record { bits = c.bits; probes = c.probes }) Passes.all table.now index.now waiting.now
     (record {
@@ -104,8 +102,8 @@ PlanPickedSaid κs
     (settings, (station, (version, (row-sizes, (budget, (pick, (session, (shared, (last-sent, (their-heads, (their-need, (haves, (bytes, (sent, (table, (index, (waiting, (heads, (need, (have, (list, (answer, _))))))))))))))))))))))
     (_, (_, (_, (_, (_, (_, (session', (_, (last-sent', (_, (_, (_, (_, (sent', (_, (_, (_, (heads', (need', (have', (list', (answer', _)))))))))))))))))))))) =
     (c : Choice) (n : ℕ)
-    → setting_for settings.now station version ≡ Chosen c
-    → passed_hashes pick.now ≡ Hashes n
+    → setting_for settings.now station version ≡ Ok c
+    → passed_hashes pick.now ≡ Ok n
     → OfBytes (lent_of shared.now last-sent'.now their-heads.now their-need.now haves.now bytes.now sent'.now)
     → PlanMade (record { bits = c.bits; probes = c.probes }) (Passes.picked row-sizes.now budget (hashes_at pick.now 0 n)) table.now index.now waiting.now
     (record {

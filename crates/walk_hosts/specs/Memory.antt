@@ -1,5 +1,5 @@
 -- What a host keeps and lends: sessions as words with lists, buffers for a message's parts, tables as bytes.
-use Rattle.std.specs.Prelude.{ℕ, ◌+◌, ◌*◌, ◌≤◌, List, ◌≡◌, length}
+use Rattle.std.specs.Prelude.{ℕ, ◌+◌, ◌*◌, ◌≤◌, List, ◌≡◌, length, Ok}
 use Rattle.bloom.specs.Have.{have_words}
 use Rattle.table_index.specs.Index.{index_checked}
 use Rattle.session.specs.Kept.{Stays}
@@ -11,7 +11,6 @@ use Rattle.session_state.specs.Counts.{fresh_counts}
 use Rattle.session_state.specs.Session.{State}
 use Rattle.session_state.specs.Value.{Lent, counts_of}
 use Rattle.table.specs.Table.{Row}
-use Rattle.table.specs.declared.check.Checked.TheVariants.{Good}
 use Rattle.waiting.specs.WaitingBytes.{waiting_checked}
 use Rattle.session.specs.Written.{Host}
 
@@ -67,13 +66,13 @@ pub record RoomyOut (o : Buffers) : Type 0 where
 pub record Tabled (s : List ℕ) : Type 0 where
   pub rows : ℕ
   pub index : List ℕ
-  pub good : index_checked s index ≡ Good rows
+  pub good : index_checked s index ≡ Ok rows
   pub bytes : Bytes s
 
 -- A waiting table that no call refuses beside this change table.
 pub record Beside (t : List Row) (s : List ℕ) : Type 0 where
   pub rows : ℕ
-  pub good : waiting_checked t s ≡ Good rows
+  pub good : waiting_checked t s ≡ Ok rows
   pub bytes : Bytes s
 
 -- What is lent of changes and of the document are bytes.

@@ -15,7 +15,6 @@ use Rattle.hash_order.specs.Order.{member, every, often, Once}
 use Rattle.pick.proofs.AcceptLaws.{check_tells}
 use Rattle.pick.proofs.PlannerLaws.{planner_accepted}
 use Rattle.pick.specs.Picking.{goes_with, hash_fits, first_broken, size_sum, pick_fits, pick_checked, pick_of, Acceptable}
-use Rattle.pick.specs.declared.check.Picked.TheVariants.{Fine}
 use Rattle.rules.proofs.Cases.{split, true_false, or_left}
 use Rattle.send.proofs.SelectLaws.{less_held}
 use Rattle.session.specs.Plan.{haves_for}
@@ -29,10 +28,11 @@ use Rattle.walk.proofs.Walk01.{haves_given}
 use Rattle.walk.specs.Round.{Gives, trim}
 use Rattle.walk.specs.Walk.{At, Walk, Round, heard_in, walk_need, offer_to}
 use Rattle.walk_picked.specs.PickedWalk.{AllFit, AcceptedPicks, RoundPicked, WalkPicked, PickedWalks, PickedEnds, PickedGoes, M110}
+use Rattle.std.specs.Prelude.{Ok}
 
 -- ---- an accepted pick
 
-module _ (t : List Row) (list rowSizes : List ℕ) (budget : ℕ) (pick : List ℕ) (fine : pick_checked t list rowSizes budget pick ≡ Fine) where
+module _ (t : List Row) (list rowSizes : List ℕ) (budget : ℕ) (pick : List ℕ) (fine : pick_checked t list rowSizes budget pick ≡ Ok tt) where
   told : Acceptable t list rowSizes budget pick
   told = (check_tells t list rowSizes budget pick).0 fine
 

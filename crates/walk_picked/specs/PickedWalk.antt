@@ -1,10 +1,9 @@
 -- The catch-up walk with picks. 02, M-110: in demand 3 a reply is then an accepted pick, under the premise that every change fits the budget; the m + 1 rounds
 -- and the m rows stay.
-use Rattle.std.specs.Prelude.{ℕ, suc, ◌≤◌, ◌<◌, true, List, ◌++◌, ◌≡◌, length, get_or}
+use Rattle.std.specs.Prelude.{ℕ, suc, ◌≤◌, ◌<◌, true, List, ◌++◌, ◌≡◌, length, get_or, Ok}
 use Rattle.bloom.specs.Have.{Have}
 use Rattle.hash_order.specs.Order.{member, every}
 use Rattle.pick.specs.Picking.{pick_checked, CheckTells, PlannerAccepted}
-use Rattle.pick.specs.declared.check.Picked.TheVariants.{Fine}
 use Rattle.session.specs.Plan.{haves_for}
 use Rattle.table.specs.Table.{Row, GoodTable, held}
 use Rattle.table_graph.specs.Graph.{heads}
@@ -21,7 +20,7 @@ abbrev pub AcceptedPicks : Type 0
 AcceptedPicks = (t : List Row) (list rowSizes : List ℕ) (budget : ℕ) (pick : List ℕ) → GoodTable t
     → every (held t) list ≡ true
     → AllFit t rowSizes budget
-    → pick_checked t list rowSizes budget pick ≡ Fine
+    → pick_checked t list rowSizes budget pick ≡ Ok tt
     → Picks list pick
 
 -- 01's round, in which an accepted pick of the offer goes; T gains only the pick.
@@ -30,7 +29,7 @@ pub record RoundPicked (bits probes : ℕ) (rowSizes : List ℕ) (budget : ℕ) 
   pub holds : (h : ℕ) → member h l ≡ true → held s.table h ≡ true
   pub setting : accepted bits probes s.table l ≡ true
   pub have : haves ≡ haves_for bits probes s.table (walk_need heard s) heard l
-  pub picked : pick_checked A (offer_to A heard s haves) rowSizes budget reply ≡ Fine
+  pub picked : pick_checked A (offer_to A heard s haves) rowSizes budget reply ≡ Ok tt
   pub loads : Loads A s.table s.waits reply s'.table s'.waits
   pub sends : s'.sent ≡ trim A (heads s.table) s.sent ++ reply
   pub names : s'.named ≡ s.named ++ reply

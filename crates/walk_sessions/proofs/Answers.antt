@@ -21,44 +21,14 @@ use Rattle.waiting_missing.specs.Missing.{missing}
 use Rattle.hash_order.proofs.KeepLaws.{keep_member, keep_same, every_member, every_one, hashes_inside}
 use Rattle.hash_order.proofs.OrderLaws.{member_append}
 use Rattle.hash_order.specs.Order.{member, every}
-use Rattle.pick.specs.declared.check.Picked.{Picked}
-use Rattle.pick.specs.declared.check.Picked.TheVariants.{Fine}
 use Rattle.rules.proofs.Cases.{either, true_false, and_false}
 use Rattle.rules.specs.Hash.{AreHashes}
 use Rattle.rules.specs.Sizes.{sizes}
 use Rattle.send.specs.ToSend.{to_send, to_send_less}
-use Rattle.session.specs.Plan.{
-  Body,
-  Plan,
-  Planned,
-  heard,
-  heard_as,
-  have_of,
-  haves_for,
-  unknown_sync,
-  document_part,
-  body_for,
-  body_of,
-  empty,
-  silence,
-  sent_after,
-  plan_of,
-  planned,
-  is_fine,
-  plan_body,
-}
+use Rattle.session.specs.Plan.{Body, Plan, Planned, heard, heard_as, have_of, haves_for, unknown_sync, document_part, body_for, body_of, empty, silence, sent_after, plan_of, planned, is_fine, plan_body}
 use Rattle.session.specs.Receive.{Said, Received, flagged, sent_flagged, sent_left, loads, received, receive, receive_bytes}
 use Rattle.session.proofs.GoodLaws.{body_good, received_good}
-use Rattle.session.proofs.PlanLaws.{
-  list_hashes,
-  sent_ascends,
-  sent_members,
-  need_missing,
-  have_one,
-  speaks_first,
-  speaks_apart,
-  plan_is,
-}
+use Rattle.session.proofs.PlanLaws.{list_hashes, sent_ascends, sent_members, need_missing, have_one, speaks_first, speaks_apart, plan_is}
 use Rattle.session.proofs.ReceiveLaws.{shared_taken, left_members, left_inside, receive_is}
 use Rattle.session_state.specs.Session.{State}
 use Rattle.table.specs.Table.{Row, rows, held}
@@ -72,6 +42,7 @@ use Rattle.walk_sessions.proofs.Small.{most_words}
 use Rattle.walk_sessions.proofs.Spoken.{plain_writes, plain_keeps, HeardWords, hears_as, Spoken, spoken}
 use Rattle.walk_sessions.proofs.Waits.{rows_few}
 use Rattle.session.specs.Written.{Host, chunks_for, message_for, haves_heard, heard_said}
+use Rattle.std.specs.Prelude.{Result, Ok}
 
 pub or_swap : (x y : Bool) → (x || y) ≡ (y || x)
 or_swap true true = refl
@@ -104,8 +75,8 @@ some_head [] e = e
 some_head (h ∷ hs) e = refl
 
 -- What may go: what the check says of it is fine, it names rows of A, and no more than may be sent at once.
-pub record MayGo (A : List Row) (g : Body) (c : Picked) : Type 0 where
-  pub fine : c ≡ Fine
+pub record MayGo (A : List Row) (g : Body) (c : Result Unit ℕ) : Type 0 where
+  pub fine : c ≡ Ok tt
   pub own : every (held A) g.hashes ≡ true
   pub few : length g.hashes ≤ sizes.hashes_to_send
 
@@ -120,7 +91,7 @@ module _ (bits probes : ℕ) (A b : List Row) (u : List Waiting) (k : ℕ) (T : 
   trimmed = trim A (heads b) T
 
   -- g is what goes, c what the check says of it
-  module _ (g : Body) (c : Picked) where
+  module _ (g : Body) (c : Result Unit ℕ) where
     abbrev q : Plan
     q = plan_of bits probes A u mid g
 
@@ -264,7 +235,7 @@ module _ (bits probes : ℕ) (A b : List Row) (u : List Waiting) (k : ℕ) (T : 
 
     -- ---- A speaks
 
-    module _ (g : Body) (c : Picked) (may : MayGo A g c) where
+    module _ (g : Body) (c : Result Unit ℕ) (may : MayGo A g c) where
       sent_own : (h : ℕ) → member h (sent_after mid g) ≡ true → held A h ≡ true
       sent_own h e =
           either (member h g.hashes) (member h mid.sent_hashes) (sym (sent_members mid g h) ∙ e)

@@ -23,30 +23,10 @@ use Rattle.hash_order.proofs.KeepLaws.{every_one}
 use Rattle.hash_order.proofs.OrderLaws.{member_none}
 use Rattle.hash_order.specs.Order.{member, every, ascend}
 use Rattle.bloom_probe.specs.Contains.{contains, any_contains}
-use Rattle.pick.specs.declared.check.Picked.TheVariants.{Fine}
 use Rattle.rules.proofs.Cases.{split, or_left, and_false}
 use Rattle.send.proofs.SelectLaws.{sent_empty, less_none}
 use Rattle.send.specs.ToSend.{to_send_less}
-use Rattle.session.specs.Plan.{
-  Plan,
-  Planned,
-  heard,
-  heard_as,
-  have_of,
-  haves_for,
-  unknown_sync,
-  list_of,
-  document_part,
-  body_for,
-  body_heard,
-  body_of,
-  empty,
-  silence,
-  sent_after,
-  plan_of,
-  planned,
-  plan,
-}
+use Rattle.session.specs.Plan.{Plan, Planned, heard, heard_as, have_of, haves_for, unknown_sync, list_of, document_part, body_for, body_heard, body_of, empty, silence, sent_after, plan_of, planned, plan}
 use Rattle.session.proofs.PlanLaws.{need_missing, have_one, have_none, speaks_first, speaks_apart, plan_is}
 use Rattle.session_state.specs.Session.{State}
 use Rattle.table.specs.Table.{Row, held}
@@ -57,6 +37,7 @@ use Rattle.walk_sessions.proofs.Sides.{Fixed, HeardBefore, nothing, said, SideB,
 use Rattle.walk_sessions.proofs.Spoken.{HeardWords, Spoken, spoken}
 use Rattle.walk_sessions.proofs.Waits.{part_sound, part_few, missing_sound}
 use Rattle.session.specs.Written.{Host, message_for, heard_have, haves_heard, heard_said}
+use Rattle.std.specs.Prelude.{Ok}
 
 -- ---- pieces of a plan
 
@@ -175,7 +156,7 @@ module _ (bits probes : ℕ) (A b : List Row) (w : List Waiting) (k : ℕ) (s : 
 
     speaking : plan bits probes b w s ≡ Planned.says q (planned b s (body_of b s))
     speaking =
-        plan_is bits probes b w s (body_of b s) Fine
+        plan_is bits probes b w s (body_of b s) (Ok tt)
         (rw (inv.writes, need_missing b w (heard s.their_heads)) need_sound.few)
         (no_reset k inv.heard_so)
         (speaks k going inv.heard_so)

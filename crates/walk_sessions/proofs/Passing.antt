@@ -10,8 +10,6 @@ use lib.ListN.{length}
 use Rattle.bloom.specs.Have.{Have}
 use Rattle.hash_order.specs.Order.{member}
 use Rattle.pick.specs.Picking.{pick_checked}
-use Rattle.pick.specs.declared.check.Picked.{Picked}
-use Rattle.pick.specs.declared.check.Picked.TheVariants.{Fine}
 use Rattle.rules.proofs.Cases.{split}
 use Rattle.rules.specs.Sizes.{sizes}
 use Rattle.session.proofs.GoodLaws.{body_few}
@@ -30,6 +28,7 @@ use Rattle.walk_picked.proofs.PickedWalkLaws.{picked_few, picked_rounds}
 use Rattle.walk_picked.specs.PickedWalk.{WalkPicked}
 use Rattle.walk_sessions.specs.Passing.{Passes, plan_passing, AcceptedIn, FitIn, Replies, RoundPassed, WalkPassed, PassedWalks}
 use Rattle.walk_sessions.proofs.Answers.{MayGo}
+use Rattle.std.specs.Prelude.{Result, Ok}
 
 -- ---- what goes
 
@@ -39,8 +38,8 @@ body_passed t s Passes.all = body_of t s
 body_passed t s (Passes.picked rowSizes budget pick) = body_picked t s pick
 
 -- What the check says of it.
-abbrev pub check_passed : List Row → State → Passes → Picked
-check_passed t s Passes.all = Fine
+abbrev pub check_passed : List Row → State → Passes → Result Unit ℕ
+check_passed t s Passes.all = Ok tt
 check_passed t s (Passes.picked rowSizes budget pick) = body_checked t s rowSizes budget pick
 
 pub passing_is : (p : Passes) (bits probes : ℕ) (t : List Row) (w : List Waiting) (s : State)
@@ -54,7 +53,7 @@ passed_as t s Passes.all = refl
 passed_as t s (Passes.picked rowSizes budget pick) = picked_as t s rowSizes budget pick
 
 -- what the check says of it is that it is accepted
-pub fine_accepted : (t : List Row) (s : State) (p : Passes) → check_passed t s p ≡ Fine → AcceptedIn t s p
+pub fine_accepted : (t : List Row) (s : State) (p : Passes) → check_passed t s p ≡ Ok tt → AcceptedIn t s p
 fine_accepted t s Passes.all e = tt
 fine_accepted t s (Passes.picked rowSizes budget pick) e = e
 
@@ -79,20 +78,20 @@ pub passed_replies : (t : List Row) (s : State) (p : Passes) (offer : List ℕ) 
 passed_replies t s Passes.all offer a list is = is
 passed_replies t s (Passes.picked rowSizes budget pick) offer a list is = (
   ap (λ (b : Body). b.hashes) (picked_list t s rowSizes budget pick list),
-  subst (λ l. pick_checked t l rowSizes budget pick ≡ Fine) is (sym (checked_list t s rowSizes budget pick list) ∙ a),
+  subst (λ l. pick_checked t l rowSizes budget pick ≡ Ok tt) is (sym (checked_list t s rowSizes budget pick list) ∙ a),
 )
 
 -- The check accepts a pick that is passed, of this offer.
 abbrev pub AcceptedOf : List Row → Passes → List ℕ → Type 0
 AcceptedOf t Passes.all offer = Unit {0}
-AcceptedOf t (Passes.picked rowSizes budget pick) offer = pick_checked t offer rowSizes budget pick ≡ Fine
+AcceptedOf t (Passes.picked rowSizes budget pick) offer = pick_checked t offer rowSizes budget pick ≡ Ok tt
 
 -- so it is accepted in a session that makes this offer by list
 pub offer_accepted : (t : List Row) (s : State) (p : Passes) (offer : List ℕ) → (body_of t s).document ≡ false → (body_of t s).hashes ≡ offer → AcceptedOf t p offer
     → AcceptedIn t s p
 offer_accepted t s Passes.all offer list is a = tt
 offer_accepted t s (Passes.picked rowSizes budget pick) offer list is a =
-    checked_list t s rowSizes budget pick list ∙ subst (λ l. pick_checked t l rowSizes budget pick ≡ Fine) (sym is) a
+    checked_list t s rowSizes budget pick list ∙ subst (λ l. pick_checked t l rowSizes budget pick ≡ Ok tt) (sym is) a
 
 -- ---- rounds
 
@@ -114,7 +113,7 @@ passed_round (Passes.picked rowSizes budget pick) bits probes A heard l s haves 
     holds = holds;
     setting = set;
     have = have;
-    picked = subst (λ r. pick_checked A (offer_to A heard s haves) rowSizes budget r ≡ Fine) (sym goes.0) goes.1;
+    picked = subst (λ r. pick_checked A (offer_to A heard s haves) rowSizes budget r ≡ Ok tt) (sym goes.0) goes.1;
     loads = loads;
     sends = sends;
     names = names;

@@ -14,7 +14,6 @@ use Rattle.message.specs.Flags.{section_bytes}
 use Rattle.message.specs.Message.{Message, joined, counted, have_bytes, message_bytes}
 use Rattle.message.specs.Sound.{Each, SoundHashes, SoundHave}
 use Rattle.message.specs.declared.flags.MessageFlags.{MessageFlags}
-use Rattle.message.specs.declared.flags.Section.TheVariants.{Present}
 use Rattle.leb128.specs.Number.{shortest}
 use Rattle.leb128.proofs.Number.{shortest_ten}
 use Rattle.rules.specs.Sizes.{sizes}
@@ -22,6 +21,7 @@ use Rattle.rules.proofs.Cases.{split}
 use Rattle.rules.proofs.Hash.{length_hashes_bytes}
 use Rattle.wire.specs.Item.{prefixed_bytes, hash_list_bytes}
 use Rattle.walk_sessions.proofs.Message.{some_entries}
+use Rattle.std.specs.Prelude.{Some}
 
 -- bytes of a count, of a hash list, of a filter and of a have, at the most
 abbrev most_count : ℕ
@@ -78,7 +78,7 @@ abbrev pub most_words : ℕ
 most_words = 1 + 2 * most_list + (most_count + most_have_bytes) + 3
 
 pub message_fits : (m : Message) (f : MessageFlags) → SoundHashes m.heads → SoundHashes m.need → Each SoundHave m.haves → length m.haves ≤ 1
-    → m.flags ≡ Present f
+    → m.flags ≡ Some f
     → length (message_bytes m) ≤ most_words + length (counted prefixed_bytes m.chunks)
 unfolding message_bytes counted section_bytes
 message_fits m f heads need haves one flags =

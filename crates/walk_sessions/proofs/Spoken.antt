@@ -16,7 +16,6 @@ use Rattle.message.specs.Flags.{sync_reset, read_only_flag, has_flag}
 use Rattle.message.specs.Message.{counted, message_bytes}
 use Rattle.message.specs.Sound.{Each, SoundHashes, SoundHave, SoundMessage}
 use Rattle.message.specs.declared.flags.MessageFlags.{MessageFlags}
-use Rattle.message.specs.declared.flags.Section.TheVariants.{Present}
 use Rattle.waiting_missing.specs.Missing.{missing}
 use Rattle.hash_order.specs.Order.{member, every}
 use Rattle.bloom_probe.proofs.FieldLaws.{length_add_hashes}
@@ -34,6 +33,7 @@ use Rattle.walk_sessions.proofs.Sides.{Fixed}
 use Rattle.walk_sessions.proofs.Small.{most_words, message_fits, no_chunk_small}
 use Rattle.session.specs.Written.{Host, chunks_for, message_for, haves_heard, heard_said}
 use Rattle.session.proofs.WrittenLaws.{chunks_few, no_chunks}
+use Rattle.std.specs.Prelude.{Some}
 
 -- Flags that say neither read-only nor reset.
 abbrev pub plain_flags : MessageFlags
@@ -52,7 +52,7 @@ pub record HeardWords (heads need : List ℕ) (haves : List Have) (m : Said) : T
   pub heads_are : m.heads ≡ heads
   pub need_are : m.need ≡ need
   pub haves_are : m.haves ≡ haves_heard haves
-  pub flags_are : m.flags ≡ Present plain_flags
+  pub flags_are : m.flags ≡ Some plain_flags
   pub sound : SoundSaid m
 
 pub hears_as : {heads need need' : List ℕ} {haves haves' : List Have} {m : Said} → HeardWords heads need haves m → need ≡ need' → haves ≡ haves'
@@ -176,7 +176,7 @@ module _ (bits probes : ℕ) (t : List Row) (w : List Waiting) (s : State) (b : 
           heads_are = plan_heads;
           need_are = plan_need;
           haves_are = ap haves_heard plan_haves;
-          flags_are = ap Present plan_flags;
+          flags_are = ap Some plan_flags;
           sound =
               record {
                 heads = heads_said;

@@ -18,7 +18,6 @@ use Rattle.message.specs.Message.{counted, message_bytes}
 use Rattle.message.specs.declared.version.MessageVersion.{MessageVersion}
 use Rattle.waiting_missing.specs.Missing.{missing}
 use Rattle.hash_order.proofs.OrderLaws.{member_none}
-use Rattle.pick.specs.declared.check.Picked.TheVariants.{Fine}
 use Rattle.rules.specs.Sizes.{sizes}
 use Rattle.send.specs.ToSend.{to_send_less}
 use Rattle.session.specs.Plan.{Body, Plan, Planned, document_part, empty, haves_for, body_of, plan_of, planned, after}
@@ -34,23 +33,13 @@ use Rattle.walk_sessions.specs.Passing.{Passes, plan_passing, AcceptedIn, Replie
 use Rattle.walk_sessions.specs.Talk.{bytes_for, goes, Pair, asked, to_a, answered, to_b, pair_at, carried, Reached, PassAccepted, Granted, Underway, Tables, Agrees, Statement2, Theorem2, Sessions01, SessionsPicked}
 use Rattle.walk_sessions.proofs.Answers.{Answers, taking, mid_good, answers}
 use Rattle.walk_sessions.proofs.Asks.{Asks, asks}
-use Rattle.walk_sessions.proofs.Passing.{
-  body_passed,
-  check_passed,
-  passing_is,
-  passed_as,
-  may_go,
-  passed_replies,
-  AcceptedOf,
-  offer_accepted,
-  passed_round,
-  passed_walks,
-}
+use Rattle.walk_sessions.proofs.Passing.{body_passed, check_passed, passing_is, passed_as, may_go, passed_replies, AcceptedOf, offer_accepted, passed_round, passed_walks}
 use Rattle.walk_sessions.proofs.Returns.{Returns, returns}
 use Rattle.walk_sessions.proofs.Sides.{Fixed, nothing, SideA, SideB, Going}
 use Rattle.walk_sessions.proofs.Small.{most_words}
 use Rattle.walk_sessions.proofs.Waits.{waits_none, loads_longer, loads_waits, part_few}
 use Rattle.session.specs.Written.{Host, list_chunks, chunks_for, message_for, heard_said}
+use Rattle.std.specs.Prelude.{Ok}
 
 module _ (setA set_b : ℕ → Setting) (pass : ℕ → Passes) (A : List Row) (B : ℕ → List Row) (W U : ℕ → List Waiting) (hosts : ℕ → Host) (tables : Tables setA set_b pass A B W U hosts) where
   table_sound : SoundTable A
@@ -196,9 +185,9 @@ module _ (setA set_b : ℕ → Setting) (pass : ℕ → Passes) (A : List Row) (
     pub accepts_offer : empty (heads (B k)) ≡ false → length offer ≤ length A / document_part → AcceptedOf A (pass k) offer
         → PassAccepted setA set_b pass A B W U hosts k
     accepts_offer found short fine =
-        let whole : Answers (setA k).bits (setA k).probes A (B k) (U k) k st.sent a need haves m (body_of A mid) Fine =
+        let whole : Answers (setA k).bits (setA k).probes A (B k) (U k) k st.sent a need haves m (body_of A mid) (Ok tt) =
         answers (setA k).bits (setA k).probes A (B k) (U k) k st.sent a need haves m (fixed_a k) st.side_b.part going st.side_a
-        asking.known asking.hears (body_of A mid) Fine (may_go A mid Passes.all table_sound mid_is_good tt)
+        asking.known asking.hears (body_of A mid) (Ok tt) (may_go A mid Passes.all table_sound mid_is_good tt)
         in
         let list : (body_of A mid).document ≡ false = whole.short found short in
         subst (λ (r : Received). AcceptedIn A (left r a) (pass k)) (sym to_a_is) (offer_accepted A mid (pass k) offer list (whole.list list) fine)

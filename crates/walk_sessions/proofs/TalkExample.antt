@@ -24,7 +24,6 @@ use Rattle.hash_order.proofs.OrderLaws.{member_none}
 use Rattle.hash_order.specs.Order.{member, keep, every, insert_once, ascend}
 use Rattle.hash_order.specs.Reach.{some_below}
 use Rattle.pick.specs.Picking.{goes_with, hash_fits, first_broken, size_sum, pick_checked}
-use Rattle.pick.specs.declared.check.Picked.TheVariants.{Fine}
 use Rattle.rules.proofs.Cases.{split, both, either, true_false}
 use Rattle.rules.specs.Hash.{big_endian, AreHashes}
 use Rattle.rules.specs.Sizes.{sizes}
@@ -46,6 +45,7 @@ use Rattle.walk_sessions.proofs.Sides.{Going}
 use Rattle.walk_sessions.proofs.Small.{most_words}
 use Rattle.walk_sessions.proofs.Talk.{Standing, start, start_sent, next, next_sent, next_shared, reply_heads, accepts_offer, round_granted}
 use Rattle.session.specs.Written.{Host, list_chunks}
+use Rattle.std.specs.Prelude.{Ok}
 
 -- ---- what the hosts have
 
@@ -369,7 +369,7 @@ all_fit = record { each = refl; fit = fit }
     fit (suc (suc zero)) h = omega arith
     fit (suc (suc (suc i))) h = absurd (omega (arith, h))
 
-c_accepted : pick_checked three (c ∷ []) (3 ∷ 4 ∷ 5 ∷ []) 5 (c ∷ []) ≡ Fine
+c_accepted : pick_checked three (c ∷ []) (3 ∷ 4 ∷ 5 ∷ []) 5 (c ∷ []) ≡ Ok tt
 unfolding pick_checked first_broken hash_fits goes_with size_sum held rows member every row_number index_in deps deps_of hash_of big_endian
 c_accepted = refl
 

@@ -1,9 +1,8 @@
 -- What a station passes when it answers, and the walk that it walks then. 02, M-110: a pick of what it is to send, where its radio takes no more; or none, so that
 -- all goes, as in 01.
-use Rattle.std.specs.Prelude.{ℕ, suc, List, ◌≡◌}
+use Rattle.std.specs.Prelude.{ℕ, suc, List, ◌≡◌, Ok}
 use Rattle.bloom.specs.Have.{Have}
 use Rattle.pick.specs.Picking.{pick_checked}
-use Rattle.pick.specs.declared.check.Picked.TheVariants.{Fine}
 use Rattle.session.specs.Plan.{Planned, plan, body_checked, plan_picked}
 use Rattle.session_state.specs.Session.{State}
 use Rattle.table.specs.Table.{Row, GoodTable}
@@ -24,7 +23,7 @@ plan_passing (Passes.picked rowSizes budget pick) bits probes t w s = plan_picke
 -- A pick that is passed is accepted, of what the session asks for by list; so 17 isn't answered.
 abbrev pub AcceptedIn : List Row → State → Passes → Type 0
 AcceptedIn t s Passes.all = Unit {0}
-AcceptedIn t s (Passes.picked rowSizes budget pick) = body_checked t s rowSizes budget pick ≡ Fine
+AcceptedIn t s (Passes.picked rowSizes budget pick) = body_checked t s rowSizes budget pick ≡ Ok tt
 
 -- Where a pick is passed, there is one size a row and every change fits the budget.
 abbrev pub FitIn : List Row → Passes → Type 0
@@ -34,7 +33,7 @@ FitIn A (Passes.picked rowSizes budget pick) = AllFit A rowSizes budget
 -- The reply that goes of an offer: all of it, as in 01; or the pick, which the check accepts.
 abbrev pub Replies : List Row → Passes → List ℕ → List ℕ → Type 0
 Replies A Passes.all offer reply = reply ≡ offer
-Replies A (Passes.picked rowSizes budget pick) offer reply = (reply ≡ pick) × (pick_checked A offer rowSizes budget pick ≡ Fine)
+Replies A (Passes.picked rowSizes budget pick) offer reply = (reply ≡ pick) × (pick_checked A offer rowSizes budget pick ≡ Ok tt)
 
 -- A round in which this is passed: 01's own, or one in which the pick goes.
 abbrev pub RoundPassed : Passes → ℕ → ℕ → List Row → List ℕ → List ℕ → At → List Have → List ℕ → At → Type 0

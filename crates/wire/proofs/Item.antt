@@ -14,16 +14,13 @@ use Rattle.rules.specs.Hash.{Bytes, AreHashes, hashes_at, hashes_bytes}
 use Rattle.rules.specs.Sizes.{sizes}
 use Rattle.rules.specs.declared.refusal.Refusal.{Refusal}
 use Rattle.rules.specs.declared.refusal.Refusal.TheVariants.{Cut, PastSize}
-use Rattle.rules.proofs.Cases.{split}
+use Rattle.rules.proofs.Cases.{split, read_same}
 use Rattle.rules.proofs.Hash.{slice_append, slice_parts, length_hashes_at, length_hashes_bytes, hashes_at_bytes, hashes_there_and_back}
 use Rattle.wire.specs.Item.{run, left_at, after_number, count_at, prefixed_at, hash_list_at, prefixed_bytes, hash_list_bytes}
 use Rattle.leb128.specs.Number.{shortest, number_at, most64}
-use Rattle.leb128.specs.declared.leb128.Number.{Number}
-use Rattle.leb128.specs.declared.leb128.Number.TheVariants.{Value, Refused}
-use Rattle.wire.specs.declared.parse.Listed.TheVariants.{Items, Refused as NotListed}
-use Rattle.wire.specs.declared.parse.Prefixed.TheVariants.{Part, Refused as NoPart}
 use Rattle.wire.specs.declared.parse.Run.{Run}
 use Rattle.leb128.proofs.Meaning.{number_inside, number_written, written_number}
+use Rattle.std.specs.Prelude.{Result, Ok, Err}
 
 pub left_is : (s : List ℕ) (at end : ℕ) → left_at s at end ≡ min end (length s) - at
 unfolding left_at
@@ -32,14 +29,14 @@ left_is s at end = simp (length-drop, length-take)
 -- ---- a number, a test, a result
 
 -- An item that is made of a number up to a limit: its three cases, and what stands behind one that isn't refused.
-pub record Checks {A : Type 0} (x : Number) (refused : Refusal → A) (limit : ℕ → ℕ) (why : ℕ → Refusal) (made : ℕ → ℕ → A) (item : A) : Type 0 where
-  pub passed : (r : Refusal) → x ≡ Refused r → item ≡ refused r
-  pub past : (n next : ℕ) → x ≡ Value n next → limit next < n → item ≡ refused (why next)
-  pub put : (n next : ℕ) → x ≡ Value n next → n ≤ limit next → item ≡ made n next
+pub record Checks {A : Type 0} (x : Result (ℕ × ℕ) Refusal) (refused : Refusal → A) (limit : ℕ → ℕ) (why : ℕ → Refusal) (made : ℕ → ℕ → A) (item : A) : Type 0 where
+  pub passed : (r : Refusal) → x ≡ Err r → item ≡ refused r
+  pub past : (n next : ℕ) → x ≡ Ok (n, next) → limit next < n → item ≡ refused (why next)
+  pub put : (n next : ℕ) → x ≡ Ok (n, next) → n ≤ limit next → item ≡ made n next
   pub apart : (y : A) → ((r : Refusal) → refused r ≡ y → ⊥) → item ≡ y
-      → (n : ℕ) × (next : ℕ) × (x ≡ Value n next) × (n ≤ limit next) × (made n next ≡ y)
+      → (n : ℕ) × (next : ℕ) × (x ≡ Ok (n, next)) × (n ≤ limit next) × (made n next ≡ y)
 
-checks : {A : Type 0} (x : Number) (refused : Refusal → A) (limit : ℕ → ℕ) (why : ℕ → Refusal) (made : ℕ → ℕ → A)
+checks : {A : Type 0} (x : Result (ℕ × ℕ) Refusal) (refused : Refusal → A) (limit : ℕ → ℕ) (why : ℕ → Refusal) (made : ℕ → ℕ → A)
     → Checks x refused limit why made (after_number x refused (λ n next. cond (ltb (limit next) n) (refused (why next)) (made n next)))
 unfolding after_number
 checks {A} x refused limit why made =
@@ -50,27 +47,27 @@ checks {A} x refused limit why made =
       apart = λ y other e. go y other x refl e;
     }
   where
-    go : (y : A) → ((r : Refusal) → refused r ≡ y → ⊥) → (z : Number) → x ≡ z
+    go : (y : A) → ((r : Refusal) → refused r ≡ y → ⊥) → (z : Result (ℕ × ℕ) Refusal) → x ≡ z
         → after_number z refused (λ n next. cond (ltb (limit next) n) (refused (why next)) (made n next)) ≡ y
-        → (n : ℕ) × (next : ℕ) × (x ≡ Value n next) × (n ≤ limit next) × (made n next ≡ y)
-    go y other (Value n next) d f =
+        → (n : ℕ) × (next : ℕ) × (x ≡ Ok (n, next)) × (n ≤ limit next) × (made n next ≡ y)
+    go y other (Ok (n, next)) d f =
         split (ltb (limit next) n)
         (λ t. absurd (other (why next) (rw t at f)))
         (λ t. (n, next, d, ltb-false _ _ t, rw t at f))
-    go y other (Refused r) d f = absurd (other r f)
+    go y other (Err r) d f = absurd (other r f)
 
 pub count_checks : (limit : ℕ) (s : List ℕ) (at end : ℕ)
-    → Checks (number_at most64 s at end) Refused (λ next. limit) (λ next. PastSize at) Value (count_at limit s at end)
+    → Checks (number_at most64 s at end) Err (λ next. limit) (λ next. PastSize at) (λ x y. Ok (x, y)) (count_at limit s at end)
 unfolding count_at
 count_checks limit s at end = checks _ _ _ _ _
 
 pub prefixed_checks : (s : List ℕ) (at end : ℕ)
     → Checks
     (number_at most64 s at end)
-    NoPart
+    Err
     (λ start. left_at s start end)
     (λ start. Cut at)
-    (λ n start. Part start (start + n))
+    (λ n start. Ok (start, start + n))
     (prefixed_at s at end)
 unfolding prefixed_at
 prefixed_checks s at end = checks _ _ _ _ _
@@ -78,10 +75,10 @@ prefixed_checks s at end = checks _ _ _ _ _
 pub hash_list_checks : (s : List ℕ) (at end : ℕ)
     → Checks
     (count_at sizes.hashes s at end)
-    NotListed
+    Err
     (λ start. left_at s start end / sizes.hash)
     (λ start. Cut (start + sizes.hash * (left_at s start end / sizes.hash)))
-    (λ count start. Items (run start count) (start + sizes.hash * count))
+    (λ count start. Ok (run start count, start + sizes.hash * count))
     (hash_list_at s at end)
 unfolding hash_list_at
 hash_list_checks s at end = checks _ _ _ _ _
@@ -95,13 +92,13 @@ pub record CountInside (limit : ℕ) (s : List ℕ) (at end n next : ℕ) : Type
   pub there : next ≤ length s
 
 module _ (limit : ℕ) (s : List ℕ) (at end n next : ℕ) where
-  count_number : count_at limit s at end ≡ Value n next → (number_at most64 s at end ≡ Value n next) × (n ≤ limit)
+  pub count_number : count_at limit s at end ≡ Ok (n, next) → (number_at most64 s at end ≡ Ok (n, next)) × (n ≤ limit)
   count_number e =
-      let p = (count_checks limit s at end).apart (Value n next) (λ r d. let z : ◌≡◌ {A = ℕ} 0 1 = cc in omega arith) e in
-      let m : p.0 ≡ n = cc in
-      (cc, omega arith)
+      let p = (count_checks limit s at end).apart (Ok (n, next)) (λ r d. let z : ◌≡◌ {A = ℕ} 0 1 = cc in omega arith) e in
+      let same = read_same p.4 in
+      (rw (same.0, same.1) at p.2, omega (arith, same.0, p.3))
 
-  pub count_inside : count_at limit s at end ≡ Value n next → CountInside limit s at end n next
+  pub count_inside : count_at limit s at end ≡ Ok (n, next) → CountInside limit s at end n next
   count_inside e =
       let p = count_number e in
       omega (arith, number_inside most64 s at end n next p.0)
@@ -110,7 +107,7 @@ module _ (limit : ℕ) (s : List ℕ) (at end n next : ℕ) where
 
 -- Of a number and a body that were written: the number is read, the body is as long as it was, and stands after the number.
 after_written : (s body rest : List ℕ) (at end n : ℕ) → n ≤ most64 → slice at end s ≡ (shortest n ++ body) ++ rest
-    → (number_at most64 s at end ≡ Value n (at + length (shortest n)))
+    → (number_at most64 s at end ≡ Ok (n, at + length (shortest n)))
     × (length body ≤ left_at s (at + length (shortest n)) end)
     × (slice (at + length (shortest n)) (at + length (shortest n) + length body) s ≡ body)
 unfolding left_at
@@ -126,7 +123,7 @@ after_written s body rest at end n small same =
     (number, fits, (slice_parts (length body) start end s body rest room refl second).0)
 
 -- Of a number that was read: its shortest form stands there, before what follows.
-after_read : (s : List ℕ) (at end n start next : ℕ) → Bytes s → number_at most64 s at end ≡ Value n start → start ≤ next
+after_read : (s : List ℕ) (at end n start next : ℕ) → Bytes s → number_at most64 s at end ≡ Ok (n, start) → start ≤ next
     → slice at next s ≡ shortest n ++ slice start next s
 after_read s at end n start next all read h =
     let inside = number_inside most64 s at end n start read in
@@ -144,19 +141,19 @@ pub record PartInside (s : List ℕ) (at end start next : ℕ) : Type 0 where
   pub there : next ≤ length s
 
 module _ (s : List ℕ) (at end start next : ℕ) where
-  prefixed_number : prefixed_at s at end ≡ Part start next
-      → (n : ℕ) × (number_at most64 s at end ≡ Value n start) × (n ≤ left_at s start end) × (start + n ≡ next)
+  prefixed_number : prefixed_at s at end ≡ Ok (start, next)
+      → (n : ℕ) × (number_at most64 s at end ≡ Ok (n, start)) × (n ≤ left_at s start end) × (start + n ≡ next)
   prefixed_number e =
-      let p = (prefixed_checks s at end).apart (Part start next) (λ r d. let z : ◌≡◌ {A = ℕ} 0 1 = cc in omega arith) e in
-      let same : p.1 ≡ start = cc in
-      (p.0, rw same at p.2, rw same at p.3, cc)
+      let p = (prefixed_checks s at end).apart (Ok (start, next)) (λ r d. let z : ◌≡◌ {A = ℕ} 0 1 = cc in omega arith) e in
+      let same = read_same p.4 in
+      (p.0, rw same.0 at p.2, rw same.0 at p.3, rw same.0 at same.1)
 
-  pub prefixed_inside : prefixed_at s at end ≡ Part start next → PartInside s at end start next
+  pub prefixed_inside : prefixed_at s at end ≡ Ok (start, next) → PartInside s at end start next
   prefixed_inside e =
       let p = prefixed_number e in
       omega (arith, number_inside most64 s at end p.0 start p.1, left_is s start end)
 
-  pub written_prefixed : Bytes s → prefixed_at s at end ≡ Part start next → slice at next s ≡ prefixed_bytes (slice start next s)
+  pub written_prefixed : Bytes s → prefixed_at s at end ≡ Ok (start, next) → slice at next s ≡ prefixed_bytes (slice start next s)
   unfolding prefixed_bytes
   written_prefixed all e =
       let p = prefixed_number e in
@@ -165,7 +162,7 @@ module _ (s : List ℕ) (at end start next : ℕ) where
       rw size (after_read s at end p.0 start next all p.1 inside.upward)
 
 pub prefixed_written : (s t rest : List ℕ) (at end : ℕ) → length t ≤ most64 → slice at end s ≡ prefixed_bytes t ++ rest
-    → (prefixed_at s at end ≡ Part (at + length (shortest (length t))) (at + length (prefixed_bytes t)))
+    → (prefixed_at s at end ≡ Ok (at + length (shortest (length t)), at + length (prefixed_bytes t)))
     × (slice (at + length (shortest (length t))) (at + length (prefixed_bytes t)) s ≡ t)
 unfolding prefixed_bytes
 prefixed_written s t rest at end small same =
@@ -184,24 +181,25 @@ pub record HashesInside (s : List ℕ) (at end : ℕ) (hashes : Run) (next : ℕ
   pub there : next ≤ length s
 
 module _ (s : List ℕ) (at end : ℕ) (hashes : Run) (next : ℕ) where
-  hash_list_count : hash_list_at s at end ≡ Items hashes next
-      → (count_at sizes.hashes s at end ≡ Value hashes.count hashes.start)
+  hash_list_count : hash_list_at s at end ≡ Ok (hashes, next)
+      → (count_at sizes.hashes s at end ≡ Ok (hashes.count, hashes.start))
       × (hashes.count ≤ left_at s hashes.start end / sizes.hash)
       × (next ≡ hashes.start + sizes.hash * hashes.count)
   hash_list_count e =
-      let p = (hash_list_checks s at end).apart (Items hashes next) (λ r d. let z : ◌≡◌ {A = ℕ} 0 1 = cc in omega arith) e in
-      let same : run p.1 p.0 ≡ hashes = cc in
+      let p = (hash_list_checks s at end).apart (Ok (hashes, next)) (λ r d. let z : ◌≡◌ {A = ℕ} 0 1 = cc in omega arith) e in
+      let both = read_same p.4 in
+      let same : run p.1 p.0 ≡ hashes = both.0 in
       let first : p.0 ≡ hashes.count = ap (λ (r : Run). r.count) same in
       let second : p.1 ≡ hashes.start = ap (λ (r : Run). r.start) same in
-      let third : p.1 + sizes.hash * p.0 ≡ next = cc in
+      let third : p.1 + sizes.hash * p.0 ≡ next = both.1 in
       (rw (first, second) at p.2, rw (first, second) at p.3, omega arith)
 
-  pub hash_list_inside : hash_list_at s at end ≡ Items hashes next → HashesInside s at end hashes next
+  pub hash_list_inside : hash_list_at s at end ≡ Ok (hashes, next) → HashesInside s at end hashes next
   hash_list_inside e =
       let p = hash_list_count e in
       omega (arith, count_inside sizes.hashes s at end hashes.count hashes.start p.0, left_is s hashes.start end)
 
-  pub written_hash_list : Bytes s → hash_list_at s at end ≡ Items hashes next
+  pub written_hash_list : Bytes s → hash_list_at s at end ≡ Ok (hashes, next)
       → slice at next s ≡ hash_list_bytes (hashes_at s hashes.start hashes.count)
   unfolding hash_list_bytes
   written_hash_list all e =
@@ -213,7 +211,7 @@ module _ (s : List ℕ) (at end : ℕ) (hashes : Run) (next : ℕ) where
       rw (length_hashes_at s start count, bytes) (after_read s at end count start next all number (omega arith))
 
 pub hash_list_written : (s hs rest : List ℕ) (at end : ℕ) → AreHashes hs → length hs ≤ sizes.hashes → slice at end s ≡ hash_list_bytes hs ++ rest
-    → (hash_list_at s at end ≡ Items (run (at + length (shortest (length hs))) (length hs)) (at + length (hash_list_bytes hs)))
+    → (hash_list_at s at end ≡ Ok (run (at + length (shortest (length hs))) (length hs), at + length (hash_list_bytes hs)))
     × (hashes_at s (at + length (shortest (length hs))) (length hs) ≡ hs)
 unfolding hash_list_bytes
 hash_list_written s hs rest at end are small same =

@@ -5,37 +5,34 @@ ghost use Rattle.wire.specs.Item.{prefixed_bytes, hash_list_output};
 ghost use Rattle.leb128.specs.Number.{shortest};
 
 use leb128::leb128::{put_unsigned, unsigned_size};
-use rules::output::Write;
-use rules::passed::{Passed, passed_hashes};
+use rules::passed::passed_hashes;
 use rules::put::copy_into;
 use rules::refusal::Refusal;
 
 // Writes a count, and the bytes that it counts in some unit.
-fn encode(out: &mut [u8], count: u64, bytes: &[u8]) -> Write
+fn encode(out: &mut [u8], count: u64, bytes: &[u8]) -> Result<usize, Refusal>
     ensures { Written (Output.bytes (shortest count ++ bytes.now)) out.old out.new result }
 {
     let size = unsigned_size(count) + bytes.len();
     if out.len() < size {
-        return Write::Refused(Refusal::NoRoom(size));
+        return Err(Refusal::NoRoom(size));
     }
     let at = put_unsigned(out, 0, count);
     copy_into(out, at, bytes);
-    Write::Wrote(size)
+    Ok(size)
 }
 
 // Writes a prefixed string.
-pub fn encode_bytes(out: &mut [u8], bytes: &[u8]) -> Write
+pub fn encode_bytes(out: &mut [u8], bytes: &[u8]) -> Result<usize, Refusal>
     ensures { Written (Output.bytes (prefixed_bytes bytes.now)) out.old out.new result }
 {
     encode(out, bytes.len() as u64, bytes)
 }
 
 // Writes a hash list, lent as the bytes of its hashes.
-pub fn encode_hashes(out: &mut [u8], hashes: &[u8]) -> Write
+pub fn encode_hashes(out: &mut [u8], hashes: &[u8]) -> Result<usize, Refusal>
     ensures { Written (hash_list_output hashes.now) out.old out.new result }
 {
-    match passed_hashes(hashes) {
-        Passed::Refused(refusal) => Write::Refused(refusal),
-        Passed::Hashes(count) => encode(out, count as u64, hashes),
-    }
+    let count = passed_hashes(hashes)?;
+    encode(out, count as u64, hashes)
 }

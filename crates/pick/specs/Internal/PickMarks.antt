@@ -1,11 +1,10 @@
 -- What internal contracts speak of: a list and a pick as marks of the rows that they name. No rule of 02 stands here.
-use Rattle.std.specs.Prelude.{ℕ, Bool, false, not, ◌&&◌, ◌||◌, List, ◌≡◌, ltb, leb, length, get_or}
+use Rattle.std.specs.Prelude.{ℕ, Bool, false, not, ◌&&◌, ◌||◌, List, ◌≡◌, ltb, leb, length, get_or, Result}
 use Rattle.hash_order.specs.Order.{member, every}
 use Rattle.table.specs.Table.{rows, hash_of}
 use Rattle.table.specs.TableBytes.{used_at, rows_at}
 use Rattle.table_graph.specs.Internal.Marks.{Marks, picked}
 use Rattle.pick.specs.Picking.{pick_checked, pick_of}
-use Rattle.pick.specs.declared.check.Picked.{Picked}
 
 -- The marks of just the rows whose hashes stand in a list.
 abbrev pub RowMarks : List ℕ → ℕ → List ℕ → List Bool → Type 0
@@ -25,7 +24,7 @@ unfoldable pub row_goes : List ℕ → List Bool → List Bool → ℕ → ℕ �
 row_goes table listed picks size left i = get_or listed i false && (marked_go listed picks (used_at table i) && leb size left)
 
 -- What a check of hashes over marks leaves: its answer, whatever list the listed rows are those of, and the marks of the rows that are picked.
-pub record MarksChecked (table : List ℕ) (n : ℕ) (rowSizes : List ℕ) (budget : ℕ) (pick : List ℕ) (listed picks : List Bool) (r : Picked) : Type 0 where
+pub record MarksChecked (table : List ℕ) (n : ℕ) (rowSizes : List ℕ) (budget : ℕ) (pick : List ℕ) (listed picks : List Bool) (r : Result Unit ℕ) : Type 0 where
   pub answer : (list : List ℕ) → RowMarks table n list listed → r ≡ pick_checked (rows_at table 0 n) list rowSizes budget pick
   pub marks : RowMarks table n pick picks
 

@@ -1,5 +1,5 @@
 -- What internal contracts speak of: a plan as marks and numbers. No rule of 01 stands here.
-use Rattle.std.specs.Prelude.{ℕ, ◌+◌, ◌*◌, ◌≤◌, Bool, true, false, cond, ◌&&◌, ◌||◌, List, [], ◌++◌, ◌≡◌, length}
+use Rattle.std.specs.Prelude.{ℕ, ◌+◌, ◌*◌, ◌≤◌, Bool, true, false, cond, ◌&&◌, ◌||◌, List, [], ◌++◌, ◌≡◌, length, Result, Ok}
 use Rattle.plan_decide.specs.declared.decide.Draft.{Draft}
 use Rattle.table_graph.specs.Graph.{heads, beyond}
 use Rattle.table_graph.specs.Internal.Marks.{Blank, marked, picked}
@@ -13,10 +13,8 @@ use Rattle.rules.specs.Hash.{hashes_at}
 use Rattle.rules.specs.Sizes.{sizes}
 use Rattle.send.specs.Internal.Chosen.{chosen_by}
 use Rattle.pick.specs.Picking.{pick_checked}
-use Rattle.pick.specs.declared.check.Picked.{Picked}
-use Rattle.pick.specs.declared.check.Picked.TheVariants.{Fine}
 use Rattle.pick.specs.declared.radio.Radio.{Radio}
-use Rattle.session.specs.Plan.{Body, heard, heard_as, unknown_sync, list_of, body_of, empty, silence, sent_after, is_fine}
+use Rattle.session.specs.Plan.{Body, heard_as, unknown_sync, list_of, body_of, empty, silence, sent_after, is_fine}
 use Rattle.session_state.specs.Session.{State}
 use Rattle.session_state.specs.Value.{heard_hashes, state_of}
 use Rattle.session_state.specs.declared.session.Session.{Session}
@@ -44,18 +42,18 @@ pub record BodyCounted (t : List Row) (n : ℕ) (b : Body) (need sent : List ℕ
   pub need_long : length need ≤ length needs
   pub body : BodyChosen b t marks need needs k.body
   pub new : FreshMarked t n b.hashes sent fresh k.sent
-  pub unpicked : k.picked ≡ Fine
+  pub unpicked : k.picked ≡ Ok tt
 
 -- What goes of a body: all of it, or with a radio that is limited the document whole and else the pick.
 unfoldable pub going_of : Radio → Body → List ℕ → Body
 going_of r b pick = cond r.limited (cond b.document b (list_of pick)) b
 
 -- How the pick is found; none is looked at where no radio is limited, and beside a document.
-unfoldable pub found_of : Radio → List Row → Body → List ℕ → List ℕ → Picked
-found_of r t b rowSizes pick = cond r.limited (cond b.document Fine (pick_checked t b.hashes rowSizes r.budget pick)) Fine
+unfoldable pub found_of : Radio → List Row → Body → List ℕ → List ℕ → Result Unit ℕ
+found_of r t b rowSizes pick = cond r.limited (cond b.document (Ok tt) (pick_checked t b.hashes rowSizes r.budget pick)) (Ok tt)
 
 -- What goes is counted, and, unless its pick breaks a rule, marked.
-pub record BodyGoes (t : List Row) (n : ℕ) (b : Body) (c : Picked) (need sent : List ℕ) (marks needs fresh : List Bool) (k : Carried) : Type 0 where
+pub record BodyGoes (t : List Row) (n : ℕ) (b : Body) (c : Result Unit ℕ) (need sent : List ℕ) (marks needs fresh : List Bool) (k : Carried) : Type 0 where
   pub row_long : n ≤ length marks
   pub need_long : length need ≤ length needs
   pub fresh_long : n ≤ length fresh
@@ -63,8 +61,8 @@ pub record BodyGoes (t : List Row) (n : ℕ) (b : Body) (c : Picked) (need sent 
   pub hashes : k.body.hashes ≡ length b.hashes
   pub picked : k.picked ≡ c
   pub many : k.sent ≡ length (ascend (b.hashes ++ sent))
-  pub list : c ≡ Fine → chosen_by t marks need needs ≡ b.hashes
-  pub new : c ≡ Fine → FreshMarked t n b.hashes sent fresh k.sent
+  pub list : c ≡ Ok tt → chosen_by t marks need needs ≡ b.hashes
+  pub new : c ≡ Ok tt → FreshMarked t n b.hashes sent fresh k.sent
 
 -- What a pick is checked beside: rows, hashes sent that ascend, no more of the pick than a list may have, and room for marks.
 pub record PickReady (table index : List ℕ) (n pickLong : ℕ) (sent : List ℕ) (before asked row_long need_long fresh_long : ℕ) : Type 0 where
@@ -102,7 +100,7 @@ pub record BlankMarks (n count : ℕ) (headMarks haveMarks marks needs fresh : L
   pub no_fresh : Blank n fresh
 
 -- The marks name the parts of a plan with what goes, and its numbers count them.
-pub record PlanMarked (t : List Row) (n : ℕ) (s : State) (b : Body) (c : Picked) (need : List ℕ) (headMarks haveMarks marks needs fresh : List Bool)
+pub record PlanMarked (t : List Row) (n : ℕ) (s : State) (b : Body) (c : Result Unit ℕ) (need : List ℕ) (headMarks haveMarks marks needs fresh : List Bool)
     (d : Draft) : Type 0
   where
     pub head_long : n ≤ length headMarks
@@ -114,11 +112,11 @@ pub record PlanMarked (t : List Row) (n : ℕ) (s : State) (b : Body) (c : Picke
     pub fresh_long : n ≤ length fresh
     pub few : length b.hashes ≤ sizes.hashes_to_send
     pub small : d.sent ≤ sizes.sent_hashes + sizes.rows
-    pub list : c ≡ Fine → chosen_by t marks need needs ≡ b.hashes
-    pub new : c ≡ Fine → FreshMarked t n b.hashes s.sent_hashes fresh d.sent
+    pub list : c ≡ Ok tt → chosen_by t marks need needs ≡ b.hashes
+    pub new : c ≡ Ok tt → FreshMarked t n b.hashes s.sent_hashes fresh d.sent
 
 -- The numbers of a plan that asks for this, with what goes.
-pub record DraftCounted (t : List Row) (s : State) (b : Body) (c : Picked) (a : Asked) (d : Draft) : Type 0 where
+pub record DraftCounted (t : List Row) (s : State) (b : Body) (c : Result Unit ℕ) (a : Asked) (d : Draft) : Type 0 where
   pub heads : d.heads ≡ length (heads t)
   pub need : d.need ≡ a.count
   pub unknown : d.unknown ≡ unknown_sync t s.their_have

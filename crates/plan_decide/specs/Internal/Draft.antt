@@ -1,5 +1,5 @@
 -- What internal contracts speak of: numbers of a plan before it is decided, and what an answer puts of its parts. No rule of 01 stands here.
-use Rattle.std.specs.Prelude.{ℕ, ◌+◌, ◌*◌, ◌≤◌, Bool, true, false, cond, ◌&&◌, not, List, [], ◌≡◌, eqb, ltb, length}
+use Rattle.std.specs.Prelude.{ℕ, ◌+◌, ◌*◌, ◌≤◌, Bool, true, false, cond, ◌&&◌, not, List, [], ◌≡◌, eqb, ltb, length, Result, Ok, Err}
 use Rattle.std.proofs.lemmas.List.Edits.{sets}
 use Rattle.bloom.specs.Filter.{field_size, default_bits, default_probes}
 use Rattle.bloom.specs.Have.{numbers_of}
@@ -10,18 +10,17 @@ use Rattle.leb128.specs.Number.{most_filter}
 use Rattle.session.specs.PlanCall.{message_room, session_room}
 use Rattle.session.specs.Rooms.{if_room}
 use Rattle.session.specs.declared.plan_answer.PlanAnswer.{PlanAnswer}
-use Rattle.session.specs.declared.plan_answer.PlanAnswer.TheVariants.{Refused, Silent, Reset, Says}
+use Rattle.session.specs.declared.plan_answer.PlanAnswer.TheVariants.{Silent, Reset, Says}
 use Rattle.session.specs.declared.plan_answer.Rooms.{Rooms}
 use Rattle.session.specs.declared.plan_answer.Stated.{Stated}
 use Rattle.rules.specs.Hash.{hashes_at, hashes_bytes}
 use Rattle.rules.specs.Sizes.{sizes}
-use Rattle.pick.specs.declared.check.Picked.{Picked}
-use Rattle.pick.specs.declared.check.Picked.TheVariants.{Fine, Breaks}
 use Rattle.rules.specs.declared.refusal.Refusal.TheVariants.{PastSize, BadPick}
 use Rattle.session.specs.Plan.{version_for, flags_for}
 use Rattle.session_state.specs.declared.session.Session.{Session}
 use Rattle.plan_decide.specs.declared.decide.Draft.{Draft}
 use Rattle.plan_decide.specs.declared.puts.Puts.{Puts}
+use Rattle.rules.specs.declared.refusal.Refusal.{Refusal}
 
 -- ---- what is decided
 
@@ -107,26 +106,26 @@ planned_counts s last_sent sent =
     }
 
 -- The message, where there is room.
-unfoldable pub says_with : Session → Draft → ℕ → ℕ → Rooms → PlanAnswer
+unfoldable pub says_with : Session → Draft → ℕ → ℕ → Rooms → Result PlanAnswer Refusal
 says_with s d bits probes r =
-    if_room Refused (message_room (drafted s d bits probes) r)
-    (if_room Refused (session_room d.heads d.sent r) (Says (drafted s d bits probes) (planned_counts s d.heads d.sent)))
+    if_room Err (message_room (drafted s d bits probes) r)
+    (if_room Err (session_room d.heads d.sent r) (Ok (Says (drafted s d bits probes) (planned_counts s d.heads d.sent))))
 
 -- 17 for a pick that isn't accepted, else what is said.
-unfoldable pub unless_breaks : Picked → PlanAnswer → PlanAnswer
-unless_breaks Fine a = a
-unless_breaks (Breaks place) a = Refused (BadPick place)
+unfoldable pub unless_breaks : Result Unit ℕ → Result PlanAnswer Refusal → Result PlanAnswer Refusal
+unless_breaks (Ok tt) a = a
+unless_breaks (Err place) a = Err (BadPick place)
 
 -- What is decided from the numbers, in the order of the refusals.
-unfoldable pub decided : Session → Draft → ℕ → ℕ → Rooms → PlanAnswer
+unfoldable pub decided : Session → Draft → ℕ → ℕ → Rooms → Result PlanAnswer Refusal
 decided s d bits probes r =
     cond (ltb sizes.hashes d.need)
-    (Refused (PastSize 0))
+    (Err (PastSize 0))
     (cond d.unknown
-    (if_room Refused (message_room (reset_stated d.heads) r) (Reset (reset_stated d.heads)))
+    (if_room Err (message_room (reset_stated d.heads) r) (Ok (Reset (reset_stated d.heads))))
     (cond d.silent
-    Silent
-    (cond (ltb sizes.sent_hashes d.sent) (Refused (PastSize 0)) (unless_breaks d.picked (says_with s d bits probes r)))))
+    (Ok Silent)
+    (cond (ltb sizes.sent_hashes d.sent) (Err (PastSize 0)) (unless_breaks d.picked (says_with s d bits probes r)))))
 
 -- ---- what is put
 
@@ -188,11 +187,11 @@ puts_for p last_sent sent =
     }
 
 -- How many hashes and bytes an answer puts into each buffer: a refusal and silence none, a reset leaves the session's lists.
-unfoldable pub puts_of : PlanAnswer → Puts
-puts_of (Refused r) = no_puts
-puts_of Silent = no_puts
-puts_of (Reset p) = puts_for p 0 0
-puts_of (Says p s) = puts_for p s.last_sent_heads s.sent_hashes
+unfoldable pub puts_of : Result PlanAnswer Refusal → Puts
+puts_of (Err r) = no_puts
+puts_of (Ok Silent) = no_puts
+puts_of (Ok (Reset p)) = puts_for p 0 0
+puts_of (Ok (Says p s)) = puts_for p s.last_sent_heads s.sent_hashes
 
 -- What an answer puts is what was drafted, and of the body only what breaks no rule, and the buffers have room for it.
 pub record Fits (s : Session) (d : Draft) (bits : ℕ) (p : Puts) (r : Rooms) : Type 0 where
@@ -203,11 +202,11 @@ pub record Fits (s : Session) (d : Draft) (bits : ℕ) (p : Puts) (r : Rooms) : 
   pub syncs : p.syncs ≤ s.shared_heads
   pub field : (p.field ≡ 0 → ⊥) → (p.field ≡ field_size d.entries bits) × (d.gives ≡ true)
   pub have_room : sizes.hash * p.syncs + p.field ≤ r.have
-  pub list : (p.hashes ≡ 0 → ⊥) → (p.hashes ≡ d.body.hashes) × (d.picked ≡ Fine)
+  pub list : (p.hashes ≡ 0 → ⊥) → (p.hashes ≡ d.body.hashes) × (d.picked ≡ Ok tt)
   pub list_room : sizes.hash * p.hashes ≤ r.list
   pub last_sent : (p.last_sent ≡ 0 → ⊥) → p.last_sent ≡ d.heads
   pub last_sent_room : sizes.hash * p.last_sent ≤ r.last_sent
-  pub sent : (p.sent ≡ 0 → ⊥) → (p.sent ≡ d.sent) × (d.picked ≡ Fine)
+  pub sent : (p.sent ≡ 0 → ⊥) → (p.sent ≡ d.sent) × (d.picked ≡ Ok tt)
   pub sent_room : sizes.hash * p.sent ≤ r.sent
 
 -- A list put at the start of a buffer, or nothing of it.

@@ -1,21 +1,19 @@
 -- What internal contracts speak of: the numbers of a session after a message, on which it is decided, and room for what the message says. No rule of 01
 -- stands here.
-use Rattle.std.specs.Prelude.{ℕ, ◌+◌, ◌*◌, ◌≤◌, Bool, true, false, cond, List, ltb, length}
+use Rattle.std.specs.Prelude.{ℕ, ◌+◌, ◌*◌, ◌≤◌, Bool, true, false, cond, List, ltb, length, Result, Ok, Some, Err}
 use Rattle.bloom.specs.Have.{have_words, haves_of}
 use Rattle.rules.specs.Sizes.{sizes}
 use Rattle.rules.specs.declared.refusal.Refusal.TheVariants.{PastSize}
 use Rattle.session.specs.Laid.{laid_bytes}
 use Rattle.session.specs.Rooms.{or_short, if_room}
-use Rattle.session.specs.declared.room.Room.{Room}
-use Rattle.session.specs.declared.room.Room.TheVariants.{Enough}
 use Rattle.session_state.specs.Value.{kept_haves}
-use Rattle.session_state.specs.declared.session.Heard.TheVariants.{Count}
 use Rattle.session_state.specs.declared.session.Session.{Session}
 use Rattle.receive_haves.specs.Internal.HavesLaid.{Layable}
 use Rattle.session.specs.declared.receive_answer.ReceiveAnswer.{ReceiveAnswer}
-use Rattle.session.specs.declared.receive_answer.ReceiveAnswer.TheVariants.{Took, Failed, Refused}
+use Rattle.session.specs.declared.receive_answer.ReceiveAnswer.TheVariants.{Took, Failed}
 use Rattle.session.specs.declared.receive_answer.SessionRooms.{SessionRooms}
 use Rattle.receive_decide.specs.declared.decide.ReceivedCounts.{ReceivedCounts}
+use Rattle.rules.specs.declared.refusal.Refusal.{Refusal}
 
 -- ---- what is decided
 
@@ -32,9 +30,9 @@ session_counts s d =
     record {
       shared_heads = d.shared;
       last_sent_heads = d.last_sent;
-      their_heads = Count d.heads;
-      their_need = Count d.need;
-      their_have = Count d.haves;
+      their_heads = Some d.heads;
+      their_need = Some d.need;
+      their_have = Some d.haves;
       sent_hashes = d.sent;
       in_flight = s.in_flight;
       have_responded = s.have_responded;
@@ -46,31 +44,31 @@ session_counts s d =
     }
 
 -- Whether the lists have room, in the order in which they are tested.
-unfoldable pub counts_room : ReceivedCounts → SessionRooms → Room
+unfoldable pub counts_room : ReceivedCounts → SessionRooms → Result Unit ℕ
 counts_room d r =
     or_short r.shared (sizes.hash * d.shared)
     (or_short r.last_sent (sizes.hash * d.last_sent)
     (or_short r.their_heads (sizes.hash * d.heads)
     (or_short r.their_need (sizes.hash * d.need)
     (or_short r.haves (have_words * d.haves)
-    (or_short r.bytes d.bytes Enough)))))
+    (or_short r.bytes d.bytes (Ok tt))))))
 
 -- What is decided from the numbers, in the order of the refusals.
-unfoldable pub counts_decided : Session → Bool → ReceivedCounts → SessionRooms → ReceiveAnswer
+unfoldable pub counts_decided : Session → Bool → ReceivedCounts → SessionRooms → Result ReceiveAnswer Refusal
 counts_decided flagged failed d r =
     cond failed
-    (Failed flagged)
+    (Ok (Failed flagged))
     (cond (ltb sizes.hashes d.shared)
-    (Refused (PastSize 0))
-    (if_room Refused (counts_room d r) (Took (session_counts flagged d))))
+    (Err (PastSize 0))
+    (if_room Err (counts_room d r) (Ok (Took (session_counts flagged d)))))
 
 -- ---- what is put
 
 -- Whether a message was taken.
-unfoldable pub is_taken : ReceiveAnswer → Bool
-is_taken (Took s) = true
-is_taken (Failed s) = false
-is_taken (Refused r) = false
+unfoldable pub is_taken : Result ReceiveAnswer Refusal → Bool
+is_taken (Ok (Took s)) = true
+is_taken (Ok (Failed s)) = false
+is_taken (Err r) = false
 
 -- `count` records stand in a list, are haves over the message, and have room, laid out.
 pub record LaidFit (message words : List ℕ) (count : ℕ) (records bytes : List ℕ) : Type 0 where

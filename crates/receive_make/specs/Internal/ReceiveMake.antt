@@ -1,8 +1,7 @@
 -- What internal contracts speak of: what a message says by its places, and a session after it as numbers. No rule of 01 stands here.
-use Rattle.std.specs.Prelude.{ℕ, ◌*◌, ◌≤◌, Bool, cond, not, ◌&&◌, List, ◌≡◌, ltb, eqb, length, take}
+use Rattle.std.specs.Prelude.{ℕ, ◌*◌, ◌≤◌, Bool, cond, not, ◌&&◌, List, ◌≡◌, ltb, eqb, length, take, Ok}
 use Rattle.bloom.specs.Have.{have_words, haves_of}
 use Rattle.message_read.specs.MessageRead.{message_at, decoded_of}
-use Rattle.message_read.specs.declared.parse.Decoded.TheVariants.{Message as Placed}
 use Rattle.message_read.specs.declared.parse.Places.{Places}
 use Rattle.table_graph.specs.Graph.{heads, below}
 use Rattle.session.specs.Receive.{Said}
@@ -51,7 +50,7 @@ pub record Prepared (table : List ℕ) (n : ℕ) (message : List ℕ) (p : Place
 pub record Makes (s : Session) (table index : List ℕ) (n before : ℕ) (message : List ℕ) (p : Places) (oldShared oldSent : List ℕ) : Type 0 where
   pub rows : Indexed table index n
   pub up_to : before ≤ n
-  pub placed : decoded_of (message_at message) ≡ Placed p
+  pub placed : decoded_of (message_at message) ≡ Ok p
   pub shared : sizes.hash * s.shared_heads ≤ length oldShared
   pub shared_few : s.shared_heads ≤ sizes.hashes
   pub sent : sizes.hash * s.sent_hashes ≤ length oldSent

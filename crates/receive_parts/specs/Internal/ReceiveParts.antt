@@ -1,17 +1,17 @@
 -- What internal contracts speak of: the counts of a session with flags taken, and which of a message's heads are held. No rule of 01 stands here.
-use Rattle.std.specs.Prelude.{ℕ, ◌<◌, Bool, true, false, cond, ◌&&◌, List, ◌≡◌, get_or}
+use Rattle.std.specs.Prelude.{ℕ, ◌<◌, Bool, true, false, cond, ◌&&◌, List, ◌≡◌, get_or, Option}
 use Rattle.table_graph.specs.Graph.{below_row}
 use Rattle.table_graph.specs.Internal.Marks.{Marks}
 use Rattle.session.specs.Receive.{flag_taken}
 use Rattle.message.specs.Flags.{sync_reset, read_only_flag, supports_sync_reset, has_flag}
-use Rattle.message.specs.declared.flags.Section.{Section}
 use Rattle.hash_order.specs.Order.{every}
 use Rattle.session_state.specs.declared.session.Session.{Session}
 use Rattle.table.specs.TableBytes.{rows_at}
 use Rattle.table.specs.Table.{Row, held, row_number}
+use Rattle.message.specs.declared.flags.MessageFlags.{MessageFlags}
 
 -- The counts of a session that a flags section was taken into.
-abbrev pub flagged_counts : Section → Session → Session
+abbrev pub flagged_counts : Option MessageFlags → Session → Session
 flagged_counts flags s =
     record {
       shared_heads = s.shared_heads;

@@ -1,16 +1,15 @@
 -- What a table's check is made of: rows whose hash an earlier row has, seen along the order of all rows, where of rows with the same hash a later
 -- one stands before an earlier one; and an index that fits.
-use Rattle.std.specs.Prelude.{ℕ, ◌*◌, ◌/◌, ◌≤◌, min, Bool, cond, not, ◌&&◌, List, ◌≡◌, eqb, leb, length}
+use Rattle.std.specs.Prelude.{ℕ, ◌*◌, ◌/◌, ◌≤◌, min, Bool, cond, not, ◌&&◌, List, ◌≡◌, eqb, leb, length, Result, Ok}
 use Rattle.hash_order.specs.Order.{member}
 use Rattle.rules.specs.Hash.{hash_at}
 use Rattle.rules.specs.Sizes.{sizes}
 use Rattle.table.specs.TableBytes.{u16s_at, row_size_of, rows_of, row_size, rows_at}
 use Rattle.table.specs.Table.{rows}
 use Rattle.table.specs.Widths.{checked_as}
-use Rattle.table.specs.declared.check.Checked.{Checked}
-use Rattle.table.specs.declared.check.Checked.TheVariants.{Good}
 use Rattle.table.specs.declared.width.Width.{Width}
 use Rattle.table_index.specs.Index.{indexed, index_fits, record_hash}
+use Rattle.rules.specs.declared.refusal.Refusal.{Refusal}
 
 -- Whether no earlier row has row i's hash, where rows have room for d dependencies.
 unfoldable pub new_hash : ℕ → List ℕ → ℕ → Bool
@@ -27,9 +26,9 @@ pub record RowOrder (d : ℕ) (s x : List ℕ) (n : ℕ) : Type 0 where
   pub order : u16s_at x 0 n ≡ indexed (record_hash s (row_size_of d)) n
 
 -- A table of a width as it is checked, and if it is good, the order of its rows that was left.
-pub record CheckedInOrder (w : Width) (s x : List ℕ) (r : Checked) : Type 0 where
+pub record CheckedInOrder (w : Width) (s x : List ℕ) (r : Result ℕ Refusal) : Type 0 where
   pub answer : r ≡ checked_as w s
-  pub order : (n : ℕ) → r ≡ Good n → RowOrder w.dependencies s x n
+  pub order : (n : ℕ) → r ≡ Ok n → RowOrder w.dependencies s x n
 
 -- Whether a table is within its limit and an index fits its whole rows.
 unfoldable pub fits_within : List ℕ → List ℕ → Bool

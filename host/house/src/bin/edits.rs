@@ -16,22 +16,22 @@ Each is a wrong program, or a wrong definition, of the same shape as what stands
 /// prover said.
 const READ: &[(&str, &str)] = &[
     ("bloom/have_hashes", "`returns` of `have::have_good`"),
-    (
-        "message/flags_low_byte",
-        "`loop-i-preserved` of `MessageFlags::parse_bytes`",
-    ),
     ("pick/definition_transitive", "`check_tells` (AcceptLaws)"),
+    (
+        "plan/bad_list_as_setting",
+        "`returns-in_err-choice` of `plan::generate_sync_message`",
+    ),
     (
         "plan_count/unpicked_sent",
         "`returns` of `carried::pick_list`",
     ),
     (
         "receive_make/rows_before_beyond",
-        "`returns-in-Refused-parse` of `check::check_receive`",
+        "`returns-in_err-parse` of `check::check_receive`",
     ),
     (
         "sample_replay/all_agree",
-        "`loop-at-preserved` of `walk::walk`",
+        "`loop-kind-preserved` of `walk::walk`",
     ),
     (
         "table/table_count",
@@ -51,7 +51,7 @@ const READ: &[(&str, &str)] = &[
     ),
     (
         "waiting_missing/missing_no_room_to_tell",
-        "`returns-else-found-gt-HASHES` of `missing::missing_from`",
+        "`returns` of `missing::missing_from`",
     ),
     ("walk_hosts/fresh_never", "`zeroed_fresh` (Zeroed)"),
 ];

@@ -1,6 +1,5 @@
 -- `bloom::have::passed_few` meets its contract: the haves from record i on decide what all of them do. Assumes nothing.
 use mathlib.Core.Path.{refl, sym, ◌∙◌}
-use native.Mathlib.Omega.{arith}
 use Rattle.bloom.proofs.HaveLaws.{too_many, counting_starts, counting_fails, counting_on, counting_ends}
 use Rattle.bloom.proofs.have.passed_few.Goals as goal
 
@@ -8,18 +7,15 @@ pub returns-then-total-gt-HAVES : goal.returns-then-total-gt-HAVES
 returns-then-total-gt-HAVES c = sym (too_many _ c.if-total-gt-HAVES.true)
 
 pub loop-i-init : goal.loop-i-init
-loop-i-init c = record { upto = omega arith; rest = counting_starts _ _ refl c.if-total-gt-HAVES.false }
+loop-i-init c = counting_starts _ _ refl c.if-total-gt-HAVES.false
 
 pub returns-then-sync_count-gt-HASHES : goal.returns-then-sync_count-gt-HASHES
 returns-then-sync_count-gt-HASHES c =
-    sym (counting_fails _ _ _ c.loop-i-test.true _ c.sync_count.ensures c.if-sync_count-gt-HASHES.true) ∙ c.loop-i.invariant.rest
+    sym (counting_fails _ _ _ c.loop-i-test.true _ c.sync_count.ensures c.if-sync_count-gt-HASHES.true) ∙ c.loop-i.invariant
 
 pub loop-i-preserved : goal.loop-i-preserved
 loop-i-preserved c =
-    record {
-      upto = omega (arith, c.loop-i-test.true);
-      rest = sym (counting_on _ _ _ c.loop-i-test.true _ c.sync_count.ensures c.if-sync_count-gt-HASHES.false) ∙ c.loop-i.invariant.rest;
-    }
+    sym (counting_on _ _ _ c.loop-i-test.true _ c.sync_count.ensures c.if-sync_count-gt-HASHES.false) ∙ c.loop-i.invariant
 
 pub returns : goal.returns
-returns c = sym (counting_ends _ _ _ c.loop-i-test.false) ∙ c.loop-i.invariant.rest
+returns c = sym (counting_ends _ _ _ c.loop-i-test.false) ∙ c.loop-i.invariant

@@ -1,12 +1,8 @@
 -- `bloom::have::passed_few` meets its contract: the haves from record i on decide what all of them do. Assumes nothing.
-use Prim.Native.Nat.{◌-◌, ◌≤◌}
 use mathlib.Core.Path.{◌≡◌}
 use Rattle.bloom.specs.Have.{passed_few}
 use Rattle.bloom.proofs.HaveLaws.{counting}
 use Rattle.bloom.proofs.have.passed_few.Given as goal
 
 abbrev pub invariant-loop-i : goal.invariant-loop-i
-invariant-loop-i l = record { upto : l.i ≤ l.total; rest : counting l.haves l.total l.i ≡ passed_few l.haves }
-
-abbrev pub decreases-loop-i : goal.decreases-loop-i
-decreases-loop-i l = l.total - l.i
+invariant-loop-i l = counting l.haves l.total l.i ≡ passed_few l.haves

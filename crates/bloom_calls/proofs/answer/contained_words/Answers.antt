@@ -1,5 +1,5 @@
 -- `bloom_calls::answer::contained_words` meets its contract: one case for each variant. Assumes nothing.
 use Rattle.bloom_calls.proofs.answer.contained_words.Goals as goal
 
-pub returns-in-Refused : goal.returns-in-Refused
-returns-in-Refused c = rw c.in-Refused.is c.refusal_words.ensures
+pub returns-in-Err : goal.returns-in-Err
+returns-in-Err c = rw c.in-Err.is c.refusal_words.ensures

@@ -2,8 +2,7 @@
 -- field as it was gives, and the start that is held is that of the first of them. Assumes nothing.
 use Prim.Native.Nat.{ℕ, suc, ◌+◌, ◌-◌, ◌*◌, ◌≤◌, ◌<◌}
 use mathlib.Core.List.{List}
-use mathlib.Core.Path.{◌≡◌, refl, sym, ap, ◌∙◌}
-use native.Mathlib.Nat.{sub-zero}
+use mathlib.Core.Path.{◌≡◌, sym, ap, ◌∙◌}
 use native.Mathlib.Omega.{arith}
 use lib.ListN.{length}
 use Rattle.rules.specs.Hash.{hash_at, hashes_at}
@@ -11,7 +10,7 @@ use Rattle.rules.specs.Sizes.{sizes}
 use Rattle.bloom_probe.specs.Build.{set_bits, add_hash, add_hashes}
 use Rattle.bloom_probe.specs.Probes.{probes_from}
 use Rattle.bloom_probe.proofs.FieldLaws.{length_add_hash}
-use Rattle.bloom_probe.proofs.StartLaws.{starts_below, of_start}
+use Rattle.bloom_probe.proofs.StartLaws.{of_start}
 use Rattle.bloom_probe.proofs.build.add_hashes.Goals as goal
 
 -- one hash more
@@ -29,15 +28,6 @@ added-all : (p : ℕ) (field s : List ℕ) (n i : ℕ) → n ≤ i → field ≡
 unfolding add_hashes hashes_at
 added-all p field s n i h = let left : n - i ≡ 0 = omega arith in rw left
 
-pub loop-i-init : goal.loop-i-init
-loop-i-init c = record { upto = omega arith; long = refl; starts = c.start_in-next.ensures; rest = rw sub-zero }
-
-pub set_probes-requires : goal.set_probes-requires
-set_probes-requires c =
-    let p = c.requires in
-    let b = starts_below _ _ _ _ (omega (arith, p.0, c.loop-i-test.true)) (c.loop-i.invariant.starts c.loop-i-test.true) in
-    (b.0, b.1, b.2, omega (arith, p.1), omega (arith, c.loop-i.invariant.long))
-
 pub loop-i-preserved : goal.loop-i-preserved
 loop-i-preserved c =
     let added = (let it : (next : List ℕ)
@@ -52,7 +42,6 @@ loop-i-preserved c =
     (c.loop-i.invariant.starts c.loop-i-test.true)
     e in it) _ c.set_probes.ensures in
     record {
-      upto = omega (arith, c.loop-i-test.true);
       long = ap length added ∙ length_add_hash _ _ _ ∙ c.loop-i.invariant.long;
       starts = c.start_in-next-in-loop-i.ensures;
       rest = added_more _ _ _ _ _ _ c.loop-i-test.true added ∙ c.loop-i.invariant.rest;

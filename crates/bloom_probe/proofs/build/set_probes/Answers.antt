@@ -2,7 +2,7 @@
 -- them in the field as it was gives. Assumes nothing.
 use Prim.Native.Nat.{ℕ, ◌+◌, ◌-◌, ◌%◌, ◌≤◌, ◌<◌, suc}
 use mathlib.Core.List.{List}
-use mathlib.Core.Path.{◌≡◌, refl, ap, ◌∙◌}
+use mathlib.Core.Path.{◌≡◌, ap, ◌∙◌}
 use native.Mathlib.Nat.{mod-lt}
 use native.Mathlib.Omega.{arith}
 use lib.ListN.{length}
@@ -11,10 +11,6 @@ use Rattle.bloom_probe.specs.Probes.{probes_from}
 use Rattle.bloom_probe.specs.declared.probes.Probe.{Probe}
 use Rattle.bloom_probe.proofs.FieldLaws.{length_set_bit}
 use Rattle.bloom_probe.proofs.build.set_probes.Goals as goal
-
--- none of them yet
-added_none : (field : List ℕ) (k rounds m x y z : ℕ) → k ≡ 0 → set_bits field (probes_from (rounds - k) m x y z) ≡ set_bits field (probes_from rounds m x y z)
-added_none field k rounds m x y z e = let all : rounds - k ≡ rounds = omega arith in rw all
 
 -- one probe more
 added_more : (field next : List ℕ) (rounds k m x y z u v : ℕ) → k < rounds
@@ -31,26 +27,20 @@ added-all : (field : List ℕ) (rounds k m x y z : ℕ) → rounds ≤ k → fie
 unfolding set_bits probes_from
 added-all field rounds k m x y z h = let e : rounds - k ≡ 0 = omega arith in rw e
 
-pub loop-k-init : goal.loop-k-init
-loop-k-init c =
-    let p = c.requires in
-    record { upto = omega arith; long = refl; first = p.0; second = p.1; third = p.2; most = p.3; rest = added_none _ _ _ _ _ _ _ refl }
-
-pub loop-k-preserved : goal.loop-k-preserved
-loop-k-preserved c =
-    let l = c.loop-k in
+pub loop-preserved : goal.loop-preserved
+loop-preserved c =
+    let l = c.loop in
     let set = c.set_bit.ensures in
     let on = c.next-probe.ensures in
     let some : 0 < c.args.m = omega (arith, l.invariant.first) in
     record {
-      upto = omega arith;
       long = ap length set ∙ length_set_bit _ _ ∙ l.invariant.long;
       first = step-below _ _ _ some (ap (λ (p : Probe). p.x) on);
       second = step-below _ _ _ some (ap (λ (p : Probe). p.y) on);
       third = l.invariant.third;
       most = l.invariant.most;
-      rest = added_more _ _ _ _ _ _ _ _ _ _ c.loop-k-test.true set (ap (λ (p : Probe). p.x) on) (ap (λ (p : Probe). p.y) on) ∙ l.invariant.rest;
+      rest = added_more _ _ _ _ _ _ _ _ _ _ c.loop-test.true set (ap (λ (p : Probe). p.x) on) (ap (λ (p : Probe). p.y) on) ∙ l.invariant.rest;
     }
 
 pub returns : goal.returns
-returns c = added-all _ _ _ _ _ _ _ c.loop-k-test.false ∙ c.loop-k.invariant.rest
+returns c = added-all _ _ _ _ _ _ _ c.loop-test.false ∙ c.loop.invariant.rest

@@ -8,17 +8,13 @@ use Rattle.bloom_probe.specs.Build.{set_bits}
 use Rattle.bloom_probe.specs.Probes.{probes_from}
 use Rattle.bloom_probe.proofs.build.set_probes.Given as goal
 
-abbrev pub invariant-loop-k : goal.invariant-loop-k
-invariant-loop-k l =
+abbrev pub invariant-loop : goal.invariant-loop
+invariant-loop l =
     record {
-      upto : l.k ≤ l.rounds;
       long : length l.field ≡ length l.initial.field;
       first : l.probe.x < l.m;
       second : l.probe.y < l.m;
       third : l.z < l.m;
       most : l.m ≤ 8 * sizes.field;
-      rest : set_bits l.field (probes_from (l.rounds - l.k) l.m l.probe.x l.probe.y l.z) ≡ set_bits l.initial.field (probes_from l.rounds l.m l.initial.probe.x l.initial.probe.y l.z);
+      rest : set_bits l.field (probes_from (l.rounds - l.counter) l.m l.probe.x l.probe.y l.z) ≡ set_bits l.initial.field (probes_from l.rounds l.m l.initial.probe.x l.initial.probe.y l.z);
     }
-
-abbrev pub decreases-loop-k : goal.decreases-loop-k
-decreases-loop-k l = l.rounds - l.k

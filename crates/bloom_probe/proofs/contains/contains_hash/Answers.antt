@@ -13,47 +13,20 @@ use Rattle.bloom.specs.Have.{filter_with}
 use Rattle.bloom_probe.proofs.Search.{probe_clear, probe_on, probes_done, no_entries, search_starts, search_found, search_on, search_done, Probed, probed, field_long, probes_decide}
 use Rattle.bloom_probe.proofs.contains.contains_hash.Goals as goal
 
-pub u32_at-first-requires : goal.u32_at-first-requires
-u32_at-first-requires c = omega (arith, c.requires.1)
-
-pub overflow_add-at : goal.overflow_add-at
-overflow_add-at c = omega (arith, c.requires.1)
-
-pub u32_at-second-requires : goal.u32_at-second-requires
-u32_at-second-requires c = omega (arith, c.requires.1)
-
-pub overflow_add-at-2 : goal.overflow_add-at-2
-overflow_add-at-2 c = omega (arith, c.requires.1)
-
-pub u32_at-third-requires : goal.u32_at-third-requires
-u32_at-third-requires c = omega (arith, c.requires.1)
-
 pub next_filter-init : goal.next_filter-init
-next_filter-init c = record { upto = omega arith; rest = search_starts _ _ _ }
+next_filter-init c = search_starts _ _ _
 
 pub next_filter-preserved-then-f-eq0 : goal.next_filter-preserved-then-f-eq0
 next_filter-preserved-then-f-eq0 c =
-    record {
-      upto = omega arith;
-      rest =
-          sym
-          (search_on _ _ _ _ _ _
-          c.next_filter-test.true
-          c.filter_in-f.ensures
-          (no_entries _ _ _ c.if-f-eq0.true))
-          ∙ c.next_filter.invariant.rest;
-    }
+    sym
+    (search_on _ _ _ _ _ _
+    c.next_filter-test.true
+    c.filter_in-f.ensures
+    (no_entries _ _ _ c.if-f-eq0.true))
+    ∙ c.next_filter.invariant
 
 pub overflow_add-field : goal.overflow_add-field
 overflow_add-field c = let p = (let it : (let a = c.args in
-    Probed a.bytes.now c.filter_in-f.result) = probed _ _ (rw c.filter_in-f.ensures (c.requires.0.each c.next_filter.i c.next_filter-test.true)) c.if-f-eq0.false in it) in omega arith
-
-pub slice_bounds-field-count : goal.slice_bounds-field-count
-slice_bounds-field-count c = let p = (let it : (let a = c.args in
-    Probed a.bytes.now c.filter_in-f.result) = probed _ _ (rw c.filter_in-f.ensures (c.requires.0.each c.next_filter.i c.next_filter-test.true)) c.if-f-eq0.false in it) in omega arith
-
-pub slice_bounds-field-start : goal.slice_bounds-field-start
-slice_bounds-field-start c = let p = (let it : (let a = c.args in
     Probed a.bytes.now c.filter_in-f.result) = probed _ _ (rw c.filter_in-f.ensures (c.requires.0.each c.next_filter.i c.next_filter-test.true)) c.if-f-eq0.false in it) in omega arith
 
 pub slice_bounds-field-end : goal.slice_bounds-field-end
@@ -71,17 +44,6 @@ overflow_mul-m c = let p = (let it : (let a = c.args in
 pub nonzero_rem-x : goal.nonzero_rem-x
 nonzero_rem-x c = let p = (let it : (let a = c.args in
     Probed a.bytes.now c.filter_in-f.result) = probed _ _ (rw c.filter_in-f.ensures (c.requires.0.each c.next_filter.i c.next_filter-test.true)) c.if-f-eq0.false in it) in omega arith
-
-pub overflow_cast-x : goal.overflow_cast-x
-overflow_cast-x c =
-    let p = (let it : (let a = c.args in
-    Probed a.bytes.now c.filter_in-f.result) = probed _ _ (rw c.filter_in-f.ensures (c.requires.0.each c.next_filter.i c.next_filter-test.true)) c.if-f-eq0.false in it) in
-    omega (
-      arith,
-      (let it : (n : ℕ)
-          → let m = 8 * c.filter_in-f.result.size in n % m < m = λ n. let p = (let it : (let a = c.args in
-          Probed a.bytes.now c.filter_in-f.result) = probed _ _ (rw c.filter_in-f.ensures (c.requires.0.each c.next_filter.i c.next_filter-test.true)) c.if-f-eq0.false in it) in mod-lt n (omega arith) in it) c.u32_at-first.result,
-    )
 
 pub clear_bit-requires : goal.clear_bit-requires
 clear_bit-requires c =
@@ -111,12 +73,8 @@ next_filter-preserved-then-clear_bit c =
     c.if-f-eq0.false
     (λ i. (c.type_inv.hashes i).fits)
     c.requires.1) in it) ∙ probe_clear _ _ _ _ _ _ (omega arith) shut in
-    record {
-      upto = omega (arith, c.next_filter-test.true);
-      rest =
-          sym (search_on _ _ _ _ _ _ c.next_filter-test.true c.filter_in-f.ensures misses)
-          ∙ c.next_filter.invariant.rest;
-    }
+    sym (search_on _ _ _ _ _ _ c.next_filter-test.true c.filter_in-f.ensures misses)
+    ∙ c.next_filter.invariant
 
 pub nonzero_rem-y : goal.nonzero_rem-y
 nonzero_rem-y c = let p = (let it : (let a = c.args in
@@ -126,8 +84,8 @@ pub nonzero_rem-z : goal.nonzero_rem-z
 nonzero_rem-z c = let p = (let it : (let a = c.args in
     Probed a.bytes.now c.filter_in-f.result) = probed _ _ (rw c.filter_in-f.ensures (c.requires.0.each c.next_filter.i c.next_filter-test.true)) c.if-f-eq0.false in it) in omega arith
 
-pub loop-k-init : goal.loop-k-init
-loop-k-init c =
+pub loop-init : goal.loop-init
+loop-init c =
     let open' = sym c.clear_bit.ensures ∙ c.if-clear_bit.false in
     record {
       xs = (let it : (n : ℕ)
@@ -136,7 +94,6 @@ loop-k-init c =
       ys = (let it : (n : ℕ)
           → let m = 8 * c.filter_in-f.result.size in n % m < m = λ n. let p = (let it : (let a = c.args in
           Probed a.bytes.now c.filter_in-f.result) = probed _ _ (rw c.filter_in-f.ensures (c.requires.0.each c.next_filter.i c.next_filter-test.true)) c.if-f-eq0.false in it) in mod-lt n (omega arith) in it) _;
-      upto = omega (arith, c.count-rounds.ensures);
       rest = sym (probe_on _ _ _ _ _ _ _ (omega (arith, c.count-rounds.ensures)) open');
     }
 
@@ -144,35 +101,17 @@ pub next-probe-requires : goal.next-probe-requires
 next-probe-requires c =
     let p = (let it : (let a = c.args in
     Probed a.bytes.now c.filter_in-f.result) = probed _ _ (rw c.filter_in-f.ensures (c.requires.0.each c.next_filter.i c.next_filter-test.true)) c.if-f-eq0.false in it) in (
-      c.loop-k.invariant.xs,
-      c.loop-k.invariant.ys,
+      c.loop.invariant.xs,
+      c.loop.invariant.ys,
       (let it : (n : ℕ)
           → let m = 8 * c.filter_in-f.result.size in n % m < m = λ n. let p = (let it : (let a = c.args in
           Probed a.bytes.now c.filter_in-f.result) = probed _ _ (rw c.filter_in-f.ensures (c.requires.0.each c.next_filter.i c.next_filter-test.true)) c.if-f-eq0.false in it) in mod-lt n (omega arith) in it) _,
       omega arith,
     )
 
-pub overflow_cast-probe : goal.overflow_cast-probe
-overflow_cast-probe c =
-    let p = (let it : (let a = c.args in
-    Probed a.bytes.now c.filter_in-f.result) = probed _ _ (rw c.filter_in-f.ensures (c.requires.0.each c.next_filter.i c.next_filter-test.true)) c.if-f-eq0.false in it) in
-    let x : c.next-probe.result.x < 8 * c.filter_in-f.result.size = rw c.next-probe.ensures ((let it : (n : ℕ)
-    → let m = 8 * c.filter_in-f.result.size in n % m < m = λ n. let p = (let it : (let a = c.args in
-    Probed a.bytes.now c.filter_in-f.result) = probed _ _ (rw c.filter_in-f.ensures (c.requires.0.each c.next_filter.i c.next_filter-test.true)) c.if-f-eq0.false in it) in mod-lt n (omega arith) in it) _) in
-    omega arith
-
-pub clear_bit-requires-in-loop-k : goal.clear_bit-requires-in-loop-k
-clear_bit-requires-in-loop-k c =
-    let p = (let it : (let a = c.args in
-    Probed a.bytes.now c.filter_in-f.result) = probed _ _ (rw c.filter_in-f.ensures (c.requires.0.each c.next_filter.i c.next_filter-test.true)) c.if-f-eq0.false in it) in
-    let x : c.next-probe.result.x < 8 * c.filter_in-f.result.size = rw c.next-probe.ensures ((let it : (n : ℕ)
-    → let m = 8 * c.filter_in-f.result.size in n % m < m = λ n. let p = (let it : (let a = c.args in
-    Probed a.bytes.now c.filter_in-f.result) = probed _ _ (rw c.filter_in-f.ensures (c.requires.0.each c.next_filter.i c.next_filter-test.true)) c.if-f-eq0.false in it) in mod-lt n (omega arith) in it) _) in
-    omega (arith, field_long _ _ p)
-
 pub next_filter-preserved : goal.next_filter-preserved
 next_filter-preserved c =
-    let shut = sym c.clear_bit-in-loop-k.ensures ∙ c.if-clear_bit-2.true in
+    let shut = sym c.clear_bit-in-loop.ensures ∙ c.if-clear_bit-2.true in
     let misses =
     (let it : (let a = c.args in
     let f = c.filter_in-f.result in
@@ -193,18 +132,14 @@ next_filter-preserved c =
     c.if-f-eq0.false
     (λ i. (c.type_inv.hashes i).fits)
     c.requires.1) in it)) in it)
-    ∙ sym c.loop-k.invariant.rest
-    ∙ probe_clear _ _ _ _ _ _ (omega (arith, c.loop-k-test.true)) (rw c.next-probe.ensures at shut) in
-    record {
-      upto = omega (arith, c.next_filter-test.true);
-      rest =
-          sym (search_on _ _ _ _ _ _ c.next_filter-test.true c.filter_in-f.ensures misses)
-          ∙ c.next_filter.invariant.rest;
-    }
+    ∙ sym c.loop.invariant.rest
+    ∙ probe_clear _ _ _ _ _ _ (omega (arith, c.loop-test.true)) (rw c.next-probe.ensures at shut) in
+    sym (search_on _ _ _ _ _ _ c.next_filter-test.true c.filter_in-f.ensures misses)
+    ∙ c.next_filter.invariant
 
-pub loop-k-preserved : goal.loop-k-preserved
-loop-k-preserved c =
-    let open' = sym c.clear_bit-in-loop-k.ensures ∙ c.if-clear_bit-2.false in
+pub loop-preserved : goal.loop-preserved
+loop-preserved c =
+    let open' = sym c.clear_bit-in-loop.ensures ∙ c.if-clear_bit-2.false in
     record {
       xs = rw c.next-probe.ensures ((let it : (n : ℕ)
           → let m = 8 * c.filter_in-f.result.size in n % m < m = λ n. let p = (let it : (let a = c.args in
@@ -212,10 +147,9 @@ loop-k-preserved c =
       ys = rw c.next-probe.ensures ((let it : (n : ℕ)
           → let m = 8 * c.filter_in-f.result.size in n % m < m = λ n. let p = (let it : (let a = c.args in
           Probed a.bytes.now c.filter_in-f.result) = probed _ _ (rw c.filter_in-f.ensures (c.requires.0.each c.next_filter.i c.next_filter-test.true)) c.if-f-eq0.false in it) in mod-lt n (omega arith) in it) _);
-      upto = omega (arith, c.loop-k-test.true);
       rest =
           rw c.next-probe.ensures
-          (sym (probe_on _ _ _ _ _ _ _ (omega (arith, c.loop-k-test.true)) (rw c.next-probe.ensures at open')) ∙ c.loop-k.invariant.rest);
+          (sym (probe_on _ _ _ _ _ _ _ (omega (arith, c.loop-test.true)) (rw c.next-probe.ensures at open')) ∙ c.loop.invariant.rest);
     }
 
 pub returns-in-next_filter : goal.returns-in-next_filter
@@ -238,9 +172,9 @@ returns-in-next_filter c =
     Probed a.bytes.now c.filter_in-f.result) = probed _ _ (rw c.filter_in-f.ensures (c.requires.0.each c.next_filter.i c.next_filter-test.true)) c.if-f-eq0.false in it))
     c.if-f-eq0.false
     (λ i. (c.type_inv.hashes i).fits)
-    c.requires.1) in it)) in it) ∙ sym c.loop-k.invariant.rest ∙ probes_done _ _ _ _ _ _ (omega (arith, c.loop-k-test.false)) in
+    c.requires.1) in it)) in it) ∙ sym c.loop.invariant.rest ∙ probes_done _ _ _ _ _ _ (omega (arith, c.loop-test.false)) in
     sym (search_found _ _ _ _ _ _ c.next_filter-test.true c.filter_in-f.ensures all)
-    ∙ c.next_filter.invariant.rest
+    ∙ c.next_filter.invariant
 
 pub returns : goal.returns
-returns c = sym (search_done _ _ _ _ _ c.next_filter-test.false) ∙ c.next_filter.invariant.rest
+returns c = sym (search_done _ _ _ _ _ c.next_filter-test.false) ∙ c.next_filter.invariant

@@ -11,36 +11,36 @@ use Rattle.rules.specs.Sizes.{sizes}
 use Rattle.rules.specs.declared.refusal.Refusal.TheVariants.{Cut, PastSize, BadNumbers}
 use Rattle.bloom.specs.Have.{filters_of, passed_good, passed_few}
 use Rattle.bloom_probe.specs.Contains.{contained_in, any_contains}
-use Rattle.bloom_probe.specs.declared.contains.Contained.TheVariants.{Yes, No, Refused}
 use Rattle.bloom.proofs.HaveLaws.{good_filters, passed_haves}
 use Rattle.bloom_probe.proofs.contains.filters_contain.Goals as goal
+use Rattle.std.specs.Prelude.{Ok, Err}
 
 module _ (s haves hash : List ℕ) where
-  bad : passed_good s haves ≡ false → Refused BadNumbers ≡ contained_in s haves hash
+  bad : passed_good s haves ≡ false → Err BadNumbers ≡ contained_in s haves hash
   unfolding contained_in
   bad e = rw e
 
   module _ (good : passed_good s haves ≡ true) where
-    many : passed_few haves ≡ false → Refused (PastSize 0) ≡ contained_in s haves hash
+    many : passed_few haves ≡ false → Err (PastSize 0) ≡ contained_in s haves hash
     unfolding contained_in
     many e = rw (good, e)
 
     module _ (few : passed_few haves ≡ true) where
-      long : sizes.hash < length hash → Refused (PastSize 0) ≡ contained_in s haves hash
+      long : sizes.hash < length hash → Err (PastSize 0) ≡ contained_in s haves hash
       unfolding contained_in
       long h = rw (good, few, lt-ltb _ _ h)
 
       module _ (most : length hash ≤ sizes.hash) where
-        short : length hash < sizes.hash → Refused (Cut 0) ≡ contained_in s haves hash
+        short : length hash < sizes.hash → Err (Cut 0) ≡ contained_in s haves hash
         unfolding contained_in
         short h = rw (good, few, le-ltb _ _ most, lt-ltb _ _ h)
 
         module _ (least : sizes.hash ≤ length hash) where
-          held : any_contains (filters_of s haves) (hash_at hash 0) ≡ true → Yes ≡ contained_in s haves hash
+          held : any_contains (filters_of s haves) (hash_at hash 0) ≡ true → (Ok true) ≡ contained_in s haves hash
           unfolding contained_in
           held e = rw (good, few, le-ltb _ _ most, le-ltb _ _ least, e)
 
-          missed : any_contains (filters_of s haves) (hash_at hash 0) ≡ false → No ≡ contained_in s haves hash
+          missed : any_contains (filters_of s haves) (hash_at hash 0) ≡ false → (Ok false) ≡ contained_in s haves hash
           unfolding contained_in
           missed e = rw (good, few, le-ltb _ _ most, le-ltb _ _ least, e)
 

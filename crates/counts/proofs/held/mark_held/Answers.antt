@@ -1,8 +1,7 @@
 -- `counts::held::mark_held` meets its contract: the rows that the passed entries name are marked (MarkedAlong), and each row is named. Assumes nothing.
 use Prim.Native.Nat.{◌+◌, ◌*◌, ◌≤◌, ◌<◌}
-use mathlib.Core.Path.{refl}
 use native.Mathlib.Omega.{arith}
-use lib.ListN.{length, length-set}
+use lib.ListN.{length}
 use Rattle.rules.specs.Sizes.{sizes}
 use Rattle.table.specs.Table.{held}
 use Rattle.table.specs.TableBytes.{rows_at, row_size}
@@ -10,11 +9,7 @@ use Rattle.counts.proofs.WalkLaws.{names_row, row_stands, marked_none, marked_ne
 use Rattle.counts.proofs.held.mark_held.Goals as goal
 
 pub loop-i-init : goal.loop-i-init
-loop-i-init c = record { upto = omega arith; long = refl; from = λ j a b. omega arith; marked = marked_none _ _ _ }
-
-pub u16_at-row-requires : goal.u16_at-row-requires
-u16_at-row-requires c =
-    omega (arith, c.requires.1.entries, c.loop-i-test.true)
+loop-i-init c = record { from = λ j a b. omega arith; marked = marked_none _ _ _ }
 
 pub overflow_mul-row : goal.overflow_mul-row
 overflow_mul-row c = omega (arith, (let it : c.u16_at-row.result * row_size + sizes.hash ≤ length c.args.listener.now = row_stands _ _ _ c.requires.1 _ _ c.loop-i-test.true c.u16_at-row.ensures in it))
@@ -32,20 +27,15 @@ held_at-requires c =
 
 pub bounds-marks-row : goal.bounds-marks-row
 bounds-marks-row c = (let it : c.u16_at-row.result < length c.loop-i.marks = let row = names_row _ _ _ c.requires.1 _ _ c.loop-i-test.true c.u16_at-row.ensures in
-    omega (arith, row, c.requires.2, c.loop-i.invariant.long) in it)
+    omega (arith, row, c.requires.2, c.loop-i.auto.marks) in it)
 
 pub loop-i-preserved : goal.loop-i-preserved
 loop-i-preserved c =
     record {
-      upto = omega (arith, c.loop-i-test.true);
-      long = simp length-set c.loop-i.invariant.long;
       from = next_place _ _ _ c.requires.1 _ _ _ _ c.loop-i-test.true c.u16_at-row.ensures c.place_from-k.ensures;
       marked = marked_next _ _ _ _ _ _ c.u16_at-row.ensures ((let it : c.u16_at-row.result < length c.loop-i.marks = let row = names_row _ _ _ c.requires.1 _ _ c.loop-i-test.true c.u16_at-row.ensures in
-          omega (arith, row, c.requires.2, c.loop-i.invariant.long) in it)) c.held_at.ensures c.loop-i.invariant.marked;
+          omega (arith, row, c.requires.2, c.loop-i.auto.marks) in it)) c.held_at.ensures c.loop-i.invariant.marked;
     }
-
-pub shape_of-marks : goal.shape_of-marks
-shape_of-marks c = c.loop-i.invariant.long
 
 pub returns : goal.returns
 returns c =

@@ -10,12 +10,7 @@ use Rattle.counts.proofs.WalkLaws.{place_most, row_stands, walked_on, walked_up}
 use Rattle.counts.proofs.held.place_from.Goals as goal
 
 pub loop-k-init : goal.loop-k-init
-loop-k-init c =
-    record { upto = omega (arith, c.requires.2, place_most _ _ _ c.requires.0 (hash_at c.args.bytes.now c.args.at)); least = c.requires.2 }
-
-pub u16_at-row-requires : goal.u16_at-row-requires
-u16_at-row-requires c =
-    omega (arith, c.requires.0.entries, c.loop-k-test.true)
+loop-k-init c = c.requires.2
 
 pub overflow_mul-row : goal.overflow_mul-row
 overflow_mul-row c = omega (arith, (let it : c.u16_at-row.result * row_size + sizes.hash ≤ length c.args.table.now = row_stands _ _ _ c.requires.0 _ _ c.loop-k-test.true c.u16_at-row.ensures in it))
@@ -26,15 +21,12 @@ hash_before-requires c = ((let it : c.u16_at-row.result * row_size + sizes.hash 
 pub returns-then-not-hash_before : goal.returns-then-not-hash_before
 returns-then-not-hash_before c =
     let most = walked_up _ _ _ c.requires.0 _ _ _ c.loop-k-test.true c.u16_at-row.ensures (sym c.hash_before.ensures ∙ c.if-not-hash_before.true) in
-    omega (arith, most, c.loop-k.invariant.least)
+    omega (arith, most, c.loop-k.invariant)
 
 pub loop-k-preserved : goal.loop-k-preserved
 loop-k-preserved c =
-    record {
-      upto = omega (arith, c.loop-k-test.true);
-      least = walked_on _ _ _ c.requires.0 _ _ _ c.loop-k-test.true c.u16_at-row.ensures (sym c.hash_before.ensures ∙ c.if-not-hash_before.false);
-    }
+    walked_on _ _ _ c.requires.0 _ _ _ c.loop-k-test.true c.u16_at-row.ensures (sym c.hash_before.ensures ∙ c.if-not-hash_before.false)
 
 pub returns : goal.returns
 returns c =
-    omega (arith, c.loop-k.invariant.upto, c.loop-k.invariant.least, c.loop-k-test.false, place_most _ _ _ c.requires.0 (hash_at c.args.bytes.now c.args.at))
+    omega (arith, c.loop-k.invariant, c.loop-k-test.false, place_most _ _ _ c.requires.0 (hash_at c.args.bytes.now c.args.at))

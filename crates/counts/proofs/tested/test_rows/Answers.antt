@@ -9,10 +9,7 @@ use Rattle.counts.proofs.TestedLaws.{counting_starts, counting_on, counting_ends
 use Rattle.counts.proofs.tested.test_rows.Goals as goal
 
 pub loop-i-init : goal.loop-i-init
-loop-i-init c = record { upto = omega arith; few = omega arith; fewer = omega arith; counting = counting_starts _ _ _ _ }
-
-pub overflow_mul-i : goal.overflow_mul-i
-overflow_mul-i c = omega (arith, (let it : c.loop-i.i * row_size + sizes.hash ≤ length c.args.table.now = record-inside _ _ _ _ c.loop-i-test.true c.requires.1 (omega arith) in it))
+loop-i-init c = record { few = omega arith; fewer = omega arith; counting = counting_starts _ _ _ _ }
 
 pub tested_next-tested-requires : goal.tested_next-tested-requires
 tested_next-tested-requires c =
@@ -21,7 +18,6 @@ tested_next-tested-requires c =
 pub loop-i-preserved : goal.loop-i-preserved
 loop-i-preserved c =
     record {
-      upto = omega (arith, c.loop-i-test.true);
       few = rw c.tested_next-tested.ensures (next_few _ _ _ _ c.loop-i.invariant.few);
       fewer = rw c.tested_next-tested.ensures (next_fewer _ _ _ _ c.loop-i.invariant.fewer);
       counting = rw c.tested_next-tested.ensures (counting_on _ _ _ _ _ _ c.loop-i-test.true c.loop-i.invariant.counting);
@@ -29,4 +25,4 @@ loop-i-preserved c =
 
 pub returns : goal.returns
 returns c =
-    counting_ends _ _ _ _ _ _ c.loop-i.invariant.upto c.loop-i-test.false c.loop-i.invariant.counting
+    counting_ends _ _ _ _ _ _ (omega arith) c.loop-i-test.false c.loop-i.invariant.counting

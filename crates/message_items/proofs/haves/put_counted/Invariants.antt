@@ -1,6 +1,5 @@
 -- `message_items::haves::put_counted` meets its contract: the words and the numbers that were put, and those of the items still to come, make the lists that
 -- all of them make. The items were read before, so none of them is refused. Assumes nothing.
-use Prim.Native.Nat.{◌-◌}
 use Rattle.bloom.specs.Have.{have_words}
 use Rattle.message_items.specs.Items.{have_item}
 use Rattle.message_items.proofs.IgnoredLaws.{Counting}
@@ -13,6 +12,3 @@ invariant-loop-k l =
       put : Putting (have_item l.bytes) have_words l.initial.out l.count l.start l.out l.next l.k;
       counted : Counting l.bytes l.initial.ignored l.count l.start l.ignored l.sum l.next l.k;
     }
-
-abbrev pub decreases-loop-k : goal.decreases-loop-k
-decreases-loop-k l = l.count - l.k

@@ -11,22 +11,17 @@ loop-i-init c =
     let few = haves_few _ _ c.requires in
     let n = ten (have_count c.args.haves.now) (omega (arith, few)) in
     record {
-      upto = omega arith;
       small = omega (arith, n, c.unsigned_size-size.ensures);
       rest = ap (λ (k : ℕ). k + haves_size c.args.bytes.now c.args.haves.now (have_count c.args.haves.now) 0) c.unsigned_size-size.ensures ∙ haves_counted_long _ _ _ refl;
     }
 
 pub overflow_add-size : goal.overflow_add-size
 overflow_add-size c =
-    omega (arith, (let it : c.have_size-size.result ≤ most_have_lem = rw c.have_size-size.ensures (have_small _ _ _ c.requires c.loop-i-test.true) in it), c.loop-i.invariant.small, c.loop-i.invariant.upto, haves_few _ _ c.requires, c.loop-i-test.true)
-
-pub loop-i-smaller : goal.loop-i-smaller
-loop-i-smaller c = omega (arith, c.loop-i-test.true)
+    omega (arith, (let it : c.have_size-size.result ≤ most_have_lem = rw c.have_size-size.ensures (have_small _ _ _ c.requires c.loop-i-test.true) in it), c.loop-i.invariant.small, haves_few _ _ c.requires, c.loop-i-test.true)
 
 pub loop-i-preserved : goal.loop-i-preserved
 loop-i-preserved c =
     record {
-      upto = omega (arith, c.loop-i-test.true);
       small = omega (arith, (let it : c.have_size-size.result ≤ most_have_lem = rw c.have_size-size.ensures (have_small _ _ _ c.requires c.loop-i-test.true) in it), c.loop-i.invariant.small);
       rest = haves_again _ _ _ _ c.loop-i.size _ _ c.loop-i-test.true c.have_size-size.ensures c.loop-i.invariant.rest;
     }

@@ -3,6 +3,7 @@ use mathlib.Core.Bool.{true}
 use mathlib.Core.Path.{◌≡◌, sym, ◌∙◌}
 use native.Mathlib.Omega.{arith}
 use Rattle.bloom.specs.Have.{passed_good}
+use Rattle.rules.proofs.Cases.{handed_on}
 use Rattle.rules.proofs.PassedLaws.{passed_is}
 use Rattle.message_size.proofs.SizeLaws.{list_small}
 use Rattle.message_size.proofs.WriteLaws.{refused_size, lists_bad, lists_heads, lists_need, lists_sized}
@@ -13,36 +14,38 @@ returns-then-not-passed_good c = refused_size _ _ (lists_bad _ _ _ _ (sym c.pass
 
 pub hashes_size-requires : goal.hashes_size-requires
 hashes_size-requires c =
-    (passed_is _ _ (sym c.passed_hashes-first.ensures ∙ c.in-Hashes.is)).few
+    (passed_is _ _ (sym c.in_ok-heads_count.ensures)).few
 
-pub hashes_size-requires-in-Hashes-second : goal.hashes_size-requires-in-Hashes-second
-hashes_size-requires-in-Hashes-second c =
-    (passed_is _ _ (sym c.passed_hashes-second.ensures ∙ c.in-Hashes-second.is)).few
+pub hashes_size-requires-2 : goal.hashes_size-requires-2
+hashes_size-requires-2 c =
+    (passed_is _ _ (sym c.in_ok-need_count.ensures)).few
 
 pub overflow_add-result : goal.overflow_add-result
 overflow_add-result c =
-    let h = list_small _ _ (passed_is _ _ (sym c.passed_hashes-first.ensures ∙ c.in-Hashes.is)).few c.hashes_size.ensures in
-    let n = list_small _ _ (passed_is _ _ (sym c.passed_hashes-second.ensures ∙ c.in-Hashes-second.is)).few c.hashes_size-in-Hashes-second.ensures in
+    let h = list_small _ _ (passed_is _ _ (sym c.in_ok-heads_count.ensures)).few c.hashes_size.ensures in
+    let n = list_small _ _ (passed_is _ _ (sym c.in_ok-need_count.ensures)).few c.hashes_size-2.ensures in
     omega (arith, h, n)
 
-pub returns-in-Hashes-second : goal.returns-in-Hashes-second
-returns-in-Hashes-second c =
+pub returns : goal.returns
+returns c =
     lists_sized _ _ _ _ ((let it : passed_good c.args.bytes.now c.args.haves.now ≡ true = sym c.passed_good.ensures ∙ c.if-not-passed_good.false in it)) _
-    (sym c.passed_hashes-first.ensures ∙ c.in-Hashes.is)
+    (sym c.in_ok-heads_count.ensures)
     _ _ _
-    (sym c.passed_hashes-second.ensures ∙ c.in-Hashes-second.is)
+    (sym c.in_ok-need_count.ensures)
     c.hashes_size.ensures
-    c.hashes_size-in-Hashes-second.ensures
+    c.hashes_size-2.ensures
 
-pub returns-in-Refused-second : goal.returns-in-Refused-second
-returns-in-Refused-second c =
-    refused_size _ _
+pub returns-in_err-need_count : goal.returns-in_err-need_count
+returns-in_err-need_count c =
+    rw (handed_on c.from_residual-in_err-need_count.ensures.1)
+    (refused_size _ _
     (lists_need _ _ _ _ ((let it : passed_good c.args.bytes.now c.args.haves.now ≡ true = sym c.passed_good.ensures ∙ c.if-not-passed_good.false in it)) _
-    (sym c.passed_hashes-first.ensures ∙ c.in-Hashes.is)
+    (sym c.in_ok-heads_count.ensures)
     _
-    (sym c.passed_hashes-second.ensures ∙ c.in-Refused-second.is))
+    (sym c.in_err-need_count.ensures)))
 
-pub returns-in-Refused : goal.returns-in-Refused
-returns-in-Refused c =
-    refused_size _ _
-    (lists_heads _ _ _ _ ((let it : passed_good c.args.bytes.now c.args.haves.now ≡ true = sym c.passed_good.ensures ∙ c.if-not-passed_good.false in it)) _ (sym c.passed_hashes-first.ensures ∙ c.in-Refused.is))
+pub returns-in_err-heads_count : goal.returns-in_err-heads_count
+returns-in_err-heads_count c =
+    rw (handed_on c.from_residual.ensures.1)
+    (refused_size _ _
+    (lists_heads _ _ _ _ ((let it : passed_good c.args.bytes.now c.args.haves.now ≡ true = sym c.passed_good.ensures ∙ c.if-not-passed_good.false in it)) _ (sym c.in_err-heads_count.ensures)))

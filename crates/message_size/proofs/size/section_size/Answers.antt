@@ -3,10 +3,10 @@ use Rattle.message.specs.Flags.{section_bytes}
 use borrow.Author.Rules.{rules}
 use Rattle.message_size.proofs.size.section_size.Goals as goal
 
-pub returns-in-Absent : goal.returns-in-Absent
+pub returns-in-None : goal.returns-in-None
 unfolding section_bytes
-returns-in-Absent c = search rules
+returns-in-None c = search rules
 
-pub returns-in-Present : goal.returns-in-Present
+pub returns-in-Some : goal.returns-in-Some
 unfolding section_bytes
-returns-in-Present c = search rules
+returns-in-Some c = search rules

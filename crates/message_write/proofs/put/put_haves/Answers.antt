@@ -1,23 +1,20 @@
 -- `message_write::put::put_haves` meets its contract: what is put and the haves from record i on are together all of them. Assumes nothing.
 use Prim.Native.Nat.{◌+◌, ◌≤◌}
-use mathlib.Core.Path.{refl, ◌∙◌}
+use mathlib.Core.Path.{refl}
 use native.Mathlib.Omega.{arith}
 use lib.ListN.{length}
 use Rattle.bloom.specs.Have.{have_count}
-use Rattle.message_write.proofs.PutLaws.{putting_starts, next_on, counted_long, counted_put, haves_left, haves_left_lem, haves_room, haves_none, haves_counted}
+use Rattle.message_write.proofs.PutLaws.{next_on, counted_long, counted_put, haves_left, haves_left_lem, haves_room, haves_none, haves_counted}
 use Rattle.message_write.proofs.put.put_haves.Goals as goal
 
 pub put_unsigned-place-requires : goal.put_unsigned-place-requires
 put_unsigned-place-requires c =
     omega (arith, c.requires.1, counted_long _ _ _ (haves_counted c.args.bytes.now c.args.haves.now (have_count c.args.haves.now) refl))
 
-pub loop-i-init : goal.loop-i-init
-loop-i-init c = record { upto = omega arith; rest = putting_starts _ _ _ }
-
 pub put_have-place-requires : goal.put_have-place-requires
 put_have-place-requires c = (
   (c.requires.0, c.loop-i-test.true),
-  haves_room _ _ _ _ _ _ _ _ _ c.loop-i-test.true c.loop-i.invariant.rest (omega (
+  haves_room _ _ _ _ _ _ _ _ _ c.loop-i-test.true c.loop-i.invariant (omega (
     arith,
     (let it : c.put_unsigned-place.result + length (haves_left c.args.bytes.now c.args.haves.now (have_count c.args.haves.now) 0) ≤ length c.args.out.now = omega (
       arith,
@@ -29,19 +26,10 @@ put_have-place-requires c = (
   )),
 )
 
-pub loop-i-smaller : goal.loop-i-smaller
-loop-i-smaller c = omega (arith, c.loop-i-test.true)
-
 pub loop-i-preserved : goal.loop-i-preserved
 loop-i-preserved c =
-    record {
-      upto = omega (arith, c.loop-i-test.true);
-      rest = next_on _ _ _ _ _ _ _ _ (haves_left_lem _ _ _ _ c.loop-i-test.true) c.loop-i.invariant.rest _ _ c.put_have-place.ensures;
-    }
-
-pub shape_of-out : goal.shape_of-out
-shape_of-out c = c.loop-i.invariant.rest.long ∙ c.put_unsigned-place.auto.out
+    next_on _ _ _ _ _ _ _ _ (haves_left_lem _ _ _ _ c.loop-i-test.true) c.loop-i.invariant _ _ c.put_have-place.ensures
 
 pub returns : goal.returns
 returns c =
-    counted_put _ _ _ _ _ _ _ _ _ _ (haves_counted _ _ _ refl) c.put_unsigned-place.ensures (haves_none _ _ _ _ c.loop-i-test.false) c.loop-i.invariant.rest
+    counted_put _ _ _ _ _ _ _ _ _ _ (haves_counted _ _ _ refl) c.put_unsigned-place.ensures (haves_none _ _ _ _ c.loop-i-test.false) c.loop-i.invariant

@@ -2,9 +2,8 @@
 use Rattle.offer_calls.proofs.OfferWordLaws.{offer_made}
 use Rattle.offer_calls.proofs.answer.offer_words.Goals as goal
 
-pub returns-in-Offers : goal.returns-in-Offers
-returns-in-Offers c =
-    rw c.in-Offers.is (offer_made c.in-Offers.document c.in-Offers.hashes)
+pub returns-in-Ok : goal.returns-in-Ok
+returns-in-Ok c = rw c.in-Ok.is (offer_made c.in-Ok.document c.in-Ok.hashes)
 
-pub returns-in-Refused : goal.returns-in-Refused
-returns-in-Refused c = rw c.in-Refused.is c.refusal_words.ensures
+pub returns-in-Err : goal.returns-in-Err
+returns-in-Err c = rw c.in-Err.is c.refusal_words.ensures

@@ -13,19 +13,7 @@ use Rattle.pick.proofs.GoesLaws.{row_fits, number_is}
 use Rattle.pick.proofs.check.first_broken.Goals as goal
 
 pub loop-k-init : goal.loop-k-init
-loop-k-init c = record { upto = omega arith; rest = λ list marks. broken_starts _ list _ _ }
-
-pub overflow_mul-k : goal.overflow_mul-k
-overflow_mul-k c =
-    omega (arith, c.loop-k-test.true, c.requires.1)
-
-pub look_up-row-requires : goal.look_up-row-requires
-look_up-row-requires c =
-    (c.requires.0, omega (arith, c.loop-k-test.true, c.requires.1))
-
-pub row_fits-requires : goal.row_fits-requires
-row_fits-requires c =
-    (c.requires.0.rows, c.requires.2, c.requires.3)
+loop-k-init c = λ list marks. broken_starts _ list _ _
 
 pub returns-then-not-row_fits : goal.returns-then-not-row_fits
 returns-then-not-row_fits c =
@@ -35,7 +23,7 @@ returns-then-not-row_fits c =
     (sym (row_fits _ _ c.requires.0.rows list _ marks _ _ c.requires.4 _ _ _ c.look_up-row.ensures)
     ∙ sym c.row_fits.ensures
     ∙ c.if-not-row_fits.true))
-    ∙ c.loop-k.invariant.rest list marks
+    ∙ c.loop-k.invariant list marks
 
 pub overflow_add-from : goal.overflow_add-from
 overflow_add-from c =
@@ -46,21 +34,17 @@ overflow_add-from c =
 
 pub loop-k-preserved : goal.loop-k-preserved
 loop-k-preserved c =
-    record {
-      upto = omega (arith, c.loop-k-test.true);
-      rest =
-          λ list marks.
-          sym
-          (broken_next _ list _ _ _ _ c.loop-k-test.true
-          (sym (row_fits _ _ c.requires.0.rows list _ marks _ _ c.requires.4 _ _ _ c.look_up-row.ensures)
-          ∙ sym c.row_fits.ensures
-          ∙ c.if-not-row_fits.false)
-          _
-          (c.look_up-row.ensures ∙ number_is _ _))
-          ∙ c.loop-k.invariant.rest list marks;
-    }
+    λ list marks.
+    sym
+    (broken_next _ list _ _ _ _ c.loop-k-test.true
+    (sym (row_fits _ _ c.requires.0.rows list _ marks _ _ c.requires.4 _ _ _ c.look_up-row.ensures)
+    ∙ sym c.row_fits.ensures
+    ∙ c.if-not-row_fits.false)
+    _
+    (c.look_up-row.ensures ∙ number_is _ _))
+    ∙ c.loop-k.invariant list marks
 
 pub returns : goal.returns
 returns c =
     λ list marks.
-    sym (broken_done _ list _ _ _ _ c.loop-k.invariant.upto c.loop-k-test.false) ∙ c.loop-k.invariant.rest list marks
+    sym (broken_done _ list _ _ _ _ (omega arith) c.loop-k-test.false) ∙ c.loop-k.invariant list marks

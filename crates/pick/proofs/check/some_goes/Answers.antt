@@ -6,7 +6,7 @@ use Rattle.pick.proofs.AloneLaws.{none_starts, none_next, row_alone, none_alone}
 use Rattle.pick.proofs.check.some_goes.Goals as goal
 
 pub loop-i-init : goal.loop-i-init
-loop-i-init c = record { upto = omega arith; rest = none_starts _ _ _ _ _ }
+loop-i-init c = none_starts _ _ _ _ _
 
 pub goes_now-requires : goal.goes_now-requires
 goes_now-requires c = (
@@ -22,13 +22,9 @@ returns-then-goes_now c =
 
 pub loop-i-preserved : goal.loop-i-preserved
 loop-i-preserved c =
-    record {
-      upto = omega (arith, c.loop-i-test.true);
-      rest =
-          none_next _ _ c.requires.0 _ _ _ _ c.requires.4 _ c.loop-i-test.true (sym c.goes_now.ensures ∙ c.if-goes_now.false) c.loop-i.invariant.rest;
-    }
+    none_next _ _ c.requires.0 _ _ _ _ c.requires.4 _ c.loop-i-test.true (sym c.goes_now.ensures ∙ c.if-goes_now.false) c.loop-i.invariant
 
 pub returns : goal.returns
 returns c =
     λ list marks.
-    none_alone _ _ c.requires.0 _ _ _ _ c.requires.4 _ c.loop-i-test.false c.loop-i.invariant.rest list marks
+    none_alone _ _ c.requires.0 _ _ _ _ c.requires.4 _ c.loop-i-test.false c.loop-i.invariant list marks

@@ -1,7 +1,6 @@
 -- `pick::check::sum_fits` meets its contract: what is left of the budget fits the sizes that are left if the budget fits all of them (BrokenLaws), and each
 -- hash has a row. Assumes nothing.
 use Prim.Native.Nat.{◌<◌}
-use mathlib.Core.Bool.{true}
 use mathlib.Core.Path.{sym, ◌∙◌}
 use native.Mathlib.Omega.{arith}
 use Rattle.table.proofs.TableLaws.{length_rows_at}
@@ -11,15 +10,7 @@ use Rattle.pick.proofs.GoesLaws.{number_is}
 use Rattle.pick.proofs.check.sum_fits.Goals as goal
 
 pub loop-k-init : goal.loop-k-init
-loop-k-init c = record { upto = omega arith; ours = rw (rest_all _ _) c.requires.3; rest = sum_starts _ _ _ _ _ }
-
-pub overflow_mul-k : goal.overflow_mul-k
-overflow_mul-k c =
-    omega (arith, c.loop-k-test.true, c.requires.2)
-
-pub look_up-row-requires : goal.look_up-row-requires
-look_up-row-requires c =
-    (c.requires.0, omega (arith, c.loop-k-test.true, c.requires.2))
+loop-k-init c = record { ours = rw (rest_all _ _) c.requires.3; rest = sum_starts _ _ _ _ _ }
 
 pub offset_bounds-row_sizes-row : goal.offset_bounds-row_sizes-row
 offset_bounds-row_sizes-row c =
@@ -68,7 +59,6 @@ bounds-row_sizes-row-in-loop-k c =
 pub loop-k-preserved : goal.loop-k-preserved
 loop-k-preserved c =
     record {
-      upto = omega (arith, c.loop-k-test.true);
       ours = rows_next _ _ _ _ c.loop-k-test.true c.loop-k.invariant.ours;
       rest = sym (sum_next _ _ _ _ _ _ _ c.loop-k-test.true (c.look_up-row.ensures ∙ number_is _ _) c.if-left-row_sizes.false) ∙ c.loop-k.invariant.rest;
     }

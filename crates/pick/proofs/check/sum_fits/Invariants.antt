@@ -1,6 +1,5 @@
 -- `pick::check::sum_fits` meets its contract: what is left of the budget fits the sizes that are left if the budget fits all of them (BrokenLaws), and each
 -- hash has a row. Assumes nothing.
-use Prim.Native.Nat.{◌-◌, ◌≤◌}
 use mathlib.Core.Bool.{true}
 use mathlib.Core.Path.{◌≡◌}
 use lib.Dec.{leb}
@@ -15,10 +14,6 @@ use Rattle.pick.proofs.check.sum_fits.Given as goal
 abbrev pub invariant-loop-k : goal.invariant-loop-k
 invariant-loop-k l =
     record {
-      upto : l.k ≤ l.count;
       ours : every (held (rows_at l.table 0 l.n)) (pick_rest l.pick l.count l.k) ≡ true;
       rest : sum_left (rows_at l.table 0 l.n) l.row_sizes l.pick l.count l.k l.left ≡ leb (size_sum (rows_at l.table 0 l.n) l.row_sizes (hashes_at l.pick 0 l.count)) l.budget;
     }
-
-abbrev pub decreases-loop-k : goal.decreases-loop-k
-decreases-loop-k l = l.count - l.k

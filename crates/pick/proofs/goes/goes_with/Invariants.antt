@@ -1,6 +1,5 @@
 -- `pick::goes::goes_with` meets its contract: the numbers from the j-th on decide what all of them do (GoesLaws). A number of a good row is below the row's
 -- own, so it has a mark. Assumes nothing.
-use Prim.Native.Nat.{◌-◌, ◌≤◌}
 use mathlib.Core.Path.{◌≡◌}
 use Rattle.table.specs.TableBytes.{used_at}
 use Rattle.pick.specs.Internal.PickMarks.{marked_go}
@@ -9,10 +8,4 @@ use Rattle.pick.proofs.goes.goes_with.Given as goal
 
 abbrev pub invariant-loop-j : goal.invariant-loop-j
 invariant-loop-j l =
-    record {
-      upto : l.j ≤ l.count;
-      rest : go_from l.table l.i l.listed l.picks l.j ≡ marked_go l.listed l.picks (used_at l.table l.i);
-    }
-
-abbrev pub decreases-loop-j : goal.decreases-loop-j
-decreases-loop-j l = l.count - l.j
+    go_from l.table l.i l.listed l.picks l.j ≡ marked_go l.listed l.picks (used_at l.table l.i)

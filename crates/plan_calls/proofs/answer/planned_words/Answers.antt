@@ -1,11 +1,15 @@
 -- `plan_calls::answer::planned_words` meets its contract: one case for each variant. Assumes nothing.
 use Rattle.plan_calls.proofs.answer.planned_words.Goals as goal
 
-pub returns-in-Refused : goal.returns-in-Refused
-returns-in-Refused c = rw (c.in-Refused.is, c.number.ensures, c.value.ensures)
+pub returns-in-Err : goal.returns-in-Err
+returns-in-Err c = rw (c.in-Err.is, c.number.ensures, c.value.ensures)
 
-pub returns-in-Reset : goal.returns-in-Reset
-returns-in-Reset c = rw c.in-Reset.is c.stated_words.ensures
+pub returns-in-Ok-Reset : goal.returns-in-Ok-Reset
+returns-in-Ok-Reset c =
+    let said = rw c.in-Ok-Reset.is at c.in-Ok-Reset.field-0-is in
+    rw (c.in-Ok-Reset.is, said) c.stated_words.ensures
 
-pub returns-in-Says : goal.returns-in-Says
-returns-in-Says c = rw c.in-Says.is c.stated_words-in-Says.ensures
+pub returns-in-Ok-Says : goal.returns-in-Ok-Says
+returns-in-Ok-Says c =
+    let said = rw c.in-Ok-Says.is at c.in-Ok-Says.field-0-is in
+    rw (c.in-Ok-Says.is, said) c.stated_words-in-Ok-Says.ensures

@@ -4,12 +4,12 @@ use mathlib.Core.Path.{refl, ap, ◌∙◌}
 use Rattle.bloom.proofs.Rules.{default_good}
 use Rattle.plan.proofs.OverLaws.{whole_plans, crate_plans, chosen_good}
 use Rattle.settings.specs.Settings.{crate_choice}
-use Rattle.settings.specs.declared.find.SettingAnswer.TheVariants.{Chosen}
 use Rattle.plan_calls.proofs.PlanWordLaws.{plan_answered, called_as}
 use Rattle.plan_calls.proofs.calls.bt_plan.Goals as goal
+use Rattle.std.specs.Prelude.{Ok}
 
 pub generate_sync_message-planned-requires : goal.generate_sync_message-planned-requires
-generate_sync_message-planned-requires c = chosen_good crate_choice default_good (ap Chosen c.crate_choice.ensures)
+generate_sync_message-planned-requires c = chosen_good crate_choice default_good (ap Ok c.crate_choice.ensures)
 
 pub returns : goal.returns
 returns c =

@@ -2,14 +2,20 @@
 use Rattle.plan_decide.proofs.DecideLaws.{refused_puts, silent_puts, reset_puts, says_puts}
 use Rattle.plan_decide.proofs.puts.puts_of.Goals as goal
 
-pub returns-in-Refused : goal.returns-in-Refused
-returns-in-Refused c = refused_puts _ _ c.in-Refused.is
+pub returns-in-Err : goal.returns-in-Err
+returns-in-Err c = refused_puts _ _ c.in-Err.is
 
-pub returns-in-Silent : goal.returns-in-Silent
-returns-in-Silent c = silent_puts _ c.in-Silent.is
+pub returns-in-Ok-Silent : goal.returns-in-Ok-Silent
+returns-in-Ok-Silent c =
+    let says = rw c.in-Ok-Silent.is at c.in-Ok-Silent.field-0-is in
+    silent_puts _ (rw says at c.in-Ok-Silent.is)
 
-pub returns-in-Reset : goal.returns-in-Reset
-returns-in-Reset c = reset_puts _ _ c.in-Reset.is c.puts_for.ensures
+pub returns-in-Ok-Reset : goal.returns-in-Ok-Reset
+returns-in-Ok-Reset c =
+    let says = rw c.in-Ok-Reset.is at c.in-Ok-Reset.field-0-is in
+    reset_puts _ _ (rw says at c.in-Ok-Reset.is) c.puts_for.ensures
 
-pub returns-in-Says : goal.returns-in-Says
-returns-in-Says c = says_puts _ _ _ c.in-Says.is c.puts_for-in-Says.ensures
+pub returns-in-Ok-Says : goal.returns-in-Ok-Says
+returns-in-Ok-Says c =
+    let says = rw c.in-Ok-Says.is at c.in-Ok-Says.field-0-is in
+    says_puts _ _ _ (rw says at c.in-Ok-Says.is) c.puts_for-in-Ok-Says.ensures

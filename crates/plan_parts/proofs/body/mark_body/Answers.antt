@@ -15,24 +15,24 @@ returns-in_default c =
 pub returns-in_default-need : goal.returns-in_default-need
 returns-in_default-need c =
     λ sent past. peer_open _ _ _ _ _ _ _ c.if-peer_read_only.false
-    (no_need_lem _ _ _ _ _ _ _ _ _ _ _ _ _ c.in-Count.is c.in_default-need.is (none_chosen _ _ _ _ _ _ c.requires.4))
+    (no_need_lem _ _ _ _ _ _ _ _ _ _ _ _ _ c.in-Some.is c.in_default-need.is (none_chosen _ _ _ _ _ _ c.requires.4))
 
 pub overflow_mul-kept : goal.overflow_mul-kept
 overflow_mul-kept c =
-    omega (arith, heard_few _ _ _ _ c.in-Count.is c.requires.1)
+    omega (arith, heard_few _ _ _ _ c.in-Some.is c.requires.1)
 
 pub slice_bounds-kept-end : goal.slice_bounds-kept-end
 slice_bounds-kept-end c =
-    sym (length-take-le _ _ (heard_records _ _ _ _ c.in-Count.is c.requires.1))
+    sym (length-take-le _ _ (heard_records _ _ _ _ c.in-Some.is c.requires.1))
 
 pub body_for-requires : goal.body_for-requires
 body_for-requires c = (
-  heard_choosable _ _ _ _ c.in-Count.is c.requires.1 _ _ _ c.requires.0 _ _ _ c.in-Count-need.is c.requires.2,
+  heard_choosable _ _ _ _ c.in-Some.is c.requires.1 _ _ _ c.requires.0 _ _ _ c.in-Some-need.is c.requires.2,
   c.requires.3,
-  blank_heard _ _ _ _ _ c.in-Count-need.is c.requires.4,
+  blank_heard _ _ _ _ _ c.in-Some-need.is c.requires.4,
 )
 
 pub returns : goal.returns
 returns c =
     λ sent past. peer_open _ _ _ _ _ _ _ c.if-peer_read_only.false
-    (both_heard _ _ _ _ _ _ _ _ _ _ _ _ _ _ c.in-Count.is c.in-Count-need.is (c.body_for.ensures sent past))
+    (both_heard _ _ _ _ _ _ _ _ _ _ _ _ _ _ c.in-Some.is c.in-Some-need.is (c.body_for.ensures sent past))

@@ -6,10 +6,10 @@ use Rattle.plan_parts.proofs.silence.heard_as.Goals as goal
 
 pub same_marked-requires : goal.same_marked-requires
 same_marked-requires c =
-    (c.requires.0, omega arith, c.requires.1, count_there _ _ _ c.in-Count.is c.requires.2)
+    (c.requires.0, omega arith, c.requires.1, count_there _ _ _ c.in-Some.is c.requires.2)
 
-pub returns-in-Nothing : goal.returns-in-Nothing
-returns-in-Nothing c = as_nothing _ _ _ c.in-Nothing.is
+pub returns-in-None : goal.returns-in-None
+returns-in-None c = as_nothing _ _ _ c.in-None.is
 
-pub returns-in-Count : goal.returns-in-Count
-returns-in-Count c = c.same_marked.ensures ∙ as_count _ _ _ _ c.in-Count.is
+pub returns-in-Some : goal.returns-in-Some
+returns-in-Some c = c.same_marked.ensures ∙ as_count _ _ _ _ c.in-Some.is

@@ -4,8 +4,8 @@ use mathlib.Core.Path.{refl}
 use Rattle.plan_parts.proofs.HeardLaws.{none_nothing, none_count}
 use Rattle.plan_parts.proofs.silence.heard_none.Goals as goal
 
-pub returns-in-Nothing : goal.returns-in-Nothing
-returns-in-Nothing c = λ theirs. none_nothing theirs _ [] c.in-Nothing.is
+pub returns-in-None : goal.returns-in-None
+returns-in-None c = λ theirs. none_nothing theirs _ [] c.in-None.is
 
-pub returns-in-Count : goal.returns-in-Count
-returns-in-Count c = λ theirs. none_count theirs _ [] _ c.in-Count.is _ refl
+pub returns-in-Some : goal.returns-in-Some
+returns-in-Some c = λ theirs. none_count theirs _ [] _ c.in-Some.is _ refl

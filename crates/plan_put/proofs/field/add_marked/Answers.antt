@@ -1,7 +1,6 @@
 -- `plan_put::field::add_marked` meets its contract: adding the marked rows that are left to the field as it is gives what adding all of them to the
 -- field as it was gives, and the start that is held is that of the first of them. Assumes nothing.
 use Prim.Native.Nat.{ℕ, ◌*◌}
-use mathlib.Core.Bool.{true, false}
 use mathlib.Core.List.{List}
 use mathlib.Core.Path.{◌≡◌, refl, sym, ap, ◌∙◌}
 use native.Mathlib.Omega.{arith}

@@ -4,13 +4,7 @@ use Rattle.receive_haves.proofs.HaveLaws.{BehindRecord, have_fits, size_starts, 
 use Rattle.receive_haves.proofs.haves.laid_size.Goals as goal
 
 pub loop-i-init : goal.loop-i-init
-loop-i-init c = record { upto = omega arith; rest = size_starts _ _ }
-
-pub filter_in-filter-requires : goal.filter_in-filter-requires
-filter_in-filter-requires c = c.loop-i-test.true
-
-pub sync_count-requires : goal.sync_count-requires
-sync_count-requires c = c.loop-i-test.true
+loop-i-init c = size_starts _ _
 
 pub overflow_mul-size : goal.overflow_mul-size
 overflow_mul-size c = omega (arith, c.sync_count.ensures, ((let it : BehindRecord c.args.message.now c.args.words.now c.loop-i.i c.filter_in-filter.result = have_fits _ _ c.requires _ c.loop-i-test.true _ c.filter_in-filter.ensures in it)).few)
@@ -23,19 +17,13 @@ pub overflow_add-size-in-loop-i : goal.overflow_add-size-in-loop-i
 overflow_add-size-in-loop-i c =
     omega (
       arith,
-      size_on _ _ c.requires _ _ _ _ c.loop-i-test.true c.filter_in-filter.ensures c.sync_count.ensures c.loop-i.invariant.rest,
+      size_on _ _ c.requires _ _ _ _ c.loop-i-test.true c.filter_in-filter.ensures c.sync_count.ensures c.loop-i.invariant,
       laid_small _ _ c.requires,
     )
 
-pub loop-i-smaller : goal.loop-i-smaller
-loop-i-smaller c = omega (arith, c.loop-i-test.true)
-
 pub loop-i-preserved : goal.loop-i-preserved
 loop-i-preserved c =
-    record {
-      upto = omega (arith, c.loop-i-test.true);
-      rest = size_on _ _ c.requires _ _ _ _ c.loop-i-test.true c.filter_in-filter.ensures c.sync_count.ensures c.loop-i.invariant.rest;
-    }
+    size_on _ _ c.requires _ _ _ _ c.loop-i-test.true c.filter_in-filter.ensures c.sync_count.ensures c.loop-i.invariant
 
 pub returns : goal.returns
-returns c = size_ends _ _ _ _ c.loop-i-test.false c.loop-i.invariant.rest
+returns c = size_ends _ _ _ _ c.loop-i-test.false c.loop-i.invariant

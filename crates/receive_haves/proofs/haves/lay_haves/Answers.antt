@@ -1,5 +1,4 @@
 -- `receive_haves::haves::lay_haves` meets its contract: what has been laid out and what is left make the whole (HaveLaws). Assumes nothing.
-use native.Mathlib.Omega.{arith}
 use Rattle.receive_haves.proofs.HaveLaws.{laying_starts, record-room, have_room_lem, laying_on, laying_ends}
 use Rattle.receive_haves.proofs.haves.lay_haves.Goals as goal
 
@@ -18,20 +17,11 @@ lay_have-at-requires c = (
   have_room_lem _ _ c.requires.0 _ _ _ _ _ _ c.loop-i.invariant c.loop-i-test.true c.requires.2,
 )
 
-pub loop-i-smaller : goal.loop-i-smaller
-loop-i-smaller c = omega (arith, c.loop-i-test.true)
-
 pub loop-i-preserved : goal.loop-i-preserved
 loop-i-preserved c =
     laying_on _ _ c.requires.0 _ _ _ _ _ _ c.loop-i.invariant c.loop-i-test.true _ _ _ c.put_record.ensures c.put_record.auto.records
     c.lay_have-at.auto.bytes
     c.lay_have-at.ensures
-
-pub shape_of-records : goal.shape_of-records
-shape_of-records c = c.loop-i.invariant.long_records
-
-pub shape_of-bytes : goal.shape_of-bytes
-shape_of-bytes c = c.loop-i.invariant.long_bytes
 
 pub returns : goal.returns
 returns c = laying_ends _ _ _ _ _ _ _ _ c.loop-i.invariant c.loop-i-test.false

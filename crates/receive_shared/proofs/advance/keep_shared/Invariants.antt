@@ -1,13 +1,7 @@
 -- `receive_shared::advance::keep_shared` meets its contract: the marks before the i-th are turned, the others are as they were. Assumes nothing.
-use Prim.Native.Nat.{◌-◌, ◌≤◌}
-use mathlib.Core.Path.{◌≡◌}
-use lib.ListN.{length}
 use Rattle.table_graph.proofs.TurnLaws.{Turned}
 use Rattle.receive_shared.proofs.AdvanceLaws.{on}
 use Rattle.receive_shared.proofs.advance.keep_shared.Given as goal
 
 abbrev pub invariant-loop-i : goal.invariant-loop-i
-invariant-loop-i l = record { upto : l.i ≤ l.before; long : length l.marks ≡ length l.initial.marks; so : Turned (on l.others) l.i l.initial.marks l.marks }
-
-abbrev pub decreases-loop-i : goal.decreases-loop-i
-decreases-loop-i l = l.before - l.i
+invariant-loop-i l = Turned (on l.others) l.i l.initial.marks l.marks

@@ -1,8 +1,6 @@
 -- `salvage::put::put_rows` meets its contract: the buffer has the kept ones of the rows that were passed (PutLaws). Assumes nothing.
-use Prim.Native.Nat.{◌-◌, ◌≤◌}
 use mathlib.Core.List.{map}
 use mathlib.Core.Path.{◌≡◌}
-use lib.ListN.{length}
 use lib.Seq.{sets}
 use Rattle.salvage_rules.specs.KeptRows.{kept_of}
 use Rattle.table.specs.TableWritten.{table_bytes_of}
@@ -11,11 +9,4 @@ use Rattle.salvage.proofs.put.put_rows.Given as goal
 
 abbrev pub invariant-loop-i : goal.invariant-loop-i
 invariant-loop-i l =
-    record {
-      upto : l.i ≤ l.n;
-      long : length l.out ≡ length l.initial.out;
-      done : l.out ≡ sets l.initial.out 0 (table_bytes_of l.d (map (new_row l.d l.table (kept_of l.d l.table l.n)) (kept_of l.d l.table l.i)));
-    }
-
-abbrev pub decreases-loop-i : goal.decreases-loop-i
-decreases-loop-i l = l.n - l.i
+    l.out ≡ sets l.initial.out 0 (table_bytes_of l.d (map (new_row l.d l.table (kept_of l.d l.table l.n)) (kept_of l.d l.table l.i)))

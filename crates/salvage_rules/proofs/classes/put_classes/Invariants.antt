@@ -1,8 +1,8 @@
 -- `salvage_rules::classes::put_classes` meets its contract: no two entries of the order name one row, so that each turn settles one row and touches no
 -- other (ClassLaws). Assumes nothing.
-use Prim.Native.Nat.{ℕ, ◌-◌, ◌*◌, ◌≤◌, ◌<◌}
+use Prim.Native.Nat.{ℕ, ◌-◌, ◌*◌, ◌<◌}
 use mathlib.Core.Path.{◌≡◌}
-use lib.ListN.{length, get_or}
+use lib.ListN.{get_or}
 use Rattle.rules.specs.LittleEndian.{u16_at}
 use Rattle.table.specs.TableBytes.{row_size_of}
 use Rattle.table_index.specs.Index.{record_hash}
@@ -12,11 +12,6 @@ use Rattle.salvage_rules.proofs.classes.put_classes.Given as goal
 abbrev pub invariant-loop-k : goal.invariant-loop-k
 invariant-loop-k l =
     record {
-      upto : l.k ≤ l.n;
-      long : length l.classes ≡ length l.initial.classes;
       last : l.start ≡ run_start (λ j. record_hash l.table (row_size_of l.d) (u16_at l.order (2 * j))) (l.k - 1);
       done : (a : ℕ) → a < l.k → get_or l.classes (u16_at l.order (2 * a)) 0 ≡ run_start (λ j. record_hash l.table (row_size_of l.d) (u16_at l.order (2 * j))) a;
     }
-
-abbrev pub decreases-loop-k : goal.decreases-loop-k
-decreases-loop-k l = l.n - l.k

@@ -2,44 +2,26 @@
 -- nothing.
 use mathlib.Core.Path.{refl}
 use native.Mathlib.Omega.{arith}
-use lib.ListN.{length-set}
 use Rattle.table.proofs.RowLaws.{row_within}
-use Rattle.salvage_rules.proofs.DecideLaws.{none_kept, count_few, rules_next, places_next, count_next, taken_next, before_row, class_low, all_decided}
-use borrow.Author.Rules.{rules}
+use Rattle.salvage_rules.proofs.DecideLaws.{none_kept, count_few, rules_next, places_next, count_next, taken_next, before_row, class_low}
 use Rattle.salvage_rules.proofs.decide.decide_rows.Goals as goal
 
 pub loop-i-init : goal.loop-i-init
 loop-i-init c =
     record {
-      upto = omega arith;
-      taken-long = refl;
-      rules_long = refl;
-      places_long = refl;
       takes = c.requires.7;
       rule = λ j h. absurd (omega (arith, h));
       place = λ j h. absurd (omega (arith, h));
       count = none_kept _ _;
     }
 
-pub overflow_cast-class : goal.overflow_cast-class
-overflow_cast-class c =
-    omega (arith, class_low _ _ _ _ c.requires.6 _ _ c.loop-i-test.true refl, c.requires.1)
-
-pub bounds-taken-class : goal.bounds-taken-class
-bounds-taken-class c =
-    omega (arith, class_low _ _ _ _ c.requires.6 _ _ c.loop-i-test.true refl, c.loop-i.invariant.taken-long, c.requires.3)
-
 pub rule_of-rule-requires : goal.rule_of-rule-requires
 rule_of-rule-requires c =
-    before_row _ _ _ _ c.requires.6 c.loop-i.rules c.loop-i.taken _ _ c.loop-i-test.true (row_within _ _ _ _ c.loop-i-test.true c.requires.0) _ c.loop-i.invariant.rules_long c.requires.4 c.loop-i.invariant.rule c.loop-i.invariant.takes refl
+    before_row _ _ _ _ c.requires.6 c.loop-i.rules c.loop-i.taken _ _ c.loop-i-test.true (row_within _ _ _ _ c.loop-i-test.true c.requires.0) _ c.loop-i.auto.rules c.requires.4 c.loop-i.invariant.rule c.loop-i.invariant.takes refl
 
 pub overflow_cast-places : goal.overflow_cast-places
 overflow_cast-places c =
     omega (arith, count_few _ _ _ _ c.loop-i.invariant.count, c.loop-i-test.true, c.requires.1)
-
-pub bounds-taken-class-in-loop-i : goal.bounds-taken-class-in-loop-i
-bounds-taken-class-in-loop-i c =
-    omega (arith, class_low _ _ _ _ c.requires.6 _ _ c.loop-i-test.true refl, c.loop-i.invariant.taken-long, c.requires.3)
 
 pub kept_after-kept-requires : goal.kept_after-kept-requires
 kept_after-kept-requires c =
@@ -48,27 +30,10 @@ kept_after-kept-requires c =
 pub loop-i-preserved : goal.loop-i-preserved
 loop-i-preserved c =
     record {
-      upto = omega (arith, c.loop-i-test.true);
-      taken-long = simp length-set c.loop-i.invariant.taken-long;
-      rules_long = simp length-set c.loop-i.invariant.rules_long;
-      places_long = simp length-set c.loop-i.invariant.places_long;
       takes =
-          taken_next _ _ _ _ c.requires.6 c.loop-i.taken _ _ _ _ c.loop-i.invariant.takes refl (class_low _ _ _ _ c.requires.6 _ _ c.loop-i-test.true refl) _ c.loop-i.invariant.taken-long c.requires.3 c.rule_of-rule.ensures
+          taken_next _ _ _ _ c.requires.6 c.loop-i.taken _ _ _ _ c.loop-i.invariant.takes refl (class_low _ _ _ _ c.requires.6 _ _ c.loop-i-test.true refl) _ c.loop-i.auto.taken c.requires.3 c.rule_of-rule.ensures
           c.taken_after.ensures;
-      rule = rules_next _ _ c.loop-i.rules _ _ c.loop-i-test.true _ c.loop-i.invariant.rules_long c.requires.4 c.loop-i.invariant.rule c.rule_of-rule.ensures;
-      place = places_next _ _ c.loop-i.places _ _ c.loop-i-test.true _ c.loop-i.invariant.places_long c.requires.5 c.loop-i.invariant.place c.loop-i.invariant.count;
+      rule = rules_next _ _ c.loop-i.rules _ _ c.loop-i-test.true _ c.loop-i.auto.rules c.requires.4 c.loop-i.invariant.rule c.rule_of-rule.ensures;
+      place = places_next _ _ c.loop-i.places _ _ c.loop-i-test.true _ c.loop-i.auto.places c.requires.5 c.loop-i.invariant.place c.loop-i.invariant.count;
       count = count_next _ _ _ _ _ _ c.loop-i.invariant.count c.rule_of-rule.ensures c.kept_after-kept.ensures;
     }
-
-pub shape_of-taken : goal.shape_of-taken
-shape_of-taken c = c.loop-i.invariant.taken-long
-
-pub shape_of-rules : goal.shape_of-rules
-shape_of-rules c = c.loop-i.invariant.rules_long
-
-pub shape_of-places : goal.shape_of-places
-shape_of-places c = c.loop-i.invariant.places_long
-
-pub returns : goal.returns
-returns c =
-    all_decided _ _ _ _ _ _ _ c.loop-i.invariant.upto c.loop-i-test.false c.loop-i.invariant.rule c.loop-i.invariant.place c.loop-i.invariant.count

@@ -6,7 +6,7 @@ use Rattle.salvage_rules.proofs.DecideLaws.{number_low, left_starts, left_lost, 
 use Rattle.salvage_rules.proofs.decide.deps_kept.Goals as goal
 
 pub loop-j-init : goal.loop-j-init
-loop-j-init c = record { upto = omega arith; rest = left_starts _ _ _ _ _ c.count_of-count.ensures }
+loop-j-init c = left_starts _ _ _ _ _ c.count_of-count.ensures
 
 pub bounds-rules-k : goal.bounds-rules-k
 bounds-rules-k c =
@@ -14,14 +14,11 @@ bounds-rules-k c =
 
 pub returns-then-rules-k-ne0 : goal.returns-then-rules-k-ne0
 returns-then-rules-k-ne0 c =
-    sym (left_lost _ _ _ _ _ _ _ c.loop-j-test.true c.dep_of-k.ensures c.if-rules-k-ne0.true) ∙ c.loop-j.invariant.rest
+    sym (left_lost _ _ _ _ _ _ _ c.loop-j-test.true c.dep_of-k.ensures c.if-rules-k-ne0.true) ∙ c.loop-j.invariant
 
 pub loop-j-preserved : goal.loop-j-preserved
 loop-j-preserved c =
-    record {
-      upto = omega (arith, c.loop-j-test.true);
-      rest = sym (left_on _ _ _ _ _ _ _ c.loop-j-test.true c.dep_of-k.ensures c.if-rules-k-ne0.false) ∙ c.loop-j.invariant.rest;
-    }
+    sym (left_on _ _ _ _ _ _ _ c.loop-j-test.true c.dep_of-k.ensures c.if-rules-k-ne0.false) ∙ c.loop-j.invariant
 
 pub returns : goal.returns
-returns c = sym (left_ends _ _ _ _ _ _ c.loop-j-test.false) ∙ c.loop-j.invariant.rest
+returns c = sym (left_ends _ _ _ _ _ _ c.loop-j-test.false) ∙ c.loop-j.invariant

@@ -1,27 +1,28 @@
 -- `sample_replay::record::record_at` meets its contract: one case of `record_at` for each answer. Assumes nothing.
+use mathlib.Core.Path.{sym, ◌∙◌}
 use native.Mathlib.Omega.{arith}
-use Rattle.sample_replay.specs.declared.record.Verdict.TheVariants.{Same, Different, Unknown}
-use Rattle.sample_replay.specs.Record.{record_of}
-use Rattle.sample_replay.proofs.Records.{header_cut, input_cut, judged}
+use Rattle.std.specs.Prelude.{◌+◌}
+use Rattle.sample_replay.proofs.Records.{u16_fits, header_cut, unknown, input_cut, known}
 use Rattle.sample_replay.proofs.record.record_at.Goals as goal
 
 pub returns-then-bytes-at-lt-INPUT_PLACE : goal.returns-then-bytes-at-lt-INPUT_PLACE
 returns-then-bytes-at-lt-INPUT_PLACE c = header_cut _ _ c.if-bytes-at-lt-INPUT_PLACE.true
 
-pub returns-then-bytes-start : goal.returns-then-bytes-start
-returns-then-bytes-start c = input_cut _ _ c.if-bytes-at-lt-INPUT_PLACE.false _ c.u16_at-size.ensures c.if-bytes-start.true
+pub returns-in_err-kind : goal.returns-in_err-kind
+returns-in_err-kind c =
+    rw c.from_residual.ensures
+    (unknown _ _ c.if-bytes-at-lt-INPUT_PLACE.false _ c.try_from.ensures (sym c.in_err-kind.was ∙ c.ok.ensures.value))
 
-pub overflow_cast-kind : goal.overflow_cast-kind
-overflow_cast-kind c = omega (arith, c.type_inv.bytes c.args.at)
+pub overflow_add-next : goal.overflow_add-next
+overflow_add-next c = omega (arith, c.u16_at.ensures, u16_fits c.args.bytes.now (c.args.at + 1) (λ i. omega (arith, c.type_inv.bytes i)))
 
-pub returns-in-Same : goal.returns-in-Same
-unfolding record_of
-returns-in-Same c = judged _ _ c.if-bytes-at-lt-INPUT_PLACE.false _ c.u16_at-size.ensures c.if-bytes-start.false _ c.words_at.ensures Same _ c.replayed-verdict.ensures c.in-Same.is
+pub returns-in_err-input : goal.returns-in_err-input
+returns-in_err-input c =
+    rw c.from_residual-in_err-input.ensures
+    (input_cut _ _ c.if-bytes-at-lt-INPUT_PLACE.false _ c.u16_at.ensures (omega (arith, c.in_err-input.ensures.lookup)))
 
-pub returns-in-Different : goal.returns-in-Different
-unfolding record_of
-returns-in-Different c = judged _ _ c.if-bytes-at-lt-INPUT_PLACE.false _ c.u16_at-size.ensures c.if-bytes-start.false _ c.words_at.ensures Different _ c.replayed-verdict.ensures c.in-Different.is
-
-pub returns-in-Unknown : goal.returns-in-Unknown
-unfolding record_of
-returns-in-Unknown c = judged _ _ c.if-bytes-at-lt-INPUT_PLACE.false _ c.u16_at-size.ensures c.if-bytes-start.false _ c.words_at.ensures Unknown _ c.replayed-verdict.ensures c.in-Unknown.is
+pub returns : goal.returns
+returns c =
+    let l = c.in_ok-input.ensures.lookup in
+    let j = known _ _ c.if-bytes-at-lt-INPUT_PLACE.false _ c.u16_at.ensures (omega (arith, l.0.1)) _ _ c.try_from.ensures (sym c.in_ok-kind.was ∙ c.ok.ensures.value) in
+    rw (c.agreeing-same.ensures, c.words_at-stored.ensures, c.answer_words.ensures, l.0.2) j

@@ -5,8 +5,8 @@ use lib.ListN.{length}
 use Rattle.sample_replay.proofs.Walks.{Replaying}
 use Rattle.sample_replay.proofs.walk.walk.Given as goal
 
-abbrev pub invariant-loop-at : goal.invariant-loop-at
-invariant-loop-at l = Replaying l.bytes l.at l.counts
+abbrev pub invariant-loop-kind : goal.invariant-loop-kind
+invariant-loop-kind l = Replaying l.bytes l.counts
 
-abbrev pub decreases-loop-at : goal.decreases-loop-at
-decreases-loop-at l = length l.bytes - l.at
+abbrev pub decreases-loop-kind : goal.decreases-loop-kind
+decreases-loop-kind l = length l.bytes - l.counts.end

@@ -1,6 +1,6 @@
 -- `send::chosen::put_needs` meets its contract: putting the hashes that are left behind those that were put gives the buffer that putting
 -- all of them gives, and they end after as many as are counted. Assumes nothing.
-use Prim.Native.Nat.{◌+◌, ◌-◌, ◌*◌, ◌≤◌}
+use Prim.Native.Nat.{◌+◌, ◌*◌, ◌≤◌}
 use mathlib.Core.Path.{◌≡◌}
 use lib.ListN.{length}
 use lib.Seq.{sets}
@@ -13,14 +13,9 @@ use Rattle.send.proofs.chosen.put_needs.Given as goal
 abbrev pub invariant-loop-k : goal.invariant-loop-k
 invariant-loop-k l =
     record {
-      upto : l.k ≤ l.count;
       ends : l.at ≡ sizes.hash * marked l.k l.needs;
-      long : length l.out ≡ length l.initial.out;
       room : l.at + sizes.hash * length (pick_left (hashes_at l.need l.place l.count) l.needs l.k) ≤ length l.initial.out;
       rest :
           sets l.out l.at (hashes_bytes (pick_left (hashes_at l.need l.place l.count) l.needs l.k))
           ≡ sets l.initial.out 0 (hashes_bytes (picked (hashes_at l.need l.place l.count) l.needs));
     }
-
-abbrev pub decreases-loop-k : goal.decreases-loop-k
-decreases-loop-k l = l.count - l.k

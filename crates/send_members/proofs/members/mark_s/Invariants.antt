@@ -1,8 +1,5 @@
 -- `send_members::members::mark_s` meets its contract: the marks of the rows before row i are final, and the equation of S then says whether row i
 -- joins (MemberLaws). Assumes nothing.
-use Prim.Native.Nat.{◌-◌, ◌≤◌}
-use mathlib.Core.Path.{◌≡◌}
-use lib.ListN.{length}
 use Rattle.bloom.specs.Have.{haves_of}
 use Rattle.table.specs.TableBytes.{rows_at}
 use Rattle.table_graph.proofs.TurnLaws.{Turned}
@@ -11,11 +8,4 @@ use Rattle.send_members.proofs.members.mark_s.Given as goal
 
 abbrev pub invariant-loop-i : goal.invariant-loop-i
 invariant-loop-i l =
-    record {
-      upto : l.i ≤ l.n;
-      long : length l.members ≡ length l.initial.members;
-      so : Turned (member_at (rows_at l.table 0 l.n) (haves_of l.bytes l.haves)) l.i l.initial.members l.members;
-    }
-
-abbrev pub decreases-loop-i : goal.decreases-loop-i
-decreases-loop-i l = l.n - l.i
+    Turned (member_at (rows_at l.table 0 l.n) (haves_of l.bytes l.haves)) l.i l.initial.members l.members

@@ -8,27 +8,16 @@ use Rattle.send_members.proofs.MemberLaws.{syncs_start, syncs_on, syncs_done}
 use Rattle.send_members.proofs.members.mark_syncs.Goals as goal
 
 pub loop-k-init : goal.loop-k-init
-loop-k-init c = record { long = refl; rest = λ k h. syncs_start _ _ _ refl _ _ (c.requires.3.each k h) }
-
-pub mark_list-requires : goal.mark_list-requires
-mark_list-requires c = (
-  c.requires.0,
-  rw (c.sync_place-place.ensures, c.sync_count-count.ensures) (c.requires.1.each c.loop-k.k c.loop-k-test.true),
-  omega (arith, c.requires.2, c.loop-k.invariant.long),
-)
+loop-k-init c = λ k h. syncs_start _ _ _ refl _ _ (c.requires.3.each k h)
 
 pub loop-k-preserved : goal.loop-k-preserved
 loop-k-preserved c =
-    record {
-      long = c.mark_list.auto.marks ∙ c.loop-k.invariant.long;
-      rest =
-          λ k h.
-          syncs_on _ _ _ _ _ _ _ (get_or c.loop-k.marks k false) _ c.loop-k-test.true
-          c.sync_place-place.ensures
-          c.sync_count-count.ensures
-          (c.mark_list.ensures.each k h)
-          ∙ c.loop-k.invariant.rest k h;
-    }
+    λ k h.
+    syncs_on _ _ _ _ _ _ _ (get_or c.loop-k.marks k false) _ (omega arith)
+    c.sync_place-place.ensures
+    c.sync_count-count.ensures
+    (c.mark_list.ensures.each k h)
+    ∙ c.loop-k.invariant k h
 
 pub returns : goal.returns
-returns c = record { each = λ k h. sym (syncs_done _ _ _ _ _ _ c.loop-k-test.false) ∙ c.loop-k.invariant.rest k h }
+returns c = record { each = λ k h. sym (syncs_done _ _ _ _ _ _ c.loop-k-test.false) ∙ c.loop-k.invariant k h }

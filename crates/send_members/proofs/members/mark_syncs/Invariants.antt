@@ -1,9 +1,9 @@
 -- `send_members::members::mark_syncs` meets its contract: the marks that were, with the lists that are left, are the marks of all lists. Assumes
 -- nothing.
-use Prim.Native.Nat.{ℕ, ◌-◌, ◌<◌}
+use Prim.Native.Nat.{ℕ, ◌<◌}
 use mathlib.Core.Bool.{false, ◌||◌}
 use mathlib.Core.Path.{◌≡◌}
-use lib.ListN.{length, get_or}
+use lib.ListN.{get_or}
 use Rattle.bloom.specs.Have.{haves_of}
 use Rattle.hash_order.specs.Order.{member}
 use Rattle.table.specs.TableBytes.{rows_at}
@@ -14,13 +14,6 @@ use Rattle.send_members.proofs.members.mark_syncs.Given as goal
 
 abbrev pub invariant-loop-k : goal.invariant-loop-k
 invariant-loop-k l =
-    record {
-      long : length l.marks ≡ length l.initial.marks;
-      rest :
-          (i : ℕ) → i < l.n
-          → (get_or l.marks i false || member (hash_of (rows_at l.table 0 l.n) i) (syncs_from l.bytes l.haves l.total l.k))
-          ≡ member (hash_of (rows_at l.table 0 l.n) i) (last_syncs (haves_of l.bytes l.haves));
-    }
-
-abbrev pub decreases-loop-k : goal.decreases-loop-k
-decreases-loop-k l = l.total - l.k
+    (i : ℕ) → i < l.n
+    → (get_or l.marks i false || member (hash_of (rows_at l.table 0 l.n) i) (syncs_from l.bytes l.haves l.total l.k))
+    ≡ member (hash_of (rows_at l.table 0 l.n) i) (last_syncs (haves_of l.bytes l.haves))

@@ -1,6 +1,5 @@
 -- `send_members::members::some_marked` meets its contract: the numbers from the j-th on decide what all of them do. A number of a good row is below
 -- the row's own, so it has a mark. Assumes nothing.
-use mathlib.Core.Bool.{false}
 use mathlib.Core.Path.{sym, ◌∙◌}
 use native.Mathlib.Omega.{arith}
 use Rattle.table.proofs.GoodLaws.{good_down}
@@ -8,16 +7,8 @@ use Rattle.table_graph.proofs.MarkLaws.{number_member}
 use Rattle.send_members.proofs.MemberLaws.{numbers_start, numbers_found, numbers_on, numbers_done}
 use Rattle.send_members.proofs.members.some_marked.Goals as goal
 
-pub dep_count-count-requires : goal.dep_count-count-requires
-dep_count-count-requires c = c.requires.0.inside
-
 pub loop-j-init : goal.loop-j-init
-loop-j-init c = record { upto = omega arith; rest = numbers_start _ _ _ _ c.dep_count-count.ensures }
-
-pub dep-k-requires : goal.dep-k-requires
-dep-k-requires c =
-    let few = c.requires.0.counts c.args.i (omega arith) in
-    (c.requires.0.inside, omega (arith, few, c.loop-j-test.true, c.dep_count-count.ensures))
+loop-j-init c = numbers_start _ _ _ _ c.dep_count-count.ensures
 
 pub bounds-marks-k : goal.bounds-marks-k
 bounds-marks-k c =
@@ -26,16 +17,11 @@ bounds-marks-k c =
 
 pub returns-then-marks-k : goal.returns-then-marks-k
 returns-then-marks-k c =
-    sym (numbers_found _ _ _ _ c.dep_count-count.ensures _ _ c.loop-j-test.true c.dep-k.ensures c.if-marks-k.true) ∙ c.loop-j.invariant.rest
+    sym (numbers_found _ _ _ _ c.dep_count-count.ensures _ _ c.loop-j-test.true c.dep-k.ensures c.if-marks-k.true) ∙ c.loop-j.invariant
 
 pub loop-j-preserved : goal.loop-j-preserved
 loop-j-preserved c =
-    record {
-      upto = omega (arith, c.loop-j-test.true);
-      rest =
-          sym (numbers_on _ _ _ _ c.dep_count-count.ensures _ _ c.loop-j-test.true c.dep-k.ensures c.if-marks-k.false)
-          ∙ c.loop-j.invariant.rest;
-    }
+    sym (numbers_on _ _ _ _ c.dep_count-count.ensures _ _ c.loop-j-test.true c.dep-k.ensures c.if-marks-k.false) ∙ c.loop-j.invariant
 
 pub returns : goal.returns
-returns c = sym (numbers_done _ _ _ _ c.dep_count-count.ensures _ c.loop-j-test.false) ∙ c.loop-j.invariant.rest
+returns c = sym (numbers_done _ _ _ _ c.dep_count-count.ensures _ c.loop-j-test.false) ∙ c.loop-j.invariant

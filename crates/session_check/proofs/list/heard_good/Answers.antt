@@ -3,8 +3,8 @@ use mathlib.Core.Path.{sym, ◌∙◌}
 use Rattle.session_check.proofs.GoodLaws.{heard_nothing, heard_count_lem}
 use Rattle.session_check.proofs.list.heard_good.Goals as goal
 
-pub returns-in-Nothing : goal.returns-in-Nothing
-returns-in-Nothing c = sym (heard_nothing _ _ c.in-Nothing.is)
+pub returns-in-None : goal.returns-in-None
+returns-in-None c = sym (heard_nothing _ _ c.in-None.is)
 
-pub returns-in-Count : goal.returns-in-Count
-returns-in-Count c = c.list_good.ensures ∙ sym (heard_count_lem _ _ _ c.in-Count.is)
+pub returns-in-Some : goal.returns-in-Some
+returns-in-Some c = c.list_good.ensures ∙ sym (heard_count_lem _ _ _ c.in-Some.is)

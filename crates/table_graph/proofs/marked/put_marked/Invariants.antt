@@ -1,6 +1,6 @@
 -- `table_graph::marked::put_marked` meets its contract: putting the hashes that are left behind those that were put gives the buffer that putting all
 -- of them gives, and there is room for as many as are left. Assumes nothing.
-use Prim.Native.Nat.{◌+◌, ◌-◌, ◌*◌, ◌≤◌}
+use Prim.Native.Nat.{◌+◌, ◌*◌, ◌≤◌}
 use mathlib.Core.Path.{◌≡◌}
 use lib.ListN.{length}
 use lib.Seq.{sets}
@@ -15,13 +15,8 @@ use Rattle.table_graph.proofs.marked.put_marked.Given as goal
 abbrev pub invariant-loop-i : goal.invariant-loop-i
 invariant-loop-i l =
     record {
-      upto : l.i ≤ l.n;
-      long : length l.out ≡ length l.initial.out;
       room : l.at + sizes.hash * length (pick_left (rows (rows_at l.table 0 l.n)) l.marks l.i) ≤ length l.initial.out;
       rest :
           sets l.out l.at (hashes_bytes (pick_left (rows (rows_at l.table 0 l.n)) l.marks l.i))
           ≡ sets l.initial.out l.place (hashes_bytes (picked (rows (rows_at l.table 0 l.n)) l.marks));
     }
-
-abbrev pub decreases-loop-i : goal.decreases-loop-i
-decreases-loop-i l = l.n - l.i

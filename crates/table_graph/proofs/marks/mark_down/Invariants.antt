@@ -1,8 +1,6 @@
 -- `table_graph::marks::mark_down` meets its contract: the rows that are left, passed downward after those that were, are the whole pass (MarkLaws). Assumes
 -- nothing.
-use Prim.Native.Nat.{◌≤◌}
 use mathlib.Core.Path.{◌≡◌}
-use lib.ListN.{length}
 use Rattle.table.specs.TableBytes.{rows_at}
 use Rattle.table.specs.Table.{deps_of}
 use Rattle.table_graph.specs.Internal.Marks.{mark_down}
@@ -10,11 +8,4 @@ use Rattle.table_graph.proofs.marks.mark_down.Given as goal
 
 abbrev pub invariant-loop-i : goal.invariant-loop-i
 invariant-loop-i l =
-    record {
-      upto : l.i ≤ l.n;
-      long : length l.marks ≡ length l.initial.marks;
-      rest : mark_down l.every (deps_of (rows_at l.table 0 l.n)) l.i l.marks ≡ mark_down l.every (deps_of (rows_at l.table 0 l.n)) l.n l.initial.marks;
-    }
-
-abbrev pub decreases-loop-i : goal.decreases-loop-i
-decreases-loop-i l = l.i
+    mark_down l.every (deps_of (rows_at l.table 0 l.n)) l.i l.marks ≡ mark_down l.every (deps_of (rows_at l.table 0 l.n)) l.n l.initial.marks

@@ -1,8 +1,7 @@
 -- `table_graph::marks::mark_list` meets its contract: the hashes that are left, marked after those that were, are all of them marked; and where no
 -- two rows have one hash, a row is marked exactly if its hash stands in the list (MarkLaws). Assumes nothing.
-use Prim.Native.Nat.{◌+◌, ◌-◌, ◌*◌, ◌≤◌}
+use Prim.Native.Nat.{◌+◌, ◌-◌, ◌*◌}
 use mathlib.Core.Path.{◌≡◌}
-use lib.ListN.{length}
 use Rattle.rules.specs.Hash.{hashes_at}
 use Rattle.rules.specs.Sizes.{sizes}
 use Rattle.table.specs.TableBytes.{rows_at}
@@ -12,13 +11,5 @@ use Rattle.table_graph.proofs.marks.mark_list.Given as goal
 
 abbrev pub invariant-loop-k : goal.invariant-loop-k
 invariant-loop-k l =
-    record {
-      upto : l.k ≤ l.count;
-      long : length l.marks ≡ length l.initial.marks;
-      rest :
-          mark_list (rows (rows_at l.table 0 l.n)) l.marks (hashes_at l.l (l.place + sizes.hash * l.k) (l.count - l.k))
-          ≡ mark_list (rows (rows_at l.table 0 l.n)) l.initial.marks (hashes_at l.l l.place l.count);
-    }
-
-abbrev pub decreases-loop-k : goal.decreases-loop-k
-decreases-loop-k l = l.count - l.k
+    mark_list (rows (rows_at l.table 0 l.n)) l.marks (hashes_at l.l (l.place + sizes.hash * l.k) (l.count - l.k))
+    ≡ mark_list (rows (rows_at l.table 0 l.n)) l.initial.marks (hashes_at l.l l.place l.count)

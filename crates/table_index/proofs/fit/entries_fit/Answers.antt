@@ -14,7 +14,7 @@ returns-then-n-last c = sym (chain_high _ _ _ _ (omega arith) c.u16_at-last.ensu
 
 pub loop-i-init : goal.loop-i-init
 loop-i-init c =
-    record { low = c.if-n-last.false; upto = omega arith; rest = chain_starts _ _ _ _ (omega arith) c.u16_at-last.ensures c.if-n-last.false }
+    record { low = c.if-n-last.false; rest = chain_starts _ _ _ _ (omega arith) c.u16_at-last.ensures c.if-n-last.false }
 
 pub returns-then-n-r : goal.returns-then-n-r
 returns-then-n-r c =
@@ -34,7 +34,6 @@ loop-i-preserved c =
     let v = c.loop-i.invariant in
     record {
       low = c.if-n-r.false;
-      upto = omega (arith, c.loop-i-test.true);
       rest =
           sym
           (chain_on _ _ _ _ _ _ v.low c.loop-i-test.true c.u16_at-r.ensures c.if-n-r.false

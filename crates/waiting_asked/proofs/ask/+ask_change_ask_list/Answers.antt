@@ -1,15 +1,11 @@
 -- The proof of the cycle of calls {ask_change, ask_list}. Each way through ask_change is a constructor of the relation `Asks`; each turn of ask_list's
 -- loop puts one change before the rest. Assumes nothing.
-use Prim.Native.Nat.{◌+◌, ◌*◌, ◌≤◌}
 use native.Mathlib.Omega.{arith}
 use mathlib.Core.Path.{refl, ◌∙◌}
 use native.Mathlib.Nat.{add-zero, sub-zero}
-use lib.ListN.{length}
-use Rattle.rules.specs.Sizes.{sizes}
-use Rattle.waiting.proofs.Today.{asks_place}
 use Rattle.waiting.proofs.WaitingLaws.{asks_of_waiting}
 use Rattle.waiting_asked.specs.Asking.{marked}
-use Rattle.waiting_asked.proofs.AskLaws.{as_many_marks, fewer_unmarked, one_less, mark_set, still_askable, asks_inside, row_away, row_waits, list_ends, list_on}
+use Rattle.waiting_asked.proofs.AskLaws.{as_many_marks, fewer_unmarked, one_less, mark_set, still_askable, row_away, row_waits, list_ends, list_on}
 use Rattle.waiting_asked.proofs.ask.+ask_change_ask_list.Goals as goal
 
 pub ask_change-returns-then-m-row : goal.ask_change-returns-then-m-row
@@ -31,7 +27,6 @@ pub ask_list-loop-i-init : goal.ask_list-loop-i-init
 ask_list-loop-i-init t c =
     let at = c.args in
     record {
-      upto = omega arith;
       same_marks = refl;
       less = omega arith;
       rest =
@@ -48,11 +43,10 @@ pub ask_list-loop-i-preserved : goal.ask_list-loop-i-preserved
 ask_list-loop-i-preserved t c =
     let v = c.loop-i.invariant in
     record {
-      upto = omega (arith, c.loop-i-test.true);
       same_marks = as_many_marks c.ask_change.ensures ∙ v.same_marks;
       less = omega (arith, fewer_unmarked c.ask_change.ensures, v.less);
       rest = λ marks' x. v.rest marks' (list_on _ _ _ _ _ _ _ c.loop-i-test.true c.find_waiting-next.ensures c.ask_change.ensures x);
     }
 
 pub ask_list-returns : goal.ask_list-returns
-ask_list-returns t c = c.loop-i.invariant.rest _ (list_ends _ _ _ _ _ (omega (arith, c.loop-i-test.false)))
+ask_list-returns t c = c.loop-i.invariant.rest _ (list_ends _ _ _ _ _ (omega arith))

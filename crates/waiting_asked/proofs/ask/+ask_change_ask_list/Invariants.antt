@@ -1,7 +1,7 @@
 -- The measure of the cycle {ask_change, ask_list} is twice the number of unmarked rows, and one more for a list: a change marks its row before it asks
 -- its list, and no call takes a mark off. ask_list's loop has for its invariant that whatever the rest of the list leads to, the whole list leads to
 -- from the start.
-use Prim.Native.Nat.{ℕ, suc, ◌+◌, ◌-◌, ◌*◌, ◌≤◌}
+use Prim.Native.Nat.{suc, ◌+◌, ◌-◌, ◌*◌, ◌≤◌}
 use mathlib.Core.Bool.{Bool}
 use mathlib.Core.List.{List}
 use mathlib.Core.Path.{◌≡◌}
@@ -23,13 +23,9 @@ decreases-ask_list l = suc (2 * unmarked l.marks.now)
 abbrev pub invariant-ask_list-loop-i : goal.invariant-ask_list-loop-i
 invariant-ask_list-loop-i l =
     record {
-      upto : l.i ≤ l.entries;
       same_marks : length l.marks ≡ length l.initial.marks;
       less : unmarked l.marks ≤ unmarked l.initial.marks;
       rest : (marks' : List Bool)
           → Asks (waitings_at l.waiting 0 l.m) (Request.list (hashes_at l.waiting (l.place + sizes.hash * l.i) (l.entries - l.i))) l.marks marks'
           → Asks (waitings_at l.waiting 0 l.m) (Request.list (asks_of (waitings_at l.waiting 0 l.m) l.row)) l.initial.marks marks';
     }
-
-abbrev pub decreases-ask_list-loop-i : goal.decreases-ask_list-loop-i
-decreases-ask_list-loop-i l = l.entries - l.i

@@ -1,5 +1,5 @@
 -- `waiting_asked::ask::ask_hashes` meets its contract: whatever the rest of the list leads to, the whole list leads to from the start. Assumes nothing.
-use Prim.Native.Nat.{◌+◌, ◌-◌, ◌*◌, ◌≤◌}
+use Prim.Native.Nat.{◌+◌, ◌-◌, ◌*◌}
 use mathlib.Core.Bool.{Bool}
 use mathlib.Core.List.{List}
 use mathlib.Core.Path.{◌≡◌}
@@ -13,12 +13,8 @@ use Rattle.waiting_asked.proofs.ask.ask_hashes.Given as goal
 abbrev pub invariant-loop-i : goal.invariant-loop-i
 invariant-loop-i l =
     record {
-      upto : l.i ≤ l.entries;
-      same-marks : length l.marks ≡ length l.initial.marks;
+      same_marks : length l.marks ≡ length l.initial.marks;
       rest : (marks' : List Bool)
           → Asks (waitings_at l.waiting 0 l.m) (Request.list (hashes_at l.bytes (l.place + sizes.hash * l.i) (l.entries - l.i))) l.marks marks'
           → Asks (waitings_at l.waiting 0 l.m) (Request.list (hashes_at l.bytes l.place l.entries)) l.initial.marks marks';
     }
-
-abbrev pub decreases-loop-i : goal.decreases-loop-i
-decreases-loop-i l = l.entries - l.i

