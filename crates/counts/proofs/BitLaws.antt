@@ -191,7 +191,7 @@ module _ (field : List ℕ) (f : Bytes field) where
   set_starts = let z : byte_ones (slice 0 (length field) field) ≡ bits_set field = ap byte_ones (take-length field) ∙ sym (field_ones field f) in omega arith
 
   -- a word, and what is behind it
-  set_word : (at : ℕ) → at + word_size ≤ length field
+  pub set_word : (at : ℕ) → at + word_size ≤ length field
       → byte_ones (slice at (length field) field) ≡ ones (word_at field at) + byte_ones (slice (at + word_size) (length field) field)
   unfolding word_at
   set_word at h =
@@ -200,7 +200,7 @@ module _ (field : List ℕ) (f : Bytes field) where
       ∙ ap (λ (n : ℕ). n + byte_ones (slice (at + word_size) (length field) field)) (sym (number_ones _ (bytes_slice field at (at + word_size) f)))
 
   -- the rest as one word
-  set_rest : (at : ℕ) → byte_ones (slice at (length field) field) ≡ ones (big_endian (slice at (length field) field))
+  pub set_rest : (at : ℕ) → byte_ones (slice at (length field) field) ≡ ones (big_endian (slice at (length field) field))
   set_rest at = sym (number_ones _ (bytes_slice field at (length field) f))
 
   -- word i is counted, and then the rest
