@@ -42,9 +42,19 @@ pointwise_words : (a b c d p q r s : ℕ) → a ≡ 0
 unfolding agreeing
 pointwise_words a b c d p q r s z = rw (eq-eqb _ _ z, and_true)
 
--- where it was accepted, all four decide
-pub accepted_agree : (a b : List ℕ) → length a ≡ 4 → length b ≡ 4 → get_or a 0 0 ≡ 0 → pointwise eqb a b ≡ agreeing a b
-accepted_agree a b m n z = rw (words a m, words b n) (pointwise_words _ _ _ _ _ _ _ _ z)
+itself_agrees : (a b : List ℕ) → length a ≡ 4 → length b ≡ 4 → get_or a 0 0 ≡ 0 → pointwise eqb a b ≡ agreeing a b
+itself_agrees a b m n z = rw (words a m, words b n) (pointwise_words _ _ _ _ _ _ _ _ z)
+
+in_place : (a b f : List ℕ) → get_or b 0 0 ≡ get_or f 0 0 → get_or b 1 0 ≡ get_or f 1 0 → get_or b 2 0 ≡ get_or f 2 0
+    → get_or b 3 0 ≡ get_or f 3 0 → agreeing a b ≡ agreeing a f
+unfolding agreeing
+in_place a b f p q r s = rw (p, q, r, s)
+
+-- where it was accepted, all four decide, if what is compared has each word of the answer found in its place
+pub accepted_agree : (a b f : List ℕ) → length a ≡ 4 → length b ≡ 4 → get_or a 0 0 ≡ 0
+    → get_or b 0 0 ≡ get_or f 0 0 → get_or b 1 0 ≡ get_or f 1 0 → get_or b 2 0 ≡ get_or f 2 0 → get_or b 3 0 ≡ get_or f 3 0
+    → pointwise eqb a b ≡ agreeing a f
+accepted_agree a b f m n z p q r s = itself_agrees a b m n z ∙ in_place a b f p q r s
 
 -- ---- the kind of a byte
 
