@@ -71,7 +71,11 @@ pub fn generate_sync_message(
         waiting,
         &mut order,
     )?;
-    let choice = setting?;
+    // Not by `?`: the edit bad_list_as_setting puts another refusal into this arm.
+    let choice = match setting {
+        Ok(choice) => choice,
+        Err(refusal) => return Err(refusal),
+    };
     passed_hashes(pick)?;
     plan_checked(
         Setting {

@@ -18,10 +18,6 @@ const READ: &[(&str, &str)] = &[
     ("bloom/have_hashes", "`returns` of `have::have_good`"),
     ("pick/definition_transitive", "`check_tells` (AcceptLaws)"),
     (
-        "plan/bad_list_as_setting",
-        "`returns-in_err-choice` of `plan::generate_sync_message`",
-    ),
-    (
         "plan_count/unpicked_sent",
         "`returns` of `carried::pick_list`",
     ),
