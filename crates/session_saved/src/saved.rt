@@ -55,5 +55,6 @@ pub fn decode(bytes: &[u8], shared: &mut [u8]) -> Result<Session, Refusal>
         return Err(Refusal::NoRoom(wanted));
     }
     copy_into(shared, 0, &bytes[heads.start..next]);
-    Ok(Session::restored(heads.count))
+    let session = Session::restored(heads.count);
+    Ok(session)
 }

@@ -26,7 +26,7 @@ copy_into-requires c =
 
 pub returns : goal.returns
 returns c =
-    load_session _ _ _ _ _ (sym c.in_ok-heads.ensures) _ c.if-shared-wanted.false c.copy_into.ensures _ c.restored.ensures
+    load_session _ _ _ _ _ (sym c.in_ok-heads.ensures) _ c.if-shared-wanted.false c.copy_into.ensures _ c.restored-session.ensures
 
 pub returns-in_err-heads : goal.returns-in_err-heads
 returns-in_err-heads c = rw (handed_on c.from_residual.ensures.1) (load_refused _ _ _ (sym c.in_err-heads.ensures))
