@@ -33,6 +33,10 @@ pub fn encode_bytes(out: &mut [u8], bytes: &[u8]) -> Result<usize, Refusal>
 pub fn encode_hashes(out: &mut [u8], hashes: &[u8]) -> Result<usize, Refusal>
     ensures { Written (hash_list_output hashes.now) out.old out.new result }
 {
-    let count = passed_hashes(hashes)?;
+    // Not by `?`: the edit write_hashes_refusal puts another refusal into this arm.
+    let count = match passed_hashes(hashes) {
+        Ok(count) => count,
+        Err(refusal) => return Err(refusal),
+    };
     encode(out, count as u64, hashes)
 }

@@ -11,7 +11,6 @@ use Rattle.rules.specs.Output.{bytes, refuse}
 use Rattle.rules.specs.Passed.{passed_hashes}
 use Rattle.rules.specs.Sizes.{sizes}
 use Rattle.rules.specs.declared.refusal.Refusal.{Refusal}
-use Rattle.rules.proofs.Cases.{handed_on}
 use Rattle.rules.proofs.Hash.{length_hashes_at, hashes_at_bytes}
 use Rattle.rules.proofs.Outputs.{refused}
 use Rattle.rules.proofs.PassedLaws.{passed_is, after_refused, after_hashes}
@@ -31,9 +30,9 @@ whole s n b p =
     let fits : 0 + sizes.hash * n ≤ length s = omega arith in
     after_hashes _ _ _ n p ∙ rw (length_hashes_at s 0 n, hashes_at_bytes s 0 n b fits, e, take-length s)
 
-pub returns-in_err-count : goal.returns-in_err-count
-returns-in_err-count c = rw (handed_on c.from_residual.ensures.1, no_list_lem _ _ (sym c.in_err-count.ensures)) (refused _ _)
+pub returns-in-Err : goal.returns-in-Err
+returns-in-Err c = rw (no_list_lem _ _ (sym c.passed_hashes.ensures ∙ c.in-Err.is)) (refused _ _)
 
 pub returns : goal.returns
 returns c =
-    rw (whole _ _ (λ i. (c.type_inv.hashes i).fits) (sym c.in_ok-count.ensures)) c.encode.ensures
+    rw (whole _ _ (λ i. (c.type_inv.hashes i).fits) (sym c.passed_hashes.ensures ∙ c.in-Ok.is)) c.encode.ensures
