@@ -5,6 +5,9 @@ use mathlib.Core.Path.{◌≡◌, refl, sym, ◌∙◌}
 use native.Mathlib.Omega.{arith}
 use lib.ListN.{get_or}
 use lib.Pow.{pow_pos}
+use Rattle.std.specs.Prelude.{Result, Err}
+use Rattle.rules.specs.declared.refusal.Refusal.{Refusal}
+use Rattle.rules.specs.declared.refusal.Refusal.TheVariants.{Cut}
 use Rattle.leb128.proofs.Number.{reading_starts, reading_cut, reading_low, reading_high, reading_ends, reading_more, room_for, high_bit_off, next_power, narrow}
 use Rattle.leb128.proofs.leb128.read.Goals as goal
 
@@ -17,6 +20,10 @@ high x b scale shift e h = rw e h
 
 fine : (x b scale shift : ℕ) → scale ≡ 2 ^ shift → b ≤ x / 2 ^ shift → b ≤ x / scale
 fine x b scale shift e h = rw e h
+
+-- A number that is cut tells `at`, in whatever words the code says that place; the edit u32_cut_place says another.
+told : {x : Result (ℕ × ℕ) Refusal} (place at : ℕ) → place ≡ at → Err (Cut at) ≡ x → Err (Cut place) ≡ x
+told place at e h = rw e h
 
 pub loop-i-init : goal.loop-i-init
 loop-i-init c =
@@ -78,4 +85,4 @@ loop-i-preserved c =
     }
 
 pub returns : goal.returns
-returns c = sym (reading_cut _ _ _ _ _ _ _ _ c.loop-i-test.false) ∙ c.loop-i.invariant.rest
+returns c = told _ _ (omega arith) (sym (reading_cut _ _ _ _ _ _ _ _ c.loop-i-test.false) ∙ c.loop-i.invariant.rest)
