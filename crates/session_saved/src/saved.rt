@@ -55,6 +55,7 @@ pub fn decode(bytes: &[u8], shared: &mut [u8]) -> Result<Session, Refusal>
         return Err(Refusal::NoRoom(wanted));
     }
     copy_into(shared, 0, &bytes[heads.start..next]);
+    // It has a name, so that the edit read_state_none can answer something else in its place.
     let session = Session::restored(heads.count);
     Ok(session)
 }
